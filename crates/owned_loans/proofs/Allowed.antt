@@ -2,6 +2,7 @@
 -- overlap it.
 use Rattle.std.proofs.Common.{◌≡◌, refl, sym, ap, ◌∙◌, ℕ, Bool, true, false, ◌||◌, ◌==◌, List, [], ◌∷◌, length, nat_lt, lt-ltb}
 use Rattle.std.specs.List.{list_any}
+use Rattle.spark_base.specs.Lists.{Has}
 use Rattle.place_names.specs.declared.selector.Sel.{Sel}
 use Rattle.place_names.specs.declared.rule.Rule.TheVariants.{O1, O2, O3, O4, O5, O6, O7, O14}
 use Rattle.place_names.specs.declared.rule.Loan.{Loan}
@@ -17,7 +18,6 @@ use Rattle.place_names.specs.Facts.{removes, effect}
 use Rattle.place_names.specs.Rules.{lent, moved_or_borrowed, moved_or_lent, breaks_O2, breaks_O3, breaks_O14}
 use Rattle.owned_ways.specs.Ways.{Way, name_of, number_of, sels_of, Allows}
 use Rattle.owned_ways.proofs.Assigned.{kept_fact, either_left}
-use Rattle.owned_loans.specs.Views.{HasLoan}
 use Rattle.owned_loans.proofs.Clear.{refused}
 use Rattle.owned_loans.proofs.Safe.{Open, Unlent, Unborrowed, Unmoved}
 
@@ -25,10 +25,12 @@ pub either_right : (a b : Bool) → b ≡ true → a || b ≡ true
 either_right true b e = refl
 either_right false b e = e
 
-pub loan_kept : (a : Act) (facts : List Fact) → ((l : Loan) (h : ℕ) (n : Name) → removes a (Lent l h n) ≡ false)
-    → (seen : Bool) (x : ℕ) (n : Name) → HasLoan seen x facts n → HasLoan seen x (effect a facts) n
-loan_kept a facts stays true x n (h, lent) = (h, kept_fact a facts (Lent Observed h n) lent (stays Observed h n))
-loan_kept a facts stays false x n lent = kept_fact a facts (Lent Borrowed x n) lent (stays Borrowed x n)
+-- Loans stay.
+abbrev pub LoansStay : List Fact → List Fact → Type 0
+LoansStay facts facts' = (l : Loan) (h : ℕ) (n : Name) → Has facts (Lent l h n) → Has facts' (Lent l h n)
+
+pub loan_kept : (a : Act) (facts : List Fact) → ((l : Loan) (h : ℕ) (n : Name) → removes a (Lent l h n) ≡ false) → LoansStay facts (effect a facts)
+loan_kept a facts stays l h n lent = kept_fact a facts (Lent l h n) lent (stays l h n)
 
 -- what leads to a name overlaps it
 whole_along : (a b : List Sel) → agrees_whole a b ≡ true → agree_along a b ≡ true

@@ -3,7 +3,9 @@ use Rattle.std.proofs.Common.{◌≡◌, refl, sym, ap, ◌∙◌, subst, ◌⊎
 use Rattle.std.specs.List.{filter}
 use Rattle.spark_base.specs.Lists.{Has}
 use Rattle.spark_base.proofs.Lists.{Has-append_cases, Has-filter, Has-filter_passes}
+use Rattle.place_names.specs.declared.rule.Loan.{Loan}
 use Rattle.place_names.specs.declared.rule.Loan.TheVariants.{Borrowed}
+use Rattle.place_names.specs.Names.{Name}
 use Rattle.place_names.specs.declared.act.Act.{Act}
 use Rattle.place_names.specs.declared.act.Act.TheVariants.{EndScope}
 use Rattle.place_names.specs.declared.fact.Fact.{Fact}
@@ -13,6 +15,7 @@ use Rattle.owned_ways.specs.Ways.{Step, Root, OfVariable, OfHand, Loc, OfRoot, O
 use Rattle.owned_ways.proofs.Locations.{reaches_along}
 use Rattle.owned_ways.proofs.Unique.{one_way}
 use Rattle.owned_ways.proofs.Assigned.{kept_fact, is_false}
+use Rattle.owned_ways.proofs.Named.{longer}
 use Rattle.owned_ways.proofs.Dropped.{named_base, dropped, left}
 use Rattle.owned_loans.specs.Views.{Views, Around, expand, IsMovedBy, ExcusedBy, HasLoan, Viewed}
 use Rattle.owned_loans.proofs.Ways.{root_on, lifts, lifted_root, lifted_way}
@@ -53,6 +56,7 @@ module _ (home : ℕ → ℕ) (observer : ℕ → Bool) (other : Around home) (v
             view_on home observer other v s t facts facts x w view (λ seen n loan. loan)
             (drop_reaches s t (OfHand h) viewed.owned d w (OfCell (v.cell x)) view.reaches
             (λ e. variable_hand (home (number_of w)) (number_of w) h (sym base ∙ e))));
+        lends = viewed.lends;
         far = λ w n keeps. (let root = other.begins w n keeps in
             drop_reaches s t (OfHand h) viewed.owned d w (OfCell n) (viewed.far w n keeps) (λ e. variable_hand root.0 root.1 h (sym root.2 ∙ e)));
       }
@@ -75,16 +79,17 @@ module _ (home : ℕ → ℕ) (observer : ℕ → Bool) (other : Around home) (v
   pub record Leaves (x : ℕ) (facts : List Fact) : Type 0 where
     pub none : v.way x ≡ None
     pub roots : (y : ℕ) (w : Way) → v.way y ≡ Some w → number_of w ≡ x → ⊥
-    pub loans : (y : ℕ) (w : Way) → v.way y ≡ Some w → observer y ≡ true → HasLoan true y facts (name_of (v.loan y))
+    pub loans : (y : ℕ) (w : Way) → v.way y ≡ Some w → observer y ≡ true → HasLoan observer true y facts (name_of (v.loan y))
+    pub unlent : (l : Loan) (n : Name) → other.lent l n → n.root ≡ x → ⊥
 
   -- what is known of ways that the variable doesn't begin, or elsewhere
   abbrev Aside : ℕ → List Fact → Way → Type 0
   Aside x facts w = ExcusedBy home v other facts w × ((number_of w ≡ x → ⊥) ⊎ other.gone w)
 
   split : (s : View) (facts : List Fact) (x : ℕ) → Viewed home observer other v s facts → v.way x ≡ None
-      → ((y : ℕ) (w : Way) → v.way y ≡ Some w → number_of w ≡ x → ⊥)
+      → ((y : ℕ) (w : Way) → v.way y ≡ Some w → number_of w ≡ x → ⊥) → ((l : Loan) (n : Name) → other.lent l n → n.root ≡ x → ⊥)
       → Sound home (Aside x facts) s (filter (belongs_to x) facts)
-  split s facts x viewed none roots = record {
+  split s facts x viewed none roots unlent = record {
     owned = viewed.owned;
     covered = viewed.covered;
     known = λ w l n r h. by_root w (viewed.known w l n r h) (number_of w == x) refl;
@@ -100,7 +105,9 @@ module _ (home : ℕ → ℕ) (observer : ℕ → Bool) (other : Around home) (v
       by_root : (w : Way) → ExcusedBy home v other facts w → (b : Bool) → (number_of w == x) ≡ b → Excused home (Aside x facts) (filter (belongs_to x) facts) w
       by_root w known false e = inr (known, inl (λ same. (let is = eq-eqb (number_of w) x same in cc)))
       by_root w known true e = elim known [
-        | inl moved ↦ (let own = direct w moved (eqb-true (number_of w) x e) in
+        | inl (inr away) ↦ (let t = other.through w away in
+            absurd (unlent Borrowed (name_of t.0) t.3 (sym (longer t.0 w t.2).root ∙ eqb-true (number_of w) x e)))
+        | inl (inl moved) ↦ (let own = direct w moved (eqb-true (number_of w) x e) in
             inl (own.0, Has-filter_passes (belongs_to x) facts (Moved (name_of w)) own.1 e))
         | inr o ↦ inr (inr o, inr o)
       ]
@@ -122,16 +129,17 @@ module _ (home : ℕ → ℕ) (observer : ℕ → Bool) (other : Around home) (v
       → Viewed home observer other v t (effect (EndScope x borrower) facts)
   ended s t x borrower facts viewed d leaves =
       let act : Act = EndScope x borrower in
-      let sound = dropped home (Aside x facts) s t x borrower (filter (belongs_to x) facts) (split s facts x viewed leaves.none leaves.roots) d in record {
+      let sound = dropped home (Aside x facts) s t x borrower (filter (belongs_to x) facts) (split s facts x viewed leaves.none leaves.roots leaves.unlent) d in record {
         owned = sound.owned;
         covered = sound.covered;
         known = λ w l n r h. elim (sound.known w l n r h) [
           | inl moved ↦ absurd (all_end facts x borrower (Moved (name_of w)) moved.1)
           | inr both ↦ elim both.0 [
             | inr o ↦ inr o
-            | inl moved ↦ elim both.1 [
+            | inl (inr away) ↦ inl (inr away)
+            | inl (inl moved) ↦ elim both.1 [
               | inr o ↦ inr o
-              | inl off ↦ inl (
+              | inl off ↦ inl (inl (
                 moved.0,
                 (
                   moved.1.0,
@@ -141,7 +149,7 @@ module _ (home : ℕ → ℕ) (observer : ℕ → Bool) (other : Around home) (v
                       ap number_of (sym moved.2 ∙ stands_itself moved.0 moved.1.0 (ap v.way same ∙ leaves.none)) ∙ same))),
                 ),
                 moved.2,
-              )
+              ))
             ]
           ]
         ];
@@ -159,18 +167,29 @@ module _ (home : ℕ → ℕ) (observer : ℕ → Bool) (other : Around home) (v
               reaches = drop_reaches s t (OfVariable (home x) x) viewed.owned d w (OfCell (v.cell y)) view.reaches
                   (λ e. leaves.roots y w has (same_variable (home (number_of w)) (home x) (number_of w) x (sym base ∙ e)));
             });
+        lends = λ l n lent. (let old = viewed.lends l n lent in record {
+          has = kept_fact act facts (Lent l n.root n) old.has
+              (is_false (n.root == x) (λ same. leaves.unlent l n lent (eqb-true n.root x same)));
+          none = old.none;
+          plain = old.plain;
+        });
         far = λ w n keeps. (let root = other.begins w n keeps in
             drop_reaches s t (OfVariable (home x) x) viewed.owned d w (OfCell n) (viewed.far w n keeps) (λ e. (
             let same = same_frame root.0 (home x) root.1 x (sym root.2 ∙ e) in
-            root.3 (same.0 ∙ ap home (sym same.1)))));
+            elim root.3 [
+              | inl away ↦ away (same.0 ∙ ap home (sym same.1))
+              | inr (l, (k, named, under, lent)) ↦ (
+                  let bases = sym (named_base home k named) ∙ sym (longer k w under).base ∙ e in
+                  leaves.unlent l (name_of k) lent (same_variable (home (number_of k)) (home x) (number_of k) x bases))
+            ])));
       }
     where
-      own_loan : (y : ℕ) (w : Way) → v.way y ≡ Some w → (b : Bool) → observer y ≡ b → HasLoan (observer y) y facts (name_of (v.loan y))
-          → HasLoan (observer y) y (effect (EndScope x borrower) facts) (name_of (v.loan y))
-      own_loan y w has true e loan = subst (λ z. HasLoan z y (effect (EndScope x borrower) facts) (name_of (v.loan y))) (sym e) (leaves.loans y w has e)
+      own_loan : (y : ℕ) (w : Way) → v.way y ≡ Some w → (b : Bool) → observer y ≡ b → HasLoan observer (observer y) y facts (name_of (v.loan y))
+          → HasLoan observer (observer y) y (effect (EndScope x borrower) facts) (name_of (v.loan y))
+      own_loan y w has true e loan = subst (λ z. HasLoan observer z y (effect (EndScope x borrower) facts) (name_of (v.loan y))) (sym e) (leaves.loans y w has e)
       own_loan y w has false e loan =
           let act : Act = EndScope x borrower in
-          let old = subst (λ z. HasLoan z y facts (name_of (v.loan y))) e loan in
-          subst (λ z. HasLoan z y (effect act facts) (name_of (v.loan y))) (sym e)
+          let old = subst (λ z. HasLoan observer z y facts (name_of (v.loan y))) e loan in
+          subst (λ z. HasLoan observer z y (effect act facts) (name_of (v.loan y))) (sym e)
           (kept_fact act facts (Lent Borrowed y (name_of (v.loan y))) old
           (is_false (y == x) (λ same. (let is : Some w ≡ None = sym has ∙ ap v.way (eqb-true y x same) ∙ leaves.none in cc))))

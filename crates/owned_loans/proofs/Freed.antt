@@ -16,8 +16,9 @@ use Rattle.owned_loans.specs.Views.{Views, Around, expand, ExcusedBy, Viewed}
 use Rattle.owned_loans.proofs.Meeting.{IsPlain}
 use Rattle.owned_loans.proofs.Clear.{clear_same}
 use Rattle.owned_loans.proofs.Safe.{off_view}
+use Rattle.owned_loans.proofs.Others.{off_kept}
 use Rattle.owned_loans.proofs.Allowed.{loan_kept, free_unlent}
-use Rattle.owned_loans.proofs.Moves.{IsPlace, expand_under, far_named, named_way, as_sound, view_on}
+use Rattle.owned_loans.proofs.Moves.{IsPlace, expand_under, named_way, as_sound, view_on, own_loan, lends_on}
 
 -- ---- what a release leaves
 
@@ -102,7 +103,8 @@ module _ (home : ℕ → ℕ) (observer : ℕ → Bool) (other : Around home) (v
         covered = sound.covered;
         known = λ w l n' r h. elim (viewed.known w l n' (reached_before s t at n step w l n' r) (gone_before s t at n step l h)) [
           | inr else ↦ inr else
-          | inl moved ↦ inl (
+          | inl (inr away) ↦ inl (inr away)
+          | inl (inl moved) ↦ inl (inl (
             moved.0,
             (
               moved.1.0,
@@ -113,13 +115,14 @@ module _ (home : ℕ → ℕ) (observer : ℕ → Bool) (other : Around home) (v
                   not_gone s t at n step b.0 (sym (ap t.word b.1) ∙ h)))),
             ),
             moved.2,
-          )
+          ))
         ];
         clear = clear_same observer facts viewed.clear act refl;
         views = λ x w has. (let view = viewed.views x w has in
-            view_on home observer other v s t facts (effect act facts) x w view (λ seen m. loan_kept act facts (λ l h z. refl) seen x m)
+            view_on home observer other v s t facts (effect act facts) x w view (λ seen m. own_loan observer facts (effect act facts) (loan_kept act facts (λ l h z. refl)) seen x m)
             (reaches_on s t at n step (expand v k) w (OfCell (v.cell x)) viewed.owned held target view.reaches
             (λ past. off_view home observer v s facts viewed.views viewed.clear k x w name (free_unlent facts k allowed) has past)));
+        lends = λ l m lent. lends_on observer v facts (effect act facts) (loan_kept act facts (λ l h z. refl)) l m (viewed.lends l m lent);
         far = λ w n' keeps. reaches_on s t at n step (expand v k) w (OfCell n') viewed.owned held target (viewed.far w n' keeps)
-            (λ past. far_named home other (expand v k) w n' whole keeps past);
+            (λ past. off_kept home observer other v s facts viewed k w n' name whole (free_unlent facts k allowed) keeps past);
       }

@@ -5,6 +5,7 @@ use Rattle.std.specs.List.{filter}
 use Rattle.spark_base.specs.Lists.{Has}
 use Rattle.spark_base.proofs.Lists.{Has-append_right, Has-map}
 use Rattle.place_names.specs.declared.selector.Sel.{Sel}
+use Rattle.place_names.specs.declared.rule.Loan.{Loan}
 use Rattle.place_names.specs.declared.rule.Loan.TheVariants.{Borrowed, Observed}
 use Rattle.place_names.specs.Names.{Name, extend, covers}
 use Rattle.place_names.specs.declared.act.Act.{Act}
@@ -20,12 +21,13 @@ use Rattle.owned_ways.proofs.Assigned.{kept_fact, is_false, Apart, given_apart, 
 use Rattle.owned_ways.proofs.Moving.{Given, keeps, owned_after, covered_after, known_after}
 use Rattle.owned_ways.proofs.Released.{freshly, fresh_on}
 use Rattle.owned_ways.proofs.Dropped.{named_base}
-use Rattle.owned_loans.specs.Views.{on, Views, Around, way_at, expand, expand_root, IsMovedBy, ExcusedBy, AreClear, HasLoan, IsView, AreViews, Viewed}
+use Rattle.owned_loans.specs.Views.{on, Views, Around, way_at, expand, expand_root, IsMovedBy, IsAway, ExcusedBy, AreClear, HasLoan, IsView, AreViews, IsLentToOthers, Viewed}
 use Rattle.owned_loans.proofs.Ways.{lifts, lifted_root, next_of}
 use Rattle.owned_loans.proofs.Meeting.{IsPlain, next}
 use Rattle.owned_loans.proofs.Clear.{nothing_new, clear_move, clear_same}
-use Rattle.owned_loans.proofs.Safe.{clean_below, off_view}
-use Rattle.owned_loans.proofs.Allowed.{loan_kept, move_unlent, move_unmoved, write_unlent}
+use Rattle.owned_loans.proofs.Safe.{off_view}
+use Rattle.owned_loans.proofs.Others.{off_kept, clean_away}
+use Rattle.owned_loans.proofs.Allowed.{LoansStay, loan_kept, move_unlent, move_unmoved, write_unlent}
 
 -- ---- names and what they stand for
 
@@ -119,20 +121,21 @@ hand_apart home f k named inhand e = variable_hand (named_base home f named) (ha
     hand_base (Into w i) n = hand_base w n
     hand_base (All w) n = hand_base w n
 
+-- ---- where loans stay
+
+pub own_loan : (observer : ℕ → Bool) (facts facts' : List Fact) → LoansStay facts facts' → (seen : Bool) (x : ℕ) (n : Name)
+    → HasLoan observer seen x facts n → HasLoan observer seen x facts' n
+own_loan observer facts facts' stay true x n (h, lent, sees) = (h, stay Observed h n lent, sees)
+own_loan observer facts facts' stay false x n lent = stay Borrowed x n lent
+
+pub lends_on : (observer : ℕ → Bool) (v : Views) (facts facts' : List Fact) → LoansStay facts facts' → (l : Loan) (n : Name)
+    → IsLentToOthers observer v facts l n → IsLentToOthers observer v facts' l n
+lends_on observer v facts facts' stay l n lent = record { has = stay l n.root n lent.has; none = lent.none; plain = lent.plain }
+
 -- ---- a move, whatever the act
 
--- the ways that others keep go past no name of the frame, and no hand
+-- the ways that others keep go past no hand
 module _ (home : ℕ → ℕ) (other : Around home) where
-  root_variable : (f x g y : ℕ) → OfRoot (OfVariable f x) ≡ OfRoot (OfVariable g y) → (f ≡ g) × (x ≡ y)
-  root_variable f x g y e = (cc, cc)
-
-  pub far_named : (f w : Way) (n : ℕ) → Named home f → other.kept w n → Past f w → ⊥
-  far_named f w n named keeps past =
-      let root = other.begins w n keeps in
-      let base = sym root.2 ∙ (longer f w (past_under f w past)).base ∙ named_base home f named in
-      let same = root_variable root.0 root.1 (home (number_of f)) (number_of f) base in
-      root.3 (same.0 ∙ ap home (sym same.1))
-
   pub far_hand : (f w : Way) (n : ℕ) → InHand f → other.kept w n → Past f w → ⊥
   far_hand f w n inhand keeps past =
       let root = other.begins w n keeps in
@@ -143,7 +146,7 @@ module _ (home : ℕ → ℕ) (other : Around home) where
 
 module _ (home : ℕ → ℕ) (observer : ℕ → Bool) (other : Around home) (v : Views) where
   pub view_on : (s t : View) (facts facts' : List Fact) (x : ℕ) (w : Way) → IsView home observer v s facts x w
-      → ((seen : Bool) (n : Name) → HasLoan seen x facts n → HasLoan seen x facts' n) → Reaches t w (OfCell (v.cell x)) → IsView home observer v t facts' x w
+      → ((seen : Bool) (n : Name) → HasLoan observer seen x facts n → HasLoan observer seen x facts' n) → Reaches t w (OfCell (v.cell x)) → IsView home observer v t facts' x w
   view_on s t facts facts' x w view loans reaches = record {
     named = view.named;
     leads = view.leads;
@@ -168,17 +171,18 @@ module _ (home : ℕ → ℕ) (observer : ℕ → Bool) (other : Around home) (v
       → ((w : Way) → Under f w → ExcusedBy home v other facts w → ⊥)
       → ((w : Way) → IsMovedBy home v facts w → (Under k w → ⊥) → IsMovedBy home v facts' w)
       → ((p : List Step) → t.word (part from p) ≡ Gone → ExcusedBy home v other facts' (along f p))
-      → AreClear observer facts' → ((seen : Bool) (x : ℕ) (n : Name) → HasLoan seen x facts n → HasLoan seen x facts' n)
+      → AreClear observer facts' → LoansStay facts facts'
       → Off f → Off k → OffFar f → OffFar k → Viewed home observer other v t facts'
   moved_on s t f k from to facts facts' given viewed rooted clean stays adds clear loans off away far_off far_away = record {
     owned = owned_after s t f k from to given;
     covered = covered_after s t f k from to given viewed.covered;
     known = known_after s t f k from to (ExcusedBy home v other facts) (ExcusedBy home v other facts') given viewed.known rooted clean
-        (λ w moved apart. elim moved [ inl m ↦ inl (stays w m apart) | inr o ↦ inr o ]) adds;
+        (λ w moved apart. elim moved [ inl away ↦ inl (elim away [ inl m ↦ inl (stays w m apart) | inr o ↦ inr o ]) | inr o ↦ inr o ]) adds;
     clear = clear;
     views = λ x w has. (let view = viewed.views x w has in
-        view_on s t facts facts' x w view (λ seen n. loans seen x n)
+        view_on s t facts facts' x w view (λ seen n. own_loan observer facts facts' loans seen x n)
         (keeps s t f k from to given w (OfCell (v.cell x)) view.reaches (λ p. off x w has p) (λ p. away x w has p)));
+    lends = λ l n lent. lends_on observer v facts facts' loans l n (viewed.lends l n lent);
     far = λ w n held. keeps s t f k from to given w (OfCell n) (viewed.far w n held) (λ p. far_off w n held p) (λ p. far_away w n held p);
   }
 
@@ -207,8 +211,11 @@ module _ (home : ℕ → ℕ) (observer : ℕ → Bool) (other : Around home) (v
   hand_far f inhand w n keeps past = far_hand home other f w n inhand keeps past
 
   -- what is moved by a fact is no hand
-  pub no_hand : (s : View) (facts : List Fact) → Viewed home observer other v s facts → (f w : Way) → InHand f → Under f w → IsMovedBy home v facts w → ⊥
-  no_hand s facts viewed f w inhand under (u, moved, same) =
+  pub no_hand : (s : View) (facts : List Fact) → Viewed home observer other v s facts → (f w : Way) → InHand f → Under f w → IsAway home v other facts w → ⊥
+  no_hand s facts viewed f w inhand under (inr away) =
+      let t = other.through w away in
+      hand_apart home t.0 f t.1 inhand (sym (longer t.0 w t.2).base ∙ (longer f w under).base)
+  no_hand s facts viewed f w inhand under (inl (u, moved, same)) =
       unnamed home w (hand_under f w inhand under)
       (subst (Named home) same
       (named_way s facts viewed.views (suc (number_of u)) u (omega arith) (moved.0, viewed.clear.owned (name_of u) moved.1)))
@@ -231,11 +238,11 @@ module _ (home : ℕ → ℕ) (observer : ℕ → Bool) (other : Around home) (v
       (given_apart s t (expand v u) k from to viewed.owned move source target (hand_apart home (expand v u) k whole inhand)) viewed
       (named_rooted home (expand v u) whole)
       (λ w under known. elim known [
-        | inl h ↦ clean_below home observer v s facts viewed.views viewed.clear u w name (λ h n. unlent Borrowed h n) unmoved under h
+        | inl h ↦ clean_away home observer other v s facts viewed u w name (λ h n. unlent Borrowed h n) unmoved under h
         | inr o ↦ spares w under o
       ])
       (λ w moved off. (moved.0, (moved.1.0, kept_fact act facts (Moved (name_of moved.0)) moved.1.1 refl), moved.2))
-      (λ p gone. (let found = marks p gone in inl (
+      (λ p gone. (let found = marks p gone in inl (inl (
         along u p,
         (
           named_part home u p named,
@@ -243,11 +250,11 @@ module _ (home : ℕ → ℕ) (observer : ℕ → Bool) (other : Around home) (v
               (subst (λ n. Has (adds act) (Moved n)) (sym found.2) (Has-map (λ q. Moved (extend (name_of u) q)) parts found.0 found.1)),
         ),
         expand_along v u p,
-      )))
+      ))))
       (clear_move observer facts viewed.clear (name_of u) parts plain allowed)
-      (λ seen x n. loan_kept act facts (λ l h m. refl) seen x n)
+      (loan_kept act facts (λ l h m. refl))
       (λ x w has past. off_view home observer v s facts viewed.views viewed.clear u x w name unlent has past)
-      (hand_off s facts viewed.views k inhand) (λ w n keeps past. far_named home other (expand v u) w n whole keeps past) (hand_far k inhand)
+      (hand_off s facts viewed.views k inhand) (λ w n keeps past. off_kept home observer other v s facts viewed u w n name whole unlent keeps past) (hand_far k inhand)
 
   -- ---- from a hand to where no view's way goes: to another hand, or to a new variable or cell
 
@@ -257,7 +264,7 @@ module _ (home : ℕ → ℕ) (observer : ℕ → Bool) (other : Around home) (v
   handed s t f k from to facts viewed move inhand away far_away spares source target apart empty =
       moved_on s t f k from to facts facts (given_apart s t f k from to viewed.owned move source target apart) viewed (hand_rooted f inhand)
       (λ w under known. elim known [ inl h ↦ no_hand s facts viewed f w inhand under h | inr o ↦ spares w under o ])
-      (λ w moved off. moved) (λ p gone. absurd (empty p gone)) viewed.clear (λ seen x n has. has)
+      (λ w moved off. moved) (λ p gone. absurd (empty p gone)) viewed.clear (λ l h n has. has)
       (hand_off s facts viewed.views f inhand) away (hand_far f inhand) far_away
 
   -- ---- putting at a target
@@ -286,10 +293,10 @@ module _ (home : ℕ → ℕ) (observer : ℕ → Bool) (other : Around home) (v
       ))
       (λ p gone. absurd (empty p gone))
       (clear_same observer facts viewed.clear act refl)
-      (λ seen x n. loan_kept act facts (λ l h m. refl) seen x n)
+      (loan_kept act facts (λ l h m. refl))
       (hand_off s facts viewed.views f inhand)
       (λ x w has past. off_view home observer v s facts viewed.views viewed.clear k x w name (write_unlent facts k allowed) has past)
-      (hand_far f inhand) (λ w n keeps past. far_named home other (expand v k) w n whole keeps past)
+      (hand_far f inhand) (λ w n keeps past. off_kept home observer other v s facts viewed k w n name whole (write_unlent facts k allowed) keeps past)
 
   -- ---- a new cell, and nothing
 
@@ -308,6 +315,7 @@ module _ (home : ℕ → ℕ) (observer : ℕ → Bool) (other : Around home) (v
         covered = sound.covered;
         known = all_known t facts sound.known;
         clear = viewed.clear;
+        lends = viewed.lends;
         views = λ x w has. (let view = viewed.views x w has in
             view_on s t facts facts x w view (λ seen n has. has) (fresh_on s t at fresh w (OfCell (v.cell x)) view.reaches));
         far = λ w n keeps. fresh_on s t at fresh w (OfCell n) (viewed.far w n keeps);
@@ -320,6 +328,7 @@ module _ (home : ℕ → ℕ) (observer : ℕ → Bool) (other : Around home) (v
         covered = sound.covered;
         known = all_known t facts sound.known;
         clear = viewed.clear;
+        lends = viewed.lends;
         views = λ x w has. (let view = viewed.views x w has in
             view_on s t facts facts x w view (λ seen n has. has) (same_reaches s t same w (OfCell (v.cell x)) view.reaches));
         far = λ w n keeps. same_reaches s t same w (OfCell n) (viewed.far w n keeps);
@@ -332,14 +341,13 @@ module _ (home : ℕ → ℕ) (observer : ℕ → Bool) (other : Around home) (v
     owned = viewed.owned;
     covered = viewed.covered;
     known = λ w l n r h. elim (viewed.known w l n r h) [
-      | inl m ↦ inl (m.0, (m.1.0, on (Moved (name_of m.0)) m.1.1), m.2)
+      | inl (inl m) ↦ inl (inl (m.0, (m.1.0, on (Moved (name_of m.0)) m.1.1), m.2))
+      | inl (inr away) ↦ inl (inr away)
       | inr o ↦ inr o
     ];
     clear = nothing_new observer facts facts' back viewed.clear;
-    views = λ x w has. (let view = viewed.views x w has in view_on s s facts facts' x w view (λ seen n loan. same_loan seen x n loan) view.reaches);
+    views = λ x w has. (let view = viewed.views x w has in
+        view_on s s facts facts' x w view (λ seen n. own_loan observer facts facts' (λ l h m. on (Lent l h m)) seen x n) view.reaches);
+    lends = λ l n lent. lends_on observer v facts facts' (λ k h m. on (Lent k h m)) l n (viewed.lends l n lent);
     far = viewed.far;
   }
-    where
-      same_loan : (seen : Bool) (x : ℕ) (n : Name) → HasLoan seen x facts n → HasLoan seen x facts' n
-      same_loan true x n (h, lent) = (h, on (Lent Observed h n) lent)
-      same_loan false x n lent = on (Lent Borrowed x n) lent

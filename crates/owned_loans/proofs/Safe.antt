@@ -63,9 +63,9 @@ module _ (home : ℕ → ℕ) (observer : ℕ → Bool) (v : Views) (s : View) (
 
   -- the loan of a borrower
   pub loan_of : (b : ℕ) → Lends home observer v s facts views b → Has facts (Lent Borrowed b (name_of (v.loan b)))
-  loan_of b l = subst (λ z. HasLoan z b facts (name_of (v.loan b))) l.2 (views b l.0 l.1).lent
+  loan_of b l = subst (λ z. HasLoan observer z b facts (name_of (v.loan b))) l.2 (views b l.0 l.1).lent
 
-  no_both : Both home observer v s facts views → ⊥
+  pub no_both : Both home observer v s facts views → ⊥
   no_both b =
       clear.lent b.one b.two (name_of (v.loan b.one)) (name_of (v.loan b.two)) (loan_of b.one b.lends) (loan_of b.two b.lent) b.differ
       (meet_overlaps (v.loan b.one) (v.loan b.two) b.meets)
@@ -111,7 +111,7 @@ module _ (home : ℕ → ℕ) (observer : ℕ → Bool) (v : Views) (s : View) (
   seen_way u w l named is past (m, moved, same) =
       let on = next home observer v s facts views u l named in
       let y : Way = next_of v u l in
-      let loan = subst (λ z. HasLoan z l.object facts (name_of (v.loan l.object))) is (views l.object l.way l.has).lent in
+      let loan = subst (λ z. HasLoan observer z l.object facts (name_of (v.loan l.object))) is (views l.object l.way l.has).lent in
       let upper : Under (expand v m) (expand v y) =
       subst (Under (expand v m)) (sym on.same) (subst (λ z. Under z (expand v u)) (sym same) (past_under w (expand v u) past)) in
       elim (meeting home observer v s facts views m y (moved_plain m moved) on.plain upper) [
@@ -147,7 +147,7 @@ module _ (home : ℕ → ℕ) (observer : ℕ → Bool) (v : Views) (s : View) (
   seen_below u w l named is under (m, moved, same) =
       let on = next home observer v s facts views u l named in
       let y : Way = next_of v u l in
-      let loan = subst (λ z. HasLoan z l.object facts (name_of (v.loan l.object))) is (views l.object l.way l.has).lent in
+      let loan = subst (λ z. HasLoan observer z l.object facts (name_of (v.loan l.object))) is (views l.object l.way l.has).lent in
       let lower : Under (expand v y) (expand v m) = subst (λ z. Under z (expand v m)) (sym on.same) (subst (Under (expand v u)) (sym same) under) in
       elim (meeting home observer v s facts views y m on.plain (moved_plain m moved) lower) [
         | inl below ↦ unmoved_loan m Observed loan.0 (v.loan l.object) moved loan.1 (inr (under_on (v.loan l.object) y m on.loan below))
@@ -209,7 +209,7 @@ module _ (home : ℕ → ℕ) (observer : ℕ → Bool) (v : Views) (s : View) (
   off_observer : (u : Way) (x : ℕ) (w : Way) → IsName u → Unlent facts u → v.way x ≡ Some w → observer x ≡ true → Past (expand v u) w → ⊥
   off_observer u x w plain unlent has is past =
       let view = views x w has in
-      let loan = subst (λ z. HasLoan z x facts (name_of (v.loan x))) is view.lent in
+      let loan = subst (λ z. HasLoan observer z x facts (name_of (v.loan x))) is view.lent in
       let under : Under (expand v u) (expand v (v.up x)) = subst (Under (expand v u)) (sym view.leads) (past_under (expand v u) w past) in
       elim (meeting home observer v s facts views u (v.up x) plain (view.named, view.plain) under) [
         | inl above ↦ unlent Observed loan.0 (name_of (v.loan x)) loan.1

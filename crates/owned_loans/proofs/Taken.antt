@@ -5,6 +5,7 @@ use Rattle.spark_base.proofs.Lists.{Has-append_right}
 use Rattle.std.specs.List.{filter}
 use Rattle.std.proofs.Common.{not}
 use Rattle.place_names.specs.declared.rule.Rule.TheVariants.{O7}
+use Rattle.place_names.specs.declared.rule.Loan.{Loan}
 use Rattle.place_names.specs.declared.rule.Loan.TheVariants.{Borrowed, Observed}
 use Rattle.place_names.specs.Names.{Name, object, agree_along, overlaps}
 use Rattle.place_names.proofs.Names.{both_true}
@@ -22,7 +23,8 @@ use Rattle.owned_loans.specs.Views.{Views, Around, expand_root, expand, IsObject
 use Rattle.owned_loans.proofs.Ways.{on_deep, Lifted, next_of}
 use Rattle.owned_loans.proofs.Meeting.{next}
 use Rattle.owned_loans.proofs.Clear.{refused, clear_borrow, clear_observe, clear_same}
-use Rattle.owned_loans.proofs.Allowed.{loan_kept}
+use Rattle.owned_loans.proofs.Allowed.{LoansStay, loan_kept}
+use Rattle.owned_loans.proofs.Moves.{own_loan}
 
 -- names that aren't rooted in the view stand for what they stood for
 expand_other : (v t : Views) (b : ℕ) (o : Option Way) (loan up : Way) (n : ℕ) → Becomes v t b o loan up n → (u : Way) → (number_of u ≡ b → ⊥) → expand t u ≡ expand v u
@@ -43,7 +45,7 @@ pub record Fits (home : ℕ → ℕ) (observer : ℕ → Bool) (v : Views) (s : 
   pub deep : IsObject up → ⊥
   pub plain : observer (number_of up) ≡ false
   pub older : observer b ≡ false → number_of up < b
-  pub lent : HasLoan (observer b) b facts (name_of loan)
+  pub lent : HasLoan observer (observer b) b facts (name_of loan)
   pub reaches : Reaches s w (OfCell n)
 
 module _ (home : ℕ → ℕ) (observer : ℕ → Bool) (other : Around home) (v t : Views) (b : ℕ) (o : Option Way) (loan up : Way) (n : ℕ)
@@ -62,12 +64,12 @@ module _ (home : ℕ → ℕ) (observer : ℕ → Bool) (other : Around home) (v
     deep = subst (λ z. IsObject z → ⊥) (sym becomes.up_is) fits.deep;
     plain = ap (λ z. observer (number_of z)) becomes.up_is ∙ fits.plain;
     older = λ e. subst (λ z. number_of z < b) (sym becomes.up_is) (fits.older e);
-    lent = subst (λ z. HasLoan (observer b) b facts (name_of z)) (sym becomes.loan_is) fits.lent;
+    lent = subst (λ z. HasLoan observer (observer b) b facts (name_of z)) (sym becomes.loan_is) fits.lent;
     reaches = subst (λ z. Reaches s w (OfCell z)) (sym becomes.cell_is) fits.reaches;
   }
 
   old_view : (s : View) (facts facts' : List Fact) (x : ℕ) (w : Way) → (x ≡ b → ⊥) → (number_of (v.up x) ≡ b → ⊥) → IsView home observer v s facts x w
-      → ((seen : Bool) (m : Name) → HasLoan seen x facts m → HasLoan seen x facts' m) → IsView home observer t s facts' x w
+      → LoansStay facts facts' → IsView home observer t s facts' x w
   old_view s facts facts' x w off unused view loans = record {
     named = subst (Named home) (sym (becomes.ups x off)) view.named;
     leads = ap (expand t) (becomes.ups x off) ∙ expand_other v t b o loan up n becomes (v.up x) unused ∙ view.leads;
@@ -75,27 +77,33 @@ module _ (home : ℕ → ℕ) (observer : ℕ → Bool) (other : Around home) (v
     deep = subst (λ z. IsObject z → ⊥) (sym (becomes.ups x off)) view.deep;
     plain = ap (λ z. observer (number_of z)) (becomes.ups x off) ∙ view.plain;
     older = λ e. subst (λ z. number_of z < x) (sym (becomes.ups x off)) (view.older e);
-    lent = subst (λ z. HasLoan (observer x) x facts' (name_of z)) (sym (becomes.loans x off)) (loans (observer x) (name_of (v.loan x)) view.lent);
+    lent = subst (λ z. HasLoan observer (observer x) x facts' (name_of z)) (sym (becomes.loans x off))
+        (own_loan observer facts facts' loans (observer x) x (name_of (v.loan x)) view.lent);
     reaches = subst (λ z. Reaches s w (OfCell z)) (sym (becomes.cells x off)) view.reaches;
   }
 
-  pub rebound : (s : View) (facts facts' : List Fact) → Viewed home observer other v s facts → Unused v facts b
-      → ((m : Name) → Has facts (Moved m) → Has facts' (Moved m))
-      → ((seen : Bool) (x : ℕ) (m : Name) → HasLoan seen x facts m → HasLoan seen x facts' m) → AreClear observer facts'
+  pub rebound : (s : View) (facts facts' : List Fact) → Viewed home observer other v s facts → Unused other.lent v facts b
+      → ((m : Name) → Has facts (Moved m) → Has facts' (Moved m)) → LoansStay facts facts' → AreClear observer facts'
       → ((w : Way) → o ≡ Some w → Fits home observer v s facts' b loan up n w) → Viewed home observer other t s facts'
   rebound s facts facts' viewed unused stays loans clear fits = record {
     owned = viewed.owned;
     covered = viewed.covered;
     known = λ w l m r h. elim (viewed.known w l m r h) [
       | inr taken ↦ inr taken
-      | inl moved ↦ inl (
+      | inl (inr away) ↦ inl (inr away)
+      | inl (inl moved) ↦ inl (inl (
         moved.0,
         (moved.1.0, stays (name_of moved.0) moved.1.1),
         expand_other v t b o loan up n becomes moved.0 (unused.unmoved (name_of moved.0) moved.1.1) ∙ moved.2,
-      )
+      ))
     ];
     clear = clear;
     views = λ x w has. by_object x w has (x == b) refl;
+    lends = λ l m lent. (let old = viewed.lends l m lent in record {
+      has = loans l m.root m old.has;
+      none = becomes.ways m.root (unused.unlent l m lent) ∙ old.none;
+      plain = old.plain;
+    });
     far = viewed.far;
   }
     where
@@ -107,7 +115,7 @@ module _ (home : ℕ → ℕ) (observer : ℕ → Bool) (other : Around home) (v
       by_object x w has false e =
           let off : x ≡ b → ⊥ = λ same. (let is = eq-eqb x b same in cc) in
           let old = sym (becomes.ways x off) ∙ has in
-          old_view s facts facts' x w off (unused.untaken x w old off) (viewed.views x w old) (λ seen m. loans seen x m)
+          old_view s facts facts' x w off (unused.untaken x w old off) (viewed.views x w old) loans
 
 -- ---- the acts
 
@@ -123,9 +131,10 @@ module _ (home : ℕ → ℕ) (observer : ℕ → Bool) (other : Around home) (v
   true_false c e f = cc
 
   -- nothing is rooted in an observer but names that are looked at
-  pub observer_unused : (b : ℕ) → observer b ≡ true → Unused v facts b
+  pub observer_unused : (b : ℕ) → observer b ≡ true → Unused other.lent v facts b
   observer_unused b is = record {
     unmoved = λ n has e. true_false (observer b) is (ap observer (sym e) ∙ viewed.clear.owned n has);
+    unlent = λ l n lent e. true_false (observer b) is (ap observer (sym e) ∙ (viewed.lends l n lent).plain);
     untaken = λ x w has off e. true_false (observer b) is (ap observer (sym e) ∙ (viewed.views x w has).plain);
   }
 
@@ -133,13 +142,13 @@ module _ (home : ℕ → ℕ) (observer : ℕ → Bool) (other : Around home) (v
   abbrev pub Designates : Option Way → Way → ℕ → Type 0
   Designates o u n = (w : Way) → o ≡ Some w → (w ≡ expand v (All u)) × Reaches s w (OfCell n)
 
-  pub borrowed : (b : ℕ) (o : Option Way) (u : Way) (n : ℕ) → Becomes v t b o u (All u) n → Unused v facts b → observer b ≡ false
+  pub borrowed : (b : ℕ) (o : Option Way) (u : Way) (n : ℕ) → Becomes v t b o u (All u) n → Unused other.lent v facts b → observer b ≡ false
       → Named home u → observer (number_of u) ≡ false → number_of u < b → Designates o u n → Allows facts (Borrow b (name_of u))
       → Viewed home observer other t s (effect (Borrow b (name_of u)) facts)
   borrowed b o u n becomes unused borrows named plain less designates allowed =
       let act : Act = Borrow b (name_of u) in
       rebound home observer other v t b o u (All u) n becomes s facts (effect act facts) viewed unused
-      (stays act (λ m. refl)) (λ seen x m. loan_kept act facts (λ l h k. refl) seen x m)
+      (stays act (λ m. refl)) (loan_kept act facts (λ l h k. refl))
       (clear_borrow observer facts viewed.clear b (name_of u) allowed)
       (λ w e. record {
         named = named;
@@ -148,7 +157,7 @@ module _ (home : ℕ → ℕ) (observer : ℕ → Bool) (other : Around home) (v
         deep = λ d. d;
         plain = plain;
         older = λ is. less;
-        lent = subst (λ z. HasLoan z b (effect act facts) (name_of u)) (sym borrows)
+        lent = subst (λ z. HasLoan observer z b (effect act facts) (name_of u)) (sym borrows)
             (Has-append_right (filter (λ g. not (removes act g)) facts) (Lent Borrowed b (name_of u) ∷ []) (Lent Borrowed b (name_of u)) (inl refl));
         reaches = (designates w e).1;
       })
@@ -159,7 +168,7 @@ module _ (home : ℕ → ℕ) (observer : ℕ → Bool) (other : Around home) (v
   observed b o u n becomes observes named plain designates allowed =
       let act : Act = Observe b (name_of u) false in
       rebound home observer other v t b o u (All u) n becomes s facts (effect act facts) viewed (observer_unused b observes)
-      (stays act (λ m. refl)) (λ seen x m. loan_kept act facts (λ l h k. refl) seen x m)
+      (stays act (λ m. refl)) (loan_kept act facts (λ l h k. refl))
       (clear_observe observer facts viewed.clear b (name_of u) false allowed)
       (λ w e. record {
         named = named;
@@ -168,8 +177,8 @@ module _ (home : ℕ → ℕ) (observer : ℕ → Bool) (other : Around home) (v
         deep = λ d. d;
         plain = plain;
         older = λ is. absurd (true_false (observer b) observes is);
-        lent = subst (λ z. HasLoan z b (effect act facts) (name_of u)) (sym observes)
-            (b, Has-append_right (filter (λ g. not (removes act g)) facts) (Lent Observed b (name_of u) ∷ []) (Lent Observed b (name_of u)) (inl refl));
+        lent = subst (λ z. HasLoan observer z b (effect act facts) (name_of u)) (sym observes)
+            (b, Has-append_right (filter (λ g. not (removes act g)) facts) (Lent Observed b (name_of u) ∷ []) (Lent Observed b (name_of u)) (inl refl), observes);
         reaches = (designates w e).1;
       })
 
@@ -181,9 +190,9 @@ module _ (home : ℕ → ℕ) (observer : ℕ → Bool) (other : Around home) (v
       let act : Act = Observe b (name_of u) true in
       let view = viewed.views l.object l.way l.has in
       let on = next home observer v s facts viewed.views (All u) l named in
-      let loan = subst (λ z. HasLoan z l.object facts (name_of (v.loan l.object))) sees view.lent in
+      let loan = subst (λ z. HasLoan observer z l.object facts (name_of (v.loan l.object))) sees view.lent in
       rebound home observer other v t b o (v.loan l.object) (next_of v (All u) l) n becomes s facts (effect act facts) viewed (observer_unused b observes)
-      (stays act (λ m. refl)) (λ seen x m. loan_kept act facts (λ k h z. refl) seen x m)
+      (stays act (λ m. refl)) (loan_kept act facts (λ k h z. refl))
       (clear_same observer facts viewed.clear act refl)
       (λ w e. record {
         named = on.plain.0;
@@ -192,15 +201,17 @@ module _ (home : ℕ → ℕ) (observer : ℕ → Bool) (other : Around home) (v
         deep = on_deep (v.up l.object) l.rest view.deep;
         plain = on.plain.1;
         older = λ is. absurd (true_false (observer b) observes is);
-        lent = subst (λ z. HasLoan z b (effect act facts) (name_of (v.loan l.object))) (sym observes)
-            (loan.0, kept_fact act facts (Lent Observed loan.0 (name_of (v.loan l.object))) loan.1 refl);
+        lent = subst (λ z. HasLoan observer z b (effect act facts) (name_of (v.loan l.object))) (sym observes)
+            (loan.0, kept_fact act facts (Lent Observed loan.0 (name_of (v.loan l.object))) loan.1 refl, loan.2);
         reaches = (designates w e).1;
       })
 
   -- no name that is rooted in an object that is reborrowed was moved, or is lent
-  pub reborrow_unused : (b : ℕ) (m : Name) → Allows facts (Reborrow b m) → Unused v facts b
+  pub reborrow_unused : (b : ℕ) (m : Name) → Allows facts (Reborrow b m) → Unused other.lent v facts b
   reborrow_unused b m allowed = record {
     unmoved = λ n has e. refused (moved_or_lent (object b) (Moved n)) O7 (object b) (Moved n) (whole n b e) (allowed (Moved n) has);
+    unlent = λ l n lent e.
+        refused (moved_or_lent (object b) (Lent l n.root n)) O7 (object b) (Lent l n.root n) (whole n b e) (allowed (Lent l n.root n) (viewed.lends l n lent).has);
     untaken = λ x w has off e. (let view = viewed.views x w has in
         not_lent (observer x) x (v.loan x) (sym (longer (v.loan x) (v.up x) view.begins).root ∙ e) view.lent);
   }
@@ -212,8 +223,8 @@ module _ (home : ℕ → ℕ) (observer : ℕ → Bool) (other : Around home) (v
           nothing [] = refl
           nothing (s ∷ k) = refl
 
-      not_lent : (seen : Bool) (x : ℕ) (loan : Way) → number_of loan ≡ b → HasLoan seen x facts (name_of loan) → ⊥
-      not_lent true x loan e (h, has) =
+      not_lent : (seen : Bool) (x : ℕ) (loan : Way) → number_of loan ≡ b → HasLoan observer seen x facts (name_of loan) → ⊥
+      not_lent true x loan e (h, has, sees) =
           refused (moved_or_lent (object b) (Lent Observed h (name_of loan))) O7 (object b) (Lent Observed h (name_of loan)) (whole (name_of loan) b e)
           (allowed (Lent Observed h (name_of loan)) has)
       not_lent false x loan e has =
@@ -229,10 +240,10 @@ module _ (home : ℕ → ℕ) (observer : ℕ → Bool) (other : Around home) (v
       let view = viewed.views l.object l.way l.has in
       let on = next home observer v s facts viewed.views (All u) l named in
       let is : observer l.object ≡ false = ap observer same ∙ borrows in
-      let loan = subst (λ z. HasLoan z l.object facts (name_of (v.loan l.object))) is view.lent in
+      let loan = subst (λ z. HasLoan observer z l.object facts (name_of (v.loan l.object))) is view.lent in
       rebound home observer other v t b o (v.loan l.object) (next_of v (All u) l) n becomes s facts (effect act facts) viewed
       (reborrow_unused b (name_of u) allowed)
-      (stays act (λ m. refl)) (λ seen x m. loan_kept act facts (λ k h z. refl) seen x m)
+      (stays act (λ m. refl)) (loan_kept act facts (λ k h z. refl))
       (clear_same observer facts viewed.clear act refl)
       (λ w e. record {
         named = on.plain.0;
@@ -241,16 +252,16 @@ module _ (home : ℕ → ℕ) (observer : ℕ → Bool) (other : Around home) (v
         deep = on_deep (v.up l.object) l.rest view.deep;
         plain = on.plain.1;
         older = λ z. subst (λ y. number_of (next_of v (All u) l) < y) same (on.less is);
-        lent = subst (λ z. HasLoan z b (effect act facts) (name_of (v.loan l.object))) (sym borrows)
+        lent = subst (λ z. HasLoan observer z b (effect act facts) (name_of (v.loan l.object))) (sym borrows)
             (subst (λ z. Has (effect act facts) (Lent Borrowed z (name_of (v.loan l.object)))) same
             (kept_fact act facts (Lent Borrowed l.object (name_of (v.loan l.object))) loan refl));
         reaches = (designates w e).1;
       })
 
   -- a view that no name is rooted in any more gives its way up
-  pub given_up : (b : ℕ) (loan up : Way) (n : ℕ) → Becomes v t b None loan up n → Unused v facts b → Viewed home observer other t s facts
+  pub given_up : (b : ℕ) (loan up : Way) (n : ℕ) → Becomes v t b None loan up n → Unused other.lent v facts b → Viewed home observer other t s facts
   given_up b loan up n becomes unused =
-      rebound home observer other v t b None loan up n becomes s facts facts viewed unused (λ m has. has) (λ seen x m has. has) viewed.clear
+      rebound home observer other v t b None loan up n becomes s facts facts viewed unused (λ m has. has) (λ l h m has. has) viewed.clear
       (λ w e. absurd (none_some w e))
     where
       none_some : (w : Way) → None ≡ Some w → ⊥

@@ -64,19 +64,40 @@ IsObject _ = ⊥
 abbrev pub IsMovedBy : (ℕ → ℕ) → Views → List Fact → Way → Type 0
 IsMovedBy home v facts w = (u : Way) × IsMoved home facts u × (expand v u ≡ w)
 
--- What concerns a frame of others: which ways are gone for them, and the ways of their views with
--- the cells that they lead to. These begin at variables of others.
+-- A way is, or goes on from, a place that is lent.
+abbrev pub IsThrough : (ℕ → ℕ) → (Loan → Name → Type 0) → Loan → Way → Type 0
+IsThrough home lent l w = (k : Way) × Named home k × Under k w × lent l (name_of k)
+
+-- What concerns a frame of others: which places that it may name are lent to them, which ways are
+-- gone for them, and those of them that go on from a place that they have borrowed, and the ways of
+-- their views with the cells that they lead to. These begin at variables of others, or go on from a
+-- place that is lent.
 pub record Around (home : ℕ → ℕ) : Type 1 where
+  pub lent : Loan → Name → Type 0
   pub gone : Way → Type 0
+  pub away : Way → Type 0
+  pub through : (w : Way) → away w → IsThrough home lent Borrowed w
   pub kept : Way → ℕ → Type 0
-  pub begins : (w : Way) (n : ℕ) → kept w n → (f : ℕ) × (x : ℕ) × (base_of w ≡ OfRoot (OfVariable f x)) × (f ≡ home x → ⊥)
+  pub begins : (w : Way) (n : ℕ) → kept w n
+      → (f : ℕ) × (x : ℕ) × (base_of w ≡ OfRoot (OfVariable f x)) × ((f ≡ home x → ⊥) ⊎ ((l : Loan) × IsThrough home lent l w))
 
 -- Others have no views.
 abbrev pub known_gone : (home : ℕ → ℕ) → (Way → Type 0) → Around home
-known_gone home gone = record { gone = gone; kept = λ w n. ⊥; begins = λ w n none. absurd none }
+known_gone home gone = record {
+  lent = λ l n. ⊥;
+  gone = gone;
+  away = λ w. ⊥;
+  through = λ w none. absurd none;
+  kept = λ w n. ⊥;
+  begins = λ w n none. absurd none;
+}
+
+-- A way is moved by a fact, or is gone for others that have borrowed the place that it goes on from.
+abbrev pub IsAway : (home : ℕ → ℕ) → Views → Around home → List Fact → Way → Type 0
+IsAway home v other facts w = IsMovedBy home v facts w ⊎ other.away w
 
 abbrev pub ExcusedBy : (home : ℕ → ℕ) → Views → Around home → List Fact → Way → Type 0
-ExcusedBy home v other facts w = IsMovedBy home v facts w ⊎ other.gone w
+ExcusedBy home v other facts w = IsAway home v other facts w ⊎ other.gone w
 
 -- What was moved isn't lent, what one object has borrowed is lent to no other one, and nothing is
 -- moved through an observer.
@@ -90,9 +111,9 @@ pub record AreClear (observer : ℕ → Bool) (facts : List Fact) : Type 0 where
 
 -- A borrower holds a loan of its own. An observer that observes what another one sees goes by a
 -- loan of that one.
-abbrev pub HasLoan : Bool → ℕ → List Fact → Name → Type 0
-HasLoan true x facts n = (h : ℕ) × Has facts (Lent Observed h n)
-HasLoan false x facts n = Has facts (Lent Borrowed x n)
+abbrev pub HasLoan : (ℕ → Bool) → Bool → ℕ → List Fact → Name → Type 0
+HasLoan observer true x facts n = (h : ℕ) × Has facts (Lent Observed h n) × (observer h ≡ true)
+HasLoan observer false x facts n = Has facts (Lent Borrowed x n)
 
 -- A view with a value and its way.
 pub record IsView (home : ℕ → ℕ) (observer : ℕ → Bool) (v : Views) (s : View) (facts : List Fact) (x : ℕ) (w : Way) : Type 0 where
@@ -102,20 +123,28 @@ pub record IsView (home : ℕ → ℕ) (observer : ℕ → Bool) (v : Views) (s 
   pub deep : IsObject (v.up x) → ⊥
   pub plain : observer (number_of (v.up x)) ≡ false
   pub older : observer x ≡ false → number_of (v.up x) < x
-  pub lent : HasLoan (observer x) x facts (name_of (v.loan x))
+  pub lent : HasLoan observer (observer x) x facts (name_of (v.loan x))
   pub reaches : Reaches s w (OfCell (v.cell x))
 
 abbrev pub AreViews : (ℕ → ℕ) → (ℕ → Bool) → Views → View → List Fact → Type 0
 AreViews home observer v s facts = (x : ℕ) (w : Way) → v.way x ≡ Some w → IsView home observer v s facts x w
 
--- The state is well owned, what ways find gone is known as moved, and each view with a value has
--- one way of owners to the cell that it holds. So have the views of others.
+-- A place that is lent to others is a part of an object that is no view. The facts know the loan as
+-- one of that object.
+pub record IsLentToOthers (observer : ℕ → Bool) (v : Views) (facts : List Fact) (l : Loan) (n : Name) : Type 0 where
+  pub has : Has facts (Lent l n.root n)
+  pub none : v.way n.root ≡ None
+  pub plain : observer n.root ≡ false
+
+-- The state is well owned, what ways find gone is known as moved or as lent to others, and each view
+-- with a value has one way of owners to the cell that it holds. So have the views of others.
 pub record Viewed (home : ℕ → ℕ) (observer : ℕ → Bool) (other : Around home) (v : Views) (s : View) (facts : List Fact) : Type 0 where
   pub owned : Owned s
   pub covered : Covered s
   pub known : Known s (ExcusedBy home v other facts)
   pub clear : AreClear observer facts
   pub views : AreViews home observer v s facts
+  pub lends : (l : Loan) (n : Name) → other.lent l n → IsLentToOthers observer v facts l n
   pub far : (w : Way) (n : ℕ) → other.kept w n → Reaches s w (OfCell n)
 
 -- ---- a view gets a value
@@ -139,7 +168,9 @@ with_view v b way loan up cell = record {
   cell = λ y. if y == b then cell else v.cell y;
 }
 
--- No name of a moved place is rooted in an object, and no other view was taken from it.
-pub record Unused (v : Views) (facts : List Fact) (b : ℕ) : Type 0 where
+-- No name of a moved place is rooted in an object, nor is a place that is lent to others, and no
+-- other view was taken from it.
+pub record Unused (lent : Loan → Name → Type 0) (v : Views) (facts : List Fact) (b : ℕ) : Type 0 where
   pub unmoved : (n : Name) → Has facts (Moved n) → n.root ≡ b → ⊥
+  pub unlent : (l : Loan) (n : Name) → lent l n → n.root ≡ b → ⊥
   pub untaken : (x : ℕ) (w : Way) → v.way x ≡ Some w → (x ≡ b → ⊥) → number_of (v.up x) ≡ b → ⊥

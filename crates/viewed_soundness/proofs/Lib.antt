@@ -6,3 +6,4 @@ pub mod Stored
 pub mod Viewing
 pub mod Sources
 pub mod Outcomes
+pub mod Lends

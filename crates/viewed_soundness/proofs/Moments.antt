@@ -29,7 +29,7 @@ use Rattle.soundness.proofs.Ends.{drops, new_other}
 use Rattle.soundness.proofs.Moments.{number_part}
 use Rattle.owned_loans.specs.Views.{Around, Views, expand, ExcusedBy, Viewed}
 use Rattle.owned_loans.proofs.Meeting.{IsPlain}
-use Rattle.owned_loans.proofs.Safe.{clean_below}
+use Rattle.owned_loans.proofs.Others.{clean_away}
 use Rattle.owned_loans.proofs.Allowed.{move_unlent, move_unmoved}
 use Rattle.owned_loans.proofs.Moves.{IsPlace, named_way, view_named, view_on, all_known, no_hand, taken, put}
 use Rattle.owned_loans.proofs.Ended.{Leaves, ended}
@@ -83,6 +83,7 @@ module _ (home : ℕ → ℕ) (observer : ℕ → Bool) (other : Around home) (v
     covered = sound.covered;
     known = all_known home observer other v t facts sound.known;
     clear = viewed.clear;
+    lends = viewed.lends;
     views = λ x w has. (let view = viewed.views x w has in
         view_on home observer other v s t facts facts x w view (λ seen n loan. loan)
         (still_reaches home s t viewed.owned same w (OfCell (v.cell x)) (view_named home observer other v s facts viewed.views x w has) view.reaches));
@@ -230,7 +231,7 @@ module _ (s : Typing) (settled : IsSettled s.table) (home : ℕ → ℕ) (observ
 
           clean : ExcusedBy home v other facts (along (expand v u) p) → ⊥
           clean (inl moved) =
-              clean_below home observer v (seen s m rest leaks) facts viewed.views viewed.clear u (along (expand v u) p) name
+              clean_away home observer other v (seen s m rest leaks) facts viewed u (along (expand v u) p) name
               (λ h n. move_unlent facts u (parts s.table k.of) allowed Borrowed h n) (move_unmoved facts u (parts s.table k.of) allowed)
               (under_along (expand v u) (expand v u) p (under_itself (expand v u))) moved
           clean (inr o) = spares (along (expand v u) p) (under_along (expand v u) (expand v u) p (under_itself (expand v u))) o

@@ -23,7 +23,8 @@ use Rattle.soundness.proofs.Scalars.{number_along, named_along}
 use Rattle.owned_loans.specs.Views.{Around, Go, Part, Down, go, Views, way_at, expand_root, expand, IsObject, ExcusedBy, Viewed}
 use Rattle.owned_loans.proofs.Ways.{expand_go, Lifted, further, lifted_root, next_of}
 use Rattle.owned_loans.proofs.Meeting.{IsPlain, next}
-use Rattle.owned_loans.proofs.Safe.{Open, open_way, seen_way}
+use Rattle.owned_loans.proofs.Safe.{Open}
+use Rattle.owned_loans.proofs.Others.{open_away, seen_away}
 use Rattle.owned_loans.proofs.Moves.{IsPlace, named_way, view_named}
 use Rattle.owned_loans.proofs.Ended.{stands_itself}
 use Rattle.viewed_soundness.specs.Holds.{IsNamed, PartsAreNamed, Holds}
@@ -213,7 +214,7 @@ module _ (h : Here) (settled : IsSettled h.typing.table) (hands : List Waiting) 
       (starts_leads s.table (object_at s x).of t way (plain_named s.table (object_at s x).of plain) starts)
       (λ w past moved. elim moved [
         | inr o ↦ alone w (past_near h.frame w u past (named_near s h.frame u named)) o
-        | inl by ↦ open_way (home s h.frame) (is_observer s) v view_here facts viewed.views viewed.clear u w name (opens seen_not)
+        | inl by ↦ open_away (home s h.frame) (is_observer s) other v view_here facts viewed u w name (opens seen_not)
             (subst (Past w) (sym itself) past) by
       ]))
     where
@@ -239,12 +240,12 @@ module _ (h : Here) (settled : IsSettled h.typing.table) (hands : List Waiting) 
       by_kind : (b : Bool) → is_observer s x ≡ b → Named (home s h.frame) (way_along rest (All (variable x)))
           → number_of (way_along rest (All (variable x))) ≡ x → Past z (expand v (way_along rest (All (variable x)))) → ⊥
       by_kind false e named root goes =
-          open_way (home s h.frame) (is_observer s) v view_here facts viewed.views viewed.clear (way_along rest (All (variable x))) z
+          open_away (home s h.frame) (is_observer s) other v view_here facts viewed (way_along rest (All (variable x))) z
           (named, ap (is_observer s) root ∙ e) (opens e) goes moved
       by_kind true e named root goes =
           let l : Lifted v (way_along rest (All (variable x))) = lifted_along v rest (All (variable x))
           (record { frame = home s h.frame x; object = x; rest = []; way = w; is = refl; has = has }) in
-          seen_way (home s h.frame) (is_observer s) v view_here facts viewed.views viewed.clear (way_along rest (All (variable x))) z l named
+          seen_away (home s h.frame) (is_observer s) other v view_here facts viewed (way_along rest (All (variable x))) z l named
           (ap (is_observer s) (sym (lifted_root v (way_along rest (All (variable x))) l) ∙ root) ∙ e) goes moved
 
   abbrev slot_of : ℕ → Slot

@@ -8,7 +8,7 @@ use Rattle.type_definitions.specs.declared.table.Shape.TheVariants as shape
 use Rattle.type_definitions.specs.Types.{shape_of, view_of as view_of_shape}
 use Rattle.typed_tree.specs.Trees.{TypedTree, Name}
 use Rattle.flow_paths.specs.Objects.{Typing, object_at, is_anonymous, is_observer, view_of}
-use Rattle.flow_paths.specs.Names.{has_call, name_of}
+use Rattle.flow_paths.specs.Names.{has_call, waiting, name_of}
 use Rattle.flow_paths.specs.Acts.{acts_in}
 use Rattle.machine.specs.Words as machine
 use Rattle.machine.specs.Memory.{Slot, Memory, Place, no_slot, slots_at, variable_slots, words_of}
@@ -27,16 +27,17 @@ use Rattle.soundness.proofs.Near.{named_near}
 use Rattle.soundness.proofs.Walks.{way_along, Walked, one_slot, cell_spot}
 use Rattle.soundness.proofs.Scalars.{acts, number_along, named_along}
 use Rattle.soundness.proofs.Stays.{Quiet, quiet_then}
+use Rattle.soundness.proofs.Taking.{Takes, no_takes}
 use Rattle.owned_loans.specs.Views.{Around, Down, Views, expand, ExcusedBy, Viewed}
 use Rattle.owned_loans.proofs.Ways.{Lifted, next_of, further, lifted_root}
 use Rattle.owned_loans.proofs.Meeting.{next}
-use Rattle.owned_loans.proofs.Safe.{clean_below, seen_below}
+use Rattle.owned_loans.proofs.Others.{clean_away, seen_away_below}
 use Rattle.owned_loans.proofs.Allowed.{Cleared, cleared_open}
 use Rattle.owned_loans.proofs.Moves.{named_way}
 use Rattle.viewed_soundness.specs.Holds.{IsNamed, PartsAreNamed, Holds}
 use Rattle.viewed_soundness.proofs.Names.{Starts, starts_named, is_place, plain_observer, IsRaised, name_lifted}
 use Rattle.viewed_soundness.proofs.Names as names
-use Rattle.viewed_soundness.proofs.Stays.{Goes, steps_quiet}
+use Rattle.viewed_soundness.proofs.Stays.{Goes, steps_taking}
 use Rattle.viewed_soundness.proofs.Viewing.{IsDesignated, owner_designates, view_designates}
 
 -- the type of a view
@@ -60,8 +61,8 @@ module _ (h : Here) (settled : IsSettled h.typing.table) (hands : List Waiting) 
   abbrev view_here : View
   view_here = seen h.typing m hands leaks
 
-  abbrev at : Now
-  at = record { memory = m; waits = waits }
+  abbrev at : List (List machine.Word) → Now
+  at ws = record { memory = m; waits = ws }
 
   abbrev variable : ℕ → Way
   variable x = Object (OfVariable (home h.typing h.frame x) x)
@@ -99,32 +100,32 @@ module _ (h : Here) (settled : IsSettled h.typing.table) (hands : List Waiting) 
     where
       by_kind : (b : Bool) → is_observer s x ≡ b → ⊥
       by_kind false e =
-          clean_below (home s h.frame) (is_observer s) v view_here facts viewed.views viewed.clear u (expand v u) (named, ap (is_observer s) root ∙ e)
+          clean_away (home s h.frame) (is_observer s) other v view_here facts viewed u (expand v u) (named, ap (is_observer s) root ∙ e)
           (clears e).0 (clears e).1 (under_itself (expand v u)) moved
       by_kind true e =
           let l = lifted e in
-          seen_below (home s h.frame) (is_observer s) v view_here facts viewed.views viewed.clear u (expand v u) l named
+          seen_away_below (home s h.frame) (is_observer s) other v view_here facts viewed u (expand v u) l named
           (ap (is_observer s) (sym (lifted_root v u l) ∙ root) ∙ e) (under_itself (expand v u)) moved
 
   -- a name of a named access type
-  owner_shows : (y t d : ℕ) (c : Bool) (way : List run.Step) → Starts s.table (object_at s y).of way t → shape_of s.table t ≡ shape.Access d c true
+  owner_shows : (on : List (List machine.Word)) (y t d : ℕ) (c : Bool) (way : List run.Step) → Starts s.table (object_at s y).of way t → shape_of s.table t ≡ shape.Access d c true
       → (ExcusedBy (home s h.frame) v other facts (expand v (way_along way (variable y))) → ⊥)
       → IsRooted (expand v (way_along way (variable y)))
       → (is_anonymous (view_of s y) ≡ true → (l : Lifted v (way_along way (variable y))) × (l.object ≡ y))
-      → (x : Evaluated Place) → Walked s settled hands leaks m waits (expand v (way_along way (variable y))) t x
-      → Quiet at (Shows y d (way_along way (variable y))) (followed_by x (held_or_taken h AsView))
-  owner_shows y t d c way starts is clean rooted lifts (Done k n) (l, same, spot, reaches, of) =
+      → (x : Evaluated Place) → Walked s settled hands leaks m on (expand v (way_along way (variable y))) t x
+      → Quiet (at on) (Shows y d (way_along way (variable y))) (followed_by x (held_or_taken h AsView))
+  owner_shows on y t d c way starts is clean rooted lifts (Done k n) (l, same, spot, reaches, of) =
       let access : shape_of s.table k.of ≡ shape.Access d c true = ap (shape_of s.table) of ∙ is in
       let named : IsNamed s.table t = (λ e b q shape_is. named_is d e c b q (sym is ∙ shape_is)) in
       let moved : Way → Type 0 = ExcusedBy (home s h.frame) v other facts in
-      let slots = one_slot s settled hands leaks m waits moved kept viewed.owned viewed.known live k l d c spot access in (
+      let slots = one_slot s settled hands leaks m on moved kept viewed.owned viewed.known live k l d c spot access in (
         same,
         record {
           word = (get_or (slots_at s m k.base) k.at no_slot).word;
           is = ap (λ (z : Now). words_of s z.memory k) same ∙ ap (map (λ (z : Slot). z.word)) slots;
-          designated = owner_designates h settled hands leaks m waits other facts v kept viewed holds live (way_along way (variable y)) k l d c spot rooted reaches
+          designated = owner_designates h settled hands leaks m on other facts v kept viewed holds live (way_along way (variable y)) k l d c spot rooted reaches
               (is_place s v (home s h.frame y) y t way starts named holds.only) access clean;
-          typed = λ q e. (let cell = cell_spot s settled hands leaks m waits moved kept viewed.owned viewed.known live k l d c q spot access e in
+          typed = λ q e. (let cell = cell_spot s settled hands leaks m on moved kept viewed.owned viewed.known live k l d c q spot access e in
               (cell.made.0, cell.made.1, cell.of));
           lifted = λ view q e. (let l = lifts view in (further v Down (way_along way (variable y)) l.0, l.1));
         },
@@ -132,19 +133,19 @@ module _ (h : Here) (settled : IsSettled h.typing.table) (hands : List Waiting) 
     where
       named_is : (d e : ℕ) (c b q : Bool) → shape.Access d c true ≡ shape.Access e b q → q ≡ true
       named_is d e c b q z = cc
-  owner_shows y t d c way starts is clean rooted lifts (Raises e n) same = same
-  owner_shows y t d c way starts is clean rooted lifts (Traps e n) none = none
+  owner_shows on y t d c way starts is clean rooted lifts (Raises e n) same = same
+  owner_shows on y t d c way starts is clean rooted lifts (Traps e n) none = none
 
   -- a view itself
-  view_shows : (y d : ℕ) (c : Bool) → shape_of s.table (object_at s y).of ≡ shape.Access d c false
-      → Quiet at (Shows y d (variable y)) (followed_by (walked s [] (variable_place h y) at) (held_or_taken h AsView))
-  view_shows y d c is =
+  view_shows : (on : List (List machine.Word)) (y d : ℕ) (c : Bool) → shape_of s.table (object_at s y).of ≡ shape.Access d c false
+      → Quiet (at on) (Shows y d (variable y)) (followed_by (walked s [] (variable_place h y) (at on)) (held_or_taken h AsView))
+  view_shows on y d c is =
       let view : is_anonymous (view_of s y) ≡ true = ap (λ z. is_anonymous (view_of_shape z)) is ∙ anonymous_access c in (
         refl,
         record {
           word = (get_or (variable_slots s (home s h.frame y) y m.variables) 0 no_slot).word;
-          is = names.one_slot h settled hands leaks m waits other facts v kept viewed holds alone live y d c false is;
-          designated = view_designates h settled hands leaks m waits other facts v kept viewed holds live y view;
+          is = names.one_slot h settled hands leaks m on other facts v kept viewed holds alone live y d c false is;
+          designated = view_designates h settled hands leaks m on other facts v kept viewed holds live y view;
           typed = λ k e. kept.points (OfRoot (OfVariable (home s h.frame y) y)) [] d c false k refl is e;
           lifted = λ any k e. (let own = holds.held y k view e in
               (record { frame = home s h.frame y; object = y; rest = []; way = own.0; is = refl; has = own.1 }, refl));
@@ -152,26 +153,26 @@ module _ (h : Here) (settled : IsSettled h.typing.table) (hands : List Waiting) 
       )
 
   -- through an observer without a value nothing is found
-  by_way : (y t d : ℕ) (c n : Bool) (way : List run.Step) → Starts s.table (object_at s y).of way t → shape_of s.table t ≡ shape.Access d c n
+  by_way : (on : List (List machine.Word)) (y t d : ℕ) (c n : Bool) (way : List run.Step) → Starts s.table (object_at s y).of way t → shape_of s.table t ≡ shape.Access d c n
       → Clears y (way_along way (variable y))
-      → Walked s settled hands leaks m waits (expand v (way_along way (variable y))) t (walked s way (variable_place h y) at)
-      → Quiet at (Shows y d (way_along way (variable y))) (followed_by (walked s way (variable_place h y) at) (held_or_taken h AsView))
-  by_way y t d c true way starts is clears there =
+      → Walked s settled hands leaks m on (expand v (way_along way (variable y))) t (walked s way (variable_place h y) (at on))
+      → Quiet (at on) (Shows y d (way_along way (variable y))) (followed_by (walked s way (variable_place h y) (at on)) (held_or_taken h AsView))
+  by_way on y t d c true way starts is clears there =
       let u : Way = way_along way (variable y) in
       let named : Named (home s h.frame) u = named_along (home s h.frame) way (variable y) refl in
       let root : number_of u ≡ y = number_along way (variable y) in
-      elim (name_lifted h settled hands leaks m waits other facts v kept viewed holds alone live y t way (λ e b q shape_is. named_is d e c b q (sym is ∙ shape_is)) starts) [
-        | inl plain ↦ owner_shows y t d c way starts is
+      elim (name_lifted h settled hands leaks m on other facts v kept viewed holds alone live y t way (λ e b q shape_is. named_is d e c b q (sym is ∙ shape_is)) starts) [
+        | inl plain ↦ owner_shows on y t d c way starts is
             (λ moved. unmoved y u named root (λ e. absurd (true_false (is_observer s y) e (plain_observer s y plain))) clears moved)
             (named_rooted (home s h.frame) (expand v u)
             (named_way (home s h.frame) (is_observer s) other v view_here facts viewed.views (suc (number_of u)) u (omega arith)
             (named, ap (is_observer s) root ∙ plain_observer s y plain)))
             (λ e. absurd (true_false (is_anonymous (view_of s y)) e plain))
-            (walked s way (variable_place h y) at) there
+            (walked s way (variable_place h y) (at on)) there
         | inr more ↦ elim more [
-          | inl lifted ↦ owner_shows y t d c way starts is (λ moved. unmoved y u named root (λ e. lifted.0) clears moved) lifted.2
-              (λ e. (lifted.0, lifted.1)) (walked s way (variable_place h y) at) there
-          | inr raises ↦ raised (walked s way (variable_place h y) at) raises
+          | inl lifted ↦ owner_shows on y t d c way starts is (λ moved. unmoved y u named root (λ e. lifted.0) clears moved) lifted.2
+              (λ e. (lifted.0, lifted.1)) (walked s way (variable_place h y) (at on)) there
+          | inr raises ↦ raised (walked s way (variable_place h y) (at on)) raises
         ]
       ]
     where
@@ -181,37 +182,43 @@ module _ (h : Here) (settled : IsSettled h.typing.table) (hands : List Waiting) 
       named_is : (d e : ℕ) (c b q : Bool) → shape.Access d c true ≡ shape.Access e b q → q ≡ true
       named_is d e c b q z = cc
 
-      raised : (x : Evaluated Place) → IsRaised h settled hands leaks m waits other facts v kept viewed holds alone live m x → Quiet at (Shows y d (way_along way (variable y))) (followed_by x (held_or_taken h AsView))
+      raised : (x : Evaluated Place) → IsRaised h settled hands leaks m on other facts v kept viewed holds alone live m x → Quiet (at on) (Shows y d (way_along way (variable y))) (followed_by x (held_or_taken h AsView))
       raised (Raises e n) same = same
       raised (Done k n) none = absurd none
       raised (Traps e n) none = absurd none
-  by_way y t d c false [] starts is clears there = view_shows y d c (ap (shape_of s.table) starts ∙ is)
-  by_way y t d c false (step ∷ rest) starts is clears there =
+  by_way on y t d c false [] starts is clears there = view_shows on y d c (ap (shape_of s.table) starts ∙ is)
+  by_way on y t d c false (step ∷ rest) starts is clears there =
       (let no : false ≡ true = starts_named s.table parts_named (object_at s y).of t step rest starts d c false is in cc)
 
-  -- the source of a view: nothing changes, and it has null, or the number of the cell that its name
-  -- designates
-  pub source_quiet : (p : Pos) (y t d : ℕ) (c n : Bool) (steps : TypedTree) → Leads s (object_at s y).of steps t → shape_of s.table t ≡ shape.Access d c n
-      → has_call steps ≡ false → AllowsAll facts (acts (acts_in s steps))
+  -- the source of a view: nothing changes but what waits, and it has null, or the number of the cell
+  -- that its name designates
+  pub source_on : (before on : List (List machine.Word)) (p : Pos) (y t d : ℕ) (c n : Bool) (steps : TypedTree) → Leads s (object_at s y).of steps t
+      → shape_of s.table t ≡ shape.Access d c n → Takes (waiting steps) before on → AllowsAll facts (acts (acts_in s steps))
       → ((u : Way) → ways.name_of u ≡ name_of y steps → Clears y u)
-      → Quiet at (λ ws. (u : Way) × Named (home s h.frame) u × (ways.name_of u ≡ name_of y steps) × Shows y d u ws) (evaluate h AsView (Name p y steps t) at)
+      → Quiet (at on) (λ ws. (u : Way) × Named (home s h.frame) u × (ways.name_of u ≡ name_of y steps) × Shows y d u ws) (evaluate h AsView (Name p y steps t) (at before))
   unfolding evaluate
-  source_quiet p y t d c n steps lead is calls allowed clears =
-      quiet_then at (λ way. Goes s.table (object_at s y).of t steps way)
-      (λ ws. (u : Way) × Named (home s h.frame) u × (ways.name_of u ≡ name_of y steps) × Shows y d u ws) (steps_of h steps at)
+  source_on before on p y t d c n steps lead is takes allowed clears =
+      quiet_then (at on) (λ way. Goes s.table (object_at s y).of t steps way)
+      (λ ws. (u : Way) × Named (home s h.frame) u × (ways.name_of u ≡ name_of y steps) × Shows y d u ws) (steps_of h steps (at before))
       (λ way now. followed_by (walked s way (variable_place h y) now) (held_or_taken h AsView))
-      (steps_quiet h settled hands leaks m waits other facts v kept viewed holds alone live index_law own_law parts_named (object_at s y).of t steps lead calls allowed).0
+      (steps_taking h settled hands leaks m waits other facts v kept viewed holds alone live index_law own_law parts_named (object_at s y).of t steps lead before on takes allowed).0
       (λ way goes. (
       let u : Way = way_along way (variable y) in
       let called : ways.name_of u ≡ name_of y steps = (λ j. record { root = number_along way (variable y) j; sels = goes.sels (variable y) j }) in
       let named : Named (home s h.frame) u = named_along (home s h.frame) way (variable y) refl in
-      with_name y d u (name_of y steps) named called (followed_by (walked s way (variable_place h y) at) (held_or_taken h AsView))
-      (by_way y t d c n way goes.lead is (clears u called)
-      (names.name_walked h settled hands leaks m waits other facts v kept viewed holds alone live y t way goes.lead
+      with_name y d u (name_of y steps) named called (followed_by (walked s way (variable_place h y) (at on)) (held_or_taken h AsView))
+      (by_way on y t d c n way goes.lead is (clears u called)
+      (names.name_walked h settled hands leaks m on other facts v kept viewed holds alone live y t way goes.lead
       (λ e. cleared_open facts u (clears u called e))))))
     where
-      with_name : (y d : ℕ) (u : Way) (name : PlaceName) → Named (home s h.frame) u → ways.name_of u ≡ name → (x : Evaluated (List machine.Word)) → Quiet at (Shows y d u) x
-          → Quiet at (λ ws. (u : Way) × Named (home s h.frame) u × (ways.name_of u ≡ name) × Shows y d u ws) x
+      with_name : (y d : ℕ) (u : Way) (name : PlaceName) → Named (home s h.frame) u → ways.name_of u ≡ name → (x : Evaluated (List machine.Word)) → Quiet (at on) (Shows y d u) x
+          → Quiet (at on) (λ ws. (u : Way) × Named (home s h.frame) u × (ways.name_of u ≡ name) × Shows y d u ws) x
       with_name y d u name named called (Done ws n) (same, shows) = (same, (u, named, called, shows))
       with_name y d u name named called (Raises e n) same = same
       with_name y d u name named called (Traps e n) none = none
+
+  pub source_quiet : (p : Pos) (y t d : ℕ) (c n : Bool) (steps : TypedTree) → Leads s (object_at s y).of steps t → shape_of s.table t ≡ shape.Access d c n
+      → has_call steps ≡ false → AllowsAll facts (acts (acts_in s steps))
+      → ((u : Way) → ways.name_of u ≡ name_of y steps → Clears y u)
+      → Quiet (at waits) (λ ws. (u : Way) × Named (home s h.frame) u × (ways.name_of u ≡ name_of y steps) × Shows y d u ws) (evaluate h AsView (Name p y steps t) (at waits))
+  source_quiet p y t d c n steps lead is calls allowed clears = source_on waits waits p y t d c n steps lead is (no_takes steps calls waits) allowed clears

@@ -9,7 +9,7 @@ use Rattle.place_names.specs.Facts.{effect}
 use Rattle.type_definitions.specs.Types.{shape_of, words}
 use Rattle.typed_tree.specs.Trees.{TypedTree, Name}
 use Rattle.flow_paths.specs.Objects.{object_at, is_observer, is_anonymous, view_of}
-use Rattle.flow_paths.specs.Names.{has_call, name_of}
+use Rattle.flow_paths.specs.Names.{has_call, waiting, name_of}
 use Rattle.flow_paths.specs.Acts.{acts_in, stored_acts}
 use Rattle.machine.specs.Words as machine
 use Rattle.machine.specs.Memory.{Memory, Base, Place, fresh, no_slot, slots_at, variable_slots, stored}
@@ -30,6 +30,7 @@ use Rattle.soundness.proofs.Near.{near_under}
 use Rattle.soundness.proofs.Walks.{way_along, Walked}
 use Rattle.soundness.proofs.Scalars.{after_append, allows_both, acts, acts_append, number_along, named_along}
 use Rattle.soundness.proofs.Stays.{Quiet}
+use Rattle.soundness.proofs.Taking.{Takes, no_takes, TakesPlainly}
 use Rattle.soundness.proofs.Lasting.{put_away}
 use Rattle.soundness.proofs.Evaluated.{regrouped, Keeps}
 use Rattle.soundness.proofs.Memories.{put_other}
@@ -39,9 +40,9 @@ use Rattle.owned_loans.proofs.Allowed.{write_open}
 use Rattle.owned_loans.proofs.Moves.{named_way}
 use Rattle.viewed_soundness.specs.Holds.{IsNamed, PartsAreNamed, Holds, AllKeep}
 use Rattle.viewed_soundness.proofs.Names.{view_access, not_view, is_place}
-use Rattle.viewed_soundness.proofs.Stays.{Goes, steps_quiet, name_quiet}
+use Rattle.viewed_soundness.proofs.Stays.{Goes, steps_taking, name_on}
 use Rattle.viewed_soundness.proofs.Moments.{stored_viewed}
-use Rattle.viewed_soundness.proofs.Evaluated.{keep_both, matches_named, Ready, Given, live_trunk, checked_given, evaluated}
+use Rattle.viewed_soundness.proofs.Evaluated.{keep_both, matches_named, Ready, GivenOn, live_trunk, checked_on, evaluated_on}
 
 other_base : (f x g y : ℕ) → OfVariable f x ≡ OfVariable g y → memory.OfVariable f x ≡ memory.OfVariable g y
 other_base f x g y e = (let a : f ≡ g = cc in let b : x ≡ y = cc in cc)
@@ -93,13 +94,13 @@ module _ (h : Here) (settled : IsSettled h.typing.table) (leaks : List Leak) (wa
           (take k.at (slots_at h.typing m k.base) ++ fresh ws ++ drop (k.at + length (fresh ws)) (slots_at h.typing m k.base)) m.variables
 
   -- the place is found, with the value in hand
-  found : (m : Memory) (hands : List Waiting) (facts : List Fact) (x t : ℕ) (steps : TypedTree) (ws : List machine.Word)
+  found : (on : List (List machine.Word)) (m : Memory) (hands : List Waiting) (facts : List Fact) (x t : ℕ) (steps : TypedTree) (ws : List machine.Word)
       → Ready h settled leaks waits other alone keeps no_formals index_law own_law v parts_named m (record { of = t; words = ws } ∷ hands) facts
       → length ws ≡ words h.typing.table t → IsNamed h.typing.table t → is_observer h.typing x ≡ false
       → (way : List run.Step) → Goes h.typing.table (object_at h.typing x).of t steps way → Allows facts (act.Write (name_of x steps))
-      → (y : Evaluated Place) → Walked h.typing settled (record { of = t; words = ws } ∷ hands) leaks m waits (expand v (way_along way (Object (OfVariable (home h.typing h.frame x) x)))) t y
+      → (y : Evaluated Place) → Walked h.typing settled (record { of = t; words = ws } ∷ hands) leaks m on (expand v (way_along way (Object (OfVariable (home h.typing h.frame x) x)))) t y
       → Assigns hands (effect (act.Write (name_of x steps)) facts) (followed_by y (λ k now. Done (record { words = ws; place = k }) now))
-  found m hands facts x t steps ws ready long own plain way goes allowed (Done k n) (l, same, spot, reaches, of) = (
+  found on m hands facts x t steps ws ready long own plain way goes allowed (Done k n) (l, same, spot, reaches, of) = (
     λ pos. (
         let w : Way = way_along way (Object (OfVariable (home h.typing h.frame x) x)) in
         let named : Named (home h.typing h.frame) w = named_along (home h.typing h.frame) way (Object (OfVariable (home h.typing h.frame x) x)) refl in
@@ -125,8 +126,8 @@ module _ (h : Here) (settled : IsSettled h.typing.table) (leaks : List Leak) (wa
     subst (λ z. Holds h.typing h.frame v (stored h.typing k ws z.memory)) (sym same)
         (holds_stored m k ws (no_view_place m (record { of = t; words = ws } ∷ hands) t k l own of spot) ready.holds),
   )
-  found m hands facts x t steps ws ready long own plain way goes allowed (Raises e n) is = tt
-  found m hands facts x t steps ws ready long own plain way goes allowed (Traps e n) none = none
+  found on m hands facts x t steps ws ready long own plain way goes allowed (Raises e n) is = tt
+  found on m hands facts x t steps ws ready long own plain way goes allowed (Traps e n) none = none
 
   then_found : {A : Type 0} (now : Now) (P : A → Type 0) (hands : List Waiting) (facts : List Fact) (y : Evaluated A) (f : A → Now → Evaluated Stored)
       → Quiet now P y → ((a : A) → P a → Assigns hands facts (f a now)) → Assigns hands facts (followed_by y f)
@@ -135,19 +136,19 @@ module _ (h : Here) (settled : IsSettled h.typing.table) (leaks : List Leak) (wa
   then_found now P hands facts (Traps t n) f none next = none
 
   -- the value is there
-  then_placed : (p : Pos) (x t : ℕ) (steps : TypedTree) (hands : List Waiting) (facts : List Fact) → IsNamed h.typing.table t → is_observer h.typing x ≡ false
-      → Leads h.typing (object_at h.typing x).of steps t
-      → has_call steps ≡ false → AllowsAll facts (acts (acts_in h.typing steps) ++ act.Write (name_of x steps) ∷ []) → (y : Evaluated (List machine.Word))
-      → Given h settled leaks waits other alone keeps no_formals index_law own_law v parts_named t hands facts y
+  then_placed : (mid on : List (List machine.Word)) (p : Pos) (x t : ℕ) (steps : TypedTree) (hands : List Waiting) (facts : List Fact) → IsNamed h.typing.table t
+      → is_observer h.typing x ≡ false → Leads h.typing (object_at h.typing x).of steps t
+      → Takes (waiting steps) mid on → AllowsAll facts (acts (acts_in h.typing steps) ++ act.Write (name_of x steps) ∷ []) → (y : Evaluated (List machine.Word))
+      → GivenOn h settled leaks waits other alone keeps no_formals index_law own_law v parts_named mid t hands facts y
       → Assigns hands (effect (act.Write (name_of x steps)) (after (acts (acts_in h.typing steps)) facts))
       (followed_by y (λ ws now. followed_by (place_of h (Name p x steps t) now) (λ k now. Done (record { words = ws; place = k }) now)))
-  then_placed p x t steps hands facts own plain lead calls allowed (Done ws n) (ready, long, same) =
-      let now : Now = record { memory = n.memory; waits = waits } in
+  then_placed mid on p x t steps hands facts own plain lead takes allowed (Done ws n) (ready, long, same) =
+      let now : Now = record { memory = n.memory; waits = mid } in
       let got : Waiting = record { of = t; words = ws } in
       let each = allows_both facts (acts (acts_in h.typing steps)) (act.Write (name_of x steps) ∷ []) allowed in
       let live = live_trunk h settled leaks waits other alone keeps no_formals index_law own_law v parts_named n.memory (got ∷ hands) ready.viewed.owned in
-      let inner = steps_quiet h settled (got ∷ hands) leaks n.memory waits other facts v ready.kept ready.viewed ready.holds alone live index_law own_law parts_named
-      (object_at h.typing x).of t steps lead calls each.0 in
+      let inner = steps_taking h settled (got ∷ hands) leaks n.memory waits other facts v ready.kept ready.viewed ready.holds alone live index_law own_law parts_named
+      (object_at h.typing x).of t steps lead mid on takes each.0 in
       let writes : Allows facts (act.Write (name_of x steps)) = subst (λ z. Allows z (act.Write (name_of x steps))) inner.1 each.1.0 in
       subst (λ z. Assigns hands (effect (act.Write (name_of x steps)) (after (acts (acts_in h.typing steps)) facts))
       (followed_by (place_of h (Name p x steps t) (record { memory = n.memory; waits = z })) (λ k now. Done (record { words = ws; place = k }) now))) (sym same)
@@ -155,23 +156,24 @@ module _ (h : Here) (settled : IsSettled h.typing.table) (leaks : List Leak) (wa
       (followed_by (place_of h (Name p x steps t) now) (λ k now. Done (record { words = ws; place = k }) now))) (sym inner.1)
       (subst (λ z. Assigns hands (effect (act.Write (name_of x steps)) facts) z)
       (sym (regrouped (steps_of h steps now) (λ way now. walked h.typing way (variable_place h x) now) (λ k now. Done (record { words = ws; place = k }) now)))
-      (then_found now (λ way. Goes h.typing.table (object_at h.typing x).of t steps way) hands (effect (act.Write (name_of x steps)) facts) (steps_of h steps now)
+      (then_found (record { memory = n.memory; waits = on }) (λ way. Goes h.typing.table (object_at h.typing x).of t steps way) hands (effect (act.Write (name_of x steps)) facts) (steps_of h steps now)
       (λ way now. followed_by (walked h.typing way (variable_place h x) now) (λ k now. Done (record { words = ws; place = k }) now)) inner.0
-      (λ way goes. found n.memory hands facts x t steps ws ready long own plain way goes writes (walked h.typing way (variable_place h x) now)
-      (name_quiet h settled (got ∷ hands) leaks n.memory waits other facts v ready.kept ready.viewed ready.holds alone live index_law own_law parts_named x steps t way goes
+      (λ way goes. found on n.memory hands facts x t steps ws ready long own plain way goes writes (walked h.typing way (variable_place h x) (record { memory = n.memory; waits = on }))
+      (name_on h settled (got ∷ hands) leaks n.memory waits other facts v ready.kept ready.viewed ready.holds alone live index_law own_law parts_named on x steps t way goes
       (λ w named same. write_open facts w (subst (λ z. Allows facts (act.Write z)) (sym same) writes)))))))
-  then_placed p x t steps hands facts own plain lead calls allowed (Raises e n) given = tt
-  then_placed p x t steps hands facts own plain lead calls allowed (Traps e n) none = none
+  then_placed mid on p x t steps hands facts own plain lead takes allowed (Raises e n) given = tt
+  then_placed mid on p x t steps hands facts own plain lead takes allowed (Traps e n) none = none
 
   -- k := e, for a target that isn't a borrower or observer
-  pub assigned : (p : Pos) (x t : ℕ) (steps e : TypedTree) → IsNamed h.typing.table t → Gives h.typing t e → Leads h.typing (object_at h.typing x).of steps t
-      → has_call e ≡ false → has_call steps ≡ false → (m : Memory) (hands : List Waiting) (facts : List Fact)
+  pub assigned_on : (before mid on : List (List machine.Word)) (p : Pos) (x t : ℕ) (steps e : TypedTree) → IsNamed h.typing.table t → Gives h.typing t e
+      → Leads h.typing (object_at h.typing x).of steps t
+      → TakesPlainly h.typing (has_call e) → Takes (waiting e) before mid → Takes (waiting steps) mid on → (m : Memory) (hands : List Waiting) (facts : List Fact)
       → Ready h settled leaks waits other alone keeps no_formals index_law own_law v parts_named m hands facts
       → AllowsAll facts (acts (stored_acts h.typing (Name p x steps t) e)) → AllKeep (is_observer h.typing) (acts (stored_acts h.typing (Name p x steps t) e))
       → Assigns hands (after (acts (stored_acts h.typing (Name p x steps t) e)) facts)
-      (followed_by (followed_by (evaluate h AsValue e (record { memory = m; waits = waits })) (checked h t))
+      (followed_by (followed_by (evaluate h AsValue e (record { memory = m; waits = before })) (checked h t))
       (λ ws now. followed_by (place_of h (Name p x steps t) now) (λ k now. Done (record { words = ws; place = k }) now)))
-  assigned p x t steps e own gives lead calls calls' m hands facts ready allowed keep =
+  assigned_on before mid on p x t steps e own gives lead calls takes takes' m hands facts ready allowed keep =
       let a : List Act = acts (acts_in h.typing e) in
       let b : List Act = acts (acts_in h.typing steps) in
       let whole : acts (stored_acts h.typing (Name p x steps t) e) ≡ a ++ (b ++ act.Write (name_of x steps) ∷ []) =
@@ -181,12 +183,22 @@ module _ (h : Here) (settled : IsSettled h.typing.table) (leaks : List Leak) (wa
       let each = allows_both facts a (b ++ act.Write (name_of x steps) ∷ []) (subst (AllowsAll facts) whole allowed) in
       let names = keep_both (is_observer h.typing) a (b ++ act.Write (name_of x steps) ∷ []) (subst (AllKeep (is_observer h.typing)) whole keep) in
       let last = keep_both (is_observer h.typing) b (act.Write (name_of x steps) ∷ []) names.1 in
-      let given = checked_given h settled leaks waits other alone keeps no_formals index_law own_law v parts_named t t hands (after a facts)
-      (evaluate h AsValue e (record { memory = m; waits = waits }))
-      (evaluated h settled leaks waits other alone keeps no_formals index_law own_law v parts_named e t gives calls m hands facts ready each.0 own names.0) in
+      let given = checked_on h settled leaks waits other alone keeps no_formals index_law own_law v parts_named mid t t hands (after a facts)
+      (evaluate h AsValue e (record { memory = m; waits = before }))
+      (evaluated_on h settled leaks waits other alone keeps no_formals index_law own_law v parts_named e t gives calls before mid takes m hands facts ready each.0 own names.0) in
       let behind : after (acts (stored_acts h.typing (Name p x steps t) e)) facts ≡ effect (act.Write (name_of x steps)) (after b (after a facts)) =
       ap (λ z. after z facts) whole ∙ after_append a (b ++ act.Write (name_of x steps) ∷ []) facts
       ∙ after_append b (act.Write (name_of x steps) ∷ []) (after a facts) in
-      subst (λ z. Assigns hands z (followed_by (followed_by (evaluate h AsValue e (record { memory = m; waits = waits })) (checked h t))
+      subst (λ z. Assigns hands z (followed_by (followed_by (evaluate h AsValue e (record { memory = m; waits = before })) (checked h t))
       (λ ws now. followed_by (place_of h (Name p x steps t) now) (λ k now. Done (record { words = ws; place = k }) now)))) (sym behind)
-      (then_placed p x t steps hands (after a facts) own last.1.0 lead calls' each.1 (followed_by (evaluate h AsValue e (record { memory = m; waits = waits })) (checked h t)) given)
+      (then_placed mid on p x t steps hands (after a facts) own last.1.0 lead takes' each.1 (followed_by (evaluate h AsValue e (record { memory = m; waits = before })) (checked h t)) given)
+
+  pub assigned : (p : Pos) (x t : ℕ) (steps e : TypedTree) → IsNamed h.typing.table t → Gives h.typing t e → Leads h.typing (object_at h.typing x).of steps t
+      → has_call e ≡ false → has_call steps ≡ false → (m : Memory) (hands : List Waiting) (facts : List Fact)
+      → Ready h settled leaks waits other alone keeps no_formals index_law own_law v parts_named m hands facts
+      → AllowsAll facts (acts (stored_acts h.typing (Name p x steps t) e)) → AllKeep (is_observer h.typing) (acts (stored_acts h.typing (Name p x steps t) e))
+      → Assigns hands (after (acts (stored_acts h.typing (Name p x steps t) e)) facts)
+      (followed_by (followed_by (evaluate h AsValue e (record { memory = m; waits = waits })) (checked h t))
+      (λ ws now. followed_by (place_of h (Name p x steps t) now) (λ k now. Done (record { words = ws; place = k }) now)))
+  assigned p x t steps e own gives lead calls calls' m hands facts ready allowed keep =
+      assigned_on waits waits waits p x t steps e own gives lead (inl calls) (no_takes e calls waits) (no_takes steps calls' waits) m hands facts ready allowed keep

@@ -25,8 +25,9 @@ use Rattle.soundness.proofs.Contents.{word_no}
 use Rattle.soundness.proofs.Joined.{trunk_trunk, not_inside}
 use Rattle.soundness.proofs.Memories.{put_same, put_other}
 use Rattle.soundness.proofs.Steps.{plain_end}
-use Rattle.owned_loans.specs.Views.{Around, Views, expand_root, expand, ExcusedBy, Viewed, Becomes, Unused, AreClear, HasLoan}
+use Rattle.owned_loans.specs.Views.{Around, Views, expand_root, expand, ExcusedBy, Viewed, Becomes, Unused, AreClear}
 use Rattle.owned_loans.proofs.Ways.{Lifted, next_of}
+use Rattle.owned_loans.proofs.Allowed.{LoansStay}
 use Rattle.owned_loans.proofs.Taken.{rebound, borrowed, observed, observed_again, reborrowed}
 use Rattle.owned_ways.proofs.Locations.{same_loc}
 use Rattle.owned_loans.proofs.Moves.{IsPlace, same_viewed}
@@ -261,7 +262,7 @@ module _ (s : Typing) (settled : IsSettled s.table) (frame : ℕ) (other : Aroun
     views_held = holds_declared s settled frame v t m x z w loan up mine view becomes holds;
   }
 
-  pub borrower_declared : (u : Way) → Becomes v t x (way_from z (expand v (All u))) u (All u) (number_in z) → Unused v facts x → is_observer s x ≡ false
+  pub borrower_declared : (u : Way) → Becomes v t x (way_from z (expand v (All u))) u (All u) (number_in z) → Unused other.lent v facts x → is_observer s x ≡ false
       → Named (home s frame) u → is_observer s (number_of u) ≡ false → number_of u < x → IsDesignated v (seen s m hands leaks) u z
       → Allows facts (Borrow x (name_of u)) → Became (effect (Borrow x (name_of u)) facts)
   borrower_declared u becomes unused borrows named plain older is allowed =
@@ -295,8 +296,8 @@ module _ (s : Typing) (settled : IsSettled s.table) (frame : ℕ) (other : Aroun
 
   -- a view that becomes null
   pub view_emptied : (facts' : List Fact) (w loan up : Way) → Becomes v t x (way_from z w) loan up (number_in z) → ((k : ℕ) → z ≡ machine.Cell k → ⊥)
-      → Unused v facts x → ((n : PlaceName) → Has facts (Moved n) → Has facts' (Moved n))
-      → ((seen : Bool) (y : ℕ) (n : PlaceName) → HasLoan seen y facts n → HasLoan seen y facts' n) → AreClear (is_observer s) facts' → Became facts'
+      → Unused other.lent v facts x → ((n : PlaceName) → Has facts (Moved n) → Has facts' (Moved n))
+      → LoansStay facts facts' → AreClear (is_observer s) facts' → Became facts'
   view_emptied facts' w loan up becomes null unused stays loans clear =
       became facts' w loan up becomes
       (rebound (home s frame) (is_observer s) other v t x (way_from z w) loan up (number_in z) becomes (seen s m hands leaks) facts facts' viewed unused stays loans clear

@@ -2,7 +2,7 @@
 --
 -- All of it is seen from the frame of the caller: what is gone in the variables of the frame that ends is
 -- known as such.
-use Rattle.std.proofs.Common.{◌≡◌, refl, sym, ap, ◌∙◌, subst, ◌⊎◌, inl, inr, ℕ, suc, ◌+◌, Bool, true, false, not, List, [], ◌∷◌, ◌++◌, take, drop, length, get_or, arith, append-nil, if◌then◌else◌}
+use Rattle.std.proofs.Common.{◌≡◌, refl, sym, ap, ◌∙◌, subst, ◌⊎◌, inl, inr, ℕ, suc, ◌<◌, ◌+◌, Bool, true, false, not, List, [], ◌∷◌, ◌++◌, take, drop, length, get_or, arith, append-nil, if◌then◌else◌}
 use Rattle.std.proofs.lemmas.List.{length-map}
 use Rattle.spark_base.specs.Lists.{Has}
 use Rattle.place_names.specs.declared.fact.Fact.{Fact}
@@ -16,7 +16,7 @@ use Rattle.machine.specs.Memory as memory
 use Rattle.machine.specs.Evaluate.{Now, Evaluated, followed_by, variable_place, checked}
 use Rattle.machine.specs.States.{Waiting, Leak, Return}
 use Rattle.machine.specs.Step.{Turn, typing, here, copied_back}
-use Rattle.owned_ways.specs.Ways.{Step, OfVariable, OfHand, Loc, OfRoot, Inside, Way, Object, Empty, Held, Under, Past, Named, Reaches, part, base_of, number_of, name_of}
+use Rattle.owned_ways.specs.Ways.{Step, OfVariable, OfHand, Loc, OfRoot, OfCell, Inside, Way, Object, Empty, Held, Under, Past, Named, Reaches, part, base_of, number_of, name_of}
 use Rattle.owned_ways.proofs.Moving.{parts_apart}
 use Rattle.part_offsets.specs.Parts.{IsSettled}
 use Rattle.soundness.specs.Seen.{content, trunk, steps_in, word_in, seen, home, is_view_formal}
@@ -30,16 +30,16 @@ use Rattle.soundness.proofs.Fixed.{fixed_one}
 use Rattle.soundness.proofs.Returning.{Backs, copied_is, formal_fixed}
 use Rattle.owned_loans.specs.Views.{Around, Views, ExcusedBy, Viewed}
 use Rattle.owned_loans.proofs.Safe.{off_view}
-use Rattle.owned_loans.proofs.Moves.{far_named, named_way, same_viewed}
+use Rattle.owned_loans.proofs.Moves.{named_way, same_viewed}
 use Rattle.viewed_soundness.proofs.Names.{true_false}
 use Rattle.viewed_soundness.proofs.Evaluated.{matches_named}
 use Rattle.viewed_steps.specs.Sound.{IsScalarObject}
 use Rattle.viewed_steps.proofs.Left.{cells_same}
 use Rattle.viewed_steps.specs.Taken.{TakenBy, IsInside, IsPassedOn, IsBare, IsTaken, IsApartFrom, IsAnother, AreTaken}
-use Rattle.viewed_steps.proofs.Between.{gone_also, more_gone, IsClearOf, base_along, base_under, same_variable, not_named, taken_less}
-use Rattle.viewed_steps.proofs.Carried.{inside_at, inside_spot, inside_reached, inside_base, inside_owns, inside_word, variable_clear, carried_bare, carried_held, carried_off, carried_holds, carried_to}
+use Rattle.viewed_steps.proofs.Between.{same_reaches, gone_also, more_gone, IsClearOf, base_along, base_under, same_variable, not_named, taken_less}
+use Rattle.viewed_steps.proofs.Carried.{inside_at, inside_spot, inside_reached, inside_base, inside_owns, inside_word, variable_clear, carried_bare, carried_held, carried_off, carried_off_low, carried_holds, carried_to, carried_to_low}
 use Rattle.viewed_steps.proofs.Beside.{put_beside}
-use Rattle.viewed_steps.proofs.Called.{Enters, moved_there, stored_there, one_then, if_back, backs_on}
+use Rattle.viewed_steps.proofs.Alike.{Enters, moved_there, stored_there, one_then, if_back, backs_on}
 use Rattle.viewed_steps.proofs.Entered.{matches_back, not_observing, inside_plain, inside_named, inside_number, inside_itself}
 
 same_names : {f x g y : ℕ} → memory.OfVariable f x ≡ memory.OfVariable g y → (f ≡ g) × (x ≡ y)
@@ -56,7 +56,7 @@ module _ (t : Turn) (settled : IsSettled (typing t).table) (own_law : OwnsByShap
     (other : Around (home (typing t) depth))
     (free : (h : ℕ) (w : Way) → Under (Object (OfHand h)) w → other.gone w → ⊥)
     (whole : (x : ℕ) (w : Way) → base_of w ≡ OfRoot (OfVariable (suc depth) x) → other.gone w → ⊥)
-    (low : (x : ℕ) (w : Way) (n : ℕ) → other.kept w n → base_of w ≡ OfRoot (OfVariable (suc depth) x) → ⊥) where
+    (none : (w : Way) (n : ℕ) → other.kept w n → ⊥) where
   abbrev s : Typing
   s = typing t
 
@@ -86,6 +86,9 @@ module _ (t : Turn) (settled : IsSettled (typing t).table) (own_law : OwnsByShap
     pub views : (g y : ℕ) → is_anonymous (view_of (typing t) y) ≡ true
         → (get_or (variable_slots (typing t) g y n.variables) 0 no_slot).word ≡ (get_or (variable_slots (typing t) g y m.variables) 0 no_slot).word
     pub words : ((r : Return) → Has returns r → IsScalarObject (typing t) r.formal) → AreSameWords (typing t) (λ g. Unit {0}) m n
+    -- ways from the variables of frames around reach what they reached
+    pub low : (w : Way) (g y : ℕ) → base_of w ≡ OfRoot (OfVariable g y) → g < depth → (c : ℕ)
+        → Reaches (seen (typing t) m hands leaks) w (OfCell c) → Reaches (seen (typing t) n hands leaks) w (OfCell c)
 
   left_more : (r : Return) (rest : List Return) (w : Way) → IsLeft (r ∷ rest) w → IsLeft rest w
   left_more r rest w (x, base, none) = (x, base, λ q has. none q (inr has))
@@ -153,7 +156,10 @@ module _ (t : Turn) (settled : IsSettled (typing t).table) (own_law : OwnsByShap
     second = away rest (to ∷ ways)
 
     clean : (w : Way) → Under root w → ExcusedBy (home s depth) v first facts w → ⊥
-    clean w under (inl (u, moved, same)) =
+    clean w under (inl (inr gone_there)) =
+        let t = first.through w gone_there in
+        not_named (home s depth) (suc depth) r.formal not_above t.0 t.1 (sym (base_under t.0 w t.2) ∙ base_under root w under)
+    clean w under (inl (inl (u, moved, same))) =
         not_named (home s depth) (suc depth) r.formal not_above w
         (subst (Named (home s depth)) same
         (named_way (home s depth) observer first v (seen s m hands leaks) facts viewed.views (suc (number_of u)) u (omega arith) (moved.0, viewed.clear.owned (name_of u) moved.1)))
@@ -175,7 +181,7 @@ module _ (t : Turn) (settled : IsSettled (typing t).table) (own_law : OwnsByShap
         carried_off s settled (home s depth) observer v first (AwayBy rest (to ∷ ways)) m hands leaks facts formal
         (OfRoot (OfVariable (suc depth) r.formal)) root viewed typed spot tt refl owns clean (suc depth) r.formal refl
         (variable_clear (home s depth) observer v first (AwayBy rest (to ∷ ways)) (seen s m hands leaks) facts viewed (suc depth) r.formal not_above
-        (λ w n keeps_it base. low r.formal w n keeps_it base))
+        (λ w n keeps_it base. none w n keeps_it))
         (λ w o. elim o [
           | inl away_there ↦ inl away_there
           | inr more ↦ elim more [ inl taken_there ↦ inr (inl taken_there) | inr left ↦ inr (inr (left_more r rest w left)) ]
@@ -232,7 +238,7 @@ module _ (t : Turn) (settled : IsSettled (typing t).table) (own_law : OwnsByShap
           off_view (home s depth) observer v (seen s mid (got ∷ hands) leaks) facts viewed_mid.views viewed_mid.clear to y w
           (inside_named s settled depth r.to to inside, plain_name) passed.unlent has
           (subst (λ z. Past z w) (sym (inside_itself s settled depth r.to to inside v)) past);
-      far = λ w n keeps_it past. far_named (home s depth) second to w n (inside_named s settled depth r.to to inside) keeps_it past;
+      far = λ w n keeps_it past. none w n keeps_it;
     }
 
     free_hands : (w : Way) → Under (Object (OfHand (length hands))) w → second.gone w → ⊥
@@ -316,6 +322,14 @@ module _ (t : Turn) (settled : IsSettled (typing t).table) (own_law : OwnsByShap
         part_append l [] q = refl
         part_append l (i ∷ p) q = ap (λ z. Inside z i) (part_append l p q)
 
+    pub one_low : (w : Way) (g y : ℕ) → base_of w ≡ OfRoot (OfVariable g y) → g < depth → (c : ℕ)
+        → Reaches (seen s m hands leaks) w (OfCell c) → Reaches (seen s next hands leaks) w (OfCell c)
+    one_low w g y base less c reach =
+        carried_to_low s settled (home s depth) observer v second (AwayBy rest ways) mid got hands leaks facts r.to at to viewed_mid kept_mid spot_to reached owns_to
+        long fits bare depth inside.object (inside_base s depth r.to to inside) w g y base (λ e. omega (arith, less, e)) c
+        (carried_off_low s settled (home s depth) observer v first (AwayBy rest (to ∷ ways)) m hands leaks facts formal
+        (OfRoot (OfVariable (suc depth) r.formal)) root viewed typed spot tt refl owns clean (suc depth) r.formal refl w g y base (λ e. omega (arith, less, e)) c reach)
+
     pub one_views : (g y : ℕ) → is_anonymous (view_of s y) ≡ true
         → (get_or (variable_slots s g y next.variables) 0 no_slot).word ≡ (get_or (variable_slots s g y m.variables) 0 no_slot).word
     unfolding formal_inside
@@ -376,9 +390,10 @@ module _ (t : Turn) (settled : IsSettled (typing t).table) (own_law : OwnsByShap
     ];
     views = λ g y view. back.views g y view ∙ on.views g y view;
     words = λ plain_all. (let more = back.words (λ q has. plain_all q (inr has)) in (
-        λ g y p any. more.0 g y p any ∙ on.hold g y p,
-        λ c p. more.1 c p ∙ cells_same s m later hands leaks on.same c p,
-      ));
+      λ g y p any. more.0 g y p any ∙ on.hold g y p,
+      λ c p. more.1 c p ∙ cells_same s m later hands leaks on.same c p,
+    ));
+    low = λ w g y base less c reach. back.low w g y base less c (same_reaches (seen s m hands leaks) (seen s later hands leaks) on.same w (OfCell c) reach);
   }
 
   copied_first : (r : Return) (rest : List Return) (ways : List Way) (begun : Now) → IsCopied s r → Kept s begun.memory hands
@@ -441,6 +456,7 @@ module _ (t : Turn) (settled : IsSettled (typing t).table) (own_law : OwnsByShap
         ];
         views = λ g y view. back.views g y view ∙ one_views r rest to ways m taken apart another begin typed viewed g y view;
         words = λ plain_all. absurd (true_false (is_scalar (full s.table (object_at s r.formal).of)) (plain_all r (inl refl)) (taken.0).many);
+        low = λ w g y base less c reach. back.low w g y base less c (one_low r rest to ways m taken apart another begin typed viewed w g y base less c reach);
       })
       (copied_back t rest (record begun { memory = next }))
       (more next (one_kept r rest to ways m taken apart another begin typed viewed) (one_viewed r rest to ways m taken apart another begin typed viewed)
@@ -455,6 +471,7 @@ module _ (t : Turn) (settled : IsSettled (typing t).table) (own_law : OwnsByShap
     empty = λ r has. absurd has;
     views = λ g y view. refl;
     words = λ plain_all. ((λ g y p any. refl), (λ c p. refl));
+    low = λ w g y base less c reach. reach;
   }
   all_given_back (r ∷ rest) [] begun taken typed viewed =
       copied_first r rest [] begun taken.0 typed viewed taken.1

@@ -24,14 +24,22 @@ use Rattle.owned_ways.specs.Ways.{Step, OfRoot, Empty, Gone, Held}
 use Rattle.owned_ways.specs.Ways as ways
 use Rattle.part_offsets.specs.Parts.{offset_in, is_leaf}
 use Rattle.soundness.specs.Seen.{content, owner_at, owner_word, word_in, home, is_view_formal}
-use Rattle.typed_laws.specs.Needed.{IsFine, FirstStays}
-use Rattle.soundness.specs.Sound.{calls_nothing}
+use Rattle.typed_laws.specs.Needed.{IsFine, FirstStays, Returns}
 use Rattle.soundness.proofs.Contents.{bool_cases}
 use Rattle.soundness.proofs.Memories.{put_other, removed_other}
 use Rattle.soundness.proofs.Fading.{Fainter, FadesTo, Fades, still, then_fades, if_fades, checked_fades, fades, steps_fade}
 use Rattle.soundness.proofs.Following.{Each}
 use Rattle.soundness.proofs.Onward.{Gets}
 use Rattle.soundness.proofs.Scoped.{IsFrom, LeadsFrom, walked_from}
+
+-- Another instruction than a call, an operand that waits, a return with a value, and the end of a
+-- call.
+abbrev pub IsOther : Instruction → Type 0
+IsOther (Call n actuals result) = ⊥
+IsOther (Evaluate temporary e left) = ⊥
+IsOther (Hold (More e rest)) = ⊥
+IsOther Finish = ⊥
+IsOther i = Unit {0}
 
 -- The words of the variables of other frames stay, and what is gone there stays gone.
 abbrev pub OthersKept : Typing → ℕ → Memory → Memory → Type 0
@@ -394,21 +402,32 @@ module _ (t : Turn) where
   leave_keeps NoMore stays = same_memory
   leave_keeps e never = absurd never
 
-  pub others_keep : (i : Instruction) → IsFine s None i → calls_nothing i ≡ true → (i ≡ Finish → ⊥) → Keeps (turn t i)
-  others_keep Skip text calls going = same_memory
-  others_keep (Declare x v) text calls going = declare_keeps x v
-  others_keep (Assign target e) text calls going = assigned_keeps target e text
-  others_keep (Call sub actuals result) text calls going = cc
-  others_keep (Output text line) writing calls going = output_keeps text line
-  others_keep (Input target) text calls going = got_keeps target text
-  others_keep (Release e) text calls going = given_keeps e text
-  others_keep (Test e) text calls going = goes_by e (λ ws. if run.is_true ws then 0 else 1)
-  others_keep (Choose e choices) text calls going = choose_keeps e choices
-  others_keep (Start x reversed low high) text calls going = start_keeps x low high
-  others_keep (Next x reversed low high) text calls going = next_keeps x reversed
-  others_keep (Evaluate temporary e left) text calls going = cc
-  others_keep (LeaveLoop e) text calls going = leave_keeps e text
-  others_keep (Hold v) text calls going = subst (λ z. Keeps (turn t (Hold z))) (sym text) same_memory
-  others_keep (EndScope x) text calls going = end_scope_keeps x
-  others_keep Finish text calls going = absurd (going refl)
-  others_keep Fall text calls going = tt
+  -- a value that is taken or waits on
+  pub value_stays : (e : TypedTree) → Gets (λ ws m. OthersKept (typing t) (length t.outer) t.state.memory m) (value (here t) e (start t))
+  value_stays e = evaluated_kept (value (here t) e (start t)) (fades (here t) AsValue e (start t))
+
+  pub source_stays : (u : ℕ) (e : TypedTree) → Gets (λ ws m. OthersKept (typing t) (length t.outer) t.state.memory m) (taken_by t u e (start t))
+  source_stays u e = evaluated_kept (taken_by t u e (start t)) (taken_fades u e)
+
+  hold_keeps : (v : TypedTree) → IsOther (Hold v) → (r : Option ℕ) → Returns s r v → Keeps (turn t (Hold v))
+  hold_keeps v other_one None none = subst (λ z. Keeps (turn t (Hold z))) (sym none) same_memory
+  hold_keeps v other_one (Some of) (value_of, same, source) = absurd (subst (λ z. IsOther (Hold z)) same other_one)
+
+  pub others_keep : (r : Option ℕ) (i : Instruction) → IsFine s r i → IsOther i → Keeps (turn t i)
+  others_keep r Skip text other_one = same_memory
+  others_keep r (Declare x v) text other_one = declare_keeps x v
+  others_keep r (Assign target e) text other_one = assigned_keeps target e text
+  others_keep r (Call sub actuals result) text other_one = absurd other_one
+  others_keep r (Output text line) writing other_one = output_keeps text line
+  others_keep r (Input target) text other_one = got_keeps target text
+  others_keep r (Release e) text other_one = given_keeps e text
+  others_keep r (Test e) text other_one = goes_by e (λ ws. if run.is_true ws then 0 else 1)
+  others_keep r (Choose e choices) text other_one = choose_keeps e choices
+  others_keep r (Start x reversed low high) text other_one = start_keeps x low high
+  others_keep r (Next x reversed low high) text other_one = next_keeps x reversed
+  others_keep r (Evaluate temporary e left) text other_one = absurd other_one
+  others_keep r (LeaveLoop e) text other_one = leave_keeps e text
+  others_keep r (Hold v) text other_one = hold_keeps v other_one r text
+  others_keep r (EndScope x) text other_one = end_scope_keeps x
+  others_keep r Finish text other_one = absurd other_one
+  others_keep r Fall text other_one = tt

@@ -2,7 +2,7 @@
 use Rattle.std.proofs.Common.{◌≡◌, refl, sym, ap, ◌∙◌, subst, ◌⊎◌, inl, inr, ℕ, Bool, List, [], ◌∷◌, ◌++◌, Some}
 use Rattle.spark_base.specs.Lists.{Has}
 use Rattle.place_names.specs.declared.fact.Fact.{Fact}
-use Rattle.owned_ways.specs.Ways.{Step, OfVariable, OfHand, Loc, OfRoot, OfCell, Way, Object, Lost, Into, All, Gone, Held, View, part, along, IsRooted, Under, Past, Named, base_of, number_of}
+use Rattle.owned_ways.specs.Ways.{Step, OfVariable, OfHand, Loc, OfRoot, OfCell, Way, Object, Lost, Into, All, Gone, Held, View, Reaches, IsSame, part, along, IsRooted, Under, Past, Named, base_of, number_of}
 use Rattle.owned_ways.proofs.Locations.{under_along, under_itself}
 use Rattle.owned_ways.proofs.Named.{longer}
 use Rattle.owned_ways.proofs.Moving.{Given, keeps, owned_after, covered_after, known_after}
@@ -16,11 +16,25 @@ use Rattle.machine.specs.States.{Return}
 use Rattle.soundness.specs.Seen.{IsNear, content, word_in}
 use Rattle.viewed_steps.specs.Taken.{TakenBy, AreTaken}
 
+-- where owners see the same, ways reach the same
+pub same_reaches : (s t : View) → IsSame s t → (w : Way) (l : Loc) → Reaches s w l → Reaches t w l
+same_reaches s t e (Object r) l h = h
+same_reaches s t e (Lost n) l h = (e.leaked n ∙ h.0, h.1)
+same_reaches s t e (Into w i) l (m, h, is) = (m, same_reaches s t e w m h, is)
+same_reaches s t e (All w) l (m, n, h, held, is) = (m, n, same_reaches s t e w m h, e.word m ∙ held, is)
+
 -- ---- what is known elsewhere
 
 -- The same ways are kept, and these are gone.
 abbrev pub gone_also : (home : ℕ → ℕ) → Around home → (Way → Type 0) → Around home
-gone_also home other gone = record { gone = gone; kept = other.kept; begins = other.begins }
+gone_also home other gone = record {
+  lent = other.lent;
+  gone = gone;
+  away = other.away;
+  through = other.through;
+  kept = other.kept;
+  begins = other.begins;
+}
 
 module _ (home : ℕ → ℕ) (observer : ℕ → Bool) (v : Views) (other : Around home) (gone : Way → Type 0) where
   -- more may be gone
@@ -32,6 +46,7 @@ module _ (home : ℕ → ℕ) (observer : ℕ → Bool) (v : Views) (other : Aro
     known = λ w l rooted r is. elim (viewed.known w l rooted r is) [ inl m ↦ inl m | inr o ↦ inr (more w o) ];
     clear = viewed.clear;
     views = λ x w has. view_on home observer other v s s facts facts x w (viewed.views x w has) (λ seen n loan. loan) (viewed.views x w has).reaches;
+    lends = viewed.lends;
     far = viewed.far;
   }
 
@@ -55,6 +70,7 @@ module _ (home : ℕ → ℕ) (observer : ℕ → Bool) (v : Views) (other : Aro
     views = λ x w has. (let view = viewed.views x w has in
         view_on home observer other v s t facts facts x w view (λ seen n loan. loan)
         (keeps s t f k from to given w (OfCell (v.cell x)) view.reaches (λ p. off.own x w has p) (λ p. away.own x w has p)));
+    lends = viewed.lends;
     far = λ w n held. keeps s t f k from to given w (OfCell n) (viewed.far w n held) (λ p. off.far w n held p) (λ p. away.far w n held p);
   }
 

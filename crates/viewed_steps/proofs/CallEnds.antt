@@ -1,25 +1,29 @@
 -- The end of a call leads on, in the frame below.
-use Rattle.std.proofs.Common.{◌≡◌, refl, sym, ap, ◌∙◌, subst, ◌⊎◌, inl, inr, ℕ, suc, ◌<◌, ◌≤◌, Bool, true, false, ◌||◌, List, [], ◌∷◌, ◌++◌, length, get_or, arith, Option, Some, None, if◌then◌else◌}
+use Rattle.std.proofs.Common.{◌≡◌, refl, sym, ap, ◌∙◌, subst, ◌⊎◌, inl, inr, ℕ, suc, ◌<◌, ◌≤◌, Bool, true, false, not, ◌&&◌, ◌||◌, ◌==◌, eq-eqb, List, [], ◌∷◌, ◌++◌, length, get_or, arith, Option, Some, None, if◌then◌else◌}
 use Rattle.std.proofs.Math.Nat.{eq-or-lt_of_le}
+use Rattle.std.specs.Prelude.{is_some}
 use Rattle.spark_base.specs.Lists.{Has}
 use Rattle.place_names.specs.declared.act.Act.{Act}
 use Rattle.place_names.specs.declared.fact.Fact.{Fact}
 use Rattle.place_names.specs.declared.fact.Fact.TheVariants.{Moved}
 use Rattle.place_names.specs.Names.{Name as PlaceName}
 use Rattle.type_definitions.specs.Types.{Table}
+use Rattle.typed_tree.specs.declared.object.ObjectKind.{ObjectKind}
+use Rattle.typed_tree.specs.declared.object.ObjectKind.TheVariants as object_kind
 use Rattle.typed_tree.specs.Programs.{TypedProgram}
 use Rattle.flow_paths.specs.declared.report.Effects.{Effects}
-use Rattle.flow_paths.specs.Instructions.{Instruction, EndScope, Finish}
-use Rattle.flow_paths.specs.Objects.{Typing, Signature, object_at, sub_at, is_formal, is_anonymous, is_package_object, is_observer, view_of}
+use Rattle.flow_paths.specs.Instructions.{Instruction, Call, Finish}
+use Rattle.flow_paths.specs.Objects.{Typing, object_at, is_anonymous, is_package_object, is_observer, is_formal_kind, view_of, Signature, sub_at, is_formal}
 use Rattle.flow_paths.specs.Points.{NamedPoint}
-use Rattle.flow_paths.specs.Laid.{FlowSub, FlowProgram, NamedSub, typing_of, flow_typing, flow_program, flow_named}
+use Rattle.flow_paths.specs.Laid.{FlowProgram, NamedSub, typing_of, flow_typing, flow_program, flow_named, FlowSub}
 use Rattle.flow_paths.specs.Paths.{ControlPath}
 use Rattle.flow_paths.specs.Effects.{path_points}
-use Rattle.flow_paths.specs.Scopes.{is_within}
+use Rattle.flow_paths.specs.Scopes.{is_temporary, is_within}
 use Rattle.machine.specs.Words as machine
 use Rattle.machine.specs.Memory.{Memory, no_slot, variable_slots, without_frame}
 use Rattle.machine.specs.Evaluate.{Exception}
-use Rattle.machine.specs.States.{Return, Frame, State, sub_of, Normal, Outcome, Goes, Ends}
+use Rattle.machine.specs.States.{Waiting, Frame, State, sub_of, Outcome, Goes, Return, Normal, Ends}
+use Rattle.machine.specs.Run.{no_point}
 use Rattle.machine.specs.Step.{Turn, turn, counted}
 use Rattle.machine.specs.Step as steps
 use Rattle.machine.specs.Owners.{waiting_in}
@@ -27,31 +31,34 @@ use Rattle.owned_ways.specs.Ways.{Step, OfVariable, OfRoot, Way, Held, AllowsAll
 use Rattle.owned_ways.specs.Ways as ways
 use Rattle.soundness.specs.Seen.{content, word_in, seen, home, is_view_formal}
 use Rattle.soundness.specs.Typed.{Kept}
-use Rattle.soundness.specs.Sound.{calls_nothing, Stage, facts_of, AreStages, IsProcedure, InScope, IsNamedSub, IsAtPoint, AreSameWords, view_of as view_here}
+use Rattle.soundness.specs.Sound.{Stage, facts_of, AreStages, IsRunnable, AreAwaited, AreWaiting as AreWaitingValues, is_temporary_object, temporaries_in, has_returned, awaited, InScope, IsNamedSub, IsAtPoint, AreSameWords, view_of as view_here}
 use Rattle.soundness.proofs.Contents.{bool_cases, word_no}
 use Rattle.soundness.proofs.Steps.{no_leaf}
-use Rattle.soundness.proofs.Passing.{signature_is}
+use Rattle.soundness.proofs.Typings.{formal_same, package_same}
+use Rattle.soundness.proofs.Waited.{plain_more}
 use Rattle.soundness.proofs.Around.{same_or_not}
-use Rattle.soundness.proofs.Returning.{Backs, returned_kept, left_same, left_held, returns_lead, ends_lead, left_waits, ended_owned}
-use Rattle.owned_loans.specs.Views.{Around, known_gone, Views, IsMovedBy, Viewed}
+use Rattle.soundness.proofs.Returning.{returned_kept, left_same, left_held, returns_lead, ends_lead, left_waits, ended_owned, Backs}
+use Rattle.owned_loans.specs.Views.{known_gone, Views, IsMovedBy, Viewed, ExcusedBy, Around, IsAway}
 use Rattle.owned_loans.proofs.Moves.{view_on}
-use Rattle.owned_ways.proofs.Dropped.{named_base}
-use Rattle.viewed_soundness.specs.Holds.{IsNamed}
 use Rattle.owned_loans.proofs.Ended.{stands_itself}
 use Rattle.viewed_soundness.proofs.Names.{true_false}
 use Rattle.viewed_soundness.proofs.Outcomes.{named_plain}
-use Rattle.viewed_steps.specs.Sound.{IsResting, HoldsAt, ArePlaced, NoneAbove, ViewStage, stages_of, GoneElsewhere, IsWaiting, AreWaiting, LeadsOn, IsKindOfFormal, AreScalarFormals, ends_one, LeadsAlong}
-use Rattle.viewed_steps.specs.Taken.{TakenBy}
+use Rattle.viewed_steps.specs.Sound.{HoldsAt, ArePlaced, NoneAbove, ViewStage, stages_of, GoneElsewhere, IsWaiting, AreWaiting, ends_one, LeadsAlong, IsResting, IsKindOfFormal, AreScalarFormals}
 use Rattle.viewed_steps.specs.Ready.{IsReady}
 use Rattle.viewed_steps.proofs.Read.{scalar_named}
-use Rattle.viewed_steps.proofs.Waiting.{StandsBetween, all_between, KeptElsewhere, gone_low, kept_low, around as concern, far, handed, all_on}
-use Rattle.viewed_steps.proofs.Left.{owned_left, covered_left, reach_left, reach_before, gone_before, whole_there, other_word, no_word}
-use Rattle.viewed_steps.proofs.Between.{base_under, same_variable}
-use Rattle.viewed_steps.proofs.Backed.{AwayBy, ViewedAway, IsBack, all_given_back}
-use Rattle.viewed_steps.proofs.Whole.{leaves_whole}
+use Rattle.viewed_steps.proofs.Waiting.{StandsBetween, all_between, handed, all_on, gone_low, kept_low, far}
+use Rattle.viewed_steps.proofs.Left.{owned_left, covered_left, reach_left, reach_before, gone_before, other_word, no_word, whole_there}
+use Rattle.viewed_steps.proofs.Standing.{or_right}
 use Rattle.viewed_steps.proofs.Standing as standing
 use Rattle.viewed_steps.proofs.Packages as packages
 use Rattle.viewed_steps.proofs.Innermost as innermost
+use Rattle.soundness.proofs.Passing.{signature_is}
+use Rattle.owned_ways.proofs.Dropped.{named_base}
+use Rattle.viewed_soundness.specs.Holds.{IsNamed}
+use Rattle.viewed_steps.specs.Taken.{TakenBy}
+use Rattle.viewed_steps.proofs.Between.{base_under, same_variable}
+use Rattle.viewed_steps.proofs.Backed.{AwayBy, ViewedAway, IsBack, all_given_back}
+use Rattle.viewed_steps.proofs.Whole.{leaves_whole}
 
 smaller : (f b low : ℕ) → f < suc b → (f ≡ low → ⊥) → low ≡ b → f < low
 smaller f b low less ne is =
@@ -73,14 +80,11 @@ module _ (table : Table) (typed : TypedProgram) (effects : Effects) (input : Lis
   abbrev own : Typing
   own = typing_of table typed
 
-  abbrev same : s ≡ own
-  same = standing.same table typed effects input ready
+  abbrev local : (x : ℕ) → is_anonymous (view_of s x) ≡ true → is_package_object s x ≡ false
+  local = standing.local table typed effects input ready
 
   abbrev no_in_formals : (x : ℕ) → is_view_formal s x ≡ false
   no_in_formals = standing.no_in_formals table typed effects input ready
-
-  abbrev local : (x : ℕ) → is_anonymous (view_of s x) ≡ true → is_package_object s x ≡ false
-  local = standing.local table typed effects input ready
 
   abbrev unmoved_stage : (e : Stage) → e.frame.sub ≡ 0 → (name : PlaceName) → Has (facts_of program effects e) (Moved name) → ⊥
   unmoved_stage = packages.unmoved_stage table typed effects input ready
@@ -88,7 +92,8 @@ module _ (table : Table) (typed : TypedProgram) (effects : Effects) (input : Lis
   module _ (state : State) (top : Stage) (below : ViewStage) (more_frames : List ViewStage) (rest : List Frame) (named : NamedSub) (p : NamedPoint)
       (frames : state.frames ≡ top.frame ∷ (below.stage.frame ∷ rest)) (deep : top.depth ≡ suc (length rest))
       (stages : AreStages (stages_of (below ∷ more_frames)) (below.stage.frame ∷ rest))
-      (running : IsProcedure table typed top.frame.sub × IsResting s top × AreWaiting table typed effects state top.frame.sub top.frame.returns (below ∷ more_frames))
+      (running : IsRunnable table typed top.frame.sub × IsResting s top × AreWaiting table typed effects state top.frame.sub top.frame.returns (below ∷ more_frames))
+      (awaiting : AreAwaited table typed 0 (top ∷ stages_of (below ∷ more_frames)))
       (of_sub : IsNamedSub (flow_named table typed) top.frame.sub named) (at_point : IsAtPoint named.points top.frame.next p)
       (path : ControlPath (path_points program effects (sub_of program top.frame.sub)) top.before top.frame.next) (views : Views)
       (viewed_before : Viewed (home s (suc (length rest))) (is_observer s) (known_gone (home s (suc (length rest))) (GoneElsewhere program effects (below ∷ more_frames))) views
@@ -105,10 +110,13 @@ module _ (table : Table) (typed : TypedProgram) (effects : Effects) (input : Lis
     depth = suc (length rest)
 
     abbrev between : (g : ViewStage) → Has (below ∷ more_frames) g → StandsBetween table typed effects unmoved_stage local state (suc (length rest)) g
-    between = innermost.between table typed effects input ready state top below more_frames rest named p frames deep stages running of_sub at_point path views viewed_before kept scope holds placed_before above
+    between = innermost.between table typed effects input ready state top below more_frames rest named p frames deep stages running awaiting of_sub at_point path views viewed_before kept scope holds placed_before above
 
-    abbrev plain : top.frame.waits ≡ []
-    plain = innermost.plain table typed effects input ready state top below more_frames rest named p frames deep stages running of_sub at_point path views viewed_before kept scope holds placed_before above
+    abbrev waits_here : AreWaitingValues s top.frame.waits p.scope
+    waits_here = innermost.waits_here table typed effects input ready state top below more_frames rest named p frames deep stages running awaiting of_sub at_point path views viewed_before kept scope holds placed_before above
+
+    abbrev instr_there : (get_or (sub_of program top.frame.sub).points top.frame.next no_point).instr ≡ p.instr
+    instr_there = innermost.instr_there table typed effects input ready state top below more_frames rest named p frames deep stages running awaiting of_sub at_point path views viewed_before kept scope holds placed_before above
 
     abbrev main_turn : Turn
     main_turn = standing.t table typed effects input ready state top older outer named p frames of_sub at_point
@@ -126,23 +134,23 @@ module _ (table : Table) (typed : TypedProgram) (effects : Effects) (input : Lis
     acts_of_main i = standing.acts_here table typed effects input ready state top older outer named p frames of_sub at_point i
 
     abbrev viewed_own : Viewed (home s depth) (is_observer s) (known_gone (home s depth) (GoneElsewhere program effects older)) views (view_here s state) own_facts
-    viewed_own = innermost.viewed_own table typed effects input ready state top below more_frames rest named p frames deep stages running of_sub at_point path views viewed_before kept scope holds placed_before above
+    viewed_own = innermost.viewed_own table typed effects input ready state top below more_frames rest named p frames deep stages running awaiting of_sub at_point path views viewed_before kept scope holds placed_before above
 
     abbrev placed : ArePlaced program facts_now views p.scope
-    placed = innermost.placed table typed effects input ready state top below more_frames rest named p frames deep stages running of_sub at_point path views viewed_before kept scope holds placed_before above
+    placed = innermost.placed table typed effects input ready state top below more_frames rest named p frames deep stages running awaiting of_sub at_point path views viewed_before kept scope holds placed_before above
 
     abbrev named_there : Has (flow_named table typed) named
-    named_there = innermost.named_there table typed effects input ready state top below more_frames rest named p frames deep stages running of_sub at_point path views viewed_before kept scope holds placed_before above
+    named_there = innermost.named_there table typed effects input ready state top below more_frames rest named p frames deep stages running awaiting of_sub at_point path views viewed_before kept scope holds placed_before above
 
     abbrev point_there_now : Has named.points p
-    point_there_now = innermost.point_there_now table typed effects input ready state top below more_frames rest named p frames deep stages running of_sub at_point path views viewed_before kept scope holds placed_before above
+    point_there_now = innermost.point_there_now table typed effects input ready state top below more_frames rest named p frames deep stages running awaiting of_sub at_point path views viewed_before kept scope holds placed_before above
 
     -- where it leads, and how the frames come from those before
     abbrev Along : Outcome → Type 0
     Along outcome = LeadsAlong table typed effects p.instr state.memory (record { stage = top; views = views }) (below ∷ more_frames) outcome
 
-    abbrev ends_raised : ((x : ℕ) → p.instr ≡ EndScope x → ⊥) → (how : Exception) (m : Memory) → LeadsOn table typed effects (steps.raised main_turn how m)
-    ends_raised = innermost.ends_raised table typed effects input ready state top below more_frames rest named p frames deep stages running of_sub at_point path views viewed_before kept scope holds placed_before above
+    abbrev ends_raised : (how : Exception) (m : Memory) → Along (steps.raised main_turn how m)
+    ends_raised = innermost.ends_raised table typed effects input ready state top below more_frames rest named p frames deep stages running awaiting of_sub at_point path views viewed_before kept scope holds placed_before above
 
     -- ---- the end of a call
 
@@ -155,8 +163,8 @@ module _ (table : Table) (typed : TypedProgram) (effects : Effects) (input : Lis
     left_formal is x q n held = elim (scope depth x q n held) [
       | inl less ↦ absurd (omega (arith, less))
       | inr mine ↦ (
-          let formal = ready.scoped.finishes named named_there p point_there_now is x mine.1 in
-          elim (((running.1).1).0 x (subst (λ z. Has z x) (sym formals_are) formal.1)) [
+          let own_formal = ready.passing.finishes named named_there p point_there_now is x mine.1 in
+          elim ((running.1).0 x (subst (λ z. Has z x) (sym formals_are) own_formal)) [
             | inr copied ↦ copied
             | inl plain_type ↦ (
                 let none = word_no s.table (content s state.memory [] (OfRoot (OfVariable depth x))) q
@@ -170,6 +178,36 @@ module _ (table : Table) (typed : TypedProgram) (effects : Effects) (input : Lis
             ap (λ (z : Signature). z.formals) (signature_is program top.frame.sub)
             ∙ ap (λ (z : FlowSub). z.formals) (standing.sub_is table typed effects input ready state top older outer named p frames of_sub at_point)
 
+    -- nothing waits in the frame then
+    pub nothing_waits : p.instr ≡ Finish → top.frame.waits ≡ []
+    nothing_waits is =
+        no_values top.frame.waits
+        (waits_here.1 ∙ none_in p.scope (λ x within. formal_lasts (object_at s x).kind (ready.scoped.finishes named named_there p point_there_now is x within)))
+      where
+        no_values : (waits : List Waiting) → length waits ≡ 0 → waits ≡ []
+        no_values [] none = refl
+        no_values (v ∷ waits) none = absurd (omega (arith, none))
+
+        formal_lasts : (k : ObjectKind) → is_formal_kind k ≡ true → is_temporary k ≡ false
+        formal_lasts object_kind.Formal is = refl
+        formal_lasts k is = cc
+
+        none_in : (scope : List ℕ) → ((x : ℕ) → is_within x scope ≡ true → is_temporary_object s x ≡ false) → temporaries_in s scope ≡ 0
+        none_in [] none = refl
+        none_in (x ∷ scope) none =
+            plain_more s x scope (none x (ap (λ b. b || is_within x scope) (eq-eqb x x refl)))
+            ∙ none_in scope (λ y within. none y (or_right (y == x) (is_within y scope) within))
+
+    -- and the call has returned
+    returned_then : p.instr ≡ Finish → awaited (sub_of program top.frame.sub) top.before ≡ 0
+    returned_then is = by_result (is_some (sub_of program top.frame.sub).result) refl
+      where
+        by_result : (b : Bool) → is_some (sub_of program top.frame.sub).result ≡ b → awaited (sub_of program top.frame.sub) top.before ≡ 0
+        by_result false e = ap (λ z. if z && not (has_returned (sub_of program top.frame.sub) top.before) then 1 else 0) e
+        by_result true e =
+            ap (λ z. if z && not (has_returned (sub_of program top.frame.sub) top.before) then 1 else 0) e
+            ∙ ap (λ z. if not z then 1 else 0) ((ready.returning top.frame.sub (running.0).entered e top.before top.frame.next path).1 (instr_there ∙ is))
+
     -- no view has a way then
     no_view_left : p.instr ≡ Finish → (x : ℕ) → views.way x ≡ None
     no_view_left is x = by_way (views.way x) refl
@@ -181,20 +219,21 @@ module _ (table : Table) (typed : TypedProgram) (effects : Effects) (input : Lis
         by_way : (o : Option Way) → views.way x ≡ o → views.way x ≡ None
         by_way None e = e
         by_way (Some w) e =
-            let formal = (ready.scoped.finishes named named_there p point_there_now is x (placed x w e).within).0 in
+            let formal = ready.scoped.finishes named named_there p point_there_now is x (placed x w e).within in
             absurd (true_false (is_anonymous (view_of s x)) (holds.only x w e) (named_plain s.table (object_at s x).of (named_formal (ready.class.formals x formal))))
 
     -- no part of a formal or package object is moved then
     whole_roots : p.instr ≡ Finish → (name : PlaceName) → Has own_facts (Moved name) → is_formal s name.root || is_package_object s name.root ≡ true → ⊥
     whole_roots is name has shared =
         let finishing : AllowsAll own_facts (acts_of_main Finish) =
-        subst (λ i. AllowsAll own_facts (acts_of_main i)) is (standing.allowed table typed effects input ready state top older outer named p frames of_sub at_point path (ap calls_nothing is)) in
+        subst (λ i. AllowsAll own_facts (acts_of_main i)) is (standing.allowed table typed effects input ready state top older outer named p frames of_sub at_point path (λ k actuals result call. (let never : Finish ≡ Call k actuals result = sym is ∙ call in cc))) in
         leaves_whole program effects ready.accepted.effects_are own named top.before finishing.0 name has
-        (sym (ap (λ z. is_formal z name.root || is_package_object z name.root) same) ∙ shared)
+        (sym (λ j. formal_same s own (standing.agree table typed effects input ready) name.root j || package_same s own (standing.agree table typed effects input ready) name.root j) ∙ shared)
 
     module _ (h : ViewStage) (others : List ViewStage) (stages_there : AreStages (stages_of (below ∷ (h ∷ others))) (below.stage.frame ∷ rest))
         (waiting : AreWaiting table typed effects state top.frame.sub top.frame.returns (below ∷ (h ∷ others)))
         (well : Viewed (home s depth) (is_observer s) (known_gone (home s depth) (GoneElsewhere program effects (below ∷ (h ∷ others)))) views (view_here s state) own_facts)
+        (still_awaited : AreAwaited table typed (awaited (sub_of program top.frame.sub) top.before) (stages_of (below ∷ (h ∷ others))))
         (is : p.instr ≡ Finish) where
       abbrev low : ℕ
       low = below.stage.depth
@@ -215,7 +254,7 @@ module _ (table : Table) (typed : TypedProgram) (effects : Effects) (input : Lis
 
       -- what concerns the frame below
       abbrev around_low : Around (home s below.stage.depth)
-      around_low = concern table typed effects unmoved_stage local state below.stage.depth (h ∷ others) between_low
+      around_low = known_gone (home s below.stage.depth) (GoneElsewhere program effects (h ∷ others))
 
       free_low : (k : ℕ) (w : Way) → ways.Under (ways.Object (ways.OfHand k)) w → GoneElsewhere program effects (h ∷ others) w → ⊥
       free_low k w under away_there =
@@ -231,12 +270,8 @@ module _ (table : Table) (typed : TypedProgram) (effects : Effects) (input : Lis
           let frames_same = (same_variable root.0 root.1 (suc below.stage.depth) x (sym root.2 ∙ base)).0 in
           let less = root.3 in omega (arith, frames_same, less)
 
-      apart_low : (x : ℕ) (w : Way) (n : ℕ) → KeptElsewhere table typed effects unmoved_stage local (h ∷ others) w n
-          → ways.base_of w ≡ OfRoot (OfVariable (suc below.stage.depth) x) → ⊥
-      apart_low x w n keeps base =
-          let root = kept_low table typed effects unmoved_stage local state below.stage.depth (h ∷ others) between_low w n keeps in
-          let frames_same = (same_variable root.0 root.1 (suc below.stage.depth) x (sym root.2 ∙ base)).0 in
-          let less = root.3 in omega (arith, frames_same, less)
+      none_kept : (w : Way) (n : ℕ) → around_low.kept w n → ⊥
+      none_kept w n keeps_it = keeps_it
 
       deep_low : length (below.stage.frame ∷ rest) ≡ suc below.stage.depth
       deep_low = ap suc (sym low_is)
@@ -245,20 +280,21 @@ module _ (table : Table) (typed : TypedProgram) (effects : Effects) (input : Lis
       abbrev ViewedLow : List Return → List Way → Memory → Type 0
       ViewedLow returns ways_left m =
           ViewedAway main_turn ready.accepted.settled ready.owns no_in_formals (waiting_in state) state.leaks below.stage.depth deep_low below.views their_facts
-          waits.point.scope around_low free_low whole_low apart_low returns ways_left m
+          waits.point.scope around_low free_low whole_low none_kept returns ways_left m
 
       abbrev Away : Way → Type 0
       Away w =
           AwayBy main_turn ready.accepted.settled ready.owns no_in_formals (waiting_in state) state.leaks below.stage.depth deep_low below.views their_facts
-          waits.point.scope around_low free_low whole_low apart_low top.frame.returns below.stage.returns w
+          waits.point.scope around_low free_low whole_low none_kept top.frame.returns below.stage.returns w
 
       known_low : (w : Way) (l : ways.Loc) → ways.IsRooted w → ways.Reaches (view_here s state) w l → (view_here s state).word l ≡ ways.Gone
-          → IsMovedBy (home s below.stage.depth) below.views their_facts w ⊎ Away w
+          → IsAway (home s below.stage.depth) below.views around_low their_facts w ⊎ Away w
       known_low w l rooted r gone = elim (well.known w l rooted r gone) [
-        | inr (g, inl same_stage, inl moved) ↦ inl (subst (λ (z : ViewStage). IsMovedBy (home s z.stage.depth) z.views (facts_of program effects z.stage) w) (sym same_stage) moved)
+        | inl (inr none) ↦ absurd none
+        | inr (g, inl same_stage, inl moved) ↦ inl (inl (subst (λ (z : ViewStage). IsMovedBy (home s z.stage.depth) z.views (facts_of program effects z.stage) w) (sym same_stage) moved))
         | inr (g, inl same_stage, inr taken) ↦ inr (inr (inl (subst (λ (z : ViewStage). TakenBy z.stage.returns w) (sym same_stage) taken)))
         | inr (g, inr has, what) ↦ inr (inl (g, has, what))
-        | inl (u, moved, leads) ↦ (
+        | inl (inl (u, moved, leads)) ↦ (
             let same_way : u ≡ w =
             sym (stands_itself (home s depth) (is_observer s) (known_gone (home s depth) (λ z. ⊥)) views u moved.0 (no_view_left is (number_of u))) ∙ leads in
             elim (bool_cases (is_formal s (number_of u) || is_package_object s (number_of u))) [
@@ -267,7 +303,7 @@ module _ (table : Table) (typed : TypedProgram) (effects : Effects) (input : Lis
                 number_of w,
                 own_base w (subst (ways.Named (home s depth)) same_way moved.0)
                     (second (is_formal s (number_of w)) (is_package_object s (number_of w)) (ap (λ z. is_formal s (number_of z) || is_package_object s (number_of z)) (sym same_way) ∙ neither)),
-                λ r has formal. true_false (is_formal s r.formal) (((running.1).1).1 r has)
+                λ r has formal. true_false (is_formal s r.formal) ((running.1).1 r has)
                     (ap (is_formal s) formal
                     ∙ first (is_formal s (number_of w)) (is_package_object s (number_of w)) (ap (λ z. is_formal s (number_of z) || is_package_object s (number_of z)) (sym same_way) ∙ neither)),
               )))
@@ -294,18 +330,19 @@ module _ (table : Table) (typed : TypedProgram) (effects : Effects) (input : Lis
         known = known_low;
         clear = waits.clear;
         views = waits.views;
-        far = λ w n keeps. far table typed effects unmoved_stage local state below.stage.depth (h ∷ others) between_low w n keeps;
+        lends = λ l n none. absurd none;
+        far = λ w n none. absurd none;
       }
 
       abbrev Backed : Memory → Type 0
       Backed m =
           IsBack main_turn ready.accepted.settled ready.owns no_in_formals (waiting_in state) state.leaks below.stage.depth deep_low below.views their_facts
-          waits.point.scope around_low free_low whole_low apart_low top.frame.returns state.memory m
+          waits.point.scope around_low free_low whole_low none_kept top.frame.returns state.memory m
 
       given_back : Backs Backed (steps.copied_back main_turn top.frame.returns (steps.start main_turn))
       given_back =
           all_given_back main_turn ready.accepted.settled ready.owns no_in_formals (waiting_in state) state.leaks below.stage.depth deep_low below.views their_facts
-          waits.point.scope around_low free_low whole_low apart_low top.frame.returns below.stage.returns (steps.start main_turn) waits.taken kept viewed_low
+          waits.point.scope around_low free_low whole_low none_kept top.frame.returns below.stage.returns (steps.start main_turn) waits.taken kept viewed_low
 
       module _ (mid : Memory) (on : Backed mid) where
         abbrev left_state : State
@@ -328,7 +365,7 @@ module _ (table : Table) (typed : TypedProgram) (effects : Effects) (input : Lis
         left_memory = without_frame depth mid
 
         hands_left : waiting_in left_state ≡ waiting_in state
-        hands_left = left_waits state top.frame outer left_memory frames plain
+        hands_left = left_waits state top.frame outer left_memory frames (nothing_waits is)
 
         abbrev left_view : ways.View
         left_view = seen s left_memory (waiting_in state) state.leaks
@@ -371,7 +408,7 @@ module _ (table : Table) (typed : TypedProgram) (effects : Effects) (input : Lis
 
         -- what is gone is known to those that are left
         known_left : (w : Way) (l : ways.Loc) → ways.IsRooted w → ways.Reaches left_view w l → left_view.word l ≡ ways.Gone
-            → IsMovedBy (home s low) below.views (facts_of program effects below.stage) w ⊎ GoneElsewhere program effects (h ∷ others) w
+            → ExcusedBy (home s low) below.views (known_gone (home s low) (GoneElsewhere program effects (h ∷ others))) (facts_of program effects below.stage) w
         known_left w l rooted r gone =
             elim (on.viewed.known w l rooted (reach_before s mid depth (waiting_in state) state.leaks nothing_mid w l r)
             (gone_before s mid depth (waiting_in state) state.leaks nothing_mid l gone)) [
@@ -393,6 +430,7 @@ module _ (table : Table) (typed : TypedProgram) (effects : Effects) (input : Lis
               view_on (home s low) (is_observer s) (known_gone (home s low) (λ z. ⊥)) below.views mid_view left_view
               (facts_of program effects below.stage) (facts_of program effects below.stage) x w (on.viewed.views x w has) (λ b n loan. loan)
               (reach_left s mid depth (waiting_in state) state.leaks nothing_mid w (ways.OfCell (below.views.cell x)) (on.viewed.views x w has).reaches);
+          lends = λ l n none. absurd none;
           far = λ w n none. absurd none;
         }
 
@@ -427,13 +465,15 @@ module _ (table : Table) (typed : TypedProgram) (effects : Effects) (input : Lis
             ])
             (λ f x some less view. words_before f x (λ same_depth. (let below_it = low_is in omega (arith, less, same_depth, below_it))) view)
             below.stage.frame.sub below.stage.frame.returns (h ∷ others) rest stages_there.2 (let same_depth = low_is in omega (arith, same_depth))
-            (λ g has x w there. reach_on w (g.views.cell x) (on.viewed.far w (g.views.cell x) (g, has, x, there, refl))) waiting.1
+            (λ g has x w there. (let root = kept_low table typed effects unmoved_stage local state below.stage.depth (h ∷ others) between_low w (g.views.cell x) (g, has, x, there, refl) in
+            reach_on w (g.views.cell x) (on.low w root.0 root.1 root.2 root.3 (g.views.cell x)
+            (far table typed effects unmoved_stage local state below.stage.depth (h ∷ others) between_low w (g.views.cell x) (g, has, x, there, refl))))) waiting.1
 
         -- owners see the same of the frames that are left, if formals are scalar
         left_words : AreScalarFormals program → AreSameWords s (λ f. f ≡ top.depth → ⊥) state.memory left_memory
         left_words scalars =
             let left_there = left_same s mid depth (waiting_in state) state.leaks nothing_mid in
-            let on_there = on.words (λ r has. scalars r.formal (((running.1).1).1 r has)) in (
+            let on_there = on.words (λ r has. scalars r.formal ((running.1).1 r has)) in (
               λ f x q other_frame. left_there.0 f x q (λ e. other_frame (e ∙ sym deep)) ∙ on_there.0 f x q tt,
               λ c q. left_there.1 c q ∙ on_there.1 c q,
             )
@@ -446,7 +486,8 @@ module _ (table : Table) (typed : TypedProgram) (effects : Effects) (input : Lis
             views = below.views;
             older = h ∷ others;
             stages = stages_there;
-            running = (waits.procedure, waits.plain, others_left);
+            running = (waits.runs, waits.plain, others_left);
+            awaited = subst (λ n. AreAwaited table typed n (stages_of (below ∷ (h ∷ others)))) (returned_then is) still_awaited;
             path = waits.path;
             viewed = subst (λ z. Viewed (home s low) (is_observer s) (known_gone (home s low) (GoneElsewhere program effects (h ∷ others))) below.views z
                 (facts_of program effects below.stage)) view_left viewed_left;
@@ -465,30 +506,27 @@ module _ (table : Table) (typed : TypedProgram) (effects : Effects) (input : Lis
         )
 
     pub ends_call : p.instr ≡ Finish → Along (turn main_turn Finish)
-    ends_call is = by_rest rest more_frames refl refl stages running.2 viewed_own
+    ends_call is = by_rest rest more_frames refl refl stages running.2 viewed_own awaiting.1
       where
-        no_end : (x : ℕ) → p.instr ≡ EndScope x → ⊥
-        no_end x end = (let no : Finish ≡ EndScope x = sym is ∙ end in cc)
-
         by_rest : (r : List Frame) (m : List ViewStage) → rest ≡ r → more_frames ≡ m → AreStages (stages_of (below ∷ m)) (below.stage.frame ∷ r)
             → AreWaiting table typed effects state top.frame.sub top.frame.returns (below ∷ m)
             → Viewed (home s depth) (is_observer s) (known_gone (home s depth) (GoneElsewhere program effects (below ∷ m))) views (view_here s state) own_facts
-            → Along (turn main_turn Finish)
-        by_rest [] [] same_rest same_more stages_there waiting well =
+            → AreAwaited table typed (awaited (sub_of program top.frame.sub) top.before) (stages_of (below ∷ m)) → Along (turn main_turn Finish)
+        by_rest [] [] same_rest same_more stages_there waiting well still =
             ends_lead main_turn Along (λ m. m ≡ state.memory)
-            (ends_raised no_end) below.stage.frame (ap (λ z. below.stage.frame ∷ z) same_rest)
+            ends_raised below.stage.frame (ap (λ z. below.stage.frame ∷ z) same_rest)
             (λ m on. subst (λ z. Along (Ends Normal (counted (record state { frames = outer; memory = without_frame depth z })))) (sym on) (
               (λ trap. trap),
-              ended_owned s ready.accepted.settled ready.owns state top.frame outer depth frames plain
+              ended_owned s ready.accepted.settled ready.owns state top.frame outer depth frames (nothing_waits is)
                   (λ x q n held. (let copied = left_formal is x q n held in subst (λ z. Has z copied.0) waiting.1 copied.1)) well.owned well.covered,
             ))
             (subst (λ z. Backs (λ m. m ≡ state.memory) (steps.copied_back main_turn z (steps.start main_turn))) (sym waiting.1) refl)
-        by_rest [] (h ∷ m) same_rest same_more stages_there waiting well = absurd stages_there.2
-        by_rest (k ∷ r) [] same_rest same_more stages_there waiting well = absurd stages_there.2
-        by_rest (k ∷ r) (h ∷ m) same_rest same_more stages_there waiting well =
+        by_rest [] (h ∷ m) same_rest same_more stages_there waiting well still = absurd stages_there.2
+        by_rest (k ∷ r) [] same_rest same_more stages_there waiting well still = absurd stages_there.2
+        by_rest (k ∷ r) (h ∷ m) same_rest same_more stages_there waiting well still =
             let there : AreStages (stages_of (below ∷ (h ∷ m))) (below.stage.frame ∷ rest) =
             subst (λ z. AreStages (stages_of (below ∷ (h ∷ m))) (below.stage.frame ∷ z)) (sym same_rest) stages_there in
-            returns_lead main_turn Along (λ mid. Backed h m there waiting well is mid)
-            (ends_raised no_end) below.stage.frame k r (ap (λ z. below.stage.frame ∷ z) same_rest)
-            (λ mid on. returns_to h m there waiting well is mid on same_more)
-            (given_back h m there waiting well is)
+            returns_lead main_turn Along (λ mid. Backed h m there waiting well still is mid)
+            ends_raised below.stage.frame k r (ap (λ z. below.stage.frame ∷ z) same_rest)
+            (λ mid on. returns_to h m there waiting well still is mid on same_more)
+            (given_back h m there waiting well still is)

@@ -1,7 +1,6 @@
--- Calls with formals of scalar types: actuals are values of one word, or scalar places in variables; and
--- owners see nothing of the formals, nor of what is copied back.
-use Rattle.std.proofs.Common.{◌≡◌, refl, sym, ap, ◌∙◌, subst, ◌⊎◌, inl, inr, ℕ, ◌+◌, append-nil, Bool, true, false, List, [], ◌∷◌, ◌++◌, map, take, drop, length, get_or, Option, Some, None, if◌then◌else◌}
-use Rattle.std.proofs.lemmas.List.{length-map}
+-- Calls: what the actuals are, and how they are passed. Each is a value of one word, a scalar place in a
+-- variable, or another place in a variable of the caller.
+use Rattle.std.proofs.Common.{◌≡◌, refl, ◌&&◌, not, is_some, sym, ap, ◌∙◌, subst, ◌⊎◌, inl, inr, ℕ, append-nil, Bool, true, false, List, [], ◌∷◌, ◌++◌, map, Option, Some, None, if◌then◌else◌}
 use Rattle.spark_base.specs.Lists.{Has}
 use Rattle.spark_base.proofs.Lists.{Has-append_cases}
 use Rattle.spark_base.specs.declared.position.Pos.{Pos}
@@ -13,12 +12,12 @@ use Rattle.place_names.specs.declared.act.Placed.{Placed}
 use Rattle.place_names.specs.declared.fact.Fact.{Fact}
 use Rattle.place_names.specs.Names.{Name as PlaceName}
 use Rattle.place_names.specs.Facts.{adds, effect}
-use Rattle.type_definitions.specs.Types.{Table, shape_of, words, full, is_scalar, is_owning, parts}
+use Rattle.type_definitions.specs.Types.{Table, full, is_scalar, is_owning, parts}
 use Rattle.typed_tree.specs.Trees.{TypedTree, Number, Literal, Text, Name, Component as IntoComponent, Designated, Element, Call, EndOfFile, Parens, Image, Unary, Binary, Short, IsNull, Aggregate, Alike, New, NoMore, More}
 use Rattle.typed_tree.specs.Trees as typed
-use Rattle.flow_paths.specs.Objects.{Typing, object_at, sub_at, is_anonymous, is_observer, is_named_access, is_package_object, view_of, Passing, ByValue, passing, passing_by, passings}
+use Rattle.flow_paths.specs.Objects.{Typing, Signature, object_at, sub_at, is_anonymous, is_observer, is_named_access, is_package_object, view_of, traverses, first_traversed, Passing, ByValue, passing, passing_by, passings}
 use Rattle.flow_paths.specs.Objects as objects
-use Rattle.flow_paths.specs.Names.{Written, written, is_empty, has_call, name_of}
+use Rattle.flow_paths.specs.Names.{Written, written, is_empty, has_call, waiting as waits_in, name_of}
 use Rattle.flow_paths.specs.Laid.{FlowProgram, flow_typing}
 use Rattle.flow_paths.specs.Acts.{placed, naming, used, acts_in, index_acts, actual_act, actual_acts, actual_values}
 use Rattle.machine.specs.Words.{access_offsets, fits_type}
@@ -27,44 +26,36 @@ use Rattle.machine.specs.Memory.{Slot, Memory, Base, Place, fresh, no_slot, vari
 use Rattle.machine.specs.Memory as memory
 use Rattle.machine.specs.Evaluate.{Here, Now, AsValue, AsView, Evaluated, Done, Raises, Traps, ConstraintError, followed_by, evaluate, indexed, steps_of, walked, place_of, variable_place, component_place, element_place, checked, value, viewed}
 use Rattle.machine.specs.Evaluate as run
-use Rattle.machine.specs.Calls.{Passed, Value, From, To, type_of, value_passed, passed, all_passed, with_formal, with_formals}
-use Rattle.machine.specs.States.{Waiting, Leak, Return, sub_of}
-use Rattle.machine.specs.Step.{Turn, typing, here, copied_back}
+use Rattle.machine.specs.Calls.{Passed, Value, From, To, type_of, value_passed, passed, all_passed}
+use Rattle.machine.specs.States.{Waiting, Leak, sub_of}
 use Rattle.machine.specs.Owners.{is_in}
 use Rattle.owned_ways.specs.Ways.{Step, Root, Component, OfVariable, Loc, OfRoot, Way, Object, Into, Empty, Named, Past, IsRooted, Reaches, IsSame, AllowsAll, after, part, along}
 use Rattle.owned_ways.specs.Ways as ways
 use Rattle.part_offsets.specs.Parts.{type_in, offset_in, has_part, IsSettled}
-use Rattle.soundness.specs.Seen.{IsNear, Content, content, trunk, steps_in, word_in, seen, home}
+use Rattle.soundness.specs.Seen.{IsNear, Content, content, trunk, steps_in, seen, home}
 use Rattle.soundness.specs.Typed.{Matches, OwnsByShape, Kept, Spot, IsFixed, loc_of}
-use Rattle.soundness.specs.Sound.{goes_through_none, AreCopied, IsCopied}
+use Rattle.soundness.specs.Sound.{goes_through_none, AreCopied}
 use Rattle.typed_laws.specs.Needed.{Stays, Leads, IndexLaw, IsPlace as IsPlaceOf}
 use Rattle.soundness.proofs.Contents.{bool_cases, word_no, word_part}
 use Rattle.soundness.proofs.Joined.{leaf_join, steps_part}
-use Rattle.soundness.proofs.Memories.{put_other, marked_length}
-use Rattle.soundness.proofs.Steps.{no_leaf, plain_end, room, taken_slots}
-use Rattle.soundness.proofs.Keeping.{scalar}
-use Rattle.soundness.proofs.Lasting.{lengths, less_kept, put_away, declared_kept, keeps}
-use Rattle.soundness.proofs.Fixed.{matches_scalar, plain_word, fixed_at, fixed_spot, fixed_one, put_word, put_same_view}
-use Rattle.soundness.proofs.Loops.{same_word, scalar_same}
+use Rattle.soundness.proofs.Steps.{no_leaf}
+use Rattle.soundness.proofs.Fixed.{matches_scalar}
 use Rattle.soundness.proofs.Scalars.{acts, acts_append, after_append, allows_both, read_effect, number_along, named_along}
-use Rattle.soundness.proofs.Stays.{One, Quiet, quiet_then}
+use Rattle.soundness.proofs.Stays.{One, Quiet, quiet_then, quiet_from}
+use Rattle.soundness.proofs.Taking.{Takes}
 use Rattle.soundness.proofs.Walks.{Lead, way_along, Walked, walk}
-use Rattle.soundness.proofs.Waits.{or_both}
-use Rattle.soundness.proofs.Passing.{IsRead, AreReads, AddNone, IsLaid, AreLaid, plain_type, reads_keep, read_adds_none, signature_is}
-use Rattle.soundness.proofs.Returning.{Backs, copied_is, formal_fixed}
+use Rattle.soundness.proofs.Passing.{IsRead, AreReads, AddNone, IsValue, TakesAll, plain_type, reads_keep, read_adds_none, signature_is}
 use Rattle.owned_loans.specs.Views.{Around, Views, expand, ExcusedBy, Viewed}
 use Rattle.owned_loans.proofs.Moves.{IsPlace}
 use Rattle.viewed_soundness.specs.Holds.{IsNamed, PartsAreNamed, Holds}
-use Rattle.viewed_soundness.proofs.Names.{Starts, true_false, view_access, is_place}
-use Rattle.viewed_soundness.proofs.Stays.{Goes as GoesAlong, quiet, steps_quiet}
+use Rattle.viewed_soundness.proofs.Names.{Starts, true_false, is_place}
+use Rattle.viewed_soundness.proofs.Stays.{Goes as GoesAlong, taking, steps_taking}
 use Rattle.viewed_soundness.proofs.Evaluated.{matches_named}
-use Rattle.viewed_soundness.proofs.Outcomes.{named_plain}
 use Rattle.viewed_steps.specs.Taken.{IsInside}
 use Rattle.viewed_steps.specs.Sound.{IsScalarObject, IsKindOfFormal}
 use Rattle.viewed_steps.specs.Ready.{IsOwnPlace, IsActualTo, AreActualsTo}
 use Rattle.viewed_steps.proofs.Read.{scalar_named}
 use Rattle.viewed_steps.proofs.Released.{nothing_written}
-use Rattle.viewed_steps.proofs.Beside.{put_beside}
 use Rattle.viewed_steps.proofs.Lent.{ends, Spare, spare_both, spare_naming}
 
 -- ---- names that go through no access value
@@ -227,9 +218,9 @@ module _ (s : Typing) (own_law : OwnsByShape s.table) where
 abbrev pub ByModeFor : Mode → Bool → Type 0
 ByModeFor m owning = m ≡ mode.In → owning ≡ false
 
-module _ (s : Typing) (own_law : OwnsByShape s.table) where
+module _ (s : Typing) (own_law : OwnsByShape s.table) (procedure : Bool) where
   abbrev pub way_to : ℕ → Passing
-  way_to x = passing s true x
+  way_to x = passing s procedure x
 
   -- a formal of mode `in` is of a scalar type
   pub in_plain : (x : ℕ) → IsKindOfFormal s x → ByModeFor (object_at s x).mode (is_owning s.table (object_at s x).of)
@@ -250,7 +241,7 @@ module _ (s : Typing) (own_law : OwnsByShape s.table) where
   pub head_values_are : (x : ℕ) → IsKindOfFormal s x → (e : TypedTree) (ways : List Passing) (rest : TypedTree)
       → actual_values s (way_to x ∷ ways) (More e rest) ≡ head_of (object_at s x).mode e ++ actual_values s ways rest
   head_values_are x kind e ways rest =
-      head_is (object_at s x).mode (is_owning s.table (object_at s x).of) (is_named_access (view_of s x)) (in_plain x kind) e ways rest
+      head_is (object_at s x).mode (is_owning s.table (object_at s x).of) (procedure && is_named_access (view_of s x)) (in_plain x kind) e ways rest
 
   pub head_of_reads : (x : ℕ) (m : Mode) (e : TypedTree) → IsActualTo s x m e → AreReads (head_of m e)
   head_of_reads x mode.In e stays = reads_in s own_law e stays
@@ -278,7 +269,7 @@ module _ (s : Typing) (own_law : OwnsByShape s.table) where
       (both_reads (head_of (object_at s x).mode e) (actual_values s (map way_to formals) rest)
       (head_of_reads x (object_at s x).mode e stay.0) (values_are_read formals rest (λ y has. kinds y (inr has)) stay.1))
   values_are_read (x ∷ formals) actuals kinds stay =
-      none_of (object_at s x).mode (is_owning s.table (object_at s x).of) (is_named_access (view_of s x)) (in_plain x (kinds x (inl refl))) (map way_to formals) actuals refl
+      none_of (object_at s x).mode (is_owning s.table (object_at s x).of) (procedure && is_named_access (view_of s x)) (in_plain x (kinds x (inl refl))) (map way_to formals) actuals refl
 
   -- those of places that are copied back to add no fact, and end no scope
   copy_adds : (m : Mode) (owning access : Bool) (e : TypedTree) → AddNone (actual_act (passing_by m owning access) e)
@@ -291,7 +282,7 @@ module _ (s : Typing) (own_law : OwnsByShape s.table) where
   copies_add [] actuals p has f new = has
   copies_add (x ∷ formals) (More e rest) p has f new =
       elim (Has-append_cases (actual_act (way_to x) e) (actual_acts (map way_to formals) rest) p has) [
-        | inl l ↦ copy_adds (object_at s x).mode (is_owning s.table (object_at s x).of) (is_named_access (view_of s x)) e p l f new
+        | inl l ↦ copy_adds (object_at s x).mode (is_owning s.table (object_at s x).of) (procedure && is_named_access (view_of s x)) e p l f new
         | inr r ↦ copies_add formals rest p r f new
       ]
   copies_add (x ∷ formals) actuals p has f new = has
@@ -314,15 +305,20 @@ module _ (s : Typing) (own_law : OwnsByShape s.table) where
   spare_copies [] actuals = tt
   spare_copies (x ∷ formals) (More e rest) =
       spare_both s (actual_act (way_to x) e) (actual_acts (map way_to formals) rest)
-      (spare_copy (object_at s x).mode (is_owning s.table (object_at s x).of) (is_named_access (view_of s x)) e) (spare_copies formals rest)
+      (spare_copy (object_at s x).mode (is_owning s.table (object_at s x).of) (procedure && is_named_access (view_of s x)) e) (spare_copies formals rest)
   spare_copies (x ∷ formals) actuals = tt
 
--- all formals of a procedure are passed so
-pub passes_to : (program : FlowProgram) (n : ℕ) → (sub_of program n).result ≡ None
-    → passings (flow_typing program) (sub_at (flow_typing program) n) ≡ map (passing (flow_typing program) true) (sub_of program n).formals
-passes_to program n none =
-    ap (passings (flow_typing program)) (signature_is program n)
-    ∙ ap (λ z. passings (flow_typing program) (record { formals = (sub_of program n).formals; result = z })) none
+-- all formals are passed so, where the result isn't of an anonymous access type
+pub passes_to : (program : FlowProgram) (n : ℕ) → traverses (flow_typing program).table (sub_of program n).result ≡ false
+    → passings (flow_typing program) (sub_at (flow_typing program) n)
+    ≡ map (passing (flow_typing program) (not (is_some (sub_of program n).result))) (sub_of program n).formals
+passes_to program n plain =
+    ap (passings (flow_typing program)) (signature_is program n) ∙ by_result (sub_of program n).result (sub_of program n).formals plain
+  where
+    by_result : (r : Option ℕ) (formals : List ℕ) → traverses (flow_typing program).table r ≡ false
+        → passings (flow_typing program) (record { formals = formals; result = r }) ≡ map (passing (flow_typing program) (not (is_some r))) formals
+    by_result r formals plain =
+        ap (λ b. if b then first_traversed (map (passing (flow_typing program) (not (is_some r))) formals) else map (passing (flow_typing program) (not (is_some r))) formals) plain
 
 pub spare_reads : (s : Typing) (ps : List Placed) → AreReads ps → Spare s ps
 spare_reads s [] reads = tt
@@ -364,43 +360,38 @@ module _ (h : Here) (settled : IsSettled h.typing.table) (hands : List Waiting) 
     (live : (w : Way) (l : Loc) → IsRooted w → Reaches (seen h.typing m hands leaks) w l → (content h.typing m hands (trunk l)).owns ≡ true)
     (index_law : IndexLaw)
     (own_law : OwnsByShape h.typing.table)
-    (parts_named : PartsAreNamed h.typing.table) where
-  abbrev at : Now
-  at = record { memory = m; waits = waits }
+    (parts_named : PartsAreNamed h.typing.table) (procedure : Bool) where
+  abbrev at : List (List machine.Word) → Now
+  at ws = record { memory = m; waits = ws }
 
   abbrev ways_of : List ℕ → List Passing
-  ways_of formals = map (way_to h.typing own_law) formals
+  ways_of formals = map (way_to h.typing own_law procedure) formals
 
   abbrev IsKind : ℕ → Type 0
   IsKind x = IsKindOfFormal h.typing x
 
   -- ---- values
 
-  abbrev IsValue : Passed → Type 0
-  IsValue (Value ws) = One ws
-  IsValue (From k) = ⊥
-  IsValue (To k) = ⊥
+  if_quiet : (on : List (List machine.Word)) (b : Bool) (x y : Evaluated (List machine.Word)) → Quiet (at on) One x → Quiet (at on) One y → Quiet (at on) One (if b then x else y)
+  if_quiet on true x y p q = p
+  if_quiet on false x y p q = q
 
-  if_quiet : (b : Bool) (x y : Evaluated (List machine.Word)) → Quiet at One x → Quiet at One y → Quiet at One (if b then x else y)
-  if_quiet true x y p q = p
-  if_quiet false x y p q = q
-
-  checked_quiet : (P : List machine.Word → Type 0) (t : ℕ) (ws : List machine.Word) → P ws → Quiet at P (checked h t ws at)
-  checked_quiet P t ws is = by_test (fits_type h.typing.table t ws)
+  checked_quiet : (on : List (List machine.Word)) (P : List machine.Word → Type 0) (t : ℕ) (ws : List machine.Word) → P ws → Quiet (at on) P (checked h t ws (at on))
+  checked_quiet on P t ws is = by_test (fits_type h.typing.table t ws)
     where
-      by_test : (b : Bool) → Quiet at P (if b then Done ws at else Raises ConstraintError at)
+      by_test : (b : Bool) → Quiet (at on) P (if b then Done ws (at on) else Raises ConstraintError (at on))
       by_test true = (refl, is)
       by_test false = refl
 
-  value_given : (x : ℕ) (e : TypedTree) → Stays h.typing e → has_call e ≡ false → AllowsAll facts (acts (acts_in h.typing e))
-      → Quiet at (λ a. IsValue a) (passed h ByValue x e at)
-  value_given x e stays none allowed =
-      let by_name = quiet h settled hands leaks m waits other facts v kept well holds alone live index_law own_law parts_named AsValue e stays none allowed in
-      let as_view = quiet h settled hands leaks m waits other facts v kept well holds alone live index_law own_law parts_named AsView e stays none allowed in
-      quiet_then at One (λ a. IsValue a) (if is_anonymous (view_of h.typing x) then viewed h e at else value h e at)
+  value_given : (before on : List (List machine.Word)) (x : ℕ) (e : TypedTree) → Stays h.typing e → Takes (waits_in e) before on → AllowsAll facts (acts (acts_in h.typing e))
+      → Quiet (at on) (λ a. IsValue a) (passed h ByValue x e (at before))
+  value_given before on x e stays takes allowed =
+      let by_name = taking h settled hands leaks m waits other facts v kept well holds alone live index_law own_law parts_named AsValue e stays before on takes allowed in
+      let as_view = taking h settled hands leaks m waits other facts v kept well holds alone live index_law own_law parts_named AsView e stays before on takes allowed in
+      quiet_then (at on) One (λ a. IsValue a) (if is_anonymous (view_of h.typing x) then viewed h e (at before) else value h e (at before))
       (λ ws now. followed_by (checked h (type_of h x) ws now) value_passed)
-      (if_quiet (is_anonymous (view_of h.typing x)) (viewed h e at) (value h e at) as_view.0 by_name.0)
-      (λ ws one. quiet_then at One (λ a. IsValue a) (checked h (type_of h x) ws at) value_passed (checked_quiet One (type_of h x) ws one)
+      (if_quiet on (is_anonymous (view_of h.typing x)) (viewed h e (at before)) (value h e (at before)) as_view.0 by_name.0)
+      (λ ws one. quiet_then (at on) One (λ a. IsValue a) (checked h (type_of h x) ws (at on)) value_passed (checked_quiet on One (type_of h x) ws one)
       (λ us single. (refl, single)))
 
   -- ---- places
@@ -415,10 +406,10 @@ module _ (h : Here) (settled : IsSettled h.typing.table) (hands : List Waiting) 
   abbrev IsPut : TypedTree → Place → Type 0
   IsPut e k = IsFixed h.typing k × Reached e k
 
-  from_walked : (p : Pos) (x u : ℕ) (path : TypedTree) (w : Way) → is_scalar (full h.typing.table u) ≡ true → Named (home h.typing h.frame) w
-      → ways.name_of w ≡ name_of x path → IsPlace v w → expand v w ≡ w → (y : Evaluated Place) → Walked h.typing settled hands leaks m waits w u y
-      → IsIn (memory.OfVariable (home h.typing h.frame x) x) y → Quiet at (λ k. IsPut (Name p x path u) k) y
-  from_walked p x u path w plain named called place itself (Done k n) (l, same, spot, reaches, of) base =
+  from_walked : (on : List (List machine.Word)) (p : Pos) (x u : ℕ) (path : TypedTree) (w : Way) → is_scalar (full h.typing.table u) ≡ true → Named (home h.typing h.frame) w
+      → ways.name_of w ≡ name_of x path → IsPlace v w → expand v w ≡ w → (y : Evaluated Place) → Walked h.typing settled hands leaks m on w u y
+      → IsIn (memory.OfVariable (home h.typing h.frame x) x) y → Quiet (at on) (λ k. IsPut (Name p x path u) k) y
+  from_walked on p x u path w plain named called place itself (Done k n) (l, same, spot, reaches, of) base =
       let b : trunk l ≡ OfRoot (OfVariable (home h.typing h.frame x) x) = spot.base ∙ ap loc_of base in (
         same,
         (
@@ -435,42 +426,42 @@ module _ (h : Here) (settled : IsSettled h.typing.table) (hands : List Waiting) 
           (w, l, named, called, place, subst (λ z. Reaches (seen h.typing m hands leaks) z l) (sym itself) reaches, spot),
         ),
       )
-  from_walked p x u path w plain named called place itself (Raises e n) is base = is
-  from_walked p x u path w plain named called place itself (Traps t n) never base = absurd never
+  from_walked on p x u path w plain named called place itself (Raises e n) is base = is
+  from_walked on p x u path w plain named called place itself (Traps t n) never base = absurd never
 
-  walk_given : (p : Pos) (x u : ℕ) (path : TypedTree) (way : List run.Step) → is_scalar (full h.typing.table u) ≡ true
+  walk_given : (on : List (List machine.Word)) (p : Pos) (x u : ℕ) (path : TypedTree) (way : List run.Step) → is_scalar (full h.typing.table u) ≡ true
       → GoesAlong h.typing.table (object_at h.typing x).of u path way → IsDirect way
-      → Quiet at (λ k. IsPut (Name p x path u) k) (walked h.typing way (variable_place h x) at)
-  walk_given p x u path way plain goes direct =
+      → Quiet (at on) (λ k. IsPut (Name p x path u) k) (walked h.typing way (variable_place h x) (at on))
+  walk_given on p x u path way plain goes direct =
       let root : Way = Object (OfVariable (home h.typing h.frame x) x) in
       let named : Named (home h.typing h.frame) (way_along way root) = named_along (home h.typing h.frame) way root refl in
-      from_walked p x u path (way_along way root) plain named
+      from_walked on p x u path (way_along way root) plain named
       (λ j. record { root = number_along way root j; sels = goes.sels root j })
       (is_place h.typing v (home h.typing h.frame x) x u way goes.lead (scalar_named h.typing.table u plain) holds.only)
       (direct_itself v way direct root refl)
-      (walked h.typing way (variable_place h x) at)
-      (walk h.typing settled hands leaks m waits (ExcusedBy (home h.typing h.frame) v other facts) kept well.owned well.known live way (variable_place h x)
+      (walked h.typing way (variable_place h x) (at on))
+      (walk h.typing settled hands leaks m on (ExcusedBy (home h.typing h.frame) v other facts) kept well.owned well.known live way (variable_place h x)
       (OfRoot (OfVariable (home h.typing h.frame x) x)) root u
       (record { base = refl; made = tt; at = refl; there = refl; of = inl refl }) tt refl (direct_leads h.typing.table (object_at h.typing x).of u way direct goes.lead)
       (λ z past moved. past_none way direct root (λ y never. never) z past))
-      (walked_in h.typing way direct (variable_place h x) at)
+      (walked_in h.typing way direct (variable_place h x) (at on))
 
-  place_given : (e : TypedTree) (t : ℕ) → IsPlaceOf h.typing e t → is_scalar (full h.typing.table t) ≡ true → has_call e ≡ false → goes_through_none e ≡ true
-      → AllowsAll facts (acts (index_acts h.typing e)) → Quiet at (λ k. IsPut e k) (place_of h e at)
-  unfolding has_call goes_through_none
-  place_given (Name p x path u) t (leads, type) plain none direct allowed =
-      let inner = steps_quiet h settled hands leaks m waits other facts v kept well holds alone live index_law own_law parts_named (object_at h.typing x).of u path leads none allowed in
-      quiet_then at (λ way. GoesAlong h.typing.table (object_at h.typing x).of u path way × IsDirect way) (λ k. IsPut (Name p x path u) k) (steps_of h path at)
+  place_given : (before on : List (List machine.Word)) (e : TypedTree) (t : ℕ) → IsPlaceOf h.typing e t → is_scalar (full h.typing.table t) ≡ true → Takes (waits_in e) before on → goes_through_none e ≡ true
+      → AllowsAll facts (acts (index_acts h.typing e)) → Quiet (at on) (λ k. IsPut e k) (place_of h e (at before))
+  unfolding waits_in goes_through_none
+  place_given before on (Name p x path u) t (leads, type) plain takes direct allowed =
+      let inner = steps_taking h settled hands leaks m waits other facts v kept well holds alone live index_law own_law parts_named (object_at h.typing x).of u path leads before on takes allowed in
+      quiet_then (at on) (λ way. GoesAlong h.typing.table (object_at h.typing x).of u path way × IsDirect way) (λ k. IsPut (Name p x path u) k) (steps_of h path (at before))
       (λ way now. walked h.typing way (variable_place h x) now)
-      (both_quiet at (λ way. GoesAlong h.typing.table (object_at h.typing x).of u path way) (steps_of h path at) inner.0 (steps_direct h path direct at))
-      (λ way both. walk_given p x u path way (subst (λ z. is_scalar (full h.typing.table z) ≡ true) (sym type) plain) both.0 both.1)
-  place_given e t place plain none direct allowed = absurd place
+      (both_quiet (at on) (λ way. GoesAlong h.typing.table (object_at h.typing x).of u path way) (steps_of h path (at before)) inner.0 (steps_direct h path direct (at before)))
+      (λ way both. walk_given on p x u path way (subst (λ z. is_scalar (full h.typing.table z) ≡ true) (sym type) plain) both.0 both.1)
+  place_given before on e t place plain takes direct allowed = absurd place
 
-  own_walked : (p : Pos) (x y u : ℕ) (path : TypedTree) (q : List Step) (w : Way) → IsNamed h.typing.table u → Matches h.typing.table u (object_at h.typing x).of
+  own_walked : (on : List (List machine.Word)) (p : Pos) (x y u : ℕ) (path : TypedTree) (q : List Step) (w : Way) → IsNamed h.typing.table u → Matches h.typing.table u (object_at h.typing x).of
       → is_package_object h.typing y ≡ false → w ≡ along (Object (OfVariable (home h.typing h.frame y) y)) q
-      → ways.name_of w ≡ name_of y path → (z : Evaluated Place) → Walked h.typing settled hands leaks m waits w u z
-      → IsIn (memory.OfVariable (home h.typing h.frame y) y) z → Quiet at (λ k. IsOwnPut h.typing h.frame x (Name p y path u) k) z
-  own_walked p x y u path q w own fits local is called (Done k n) (l, same, spot, reaches, of) base =
+      → ways.name_of w ≡ name_of y path → (z : Evaluated Place) → Walked h.typing settled hands leaks m on w u z
+      → IsIn (memory.OfVariable (home h.typing h.frame y) y) z → Quiet (at on) (λ k. IsOwnPut h.typing h.frame x (Name p y path u) k) z
+  own_walked on p x y u path q w own fits local is called (Done k n) (l, same, spot, reaches, of) base =
       let root : Root = OfVariable (home h.typing h.frame y) y in
       let b : trunk l ≡ OfRoot root = spot.base ∙ ap loc_of base in
       let at_home : home h.typing h.frame y ≡ h.frame = ap (λ z. if z then 0 else h.frame) local in
@@ -495,36 +486,36 @@ module _ (h : Here) (settled : IsSettled h.typing.table) (hands : List Waiting) 
           subst (λ z. Matches h.typing.table z (object_at h.typing x).of) (sym of) fits,
         ),
       )
-  own_walked p x y u path q w own fits local is called (Raises e n) there base = there
-  own_walked p x y u path q w own fits local is called (Traps t n) never base = absurd never
+  own_walked on p x y u path q w own fits local is called (Raises e n) there base = there
+  own_walked on p x y u path q w own fits local is called (Traps t n) never base = absurd never
 
-  own_given : (x : ℕ) (p : Pos) (y u : ℕ) (path : TypedTree) (way : List run.Step) → IsNamed h.typing.table u → Matches h.typing.table u (object_at h.typing x).of
+  own_given : (on : List (List machine.Word)) (x : ℕ) (p : Pos) (y u : ℕ) (path : TypedTree) (way : List run.Step) → IsNamed h.typing.table u → Matches h.typing.table u (object_at h.typing x).of
       → is_package_object h.typing y ≡ false → GoesAlong h.typing.table (object_at h.typing y).of u path way → IsDirect way
-      → Quiet at (λ k. IsOwnPut h.typing h.frame x (Name p y path u) k) (walked h.typing way (variable_place h y) at)
-  own_given x p y u path way own fits local goes direct =
+      → Quiet (at on) (λ k. IsOwnPut h.typing h.frame x (Name p y path u) k) (walked h.typing way (variable_place h y) (at on))
+  own_given on x p y u path way own fits local goes direct =
       let root : Way = Object (OfVariable (home h.typing h.frame y) y) in
       let flat = direct_part (OfVariable (home h.typing h.frame y) y) way direct [] in
-      own_walked p x y u path flat.0 (way_along way root) own fits local flat.1
+      own_walked on p x y u path flat.0 (way_along way root) own fits local flat.1
       (λ j. record { root = number_along way root j; sels = goes.sels root j })
-      (walked h.typing way (variable_place h y) at)
-      (walk h.typing settled hands leaks m waits (ExcusedBy (home h.typing h.frame) v other facts) kept well.owned well.known live way (variable_place h y)
+      (walked h.typing way (variable_place h y) (at on))
+      (walk h.typing settled hands leaks m on (ExcusedBy (home h.typing h.frame) v other facts) kept well.owned well.known live way (variable_place h y)
       (OfRoot (OfVariable (home h.typing h.frame y) y)) root u
       (record { base = refl; made = tt; at = refl; there = refl; of = inl refl }) tt refl (direct_leads h.typing.table (object_at h.typing y).of u way direct goes.lead)
       (λ z past moved. past_none way direct root (λ y never. never) z past))
-      (walked_in h.typing way direct (variable_place h y) at)
+      (walked_in h.typing way direct (variable_place h y) (at on))
 
-  own_place_given : (x : ℕ) (e : TypedTree) (t : ℕ) → IsPlaceOf h.typing e t → IsNamed h.typing.table t → Matches h.typing.table t (object_at h.typing x).of
-      → IsOwnPlace h.typing e → has_call e ≡ false → goes_through_none e ≡ true
-      → AllowsAll facts (acts (index_acts h.typing e)) → Quiet at (λ k. IsOwnPut h.typing h.frame x e k) (place_of h e at)
-  unfolding has_call goes_through_none
-  own_place_given x (Name p y path u) t (leads, type) own fits local none direct allowed =
-      let inner = steps_quiet h settled hands leaks m waits other facts v kept well holds alone live index_law own_law parts_named (object_at h.typing y).of u path leads none allowed in
-      quiet_then at (λ way. GoesAlong h.typing.table (object_at h.typing y).of u path way × IsDirect way) (λ k. IsOwnPut h.typing h.frame x (Name p y path u) k) (steps_of h path at)
+  own_place_given : (before on : List (List machine.Word)) (x : ℕ) (e : TypedTree) (t : ℕ) → IsPlaceOf h.typing e t → IsNamed h.typing.table t → Matches h.typing.table t (object_at h.typing x).of
+      → IsOwnPlace h.typing e → Takes (waits_in e) before on → goes_through_none e ≡ true
+      → AllowsAll facts (acts (index_acts h.typing e)) → Quiet (at on) (λ k. IsOwnPut h.typing h.frame x e k) (place_of h e (at before))
+  unfolding waits_in goes_through_none
+  own_place_given before on x (Name p y path u) t (leads, type) own fits local takes direct allowed =
+      let inner = steps_taking h settled hands leaks m waits other facts v kept well holds alone live index_law own_law parts_named (object_at h.typing y).of u path leads before on takes allowed in
+      quiet_then (at on) (λ way. GoesAlong h.typing.table (object_at h.typing y).of u path way × IsDirect way) (λ k. IsOwnPut h.typing h.frame x (Name p y path u) k) (steps_of h path (at before))
       (λ way now. walked h.typing way (variable_place h y) now)
-      (both_quiet at (λ way. GoesAlong h.typing.table (object_at h.typing y).of u path way) (steps_of h path at) inner.0 (steps_direct h path direct at))
-      (λ way both. own_given x p y u path way (subst (IsNamed h.typing.table) (sym type) own) (subst (λ z. Matches h.typing.table z (object_at h.typing x).of) (sym type) fits)
+      (both_quiet (at on) (λ way. GoesAlong h.typing.table (object_at h.typing y).of u path way) (steps_of h path (at before)) inner.0 (steps_direct h path direct (at before)))
+      (λ way both. own_given on x p y u path way (subst (IsNamed h.typing.table) (sym type) own) (subst (λ z. Matches h.typing.table z (object_at h.typing x).of) (sym type) fits)
       (local y (inl refl)) both.0 both.1)
-  own_place_given x e t place own fits local none direct allowed = absurd place
+  own_place_given before on x e t place own fits local takes direct allowed = absurd place
 
   -- ---- all of them
 
@@ -542,12 +533,12 @@ module _ (h : Here) (settled : IsSettled h.typing.table) (hands : List Waiting) 
   AreGiven (x ∷ formals) (More e rest) [] = ⊥
   AreGiven formals actuals passed = passed ≡ []
 
-  value_is : (x : ℕ) (e : TypedTree) (y : Evaluated Passed) → Quiet at (λ a. IsValue a) y → Quiet at (λ a. IsGiven x mode.In e a) y
-  value_is x e (Done (Value ws) n) is = is
-  value_is x e (Done (From k) n) is = absurd is.1
-  value_is x e (Done (To k) n) is = absurd is.1
-  value_is x e (Raises y n) is = is
-  value_is x e (Traps y n) is = is
+  value_is : (on : List (List machine.Word)) (x : ℕ) (e : TypedTree) (y : Evaluated Passed) → Quiet (at on) (λ a. IsValue a) y → Quiet (at on) (λ a. IsGiven x mode.In e a) y
+  value_is on x e (Done (Value ws) n) is = is
+  value_is on x e (Done (From k) n) is = absurd is.1
+  value_is on x e (Done (To k) n) is = absurd is.1
+  value_is on x e (Raises y n) is = is
+  value_is on x e (Traps y n) is = is
 
   abbrev IsCopiedName : Mode → TypedTree → Type 0
   IsCopiedName m' e = is_in m' ≡ false → goes_through_none e ≡ true
@@ -555,25 +546,26 @@ module _ (h : Here) (settled : IsSettled h.typing.table) (hands : List Waiting) 
   abbrev from_place : ℕ → Place → Now → Evaluated Passed
   from_place x k now = followed_by (checked h (type_of h x) (words_of h.typing now.memory k) now) (λ ws now. Done (From k) now)
 
-  from_given : (x : ℕ) (e : TypedTree) (P : Place → Type 0) → ((k : Place) → P k → IsGiven x mode.InOut e (From k)) → Quiet at P (place_of h e at)
-      → Quiet at (λ a. IsGiven x mode.InOut e a) (followed_by (place_of h e at) (from_place x))
-  from_given x e P on there =
-      quiet_then at P (λ a. IsGiven x mode.InOut e a) (place_of h e at) (from_place x) there
-      (λ k put. quiet_then at (λ (ws : List machine.Word). Unit {0}) (λ a. IsGiven x mode.InOut e a) (checked h (type_of h x) (words_of h.typing m k) at)
-      (λ ws now. Done (From k) now) (checked_quiet (λ ws. Unit {0}) (type_of h x) (words_of h.typing m k) tt) (λ ws any. (refl, on k put)))
+  from_given : (before on : List (List machine.Word)) (x : ℕ) (e : TypedTree) (P : Place → Type 0) → ((k : Place) → P k → IsGiven x mode.InOut e (From k)) → Quiet (at on) P (place_of h e (at before))
+      → Quiet (at on) (λ a. IsGiven x mode.InOut e a) (followed_by (place_of h e (at before)) (from_place x))
+  from_given before on x e P gives there =
+      quiet_then (at on) P (λ a. IsGiven x mode.InOut e a) (place_of h e (at before)) (from_place x) there
+      (λ k put. quiet_then (at on) (λ (ws : List machine.Word). Unit {0}) (λ a. IsGiven x mode.InOut e a) (checked h (type_of h x) (words_of h.typing m k) (at on))
+      (λ ws now. Done (From k) now) (checked_quiet on (λ ws. Unit {0}) (type_of h x) (words_of h.typing m k) tt) (λ ws any. (refl, gives k put)))
 
   scalar_type : (t u : ℕ) → Matches h.typing.table t u → is_scalar (full h.typing.table u) ≡ true → is_scalar (full h.typing.table t) ≡ true
   scalar_type t u (inl e) plain = matches_scalar h.typing u t (inl (sym e)) plain
   scalar_type t u (inr both) plain = both.0
 
-  in_out_given : (x : ℕ) (e : TypedTree) → IsKind x → IsActualTo h.typing x mode.InOut e → goes_through_none e ≡ true → has_call e ≡ false
-      → AllowsAll facts (acts (index_acts h.typing e)) → Quiet at (λ a. IsGiven x mode.InOut e a) (followed_by (place_of h e at) (from_place x))
-  in_out_given x e kind (t, place, fits, which) direct none allowed = elim (bool_cases (is_scalar (full h.typing.table (object_at h.typing x).of))) [
-    | inl plain ↦ from_given x e (λ k. IsPut e k) (λ k put. inl (plain, put))
-        (place_given e t place (scalar_type t (object_at h.typing x).of fits plain) none direct allowed)
-    | inr other_type ↦ from_given x e (λ k. IsOwnPut h.typing h.frame x e k) (λ k put. inr (other_type, put))
-        (own_place_given x e t place
-        (matches_named h.typing.table (object_at h.typing x).of t (matches_flip t (object_at h.typing x).of fits) (named_there kind other_type)) fits (own_there which other_type) none direct allowed)
+  in_out_given : (before on : List (List machine.Word)) (x : ℕ) (e : TypedTree) → IsKind x → IsActualTo h.typing x mode.InOut e → goes_through_none e ≡ true
+      → Takes (waits_in e) before on
+      → AllowsAll facts (acts (index_acts h.typing e)) → Quiet (at on) (λ a. IsGiven x mode.InOut e a) (followed_by (place_of h e (at before)) (from_place x))
+  in_out_given before on x e kind (t, place, fits, which) direct takes allowed = elim (bool_cases (is_scalar (full h.typing.table (object_at h.typing x).of))) [
+    | inl plain ↦ from_given before on x e (λ k. IsPut e k) (λ k put. inl (plain, put))
+        (place_given before on e t place (scalar_type t (object_at h.typing x).of fits plain) takes direct allowed)
+    | inr other_type ↦ from_given before on x e (λ k. IsOwnPut h.typing h.frame x e k) (λ k put. inr (other_type, put))
+        (own_place_given before on x e t place
+        (matches_named h.typing.table (object_at h.typing x).of t (matches_flip t (object_at h.typing x).of fits) (named_there kind other_type)) fits (own_there which other_type) takes direct allowed)
   ]
     where
       matches_flip : (t u : ℕ) → Matches h.typing.table t u → Matches h.typing.table u t
@@ -589,42 +581,41 @@ module _ (h : Here) (settled : IsSettled h.typing.table) (hands : List Waiting) 
           (matches_scalar h.typing t (object_at h.typing x).of fits plain) other_type)
       own_there (inr own) other_type = own
 
-  one_given : (mode_of : Mode) (owning access : Bool) (x : ℕ) (e : TypedTree) → ByModeFor mode_of owning → IsKind x → IsActualTo h.typing x mode_of e
-      → IsCopiedName mode_of e → has_call e ≡ false
-      → AllowsAll facts (acts (head_of h.typing own_law mode_of e)) → Quiet at (λ a. IsGiven x mode_of e a) (passed h (passing_by mode_of owning access) x e at)
-  one_given mode.In owning access x e fits kind actual copied none allowed =
-      subst (λ b. Quiet at (λ a. IsGiven x mode.In e a) (passed h (if b then objects.Place mode.In b access else ByValue) x e at)) (sym (fits refl))
-      (value_is x e (passed h ByValue x e at) (value_given x e actual none allowed))
-  one_given mode.Out owning access x e fits kind actual copied none allowed =
-      quiet_then at (λ k. IsPut e k) (λ a. IsGiven x mode.Out e a) (place_of h e at) (λ k now. Done (To k) now)
-      (place_given e actual.0 actual.1 actual.2 none (copied refl) allowed) (λ k put. (refl, put))
-  one_given mode.InOut owning access x e fits kind actual copied none allowed = in_out_given x e kind actual (copied refl) none allowed
+  one_given : (before on : List (List machine.Word)) (mode_of : Mode) (owning access : Bool) (x : ℕ) (e : TypedTree) → ByModeFor mode_of owning → IsKind x → IsActualTo h.typing x mode_of e
+      → IsCopiedName mode_of e → Takes (waits_in e) before on
+      → AllowsAll facts (acts (head_of h.typing own_law procedure mode_of e)) → Quiet (at on) (λ a. IsGiven x mode_of e a) (passed h (passing_by mode_of owning access) x e (at before))
+  one_given before on mode.In owning access x e fits kind actual copied takes allowed =
+      subst (λ b. Quiet (at on) (λ a. IsGiven x mode.In e a) (passed h (if b then objects.Place mode.In b access else ByValue) x e (at before))) (sym (fits refl))
+      (value_is on x e (passed h ByValue x e (at before)) (value_given before on x e actual takes allowed))
+  one_given before on mode.Out owning access x e fits kind actual copied takes allowed =
+      quiet_then (at on) (λ k. IsPut e k) (λ a. IsGiven x mode.Out e a) (place_of h e (at before)) (λ k now. Done (To k) now)
+      (place_given before on e actual.0 actual.1 actual.2 takes (copied refl) allowed) (λ k put. (refl, put))
+  one_given before on mode.InOut owning access x e fits kind actual copied takes allowed = in_out_given before on x e kind actual (copied refl) takes allowed
 
-  pub all_given : (formals : List ℕ) (actuals : TypedTree) → ((x : ℕ) → Has formals x → IsKind x) → AreActualsTo h.typing formals actuals
-      → AreCopied h.typing formals actuals → has_call actuals ≡ false
+  pub all_given : (before on : List (List machine.Word)) (formals : List ℕ) (actuals : TypedTree) → ((x : ℕ) → Has formals x → IsKind x) → AreActualsTo h.typing formals actuals
+      → AreCopied h.typing formals actuals → TakesAll formals actuals before on
       → AllowsAll facts (acts (actual_values h.typing (ways_of formals) actuals))
-      → Quiet at (λ passed. AreGiven formals actuals passed) (all_passed h (ways_of formals) formals actuals at)
-  unfolding has_call
-  all_given [] actuals kinds stay copied none allowed = (refl, refl)
-  all_given (x ∷ formals) (More e rest) kinds stay copied none allowed =
+      → Quiet (at on) (λ passed. AreGiven formals actuals passed) (all_passed h (ways_of formals) formals actuals (at before))
+  all_given before on [] actuals kinds stay copied takes allowed = ((ap at takes), refl)
+  all_given before on (x ∷ formals) (More e rest) kinds stay copied (mid, takes, more) allowed =
       let mode_of : Mode = (object_at h.typing x).mode in
-      let calls = or_both (has_call e) (has_call rest) none in
       let kind = kinds x (inl refl) in
-      let both : AllowsAll facts (acts (head_of h.typing own_law mode_of e ++ actual_values h.typing (ways_of formals) rest)) =
-      subst (λ z. AllowsAll facts (acts z)) (head_values_are h.typing own_law x kind e (ways_of formals) rest) allowed in
-      let each = allows_both facts (acts (head_of h.typing own_law mode_of e)) (acts (actual_values h.typing (ways_of formals) rest))
-      (subst (AllowsAll facts) (acts_append (head_of h.typing own_law mode_of e) (actual_values h.typing (ways_of formals) rest)) both) in
-      let same : after (acts (head_of h.typing own_law mode_of e)) facts ≡ facts =
-      reads_keep (head_of h.typing own_law mode_of e) (head_of_reads h.typing own_law x mode_of e stay.0) facts in
-      quiet_then at (λ a. IsGiven x mode_of e a) (λ passed. AreGiven (x ∷ formals) (More e rest) passed) (passed h (way_to h.typing own_law x) x e at)
+      let both : AllowsAll facts (acts (head_of h.typing own_law procedure mode_of e ++ actual_values h.typing (ways_of formals) rest)) =
+      subst (λ z. AllowsAll facts (acts z)) (head_values_are h.typing own_law procedure x kind e (ways_of formals) rest) allowed in
+      let each = allows_both facts (acts (head_of h.typing own_law procedure mode_of e)) (acts (actual_values h.typing (ways_of formals) rest))
+      (subst (AllowsAll facts) (acts_append (head_of h.typing own_law procedure mode_of e) (actual_values h.typing (ways_of formals) rest)) both) in
+      let same : after (acts (head_of h.typing own_law procedure mode_of e)) facts ≡ facts =
+      reads_keep (head_of h.typing own_law procedure mode_of e) (head_of_reads h.typing own_law procedure x mode_of e stay.0) facts in
+      quiet_from (at mid) (at on) (λ a. IsGiven x mode_of e a) (λ passed. AreGiven (x ∷ formals) (More e rest) passed) refl (passed h (way_to h.typing own_law procedure x) x e (at before))
       (λ a now. followed_by (all_passed h (ways_of formals) formals rest now) (λ more now. Done (a ∷ more) now))
-      (one_given mode_of (is_owning h.typing.table (object_at h.typing x).of) (is_named_access (view_of h.typing x)) x e (in_plain h.typing own_law x kind) kind
-      stay.0 copied.0 calls.0 each.0)
-      (λ a is. quiet_then at (λ passed. AreGiven formals rest passed) (λ passed. AreGiven (x ∷ formals) (More e rest) passed)
-      (all_passed h (ways_of formals) formals rest at) (λ more now. Done (a ∷ more) now)
-      (all_given formals rest (λ y has. kinds y (inr has)) stay.1 copied.1 calls.1 (subst (λ z. AllowsAll z (acts (actual_values h.typing (ways_of formals) rest))) same each.1))
+      (one_given before mid mode_of (is_owning h.typing.table (object_at h.typing x).of) (procedure && is_named_access (view_of h.typing x)) x e
+      (in_plain h.typing own_law procedure x kind) kind stay.0 copied.0 takes each.0)
+      (λ a is. quiet_then (at on) (λ passed. AreGiven formals rest passed) (λ passed. AreGiven (x ∷ formals) (More e rest) passed)
+      (all_passed h (ways_of formals) formals rest (at mid)) (λ more now. Done (a ∷ more) now)
+      (all_given mid on formals rest (λ y has. kinds y (inr has)) stay.1 copied.1 more
+      (subst (λ z. AllowsAll z (acts (actual_values h.typing (ways_of formals) rest))) same each.1))
       (λ more are. (refl, (is, are))))
-  all_given (x ∷ formals) actuals kinds stay copied none allowed = (refl, refl)
+  all_given before on (x ∷ formals) actuals kinds stay copied takes allowed = ((ap at takes), refl)
 
   laid_one : (x : ℕ) (mode_of : Mode) (e : TypedTree) (a : Passed) → IsGiven x mode_of e a → IsLaidOne h.typing h.frame x mode_of e a
   laid_one x mode.In e (Value ws) is = is
@@ -679,175 +670,12 @@ module _ (h : Here) (settled : IsSettled h.typing.table) (hands : List Waiting) 
       → AreGiven formals actuals passed → ViewedWith known
       → ViewedWith (after (acts (actual_acts (ways_of formals) actuals)) known)
   all_acted (x ∷ formals) (More e rest) (a ∷ passed) known kinds are there =
-      let first : List Placed = actual_act (way_to h.typing own_law x) e in
+      let first : List Placed = actual_act (way_to h.typing own_law procedure x) e in
       let others : List Placed = actual_acts (ways_of formals) rest in
       subst ViewedWith (sym (ap (λ z. after z known) (acts_append first others) ∙ after_append (acts first) (acts others) known))
       (all_acted formals rest passed (after (acts first) known) (λ y has. kinds y (inr has)) are.1
-      (head_acted (object_at h.typing x).mode (is_owning h.typing.table (object_at h.typing x).of) (is_named_access (view_of h.typing x)) x e a known
-      (in_plain h.typing own_law x (kinds x (inl refl))) are.0 there))
+      (head_acted (object_at h.typing x).mode (is_owning h.typing.table (object_at h.typing x).of) (procedure && is_named_access (view_of h.typing x)) x e a known
+      (in_plain h.typing own_law procedure x (kinds x (inl refl))) are.0 there))
   all_acted (x ∷ formals) (More e rest) [] known kinds are there = absurd are
   all_acted [] actuals passed known kinds are there = there
   all_acted (x ∷ formals) actuals passed known kinds are there = there
-
--- ---- memories that owners see alike
-
--- a scalar place isn't in the variable of a view
-no_view_fixed : (s : Typing) (settled : IsSettled s.table) (k : Place) → IsFixed s k → (g y : ℕ) → is_anonymous (view_of s y) ≡ true
-    → k.base ≡ memory.OfVariable g y → ⊥
-no_view_fixed s settled k fixed g y view base =
-    let same : fixed.object ≡ y = same_variable fixed.frame fixed.object g y (sym fixed.base ∙ base) in
-    let access = view_access (shape_of s.table (object_at s y).of) view in
-    let there : has_part s.table (object_at s y).of fixed.steps ≡ true = subst (λ z. has_part s.table (object_at s z).of fixed.steps ≡ true) same fixed.there in
-    let none = plain_end s.table settled (object_at s y).of access.0 access.1 fixed.steps there in
-    let fits : Matches s.table k.of (object_at s y).of =
-    subst (λ p. Matches s.table k.of (type_in s.table (object_at s y).of p)) none
-    (subst (λ z. Matches s.table k.of (type_in s.table (object_at s z).of fixed.steps)) same fixed.of) in
-    true_false (is_anonymous (view_of s y)) view
-    (named_plain s.table (object_at s y).of (scalar_named s.table (object_at s y).of (matches_scalar s k.of (object_at s y).of fits fixed.scalar)))
-  where
-    same_variable : (f x g y : ℕ) → memory.OfVariable f x ≡ memory.OfVariable g y → x ≡ y
-    same_variable f x g y e = cc
-
-module _ (s : Typing) (settled : IsSettled s.table) (own_law : OwnsByShape s.table) (hands : List Waiting) (leaks : List Leak) where
-  abbrev Scalar : ℕ → Type 0
-  Scalar x = is_scalar (full s.table (object_at s x).of) ≡ true
-
-  -- Owners see the same, words are typed, and the variables of views keep their words.
-  pub record Enters (m n : Memory) : Type 0 where
-    pub same : IsSame (seen s m hands leaks) (seen s n hands leaks)
-    pub typed : Kept s n hands
-    pub hold : (g y : ℕ) (p : List Step) → word_in s.table (content s n [] (OfRoot (OfVariable g y))) p ≡ word_in s.table (content s m [] (OfRoot (OfVariable g y))) p
-    pub views : (g y : ℕ) → is_anonymous (view_of s y) ≡ true
-        → (get_or (variable_slots s g y n.variables) 0 no_slot).word ≡ (get_or (variable_slots s g y m.variables) 0 no_slot).word
-
-  pub nothing : (m : Memory) → Kept s m hands → Enters m m
-  nothing m typed = record {
-    same = record { word = λ l. refl; made = refl; freed = λ n. refl; leaked = λ n. refl };
-    typed = typed;
-    hold = λ g y p. refl;
-    views = λ g y view. refl;
-  }
-
-  pub one_then : (a b c : Memory) → Enters a b → Enters b c → Enters a c
-  one_then a b c first second = record {
-    same = record {
-      word = λ l. second.same.word l ∙ first.same.word l;
-      made = second.same.made ∙ first.same.made;
-      freed = λ n. second.same.freed n ∙ first.same.freed n;
-      leaked = λ n. second.same.leaked n ∙ first.same.leaked n;
-    };
-    typed = second.typed;
-    hold = λ g y p. second.hold g y p ∙ first.hold g y p;
-    views = λ g y view. second.views g y view ∙ first.views g y view;
-  }
-
-  -- ---- scalar places in variables
-
-  -- what has other slots there
-  put_there : (k : Place) (fixed : IsFixed s k) (slots : List Slot) (m : Memory) → length slots ≡ words s.table k.of → Kept s m hands
-      → Kept s (with_slots s k slots m) hands → Enters m (with_slots s k slots m)
-  put_there k fixed slots m long typed typed_then =
-      let l : Loc = fixed_at s settled k fixed in
-      let spot : Spot s m hands k l = fixed_spot s settled k fixed m hands in
-      record {
-        same = put_same_view s settled m hands k l spot typed fixed.scalar slots long leaks;
-        typed = typed_then;
-        hold = λ g y p. put_word s settled m hands k l spot typed fixed.scalar slots long (OfRoot (OfVariable g y)) p refl;
-        views = λ g y view. ap (λ z. (get_or z 0 no_slot).word)
-            (put_beside s 0 k.base (take k.at (slots_at s m k.base) ++ slots ++ drop (k.at + length slots) (slots_at s m k.base)) m g y
-            (no_view_fixed s settled k fixed g y view));
-      }
-
-  pub moved_there : (k : Place) → IsFixed s k → (m : Memory) → Kept s m hands → Enters m (moved_out s k m)
-  moved_there k fixed m typed =
-      let l : Loc = fixed_at s settled k fixed in
-      let spot : Spot s m hands k l = fixed_spot s settled k fixed m hands in
-      let marks : List Slot = gone_at (access_offsets s.table k.of) (slots_of s m k) in
-      let long : length marks ≡ words s.table k.of =
-      marked_length (access_offsets s.table k.of) (slots_of s m k) ∙ (taken_slots s settled m k (room s settled m hands typed k l spot)).0 in
-      put_there k fixed marks m long typed
-      (less_kept s settled (moved_out s k m) (record { of = k.of; words = words_of s m k }) hands ((keeps s settled own_law).moved m hands k l spot typed))
-
-  pub stored_there : (k : Place) → IsFixed s k → (ws : List machine.Word) → length ws ≡ 1 → (m : Memory) → Kept s m hands → Enters m (stored s k ws m)
-  stored_there k fixed ws one m typed =
-      let got : Waiting = record { of = k.of; words = ws } in
-      put_there k fixed (fresh ws) m (length-map ws (λ w. record { word = w; gone = false }) ∙ one ∙ sym (plain_word s settled k.of fixed.scalar)) typed
-      (put_away s settled m got hands k (fixed_at s settled k fixed) (scalar s settled m got hands fixed.scalar typed) (fixed_spot s settled k fixed m (got ∷ hands))
-      (one ∙ sym (plain_word s settled k.of fixed.scalar)) (inl refl))
-
-  -- ---- the formals
-
-  same_object : (g x h y : ℕ) → OfVariable g x ≡ OfVariable h y → x ≡ y
-  same_object g x h y e = cc
-
-  one_formal : (f x : ℕ) (ws : List machine.Word) (m : Memory) → Scalar x → One ws → Kept s m hands → Enters m (declared f x ws m)
-  one_formal f x ws m plain one typed =
-      let u : ℕ = (object_at s x).of in
-      let got : Waiting = record { of = u; words = ws } in
-      let long : length ws ≡ words s.table u = one ∙ sym (plain_word s settled u plain) in
-      let others : (g y : ℕ) → (OfVariable f x ≡ OfVariable g y → ⊥) → variable_slots s g y (declared f x ws m).variables ≡ variable_slots s g y m.variables =
-      λ g y ne. put_other s f x g y ne (fresh ws) m.variables in
-      record {
-        same = scalar_same s settled m hands leaks f x plain (declared f x ws m).variables others;
-        typed = declared_kept s settled m f x got hands (scalar s settled m got hands plain typed) long (inl refl);
-        hold = λ g y p. same_word s settled m [] [] f x plain (declared f x ws m).variables others (OfRoot (OfVariable g y)) p refl;
-        views = λ g y view. ap (λ z. (get_or z 0 no_slot).word) (others g y (λ e.
-            true_false (is_anonymous (view_of s y)) view
-            (ap (λ z. is_anonymous (view_of s z)) (sym (same_object f x g y e)) ∙ named_plain s.table u (scalar_named s.table u plain))));
-      }
-
-  pub with_one : (f x : ℕ) (a : Passed) (m : Memory) → Scalar x → IsLaid s a → Kept s m hands → Enters m (with_formal s f x a m)
-  with_one f x (Value ws) m plain laid typed = one_formal f x ws m plain laid typed
-  with_one f x (From k) m plain laid typed =
-      let first = moved_there k laid m typed in
-      one_then m (moved_out s k m) (declared f x (words_of s m k) (moved_out s k m)) first
-      (one_formal f x (words_of s m k) (moved_out s k m) plain (fixed_one s settled k laid m hands typed) first.typed)
-  with_one f x (To k) m plain laid typed =
-      let first = moved_there k laid m typed in
-      one_then m (moved_out s k m) (declared f x (machine.default s.table (object_at s x).of) (moved_out s k m)) first
-      (one_formal f x (machine.default s.table (object_at s x).of) (moved_out s k m) plain
-      (lengths s.table (object_at s x).of ∙ plain_word s settled (object_at s x).of plain) first.typed)
-
-  pub all_entered : (f : ℕ) (formals : List ℕ) (passed : List Passed) (m : Memory) → ((x : ℕ) → Has formals x → Scalar x) → AreLaid s passed → Kept s m hands
-      → Enters m (with_formals s f formals passed m)
-  all_entered f [] passed m plain are typed = nothing m typed
-  all_entered f (x ∷ formals) [] m plain are typed = nothing m typed
-  all_entered f (x ∷ formals) (a ∷ rest) m plain are typed =
-      let first = with_one f x a m (plain x (inl refl)) are.0 typed in
-      one_then m (with_formal s f x a m) (with_formals s f formals rest (with_formal s f x a m)) first
-      (all_entered f formals rest (with_formal s f x a m) (λ y has. plain y (inr has)) are.1 first.typed)
-
--- ---- formals are copied back
-
-pub backs_on : (Q R : Memory → Type 0) → ((m : Memory) → Q m → R m) → (y : Evaluated Memory) → Backs Q y → Backs R y
-backs_on Q R on (Done m n) q = on m q
-backs_on Q R on (Raises e n) q = tt
-backs_on Q R on (Traps trap n) never = never
-
-pub if_back : (Q : Memory → Type 0) (b : Bool) (ws : List machine.Word) (begun : Now) (f : List machine.Word → Now → Evaluated Memory)
-    → Backs Q (f ws begun) → Backs Q (followed_by (if b then Done ws begun else Raises ConstraintError begun) f)
-if_back Q true ws begun f q = q
-if_back Q false ws begun f q = tt
-
-module _ (t : Turn) (settled : IsSettled (typing t).table) (own_law : OwnsByShape (typing t).table) (hands : List Waiting) (leaks : List Leak) where
-  abbrev On : Memory → Memory → Type 0
-  On m n = Enters (typing t) settled own_law hands leaks m n
-
-  pub all_back : (returns : List Return) → ((r : Return) → Has returns r → IsCopied (typing t) r) → (begun : Now)
-      → Kept (typing t) begun.memory hands → Backs (λ m. On begun.memory m) (copied_back t returns begun)
-  all_back [] copied begun typed = nothing (typing t) settled own_law hands leaks begun.memory typed
-  all_back (r ∷ rest) copied begun typed =
-      let is : IsCopied (typing t) r = copied r (inl refl) in
-      let formal : Place = variable_place (here t) r.formal in
-      let ws : List machine.Word = words_of (typing t) begun.memory formal in
-      let fixed : IsFixed (typing t) formal = formal_fixed t r.formal is.0 in
-      let mid : Memory = moved_out (typing t) formal begun.memory in
-      let next : Memory = stored (typing t) r.to ws mid in
-      let first = moved_there (typing t) settled own_law hands leaks formal fixed begun.memory typed in
-      let second = stored_there (typing t) settled own_law hands leaks r.to is.1 ws (fixed_one (typing t) settled formal fixed begun.memory hands typed) mid first.typed in
-      subst (Backs (λ m. On begun.memory m)) (sym (copied_is t r rest begun is.1))
-      (if_back (λ m. On begun.memory m) (fits_type (typing t).table r.to.of ws) ws begun
-      (λ us n. copied_back t rest (record n { memory = stored (typing t) r.to us (moved_out (typing t) formal n.memory) }))
-      (backs_on (λ m. On next m) (λ m. On begun.memory m)
-      (λ m on. one_then (typing t) settled own_law hands leaks begun.memory next m (one_then (typing t) settled own_law hands leaks begun.memory mid next first second) on)
-      (copied_back t rest (record begun { memory = next })) (all_back rest (λ q has. copied q (inr has)) (record begun { memory = next }) second.typed)))

@@ -1,5 +1,5 @@
 -- A call leads on, in the frame of what is called.
-use Rattle.std.proofs.Common.{◌≡◌, refl, sym, ap, ◌∙◌, subst, ◌⊎◌, inl, inr, ℕ, suc, ◌<◌, Bool, true, false, ◌||◌, List, [], ◌∷◌, ◌++◌, map, flat_map, is_some, drop, length, get_or, arith, append-nil, Some, None, if◌then◌else◌}
+use Rattle.std.proofs.Common.{◌≡◌, refl, sym, ap, ◌∙◌, subst, ◌⊎◌, inl, inr, ℕ, suc, ◌<◌, Bool, true, false, not, ◌||◌, ◌&&◌, ◌==◌, List, [], ◌∷◌, ◌++◌, map, flat_map, is_some, take, drop, length, get_or, arith, append-nil, Option, Some, None, if◌then◌else◌}
 use Rattle.spark_base.specs.Lists.{Has}
 use Rattle.spark_base.proofs.Lists.{Has-append_left, Has-map_from}
 use Rattle.place_names.specs.declared.act.Act.{Act}
@@ -7,30 +7,30 @@ use Rattle.place_names.specs.declared.act.Act.TheVariants as act
 use Rattle.place_names.specs.declared.act.Placed.{Placed}
 use Rattle.place_names.specs.declared.fact.Fact.{Fact}
 use Rattle.place_names.specs.declared.fact.Fact.TheVariants.{Moved, Lent}
+use Rattle.place_names.specs.declared.rule.Loan.{Loan}
 use Rattle.place_names.specs.declared.rule.Loan.TheVariants.{Observed}
 use Rattle.place_names.specs.Names.{Name as PlaceName}
 use Rattle.place_names.specs.Facts.{adds}
 use Rattle.place_names.specs.Reports.{Report}
-use Rattle.type_definitions.specs.Types.{Table, is_owning}
+use Rattle.type_definitions.specs.Types.{Table, is_owning, is_scalar, full}
 use Rattle.typed_tree.specs.Trees.{TypedTree}
 use Rattle.typed_tree.specs.Programs.{TypedProgram}
 use Rattle.flow_paths.specs.declared.report.Effects.{Effects}
 use Rattle.flow_paths.specs.Instructions.{Instruction, Call, EndScope}
-use Rattle.flow_paths.specs.Objects.{Typing, Signature, object_at, sub_at, is_anonymous, is_package_object, is_observer, view_of, passing, passings, Passing}
+use Rattle.flow_paths.specs.Objects.{Typing, Signature, object_at, sub_at, is_anonymous, is_package_object, is_observer, view_of, traverses, passing, passings, Passing}
 use Rattle.flow_paths.specs.Aliases as alias
 use Rattle.flow_paths.specs.Aliases.{overlap_reports, passed_reports, call_reports}
-use Rattle.flow_paths.specs.Names.{has_call}
 use Rattle.flow_paths.specs.Acts as flow
-use Rattle.flow_paths.specs.Points.{NamedPoint, FlowPoint}
+use Rattle.flow_paths.specs.Points.{NamedPoint}
 use Rattle.flow_paths.specs.Laid.{FlowSub, FlowProgram, NamedSub, flow_sub, typing_of, flow_typing, flow_program, flow_named}
 use Rattle.flow_paths.specs.Paths.{PathPoint, is_some_point, ControlPath, begins, goes_on, facts_before}
 use Rattle.flow_paths.specs.Effects.{flow_sub_at, path_points, globals_of, called_acts}
-use Rattle.flow_paths.specs.Scopes.{taken, brought, scope_behind, Leads, is_within}
+use Rattle.flow_paths.specs.Scopes.{taken, brought, scope_behind, is_within, Leads}
 use Rattle.machine.specs.Words as machine
 use Rattle.machine.specs.Memory.{Memory, no_slot, variable_slots}
 use Rattle.machine.specs.Evaluate.{Now, Exception}
 use Rattle.machine.specs.States.{Frame, State, sub_of, frame_at_start, Outcome, Goes}
-use Rattle.machine.specs.Step.{Turn, turn, led, successor}
+use Rattle.machine.specs.Step.{Turn, turn, start, led, successor}
 use Rattle.machine.specs.Step as steps
 use Rattle.machine.specs.Typed.{successors}
 use Rattle.machine.specs.Calls.{Passed, all_passed, with_formals, returns_of}
@@ -41,35 +41,44 @@ use Rattle.owned_ways.proofs.Locations.{reaches_along, named_along as rooted_alo
 use Rattle.soundness.specs.Seen.{IsNear, is_view_formal, content, seen, home, trunk, word_in}
 use Rattle.soundness.proofs.Contents.{word_root, word_no}
 use Rattle.soundness.specs.Typed.{Kept}
-use Rattle.soundness.specs.Sound.{Stage, facts_of, AreStages, AreCopied, Uses, IsProcedure, InScope, IsNamedSub, IsAtPoint, view_of as view_here}
+use Rattle.soundness.specs.Sound.{calls_procedures, Stage, facts_of, AreStages, AreCopied, Uses, IsRunnable, AreAwaited, WaitsAt, temporaries_in, returns_value, awaited, InScope, IsNamedSub, IsAtPoint, view_of as view_here}
 use Rattle.soundness.proofs.Stays.{Quiet}
 use Rattle.soundness.proofs.Numbers.{index_law}
 use Rattle.soundness.proofs.Lasting.{keeps}
-use Rattle.soundness.proofs.Passing.{AreReads, reads_keep, entered, signature_is}
+use Rattle.soundness.proofs.Passing.{AreReads, reads_keep, entered, TakesAll, takes_each, signature_is}
 use Rattle.soundness.proofs.Scalars.{acts, acts_append, after_append, allows_both}
-use Rattle.soundness.proofs.Points.{sub_there, sub_in_range, point_there, path_there}
+use Rattle.soundness.proofs.Points.{sub_in_range, path_there}
 use Rattle.soundness.proofs.Inherited.{AreGlobal, global_after, global_allowed, global_apart}
-use Rattle.soundness.proofs.Used.{called_used, added_after, used_global, called_are, globals_are}
+use Rattle.soundness.proofs.Used.{called_used, used_global, called_are, globals_are, added_after}
 use Rattle.soundness.proofs.Around.{IsFar}
-use Rattle.soundness.proofs.Waits.{drop_none}
+use Rattle.soundness.proofs.Waits.{take_none, drop_none, led_waits}
+use Rattle.soundness.proofs.Taking.{Takes}
+use Rattle.soundness.proofs.Waited.{Shares, leads_count, leads_temporary, temporary_more}
+use Rattle.soundness.proofs.Eased.{eased}
+use Rattle.soundness.proofs.Scoped.{Inside}
+use Rattle.soundness.proofs.Beginning.{one_named, one_point}
 use Rattle.soundness.proofs.Successors.{below_one, successor_there}
 use Rattle.owned_loans.specs.Views.{Around, known_gone, Views, IsMovedBy, AreClear, AreViews, Viewed}
 use Rattle.owned_loans.proofs.Moves.{named_way}
 use Rattle.viewed_soundness.proofs.Names.{true_false}
 use Rattle.viewed_soundness.specs.Holds.{Holds}
 use Rattle.viewed_soundness.proofs.Evaluated.{live_trunk}
-use Rattle.viewed_soundness.proofs.Outcomes.{start_is, hands_behind}
-use Rattle.viewed_steps.specs.Sound.{IsResting, HoldsAt, ArePlaced, NoneAbove, ViewStage, stages_of, GoneElsewhere, LendOwn, IsWaiting, AreWaiting, LeadsOn, IsKindOfFormal, AreReturned, calls_one, LeadsAlong}
+use Rattle.viewed_soundness.proofs.Outcomes.{named_plain}
+use Rattle.viewed_steps.proofs.Read.{scalar_named}
+use Rattle.soundness.specs.Ready.{IsSupplied, Fills}
+use Rattle.viewed_steps.specs.Sound.{IsResting, HoldsAt, ArePlaced, NoneAbove, ViewStage, stages_of, GoneElsewhere, Disturbs, IsWaiting, AreWaiting, IsKindOfFormal, IsScalarObject, AreReturned, calls_one, LeadsAlong}
 use Rattle.viewed_steps.specs.Taken.{TakenBy, AreTaken}
 use Rattle.viewed_steps.specs.Ready.{roots_passed, IsCalled, IsReady}
 use Rattle.viewed_steps.proofs.Lent.{Spare, spare_both, loans_stay}
-use Rattle.viewed_steps.proofs.Placed.{within_on, scope_on, placed_on}
+use Rattle.viewed_steps.proofs.Placed.{within_on, lasts_more, scope_on, placed_on}
 use Rattle.viewed_steps.proofs.Ended.{none_some}
-use Rattle.viewed_steps.proofs.Waiting.{StandsBetween, gone_low, kept_low, around as concern, far, beside_them, handed, all_on}
+use Rattle.viewed_steps.proofs.Waiting.{StandsBetween, gone_low, kept_low, beside_them, handed, all_on}
 use Rattle.viewed_steps.proofs.Between.{gone_also, base_along, base_under, same_variable, not_named}
 use Rattle.viewed_steps.proofs.Called.{AreGiven, AreLaidOut, all_laid_out, all_given, all_acted, values_are_read, call_adds_none, passes_to, spare_reads, spare_copies}
 use Rattle.viewed_steps.proofs.Entered.{ArePassedOn, IsOpen, AreBlank, AreDeclared, Enter, not_above, passed_base, formals_of_returns, all_declared}
 use Rattle.viewed_steps.proofs.Passed.{IsNamedBy, no_call_reports, all_passed_on, no_out_checks, all_returned, call_goes}
+use Rattle.viewed_steps.proofs.Standing.{or_right}
+use Rattle.viewed_steps.proofs.Uses.{called_writes, lent_spared}
 use Rattle.viewed_steps.proofs.Standing as standing
 use Rattle.viewed_steps.proofs.Packages as packages
 use Rattle.viewed_steps.proofs.Innermost as innermost
@@ -83,9 +92,6 @@ module _ (table : Table) (typed : TypedProgram) (effects : Effects) (input : Lis
 
   abbrev own : Typing
   own = typing_of table typed
-
-  abbrev same : s ≡ own
-  same = standing.same table typed effects input ready
 
   abbrev no_in_formals : (x : ℕ) → is_view_formal s x ≡ false
   no_in_formals = standing.no_in_formals table typed effects input ready
@@ -106,7 +112,8 @@ module _ (table : Table) (typed : TypedProgram) (effects : Effects) (input : Lis
   module _ (state : State) (top : Stage) (below : ViewStage) (more_frames : List ViewStage) (rest : List Frame) (named : NamedSub) (p : NamedPoint)
       (frames : state.frames ≡ top.frame ∷ (below.stage.frame ∷ rest)) (deep : top.depth ≡ suc (length rest))
       (stages : AreStages (stages_of (below ∷ more_frames)) (below.stage.frame ∷ rest))
-      (running : IsProcedure table typed top.frame.sub × IsResting s top × AreWaiting table typed effects state top.frame.sub top.frame.returns (below ∷ more_frames))
+      (running : IsRunnable table typed top.frame.sub × IsResting s top × AreWaiting table typed effects state top.frame.sub top.frame.returns (below ∷ more_frames))
+      (awaiting : AreAwaited table typed 0 (top ∷ stages_of (below ∷ more_frames)))
       (of_sub : IsNamedSub (flow_named table typed) top.frame.sub named) (at_point : IsAtPoint named.points top.frame.next p)
       (path : ControlPath (path_points program effects (sub_of program top.frame.sub)) top.before top.frame.next) (views : Views)
       (viewed_before : Viewed (home s (suc (length rest))) (is_observer s) (known_gone (home s (suc (length rest))) (GoneElsewhere program effects (below ∷ more_frames))) views
@@ -123,16 +130,13 @@ module _ (table : Table) (typed : TypedProgram) (effects : Effects) (input : Lis
     depth = suc (length rest)
 
     abbrev between : (g : ViewStage) → Has (below ∷ more_frames) g → StandsBetween table typed effects unmoved_stage local state (suc (length rest)) g
-    between = innermost.between table typed effects input ready state top below more_frames rest named p frames deep stages running of_sub at_point path views viewed_before kept scope holds placed_before above
+    between = innermost.between table typed effects input ready state top below more_frames rest named p frames deep stages running awaiting of_sub at_point path views viewed_before kept scope holds placed_before above
 
     abbrev other : Around (home s (suc (length rest)))
     other = beside_them table typed effects unmoved_stage local state (suc (length rest)) (below ∷ more_frames) between
 
     abbrev alone : (w : Way) → IsNear (suc (length rest)) w → IsFar (suc (length rest)) (GoneElsewhere program effects (below ∷ more_frames)) w → ⊥
-    alone = innermost.alone table typed effects input ready state top below more_frames rest named p frames deep stages running of_sub at_point path views viewed_before kept scope holds placed_before above
-
-    abbrev plain : top.frame.waits ≡ []
-    plain = innermost.plain table typed effects input ready state top below more_frames rest named p frames deep stages running of_sub at_point path views viewed_before kept scope holds placed_before above
+    alone = innermost.alone table typed effects input ready state top below more_frames rest named p frames deep stages running awaiting of_sub at_point path views viewed_before kept scope holds placed_before above
 
     abbrev main_turn : Turn
     main_turn = standing.t table typed effects input ready state top older outer named p frames of_sub at_point
@@ -150,52 +154,78 @@ module _ (table : Table) (typed : TypedProgram) (effects : Effects) (input : Lis
     acts_of_main i = standing.acts_here table typed effects input ready state top older outer named p frames of_sub at_point i
 
     abbrev sub_at_all : flow_sub_at program top.frame.sub ≡ flow_sub own named
-    sub_at_all = innermost.sub_at_all table typed effects input ready state top below more_frames rest named p frames deep stages running of_sub at_point path views viewed_before kept scope holds placed_before above
+    sub_at_all = innermost.sub_at_all table typed effects input ready state top below more_frames rest named p frames deep stages running awaiting of_sub at_point path views viewed_before kept scope holds placed_before above
 
     abbrev sub_less : top.frame.sub < length program.subs
-    sub_less = innermost.sub_less table typed effects input ready state top below more_frames rest named p frames deep stages running of_sub at_point path views viewed_before kept scope holds placed_before above
+    sub_less = innermost.sub_less table typed effects input ready state top below more_frames rest named p frames deep stages running awaiting of_sub at_point path views viewed_before kept scope holds placed_before above
 
     abbrev allowed_now : Spare s (standing.acts_by table typed effects input ready state top older outer named p frames of_sub at_point s p.instr) → AllowsAll own_facts (acts_of_main p.instr)
         → AllowsAll facts_now (acts_of_main p.instr)
-    allowed_now = innermost.allowed_now table typed effects input ready state top below more_frames rest named p frames deep stages running of_sub at_point path views viewed_before kept scope holds placed_before above
+    allowed_now = innermost.allowed_now table typed effects input ready state top below more_frames rest named p frames deep stages running awaiting of_sub at_point path views viewed_before kept scope holds placed_before above
 
     abbrev viewed : Viewed (home s depth) (is_observer s) other views (view_here s state) facts_now
-    viewed = innermost.viewed table typed effects input ready state top below more_frames rest named p frames deep stages running of_sub at_point path views viewed_before kept scope holds placed_before above
+    viewed = innermost.viewed table typed effects input ready state top below more_frames rest named p frames deep stages running awaiting of_sub at_point path views viewed_before kept scope holds placed_before above
 
     abbrev apart_from_them : (done : List Act) (v : Views) (view : ways.View) → ((x : ℕ) (w : Way) → v.way x ≡ Some w → is_anonymous (view_of s x) ≡ true)
         → Viewed (home s depth) (is_observer s) other v view (after done facts_now)
         → Viewed (home s depth) (is_observer s) (known_gone (home s depth) (GoneElsewhere program effects older)) v view (after done own_facts)
-    apart_from_them = innermost.apart_from_them table typed effects input ready state top below more_frames rest named p frames deep stages running of_sub at_point path views viewed_before kept scope holds placed_before above
+    apart_from_them = innermost.apart_from_them table typed effects input ready state top below more_frames rest named p frames deep stages running awaiting of_sub at_point path views viewed_before kept scope holds placed_before above
 
     abbrev placed_own : ArePlaced program own_facts views p.scope
-    placed_own = innermost.placed_own table typed effects input ready state top below more_frames rest named p frames deep stages running of_sub at_point path views viewed_before kept scope holds placed_before above
+    placed_own = innermost.placed_own table typed effects input ready state top below more_frames rest named p frames deep stages running awaiting of_sub at_point path views viewed_before kept scope holds placed_before above
 
-    abbrev none_takes : taken main_turn.point.instr ≡ 0
-    none_takes = innermost.none_takes table typed effects input ready state top below more_frames rest named p frames deep stages running of_sub at_point path views viewed_before kept scope holds placed_before above
+    abbrev left_scope : List ℕ
+    left_scope = drop (taken p.instr) p.scope
+
+    abbrev supplied_here : IsSupplied s p
+    supplied_here = innermost.supplied_here table typed effects input ready state top below more_frames rest named p frames deep stages running awaiting of_sub at_point path views viewed_before kept scope holds placed_before above
+
+    abbrev shared : Shares s (taken p.instr) top.frame.waits p.scope
+    shared = innermost.shared table typed effects input ready state top below more_frames rest named p frames deep stages running awaiting of_sub at_point path views viewed_before kept scope holds placed_before above
+
+    abbrev given_words : List (List machine.Word)
+    given_words = (start main_turn).waits
+
+    abbrev takes_of : (i : Instruction) → p.instr ≡ i → Takes (taken i) given_words []
+    takes_of = innermost.takes_of table typed effects input ready state top below more_frames rest named p frames deep stages running awaiting of_sub at_point path views viewed_before kept scope holds placed_before above
+
+    abbrev easy : Turn
+    easy = eased main_turn
+
+    abbrev viewed_easy : Viewed (home s depth) (is_observer s) other views (view_here s easy.state) facts_now × Kept s state.memory (waiting_in easy.state)
+    viewed_easy = innermost.viewed_easy table typed effects input ready state top below more_frames rest named p frames deep stages running awaiting of_sub at_point path views viewed_before kept scope holds placed_before above
+
+    abbrev placed_left : (facts : List Fact) → ArePlaced program facts views p.scope → ArePlaced program facts views left_scope
+    placed_left = innermost.placed_left table typed effects input ready state top below more_frames rest named p frames deep stages running awaiting of_sub at_point path views viewed_before kept scope holds placed_before above
+
+    abbrev IsOld : ℕ → ℕ → Type 0
+    IsOld f x =
+        (f < suc (length rest)) × ((f ≡ 0)
+        ⊎ ((q : List ways.Step) × (k : ℕ) × (word_in s.table (content s state.memory [] (ways.OfRoot (ways.OfVariable f x))) q ≡ ways.Held k)))
+
+    abbrev inside_left : Inside s IsOld state.memory depth left_scope
+    inside_left = innermost.inside_left table typed effects input ready state top below more_frames rest named p frames deep stages running awaiting of_sub at_point path views viewed_before kept scope holds placed_before above
+
+    abbrev others_await : returns_value p.instr ≡ false → AreAwaited table typed (awaited (sub_of program top.frame.sub) (top.frame.next ∷ top.before)) (stages_of older)
+    others_await = innermost.others_await table typed effects input ready state top below more_frames rest named p frames deep stages running awaiting of_sub at_point path views viewed_before kept scope holds placed_before above
 
     abbrev successors_there : length main_turn.point.next ≡ successors p.instr
-    successors_there = innermost.successors_there table typed effects input ready state top below more_frames rest named p frames deep stages running of_sub at_point path views viewed_before kept scope holds placed_before above
-
-    abbrev scope_is : scope_behind p ≡ brought p.instr p.scope
-    scope_is = innermost.scope_is table typed effects input ready state top below more_frames rest named p frames deep stages running of_sub at_point path views viewed_before kept scope holds placed_before above
-
-    abbrev none_taken : ℕ → ℕ → Type 0
-    none_taken a b = ⊥
+    successors_there = innermost.successors_there table typed effects input ready state top below more_frames rest named p frames deep stages running awaiting of_sub at_point path views viewed_before kept scope holds placed_before above
 
     -- where it leads, and how the frames come from those before
     abbrev Along : Outcome → Type 0
     Along outcome = LeadsAlong table typed effects p.instr state.memory (record { stage = top; views = views }) (below ∷ more_frames) outcome
 
-    abbrev ends_raised : ((x : ℕ) → p.instr ≡ EndScope x → ⊥) → (how : Exception) (m : Memory) → LeadsOn table typed effects (steps.raised main_turn how m)
-    ends_raised = innermost.ends_raised table typed effects input ready state top below more_frames rest named p frames deep stages running of_sub at_point path views viewed_before kept scope holds placed_before above
+    abbrev ends_raised : (how : Exception) (m : Memory) → Along (steps.raised main_turn how m)
+    ends_raised = innermost.ends_raised table typed effects input ready state top below more_frames rest named p frames deep stages running awaiting of_sub at_point path views viewed_before kept scope holds placed_before above
 
     -- ---- a call
 
-    module _ (n : ℕ) (actuals : TypedTree) (e : p.instr ≡ Call n actuals None) (no_call : has_call actuals ≡ false) where
-      pub called : IsCalled table typed n actuals
+    module _ (n : ℕ) (actuals : TypedTree) (result : Option ℕ) (e : p.instr ≡ Call n actuals result) where
+      pub called : IsCalled table typed n actuals result
       called =
           ready.called (flow_sub own named) (standing.in_program table typed effects input ready state top older outer named p frames of_sub at_point) main_turn.point
-          (standing.in_sub table typed effects input ready state top older outer named p frames of_sub at_point) n actuals None e
+          (standing.in_sub table typed effects input ready state top older outer named p frames of_sub at_point) n actuals result e
 
       abbrev formals : List ℕ
       formals = (sub_of program n).formals
@@ -206,18 +236,37 @@ module _ (table : Table) (typed : TypedProgram) (effects : Effects) (input : Lis
       pub copied_there : AreCopied s formals actuals
       copied_there =
           ready.class.copied (flow_sub own named) (standing.in_program table typed effects input ready state top older outer named p frames of_sub at_point) main_turn.point
-          (standing.in_sub table typed effects input ready state top older outer named p frames of_sub at_point) n actuals None e called.formals
+          (standing.in_sub table typed effects input ready state top older outer named p frames of_sub at_point) n actuals result e called.formals
 
-      pub no_callee_result : (sub_of program n).result ≡ None
-      no_callee_result =
-          ap (λ (z : FlowSub). z.result) (sub_there table typed n called.procedure.named called.procedure.stands)
-          ∙ called.procedure.procedure called.procedure.named called.procedure.stands
+      -- results are of scalar types
+      no_traversal : traverses s.table (sub_of program n).result ≡ false
+      no_traversal = by_result (sub_of program n).result refl
+        where
+          plain_result : (of : ℕ) → (sub_of program n).result ≡ Some of → is_scalar (full s.table of) ≡ true
+          plain_result of is = elim ready.class.results [
+            | inr plain ↦ plain.0 n of (ap (λ (z : Signature). z.result) (signature_is program n) ∙ is)
+            | inl procedures ↦ absurd (not_called result
+                (sym (ap calls_procedures e)
+                ∙ procedures (flow_sub own named) (standing.in_program table typed effects input ready state top older outer named p frames of_sub at_point) main_turn.point
+                (standing.in_sub table typed effects input ready state top older outer named p frames of_sub at_point)) (sym called.answers ∙ ap is_some is))
+          ]
+            where
+              not_called : (r : Option ℕ) → calls_procedures (Call n actuals r) ≡ true → is_some r ≡ true → ⊥
+              not_called None calls some = cc
+              not_called (Some t) calls some = cc
+
+          by_result : (r : Option ℕ) → (sub_of program n).result ≡ r → traverses s.table r ≡ false
+          by_result None is = refl
+          by_result (Some of) is = named_plain s.table of (scalar_named s.table of (plain_result of is))
+
+      abbrev procedure : Bool
+      procedure = not (is_some (sub_of program n).result)
 
       abbrev ways_there : List Passing
-      ways_there = map (passing s true) formals
+      ways_there = map (passing s (not (is_some (sub_of program n).result))) formals
 
       pub ways_are : passings s (sub_at s n) ≡ ways_there
-      ways_are = passes_to program n no_callee_result
+      ways_are = passes_to program n no_traversal
 
       -- the acts: actuals are read, or their indexes are; then come those of what is copied back, and
       -- those on package objects
@@ -233,14 +282,14 @@ module _ (table : Table) (typed : TypedProgram) (effects : Effects) (input : Lis
           ∙ ap (λ z. flow.actual_values s z actuals ++ flow.actual_acts z actuals) ways_are
 
       pub reads_there : AreReads values
-      reads_there = values_are_read s ready.owns formals actuals kinds called.actuals_stay
+      reads_there = values_are_read s ready.owns procedure formals actuals kinds called.actuals_stay
 
       call_acts : standing.whole_acts table typed effects input ready state top older outer named p frames of_sub at_point p.instr ≡ acts (values ++ copies) ++ globals_of program effects n
       call_acts =
           ap (λ z. acts (z ++ called_acts program effects p.pos p.instr)) values_are
           ∙ acts_append (values ++ copies) (called_acts program effects p.pos p.instr)
           ∙ ap (λ i. acts (values ++ copies) ++ acts (called_acts program effects p.pos i)) e
-          ∙ ap (λ z. acts (values ++ copies) ++ z) (called_are program effects ready.accepted.effects_are p.pos n actuals None)
+          ∙ ap (λ z. acts (values ++ copies) ++ z) (called_are program effects ready.accepted.effects_are p.pos n actuals result)
 
       abbrev facts_called : List Fact
       facts_called = after (acts (values ++ copies)) own_facts
@@ -254,7 +303,7 @@ module _ (table : Table) (typed : TypedProgram) (effects : Effects) (input : Lis
           (subst (AllowsAll own_facts) call_acts (standing.allowed_whole table typed effects input ready state top older outer named p frames of_sub at_point path))
 
       spare_call : Spare s (values ++ copies)
-      spare_call = spare_both s values copies (spare_reads s values reads_there) (spare_copies s ready.owns formals actuals)
+      spare_call = spare_both s values copies (spare_reads s values reads_there) (spare_copies s ready.owns procedure formals actuals)
 
       pub values_allowed : AllowsAll facts_now (acts values)
       values_allowed =
@@ -262,11 +311,8 @@ module _ (table : Table) (typed : TypedProgram) (effects : Effects) (input : Lis
           (subst (λ z. AllowsAll facts_now (acts z)) values_are
           (allowed_now (subst (Spare s) (sym values_are) spare_call) (subst (λ z. AllowsAll own_facts (acts z)) (sym values_are) each_allowed.0))))).0
 
-      abbrev now : Now
-      now = record { memory = state.memory; waits = [] }
-
       not_end : (x : ℕ) → p.instr ≡ EndScope x → ⊥
-      not_end x is = (let no : Call n actuals None ≡ EndScope x = sym e ∙ is in cc)
+      not_end x is = (let no : Call n actuals result ≡ EndScope x = sym e ∙ is in cc)
 
       pub holds_now : Holds s depth views state.memory
       holds_now = record {
@@ -274,35 +320,42 @@ module _ (table : Table) (typed : TypedProgram) (effects : Effects) (input : Lis
         only = holds.only;
       }
 
-      pub live_now : (w : Way) (l : ways.Loc) → ways.IsRooted w → ways.Reaches (seen s state.memory (waiting_in state) state.leaks) w l
-          → (content s state.memory (waiting_in state) (trunk l)).owns ≡ true
+      pub live_now : (w : Way) (l : ways.Loc) → ways.IsRooted w → ways.Reaches (seen s state.memory (waiting_in easy.state) state.leaks) w l
+          → (content s state.memory (waiting_in easy.state) (trunk l)).owns ≡ true
       live_now =
           live_trunk (steps.here main_turn) ready.accepted.settled state.leaks [] other alone (keeps s ready.accepted.settled ready.owns) no_in_formals index_law
-          ready.owns views ready.class.parts_named state.memory (waiting_in state) viewed.owned
+          ready.owns views ready.class.parts_named state.memory (waiting_in easy.state) (viewed_easy.0).owned
 
       abbrev pub Given : List Passed → Type 0
       Given passed =
-          AreGiven (steps.here main_turn) ready.accepted.settled (waiting_in state) state.leaks state.memory [] other facts_now views kept viewed holds_now alone live_now
-          index_law ready.owns ready.class.parts_named formals actuals passed
+          AreGiven (steps.here main_turn) ready.accepted.settled (waiting_in easy.state) state.leaks state.memory [] other facts_now views viewed_easy.1 viewed_easy.0 holds_now alone live_now
+          index_law ready.owns ready.class.parts_named procedure formals actuals passed
 
-      pub passed_quiet : Quiet now Given (all_passed (steps.here main_turn) ways_there formals actuals now)
+      -- the values that the actuals take
+      pub taken_there : (on : List (List machine.Word)) × TakesAll formals actuals given_words on
+      taken_there = takes_each formals actuals given_words [] (takes_of (Call n actuals result) e)
+
+      abbrev pub then_now : Now
+      then_now = record { memory = state.memory; waits = taken_there.0 }
+
+      pub passed_quiet : Quiet then_now Given (all_passed (steps.here main_turn) ways_there formals actuals (start main_turn))
       passed_quiet =
-          all_given (steps.here main_turn) ready.accepted.settled (waiting_in state) state.leaks state.memory [] other facts_now views kept viewed holds_now alone live_now
-          index_law ready.owns ready.class.parts_named formals actuals kinds called.actuals_stay copied_there no_call values_allowed
+          all_given (steps.here main_turn) ready.accepted.settled (waiting_in easy.state) state.leaks state.memory [] other facts_now views viewed_easy.1 viewed_easy.0 holds_now alone live_now
+          index_law ready.owns ready.class.parts_named procedure given_words taken_there.0 formals actuals kinds called.actuals_stay copied_there taken_there.1 values_allowed
 
       given_laid : (passed : List Passed) → Given passed → AreLaidOut s depth formals actuals passed
       given_laid passed given =
-          all_laid_out (steps.here main_turn) ready.accepted.settled (waiting_in state) state.leaks state.memory [] other facts_now views kept viewed holds_now alone live_now
-          index_law ready.owns ready.class.parts_named formals actuals passed given
+          all_laid_out (steps.here main_turn) ready.accepted.settled (waiting_in easy.state) state.leaks state.memory [] other facts_now views viewed_easy.1 viewed_easy.0 holds_now alone live_now
+          index_law ready.owns ready.class.parts_named procedure formals actuals passed given
 
       -- the state is sound with views under the facts after the acts
-      acted_now : (passed : List Passed) → Given passed → Viewed (home s depth) (is_observer s) other views (view_here s state) called_beside
+      acted_now : (passed : List Passed) → Given passed → Viewed (home s depth) (is_observer s) other views (view_here s easy.state) called_beside
       acted_now passed given =
-          subst (Viewed (home s depth) (is_observer s) other views (view_here s state))
+          subst (Viewed (home s depth) (is_observer s) other views (view_here s easy.state))
           (sym (ap (λ z. after z facts_now) (acts_append values copies) ∙ after_append (acts values) (acts copies) facts_now
           ∙ ap (after (acts copies)) (reads_keep values reads_there facts_now)))
-          (all_acted (steps.here main_turn) ready.accepted.settled (waiting_in state) state.leaks state.memory [] other facts_now views kept viewed holds_now alone live_now
-          index_law ready.owns ready.class.parts_named formals actuals passed facts_now kinds given viewed)
+          (all_acted (steps.here main_turn) ready.accepted.settled (waiting_in easy.state) state.leaks state.memory [] other facts_now views viewed_easy.1 viewed_easy.0 holds_now alone live_now
+          index_law ready.owns ready.class.parts_named procedure formals actuals passed facts_now kinds given viewed_easy.0)
 
       -- loans stay
       loans_called : (h : ℕ) (m : PlaceName) → Has own_facts (Lent Observed h m) → Has facts_called (Lent Observed h m)
@@ -317,7 +370,7 @@ module _ (table : Table) (typed : TypedProgram) (effects : Effects) (input : Lis
 
       abbrev waits_with : List Way → Stage
       waits_with ways_taken = record {
-        frame = record top.frame { waits = []; next = call_point.0 };
+        frame = record top.frame { waits = steps.waiting main_turn; next = call_point.0 };
         depth = top.depth;
         before = top.frame.next ∷ top.before;
         returns = ways_taken;
@@ -338,7 +391,7 @@ module _ (table : Table) (typed : TypedProgram) (effects : Effects) (input : Lis
             | inl was ↦ was
             | inr (a, there, new) ↦ (
                 let from = Has-map_from (λ (z : Placed). z.act) (values ++ copies) a there in
-                absurd (call_adds_none s ready.owns formals actuals kinds called.actuals_stay from.0 from.1 f (subst (λ z. Has (adds z) f) (sym from.2) new)))
+                absurd (call_adds_none s ready.owns procedure formals actuals kinds called.actuals_stay from.0 from.1 f (subst (λ z. Has (adds z) f) (sym from.2) new)))
           ])
 
       -- what the callee uses isn't moved
@@ -349,40 +402,83 @@ module _ (table : Table) (typed : TypedProgram) (effects : Effects) (input : Lis
           (global_allowed (globals_of program effects n) facts_called globals each_allowed.1 (act.Global name.root there.0) there.1 (Moved name) has)
 
       callee_less : n < length program.subs
-      callee_less = sub_in_range table typed n called.procedure.named called.procedure.stands
+      callee_less = sub_in_range table typed n called.runs.named called.runs.stands
 
-      own_there : LendOwn s (facts_before (path_points program effects (sub_of program top.frame.sub)) (top.frame.next ∷ top.before))
-      own_there =
-          subst (λ (z : FlowSub). LendOwn s (facts_before (path_points program effects z) (top.frame.next ∷ top.before)))
-          (sym (standing.sub_is table typed effects input ready state top older outer named p frames of_sub at_point))
-          (ready.spared (flow_sub own named) (standing.in_program table typed effects input ready state top older outer named p frames of_sub at_point) top.before top.frame.next
-          (standing.path_here table typed effects input ready state top older outer named p frames of_sub at_point path) n actuals None
-          (ap (λ (q : FlowPoint). q.instr) (point_there own named top.frame.next p at_point) ∙ e))
+      -- nor is it disturbed where a part is lent
+      lends_there : (l : Loan) (h : ℕ) (name : PlaceName) → Has (facts_before (path_points program effects (sub_of program top.frame.sub)) (top.frame.next ∷ top.before)) (Lent l h name) → is_package_object s name.root ≡ true
+          → Disturbs effects l n name.root → ⊥
+      lends_there l h name has shared disturbs =
+          lent_spared program effects ready.accepted.effects_are n called.text_io facts_called each_allowed.1 l h name
+          (subst (λ z. Has z (Lent l h name)) facts_there has) shared disturbs
 
-      no_waiting : steps.waiting main_turn ≡ []
-      no_waiting = ap (λ k. drop k top.frame.waits) none_takes ∙ drop_none top.frame.waits ∙ plain
-
-      at_successor : (q : NamedPoint) × IsAtPoint named.points call_point.0 q × Leads own (scope_behind p) q.scope
+      at_successor : (q : NamedPoint) × IsAtPoint named.points call_point.0 q × Leads s (scope_behind p) q.scope
       at_successor = standing.next_at table typed effects input ready state top older outer named p frames of_sub at_point path call_point.0 call_point.2
 
-      call_scope : scope_behind p ≡ p.scope
-      call_scope = scope_is ∙ ap (λ i. brought i p.scope) e
+      brought_more : (r : Option ℕ) (x : ℕ) → is_within x left_scope ≡ true → is_within x (brought (Call n actuals r) left_scope) ≡ true
+      brought_more None x within = within
+      brought_more (Some t) x within = or_right (x == t) (is_within x left_scope) within
 
-      lead_on : Leads s p.scope (at_successor.0).scope
-      lead_on = subst (λ z. Leads s z (at_successor.0).scope) call_scope (subst (λ z. Leads z (scope_behind p) (at_successor.0).scope) (sym same) at_successor.2)
+      more : (x : ℕ) → is_within x left_scope ≡ true → is_within x (scope_behind p) ≡ true
+      more x within = subst (λ i. is_within x (brought i left_scope) ≡ true) (sym e) (brought_more result x within)
+
+      behind_scope : InScope s state.memory depth (scope_behind p)
+      behind_scope f x q k held = elim (inside_left f x q k held) [ inl old ↦ inl old.0 | inr mine ↦ inr (mine.0, more x mine.1) ]
 
       next_scope : InScope s state.memory depth (at_successor.0).scope
-      next_scope = scope_on s ready.owns state.memory depth p.scope (at_successor.0).scope scope lead_on
+      next_scope = scope_on s ready.owns state.memory depth (scope_behind p) (at_successor.0).scope behind_scope at_successor.2
 
       next_placed : ArePlaced program facts_called views (at_successor.0).scope
       next_placed =
-          placed_on program facts_called views p.scope (at_successor.0).scope holds.only lead_on
-          (λ x w has. (let own_place = placed_own x w has in record {
-            within = own_place.within;
-            up = own_place.up;
-            root = own_place.root;
-            holder = λ sees. (let h = own_place.holder sees in (h.0, loans_called h.0 (ways.name_of (views.loan x)) h.1, h.2));
+          placed_on program facts_called views (scope_behind p) (at_successor.0).scope holds.only at_successor.2
+          (λ x w has. (let own_place = placed_left own_facts placed_own x w has in record {
+            within = more x own_place.within;
+            up = lasts_more program left_scope (scope_behind p) (ways.number_of (views.up x)) x more own_place.up;
+            root = lasts_more program left_scope (scope_behind p) (ways.number_of w) x more own_place.root;
+            holder = λ sees. (let h = own_place.holder sees in
+                (h.0, loans_called h.0 (ways.name_of (views.loan x)) h.1, lasts_more program left_scope (scope_behind p) h.0 x more h.2, h.3));
           }))
+
+      -- ---- what waits, before the callee has returned
+
+      late_scope : (r : Option ℕ) → Fills s (Call n actuals r) left_scope → (empty : ℕ) → (is_some r ≡ false → empty ≡ 0) → (is_some r ≡ true → empty ≡ 1)
+          → (b : List ℕ) → Leads s (brought (Call n actuals r) left_scope) b
+          → (temporaries_in s (drop empty b) ≡ temporaries_in s left_scope) × (temporaries_in s (take empty b) ≡ empty)
+      late_scope None fills empty none some b leads = (
+        ap (λ k. temporaries_in s (drop k b)) (none refl) ∙ ap (temporaries_in s) (drop_none b) ∙ sym (leads_count s left_scope b leads),
+        ap (λ k. temporaries_in s (take k b)) (none refl) ∙ ap (temporaries_in s) (take_none b) ∙ sym (none refl),
+      )
+      late_scope (Some t) fills empty none some b leads = (
+        ap (λ k. temporaries_in s (drop k b)) (some refl) ∙ ap (λ z. temporaries_in s (drop 1 z)) (leads_temporary s t left_scope b fills leads)
+            ∙ ap (temporaries_in s) (drop_none left_scope),
+        ap (λ k. temporaries_in s (take k b)) (some refl) ∙ ap (λ z. temporaries_in s (take 1 z)) (leads_temporary s t left_scope b fills leads)
+            ∙ temporary_more s t (take 0 left_scope) fills ∙ ap (λ z. suc (temporaries_in s z)) (take_none left_scope) ∙ sym (some refl),
+      )
+
+      abbrev late : ℕ
+      late = awaited (sub_of program n) []
+
+      late_none : is_some result ≡ false → late ≡ 0
+      late_none none = ap (λ b. if b && true then 1 else 0) (called.answers ∙ none)
+
+      late_some : is_some result ≡ true → late ≡ 1
+      late_some some = ap (λ b. if b && true then 1 else 0) (called.answers ∙ some)
+
+      late_there : (temporaries_in s (drop late (at_successor.0).scope) ≡ temporaries_in s left_scope) × (temporaries_in s (take late (at_successor.0).scope) ≡ late)
+      late_there =
+          late_scope result (subst (λ i. Fills s i left_scope) e supplied_here.1) late late_none late_some (at_successor.0).scope
+          (subst (λ i. Leads s (brought i left_scope) (at_successor.0).scope) e at_successor.2)
+
+      waits_late : (ways_taken : List Way) → WaitsAt table typed late (waits_with ways_taken)
+      waits_late ways_taken other_named other_stands q at_q =
+          let same_sub : other_named ≡ named = one_named (flow_named table typed) top.frame.sub other_named named other_stands of_sub in
+          let same_point : at_successor.0 ≡ q =
+          one_point named.points call_point.0 (at_successor.0) q at_successor.1 (subst (λ (z : NamedSub). IsAtPoint z.points call_point.0 q) same_sub at_q) in (
+            (
+              (shared.left).0,
+              (shared.left).1 ∙ sym (subst (λ (z : NamedPoint). temporaries_in s (drop late z.scope) ≡ temporaries_in s left_scope) same_point late_there.0),
+            ),
+            subst (λ (z : NamedPoint). temporaries_in s (take late z.scope) ≡ late) same_point late_there.1,
+          )
 
       -- ---- what is passed
 
@@ -391,46 +487,48 @@ module _ (table : Table) (typed : TypedProgram) (effects : Effects) (input : Lis
 
       -- the state is sound with views under the facts after the acts, and so it is beside the others
       module _ (passed : List Passed) (given : Given passed) where
-        well_here : Viewed (home s depth) (is_observer s) (known_gone (home s depth) (GoneElsewhere program effects older)) views (view_here s state) facts_called
-        well_here = apart_from_them (acts (values ++ copies)) views (view_here s state) holds.only (acted_now passed given)
-
         abbrev other_all : Around (home s depth)
-        other_all = concern table typed effects unmoved_stage local state (suc (length rest)) (below ∷ more_frames) between
+        other_all = known_gone (home s depth) (GoneElsewhere program effects older)
 
-        well_all : Viewed (home s depth) (is_observer s) other_all views (view_here s state) facts_called
-        well_all = record {
-          owned = well_here.owned;
-          covered = well_here.covered;
-          known = well_here.known;
-          clear = well_here.clear;
-          views = well_here.views;
-          far = λ w k keeps_it. far table typed effects unmoved_stage local state (suc (length rest)) (below ∷ more_frames) between w k keeps_it;
-        }
+        well_all : Viewed (home s depth) (is_observer s) other_all views (view_here s easy.state) facts_called
+        well_all = apart_from_them (acts (values ++ copies)) views (view_here s easy.state) holds.only (acted_now passed given)
 
         -- what is taken
-        no_overlap : (r : Report) → Has (overlap_reports s (alias.passed formals actuals)) r → ⊥
-        no_overlap r has =
-            no_call_reports program effects ready.accepted.no_reports (flow_sub own named)
-            (standing.in_program table typed effects input ready state top older outer named p frames of_sub at_point) main_turn.point
-            (standing.in_sub table typed effects input ready state top older outer named p frames of_sub at_point) r
-            (subst (λ i. Has (call_reports s effects i) r) (sym e)
-            (subst (λ z. Has (if is_some z.result then [] else passed_reports s effects n (alias.passed z.formals actuals)) r) (sym (signature_is program n))
-            (subst (λ z. Has (if is_some z then [] else passed_reports s effects n (alias.passed formals actuals)) r) (sym no_callee_result)
-            (Has-append_left (overlap_reports s (alias.passed formals actuals)) (flat_map (alias.global_reports s effects n) (alias.passed formals actuals)) r has))))
+        no_overlap : ((r : Report) → Has (overlap_reports s (alias.passed formals actuals)) r → ⊥) ⊎ ((x : ℕ) → Has formals x → IsScalarObject s x)
+        no_overlap = by_result (sub_of program n).result refl
+          where
+            reports_are : (o : Option ℕ) → is_some o ≡ false → call_reports s effects (Call n actuals o)
+                ≡ (if is_some (sub_at s n).result then [] else passed_reports s effects n (alias.passed (sub_at s n).formals actuals))
+            reports_are None none = refl
+            reports_are (Some of) none = cc
+
+            by_result : (o : Option ℕ) → (sub_of program n).result ≡ o
+                → ((r : Report) → Has (overlap_reports s (alias.passed formals actuals)) r → ⊥) ⊎ ((x : ℕ) → Has formals x → IsScalarObject s x)
+            by_result (Some of) answers = inr (λ x has. ready.class.functions n of
+                (ap (λ (z : Signature). z.result) (signature_is program n) ∙ answers) x (subst (λ z. Has z x) (sym (ap (λ (z : Signature). z.formals) (signature_is program n))) has))
+            by_result None none = inl (λ r has.
+                no_call_reports program effects ready.accepted.no_reports (flow_sub own named)
+                (standing.in_program table typed effects input ready state top older outer named p frames of_sub at_point) main_turn.point
+                (standing.in_sub table typed effects input ready state top older outer named p frames of_sub at_point) r
+                (subst (λ i. Has (call_reports s effects i) r) (sym e)
+                (subst (λ z. Has z r) (sym (reports_are result (sym called.answers ∙ ap is_some none)))
+                (subst (λ z. Has (if is_some z.result then [] else passed_reports s effects n (alias.passed z.formals actuals)) r) (sym (signature_is program n))
+                (subst (λ z. Has (if is_some z then [] else passed_reports s effects n (alias.passed formals actuals)) r) (sym none)
+                (Has-append_left (overlap_reports s (alias.passed formals actuals)) (flat_map (alias.global_reports s effects n) (alias.passed formals actuals)) r has))))))
 
         within_next : (y : ℕ) → Has (roots_passed actuals) y → is_package_object s y ≡ false → is_owning s.table (object_at s y).of ≡ true → is_within y next_there ≡ true
         within_next y has mine owns =
-            within_on s p.scope next_there y lead_on (ap (λ b. b || is_anonymous (view_of s y)) owns)
-            (elim (ready.scoped.passed named (standing.named_in table typed effects input ready state top older outer named p frames of_sub at_point) p
-            (standing.point_in_named table typed effects input ready state top older outer named p frames of_sub at_point) n actuals None e y has) [
+            within_on s (scope_behind p) next_there y at_successor.2 (ap (λ b. b || is_anonymous (view_of s y)) owns)
+            (more y (elim (ready.passing.passed named (standing.named_in table typed effects input ready state top older outer named p frames of_sub at_point) p
+            (standing.point_in_named table typed effects input ready state top older outer named p frames of_sub at_point) n actuals result e y has) [
               | inr within ↦ within
-              | inl shared ↦ absurd (true_false (is_package_object s y) shared mine)
-            ])
+              | inl shared_object ↦ absurd (true_false (is_package_object s y) shared_object mine)
+            ]))
 
         all_passed_ways : (ways_taken : List Way) × ArePassedOn s depth facts_called next_there formals passed ways_taken
             × ((k : Way) → Has ways_taken k → IsNamedBy s formals actuals k)
         all_passed_ways =
-            all_passed_on s ready.owns depth facts_called next_there formals actuals passed own_facts (given_laid passed given) kinds
+            all_passed_on s ready.owns depth facts_called next_there procedure formals actuals passed own_facts (given_laid passed given) kinds
             called.local called.differ
             within_next no_overlap
             (ap (λ z. after z own_facts) (acts_append values copies) ∙ after_append (acts values) (acts copies) own_facts
@@ -441,7 +539,7 @@ module _ (table : Table) (typed : TypedProgram) (effects : Effects) (input : Lis
         abbrev ways_taken : List Way
         ways_taken = all_passed_ways.0
 
-        open_there : IsOpen s ready.accepted.settled ready.owns no_in_formals (waiting_in state) state.leaks depth views facts_called next_there other_all ways_taken
+        open_there : IsOpen s ready.accepted.settled ready.owns no_in_formals (waiting_in easy.state) state.leaks depth views facts_called next_there other_all ways_taken
         open_there = record {
           free = λ k w under gone. (let root = gone_low table typed effects unmoved_stage local state depth older between w gone in
               hand_base (sym (base_under (ways.Object (ways.OfHand k)) w under) ∙ root.2));
@@ -450,17 +548,14 @@ module _ (table : Table) (typed : TypedProgram) (effects : Effects) (input : Lis
               let base = passed_base s depth facts_called next_there formals passed ways_taken all_passed_ways.1 to has in
               let frames_same = (same_variable root.0 root.1 depth base.0 (sym root.2 ∙ base_under to w under ∙ base.1)).0 in
               let less = root.3 in omega (arith, frames_same, less));
-          low = λ x w k keeps_it base. (
-              let root = kept_low table typed effects unmoved_stage local state depth older between w k keeps_it in
-              let frames_same = (same_variable root.0 root.1 (suc depth) x (sym root.2 ∙ base)).0 in
-              let less = root.3 in omega (arith, frames_same, less));
+          none = λ w k keeps_it. keeps_it;
         }
           where
             hand_base : {k f x : ℕ} → ways.OfRoot (ways.OfHand k) ≡ ways.OfRoot (ways.OfVariable f x) → ⊥
             hand_base is = cc
 
         -- the formals have nothing yet
-        blank_formals : AreBlank s ready.accepted.settled ready.owns no_in_formals (waiting_in state) state.leaks depth views facts_called next_there state.memory formals
+        blank_formals : AreBlank s ready.accepted.settled ready.owns no_in_formals (waiting_in easy.state) state.leaks depth views facts_called next_there state.memory formals
         blank_formals x has q = by_word (word_in s.table (content s state.memory [] (ways.OfRoot (ways.OfVariable (suc depth) x))) q) refl
           where
             by_word : (w : ways.Word) → word_in s.table (content s state.memory [] (ways.OfRoot (ways.OfVariable (suc depth) x))) q ≡ w
@@ -474,29 +569,30 @@ module _ (table : Table) (typed : TypedProgram) (effects : Effects) (input : Lis
                 let root : ways.Root = ways.OfVariable (suc depth) x in
                 let w : Way = ways.along (ways.Object root) q in
                 absurd (elim (well_all.known w (ways.part (ways.OfRoot root) q) (rooted_along (ways.Object root) q tt)
-                (reaches_along (view_here s state) (ways.Object root) (ways.OfRoot root) q refl)
-                (word_root s.table (content s state.memory (waiting_in state)) root q ∙ is)) [
+                (reaches_along (view_here s easy.state) (ways.Object root) (ways.OfRoot root) q refl)
+                (word_root s.table (content s state.memory (waiting_in easy.state)) root q ∙ is)) [
                   | inr gone ↦ (
                       let there = gone_low table typed effects unmoved_stage local state depth older between w gone in
                       let frames_same = (same_variable there.0 there.1 (suc depth) x (sym there.2 ∙ base_along (ways.Object root) q)).0 in
                       let less = there.3 in omega (arith, frames_same, less))
-                  | inl (u, moved, leads) ↦ not_named (home s depth) (suc depth) x
-                      (not_above s ready.accepted.settled ready.owns no_in_formals (waiting_in state) state.leaks depth views facts_called next_there) w
+                  | inl (inr none) ↦ absurd none
+                  | inl (inl (u, moved, leads)) ↦ not_named (home s depth) (suc depth) x
+                      (not_above s ready.accepted.settled ready.owns no_in_formals (waiting_in easy.state) state.leaks depth views facts_called next_there) w
                       (subst (ways.Named (home s depth)) leads
-                      (named_way (home s depth) (is_observer s) other_all views (view_here s state) facts_called well_all.views (suc (ways.number_of u)) u (omega arith)
+                      (named_way (home s depth) (is_observer s) other_all views (view_here s easy.state) facts_called well_all.views (suc (ways.number_of u)) u (omega arith)
                       (moved.0, well_all.clear.owned (ways.name_of u) moved.1))) (base_along (ways.Object root) q)
                 ])
 
         abbrev with_all : Memory
         with_all = with_formals s (suc depth) formals passed state.memory
 
-        enters : Enter s ready.accepted.settled ready.owns no_in_formals (waiting_in state) state.leaks depth views facts_called next_there other_all formals passed ways_taken
+        enters : Enter s ready.accepted.settled ready.owns no_in_formals (waiting_in easy.state) state.leaks depth views facts_called next_there other_all formals passed ways_taken
             state.memory with_all
         enters =
-            all_declared s ready.accepted.settled ready.owns no_in_formals (waiting_in state) state.leaks depth views facts_called next_there other_all formals passed ways_taken
-            state.memory all_passed_ways.1 open_there kept well_all blank_formals
+            all_declared s ready.accepted.settled ready.owns no_in_formals (waiting_in easy.state) state.leaks depth views facts_called next_there other_all formals passed ways_taken
+            state.memory all_passed_ways.1 open_there viewed_easy.1 well_all blank_formals
 
-        abbrev declared_there : AreDeclared s ready.accepted.settled ready.owns no_in_formals (waiting_in state) state.leaks depth views facts_called next_there formals
+        abbrev declared_there : AreDeclared s ready.accepted.settled ready.owns no_in_formals (waiting_in easy.state) state.leaks depth views facts_called next_there formals
             state.memory with_all
         declared_there = enters.0
 
@@ -515,14 +611,12 @@ module _ (table : Table) (typed : TypedProgram) (effects : Effects) (input : Lis
         frames_there : after_call.frames ≡ frame_at_start n (returns_of formals passed) ∷ (waits_stage.frame ∷ outer)
         frames_there =
             ap (λ z. frame_at_start n (returns_of formals passed) ∷ led main_turn (record top.frame { waits = steps.waiting main_turn }) z) call_point.1
-            ∙ ap (λ z. frame_at_start n (returns_of formals passed) ∷ (record top.frame { waits = z; next = call_point.0 } ∷ outer)) no_waiting
 
-        hands_there : waiting_in after_call ≡ waiting_in state
-        hands_there =
-            hands_behind main_turn ready.accepted.settled ready.owns other alone no_in_formals views ready.class.parts_named none_taken frames none_takes state.memory 0
+        hands_there : waiting_in after_call ≡ waiting_in easy.state
+        hands_there = led_waits main_turn (record top.frame { waits = steps.waiting main_turn }) (successor main_turn 0)
 
         abbrev called_view : ways.View
-        called_view = seen s with_all (waiting_in state) state.leaks
+        called_view = seen s with_all (waiting_in easy.state) state.leaks
 
         view_called : called_view ≡ view_here s after_call
         view_called = (λ j. seen s with_all (sym hands_there j) (sym (append-nil state.leaks) j))
@@ -539,8 +633,8 @@ module _ (table : Table) (typed : TypedProgram) (effects : Effects) (input : Lis
 
         is_waiting : IsWaiting table typed effects after_call n (returns_of formals passed) waits_there
         is_waiting = record {
-          procedure = running.0;
-          plain = (refl, running.1.1);
+          runs = running.0;
+          plain = running.1;
           path = subst (λ (z : FlowSub). ControlPath (path_points program effects z) (top.frame.next ∷ top.before) call_point.0)
               (sym (standing.sub_is table typed effects input ready state top older outer named p frames of_sub at_point))
               (goes_on top.before top.frame.next call_point.0 (standing.path_here table typed effects input ready state top older outer named p frames of_sub at_point path)
@@ -553,10 +647,12 @@ module _ (table : Table) (typed : TypedProgram) (effects : Effects) (input : Lis
             | inl less ↦ absurd (omega (arith, less, deep))
             | inr mine ↦ mine.1
           ];
-          lends = own_there;
+          lends = lends_there;
           unmoved = λ name has shared uses. spared_then name (subst (λ z. Has z (Moved name)) facts_there has) shared uses;
           uses = λ x uses. called_used program effects ready.accepted.effects_are top.frame.sub (flow_sub own named) sub_at_all sub_less n callee_less
-              main_turn.point (standing.in_sub table typed effects input ready state top older outer named p frames of_sub at_point) actuals None e x uses;
+              main_turn.point (standing.in_sub table typed effects input ready state top older outer named p frames of_sub at_point) actuals result e x uses;
+          writes = λ x written. called_writes program effects ready.accepted.effects_are top.frame.sub (flow_sub own named) sub_at_all sub_less n callee_less
+              main_turn.point (standing.in_sub table typed effects input ready state top older outer named p frames of_sub at_point) actuals result e x written;
           clear = subst (AreClear (is_observer s)) (sym facts_there) well_called.clear;
           views = subst (λ z. AreViews (home s top.depth) (is_observer s) views (view_here s after_call) z) (sym facts_there)
               (subst (λ d. AreViews (home s d) (is_observer s) views (view_here s after_call) facts_called) (sym deep) well_called.views);
@@ -577,7 +673,11 @@ module _ (table : Table) (typed : TypedProgram) (effects : Effects) (input : Lis
             all_on table typed effects unmoved_stage local state after_call depth
             (λ f x q k some less held. held_called f x q k (λ above_it. omega (arith, less, above_it)) held)
             (λ f x some less view. declared_there.views f x view)
-            top.frame.sub top.frame.returns older outer stages (omega arith) (λ g has x w is. well_called.far w (g.views.cell x) (g, has, x, is, refl)) running.2
+            top.frame.sub top.frame.returns older outer stages (omega arith)
+            (λ g has x w is. (let root = kept_low table typed effects unmoved_stage local state depth older between w (g.views.cell x) (g, has, x, is, refl) in
+            subst (λ z. ways.Reaches z w (ways.OfCell (g.views.cell x))) view_called
+            (declared_there.low w root.0 root.1 root.2 root.3 (g.views.cell x)
+            ((viewed_easy.0).far w (g.views.cell x) (g, has, x, is, refl))))) running.2
 
         -- what is gone then is known to those that wait
         known_called : (w : Way) (l : ways.Loc) → ways.IsRooted w → ways.Reaches (view_here s after_call) w l → (view_here s after_call).word l ≡ ways.Gone
@@ -585,7 +685,8 @@ module _ (table : Table) (typed : TypedProgram) (effects : Effects) (input : Lis
         known_called w l rooted r gone = elim (well_called.known w l rooted r gone) [
           | inr (inl (g, has, what)) ↦ (g, inr has, what)
           | inr (inr taken_there) ↦ (waits_there, inl refl, inr taken_there)
-          | inl moved ↦ (
+          | inl (inr none) ↦ absurd none
+          | inl (inl moved) ↦ (
             waits_there,
             inl refl,
             inl (subst (λ d. IsMovedBy (home s d) views (facts_of program effects waits_stage) w) (sym deep)
@@ -598,7 +699,7 @@ module _ (table : Table) (typed : TypedProgram) (effects : Effects) (input : Lis
           λ x has. all_returned s ready.accepted.settled depth formals actuals passed (given_laid passed given) called.actuals_stay kinds x
               (subst (λ z. Has z x) (ap (λ (z : Signature). z.formals) (signature_is program n)) has),
           λ r has. called.formals r.formal
-              (formals_of_returns s ready.accepted.settled ready.owns no_in_formals (waiting_in state) state.leaks depth views facts_called next_there formals passed r has),
+              (formals_of_returns s ready.accepted.settled ready.owns no_in_formals (waiting_in easy.state) state.leaks depth views facts_called next_there formals passed r has),
         )
 
         entered_sound : Along (Goes after_call)
@@ -608,8 +709,13 @@ module _ (table : Table) (typed : TypedProgram) (effects : Effects) (input : Lis
             views = blank_views;
             older = waits_there ∷ older;
             stages = subst (AreStages (called_stage ∷ stages_of (waits_there ∷ older))) (sym frames_there) (refl, refl, (refl, deep, stages));
-            running = (called.procedure, (refl, returned_there), (is_waiting, others_wait));
-            path = begins (first_point n called.procedure.named called.procedure.stands called.procedure.point called.procedure.points called.procedure.begins);
+            running = (called.runs, returned_there, (is_waiting, others_wait));
+            awaited = (
+              packages.first_waits table typed effects input ready (suc depth) n (returns_of formals passed) called.runs.named called.runs.stands called.runs.point
+                  called.runs.points called.runs.begins,
+              (waits_late all_passed_ways.0, others_await (ap returns_value e)),
+            );
+            path = begins (first_point n called.runs.named called.runs.stands called.runs.point called.runs.points called.runs.begins);
             viewed = record {
               owned = well_called.owned;
               covered = well_called.covered;
@@ -621,13 +727,14 @@ module _ (table : Table) (typed : TypedProgram) (effects : Effects) (input : Lis
                 owned = λ k has. absurd has;
               };
               views = λ x w has. absurd (none_some w has);
+              lends = λ l k none. absurd none;
               far = λ w k none. absurd none;
             };
             kept = subst (Kept s with_all) (sym hands_there) declared_there.typed;
-            named = called.procedure.named;
-            of_sub = called.procedure.stands;
-            point = called.procedure.point;
-            at_point = ([], called.procedure.points, called.procedure.begins, refl);
+            named = called.runs.named;
+            of_sub = called.runs.stands;
+            point = called.runs.point;
+            at_point = ([], called.runs.points, called.runs.begins, refl);
             scope = λ f x q k held. elim (declared_there.held f x q k held) [
               | inl before ↦ elim (scope f x q k before) [
                 | inl less ↦ inl (omega (arith, less))
@@ -667,9 +774,9 @@ module _ (table : Table) (typed : TypedProgram) (effects : Effects) (input : Lis
                 let up : home s (suc depth) x ≡ suc depth = ap (λ b. if b then 0 else suc depth) (local x view) in
                 above (home s (suc depth) x) x k (omega (arith, up)) view (sym (declared_there.views (home s (suc depth) x) x view) ∙ at)
 
-      pub calls_it : Along (turn main_turn (Call n actuals None))
+      pub calls_it : Along (turn main_turn (Call n actuals result))
       calls_it =
-          call_goes main_turn ready.accepted.settled n actuals Along (ends_raised not_end) Given
+          call_goes main_turn ready.accepted.settled n actuals Along ends_raised Given
           (λ passed given. no_out_checks s ready.accepted.settled depth main_turn.point.pos state.memory formals actuals passed (given_laid passed given))
-          entered_sound ways_there ways_are now
-          (start_is main_turn ready.accepted.settled ready.owns other alone no_in_formals views ready.class.parts_named none_taken frames none_takes) refl passed_quiet
+          entered_sound ways_there ways_are
+          (start main_turn) then_now refl refl passed_quiet

@@ -8,10 +8,10 @@ use Rattle.machine.specs.Words.{access_offsets}
 use Rattle.machine.specs.Words as machine
 use Rattle.machine.specs.Memory.{Slot, Memory, Place, fresh, cell, no_slot, slots_of, slots_at, words_of, gone_at, stored, moved_out}
 use Rattle.machine.specs.States.{Waiting, Leak}
-use Rattle.owned_ways.specs.Ways.{Step, OfVariable, OfHand, Loc, OfRoot, Way, Object, Gone, Held, View, Reaches, IsMove, IsRooted, Under, part, along, base_of}
+use Rattle.owned_ways.specs.Ways.{Step, OfVariable, OfHand, Loc, OfRoot, OfCell, Way, Object, Gone, Held, View, Reaches, IsMove, IsRooted, Under, part, along, base_of}
 use Rattle.owned_ways.proofs.Locations.{past_under, reaches_along, under_along, under_itself, named_along}
 use Rattle.owned_ways.proofs.Assigned.{given_apart}
-use Rattle.owned_ways.proofs.Moving.{owner_before}
+use Rattle.owned_ways.proofs.Moving.{Given, keeps, owner_before}
 use Rattle.owned_ways.proofs.Dropped.{named_base}
 use Rattle.part_offsets.specs.Parts.{type_in, offset_in, has_part, is_leaf, IsSettled}
 use Rattle.soundness.specs.Seen.{Content, content, trunk, steps_in, word_in, owner_at, seen_of, seen, is_view_formal}
@@ -23,7 +23,7 @@ use Rattle.soundness.proofs.Steps.{put_count, put_freed, stores, takes}
 use Rattle.owned_loans.specs.Views.{Around, Views, ExcusedBy, Viewed}
 use Rattle.owned_loans.proofs.Moves.{view_named, no_hand}
 use Rattle.viewed_steps.specs.Taken.{IsInside}
-use Rattle.viewed_steps.proofs.Between.{gone_also, IsClearOf, moved_between, base_under, base_along, not_named}
+use Rattle.viewed_steps.proofs.Between.{gone_also, IsClearOf, moved_between, base_under, base_along, same_variable, not_named}
 
 -- ---- places in variables
 
@@ -153,18 +153,33 @@ module _ (s : Typing) (settled : IsSettled s.table) (home : ℕ → ℕ) (observ
         other_trunk : {h f x : ℕ} → OfRoot (OfVariable f x) ≡ OfRoot (OfHand h) → ⊥
         other_trunk e = cc
 
+    after_is : after ≡ seen s (moved_out s k m) (got ∷ rest) leaks
+    after_is =
+        (λ j. seen_of s.table b (sym (put_count s m k.base (whole_slots m k (gone_at (access_offsets s.table k.of) (slots_of s m k)))) j)
+        (λ n. sym (put_freed s m k.base (whole_slots m k (gone_at (access_offsets s.table k.of) (slots_of s m k))) n) j) leaks)
+
+    goes_off : (f x : ℕ) → base_of u ≡ OfRoot (OfVariable f x) → Given (seen s m rest leaks) after u (Object (OfHand (length rest))) l (hand (length rest))
+    goes_off f x base =
+        given_apart (seen s m rest leaks) after u (Object (OfHand (length rest))) l (hand (length rest)) viewed.owned move reaches refl (λ e. hand_differs base e)
+
     -- What is gone then is known elsewhere.
     pub carried_off : (f x : ℕ) → base_of u ≡ OfRoot (OfVariable f x)
         → IsClearOf home observer v other gone u → ((w : Way) → other.gone w → gone w) → ((p : List Step) → gone (along u p))
         → Viewed home observer (gone_also home other gone) v (seen s (moved_out s k m) (got ∷ rest) leaks) facts
     carried_off f x base clear more adds =
-        let done = moved_between home observer v other gone (seen s m rest leaks) after u (Object (OfHand (length rest))) l (hand (length rest)) facts
-        (given_apart (seen s m rest leaks) after u (Object (OfHand (length rest))) l (hand (length rest)) viewed.owned move reaches refl
-        (λ e. hand_differs base e)) viewed rooted clean (λ w o off. more w o) (λ p is. adds p) clear
-        (hand_clear home observer v other gone (seen s m rest leaks) facts viewed (length rest)) in
-        subst (λ z. Viewed home observer (gone_also home other gone) v z facts)
-        (λ j. seen_of s.table b (sym (put_count s m k.base (whole_slots m k (gone_at (access_offsets s.table k.of) (slots_of s m k)))) j)
-        (λ n. sym (put_freed s m k.base (whole_slots m k (gone_at (access_offsets s.table k.of) (slots_of s m k))) n) j) leaks) done
+        subst (λ z. Viewed home observer (gone_also home other gone) v z facts) after_is
+        (moved_between home observer v other gone (seen s m rest leaks) after u (Object (OfHand (length rest))) l (hand (length rest)) facts
+        (goes_off f x base) viewed rooted clean (λ w o off. more w o) (λ p is. adds p) clear
+        (hand_clear home observer v other gone (seen s m rest leaks) facts viewed (length rest)))
+
+    -- a way from another variable reaches what it reached
+    pub carried_off_low : (f x : ℕ) → base_of u ≡ OfRoot (OfVariable f x) → (w : Way) (g y : ℕ) → base_of w ≡ OfRoot (OfVariable g y) → (g ≡ f → ⊥) → (n : ℕ)
+        → Reaches (seen s m rest leaks) w (OfCell n) → Reaches (seen s (moved_out s k m) (got ∷ rest) leaks) w (OfCell n)
+    carried_off_low f x base w g y root off n reach =
+        subst (λ z. Reaches z w (OfCell n)) after_is
+        (keeps (seen s m rest leaks) after u (Object (OfHand (length rest))) l (hand (length rest)) (goes_off f x base) w (OfCell n) reach
+        (λ past. off (same_variable g y f x (sym root ∙ base_under u w (past_under u w past) ∙ base)).0)
+        (λ past. hand_differs root (base_under (Object (OfHand (length rest))) w (past_under (Object (OfHand (length rest))) w past))))
 
   -- What a hand has goes to a place that has no number.
   module _ (m : Memory) (got : Waiting) (rest : List Waiting) (leaks : List Leak) (facts : List Fact) (k : Place) (l : Loc) (u : Way)
@@ -200,21 +215,37 @@ module _ (s : Typing) (settled : IsSettled s.table) (home : ℕ → ℕ) (observ
           | inr stays ↦ inl (sym (word_root s.table full (OfVariable g y) p) ∙ stays.word)
         ]
 
+    then_is : then_seen ≡ seen s (stored s k got.words m) rest leaks
+    then_is =
+        (λ j. seen_of s.table given (sym (put_count s m k.base (whole_slots m k (fresh got.words))) j)
+        (λ n. sym (put_freed s m k.base (whole_slots m k (fresh got.words)) n) j) leaks)
+
+    goes_to : (f x : ℕ) → base_of u ≡ OfRoot (OfVariable f x) → Given (seen s m (got ∷ rest) leaks) then_seen (Object (OfHand (length rest))) u (hand (length rest)) l
+    goes_to f x base =
+        given_apart (seen s m (got ∷ rest) leaks) then_seen (Object (OfHand (length rest))) u (hand (length rest)) l viewed.owned goes_there refl reaches
+        (λ e. hand_differs base (sym e))
+
     -- What was gone there isn't any more.
     pub carried_to : (f x : ℕ) → base_of u ≡ OfRoot (OfVariable f x)
         → ((w : Way) → Under (Object (OfHand (length rest))) w → other.gone w → ⊥)
         → IsClearOf home observer v other gone u → ((w : Way) → other.gone w → (Under u w → ⊥) → gone w)
         → Viewed home observer (gone_also home other gone) v (seen s (stored s k got.words m) rest leaks) facts
     carried_to f x base hands clear stays =
-        let root : Way = Object (OfHand (length rest)) in
-        let done = moved_between home observer v other gone (seen s m (got ∷ rest) leaks) then_seen root u (hand (length rest)) l facts
-        (given_apart (seen s m (got ∷ rest) leaks) then_seen root u (hand (length rest)) l viewed.owned goes_there refl reaches (λ e. hand_differs base (sym e))) viewed tt
+        subst (λ z. Viewed home observer (gone_also home other gone) v z facts) then_is
+        (moved_between home observer v other gone (seen s m (got ∷ rest) leaks) then_seen (Object (OfHand (length rest))) u (hand (length rest)) l facts
+        (goes_to f x base) viewed tt
         (λ w under known. elim known [
-          | inl moved ↦ no_hand home observer other v (seen s m (got ∷ rest) leaks) facts viewed root w tt under moved
+          | inl moved ↦ no_hand home observer other v (seen s m (got ∷ rest) leaks) facts viewed (Object (OfHand (length rest))) w tt under moved
           | inr o ↦ hands w under o
         ]) stays
         (λ p is. absurd (stored_whole s.table settled full given (length rest) got l (length m.cells) (λ n. (cell m n).freed) leaks change p is))
-        (hand_clear home observer v other gone (seen s m (got ∷ rest) leaks) facts viewed (length rest)) clear in
-        subst (λ z. Viewed home observer (gone_also home other gone) v z facts)
-        (λ j. seen_of s.table given (sym (put_count s m k.base (whole_slots m k (fresh got.words))) j)
-        (λ n. sym (put_freed s m k.base (whole_slots m k (fresh got.words)) n) j) leaks) done
+        (hand_clear home observer v other gone (seen s m (got ∷ rest) leaks) facts viewed (length rest)) clear)
+
+    -- a way from another variable reaches what it reached
+    pub carried_to_low : (f x : ℕ) → base_of u ≡ OfRoot (OfVariable f x) → (w : Way) (g y : ℕ) → base_of w ≡ OfRoot (OfVariable g y) → (g ≡ f → ⊥) → (n : ℕ)
+        → Reaches (seen s m (got ∷ rest) leaks) w (OfCell n) → Reaches (seen s (stored s k got.words m) rest leaks) w (OfCell n)
+    carried_to_low f x base w g y root off n reach =
+        subst (λ z. Reaches z w (OfCell n)) then_is
+        (keeps (seen s m (got ∷ rest) leaks) then_seen (Object (OfHand (length rest))) u (hand (length rest)) l (goes_to f x base) w (OfCell n) reach
+        (λ past. hand_differs root (base_under (Object (OfHand (length rest))) w (past_under (Object (OfHand (length rest))) w past)))
+        (λ past. off (same_variable g y f x (sym root ∙ base_under u w (past_under u w past) ∙ base)).0))

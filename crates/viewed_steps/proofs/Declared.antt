@@ -1,14 +1,16 @@
 -- The declaration of an object that isn't a view.
-use Rattle.std.proofs.Common.{◌≡◌, refl, sym, ap, ◌∙◌, subst, ◌⊎◌, inl, inr, ℕ, suc, Bool, true, false, not, List, [], ◌∷◌, ◌++◌, length, get_or, arith, append-nil, Some, if◌then◌else◌}
+use Rattle.std.proofs.Common.{◌≡◌, refl, sym, ap, ◌∙◌, subst, ◌⊎◌, inl, inr, ℕ, suc, Bool, true, false, not, List, [], ◌∷◌, ◌+◌, ◌++◌, length, get_or, arith, append-nil, Some, if◌then◌else◌}
 use Rattle.spark_base.specs.Lists.{Has}
 use Rattle.place_names.specs.declared.act.Act.TheVariants as act
 use Rattle.place_names.specs.declared.fact.Fact.{Fact}
 use Rattle.place_names.specs.declared.fact.Fact.TheVariants.{Moved}
+use Rattle.place_names.specs.declared.rule.Loan.{Loan}
+use Rattle.place_names.specs.declared.rule.Loan.TheVariants.{Borrowed}
 use Rattle.place_names.specs.Names.{Name as PlaceName}
 use Rattle.type_definitions.specs.Types.{words, full}
 use Rattle.typed_tree.specs.Trees.{TypedTree, NoMore, More}
 use Rattle.flow_paths.specs.Objects.{Typing, object_at, is_anonymous, is_observer, view_of}
-use Rattle.flow_paths.specs.Names.{has_call, first}
+use Rattle.flow_paths.specs.Names.{has_call, waiting as waits_in, first}
 use Rattle.flow_paths.specs.Scopes.{taken}
 use Rattle.flow_paths.specs.Acts.{acts_in, declared_acts, source_acts, observe}
 use Rattle.machine.specs.Words.{default}
@@ -21,6 +23,8 @@ use Rattle.machine.specs.Step as steps
 use Rattle.machine.specs.Owners.{waiting_in, WellOwned}
 use Rattle.owned_ways.specs.Ways.{Step, Root, OfVariable, OfHand, Loc, OfRoot, OfCell, Inside, Way, Object, Lost, Into, All, Empty, View, Reaches, Under, Named, part, along, base_of, after, AllowsAll, number_of}
 use Rattle.owned_ways.specs.Ways as ways
+use Rattle.owned_ways.proofs.Named.{longer}
+use Rattle.owned_ways.proofs.Dropped.{named_base}
 use Rattle.owned_ways.proofs.Locations.{reaches_along, named_along as rooted_along}
 use Rattle.owned_ways.proofs.Assigned.{is_false}
 use Rattle.part_offsets.specs.Parts.{offset_in, is_leaf, IsSettled}
@@ -39,14 +43,14 @@ use Rattle.soundness.proofs.Fading.{FadesTo, still, then_fades, if_fades, checke
 use Rattle.soundness.proofs.Lasting.{keeps, lengths, declared_kept}
 use Rattle.soundness.proofs.Numbers.{index_law}
 use Rattle.soundness.proofs.Scalars.{acts}
-use Rattle.soundness.proofs.Waits.{or_both}
+use Rattle.soundness.proofs.Taking.{Takes, takes_as, takes_zero, no_takes, TakesPlainly, both_plainly, nothing_more}
 use Rattle.owned_loans.specs.Views.{Around, Views, expand, ExcusedBy, Viewed}
 use Rattle.owned_loans.proofs.Ways.{lifts, lifted_way, root_on}
 use Rattle.owned_loans.proofs.Moves.{as_sound, all_known, view_named, view_on, named_way}
 use Rattle.viewed_soundness.specs.Holds.{IsNamed, PartsAreNamed, Holds, AllKeep}
 use Rattle.viewed_soundness.proofs.Names.{true_false}
 use Rattle.viewed_soundness.proofs.Moments.{hands_spared}
-use Rattle.viewed_soundness.proofs.Evaluated.{Given, blank_ready, checked_given, evaluated}
+use Rattle.viewed_soundness.proofs.Evaluated.{Given, blank_ready, checked_given, evaluated_on}
 use Rattle.viewed_soundness.proofs.Outcomes.{named_plain, not_views, IsGood, Leads_on, raises, start_is, unturned, goes_to}
 
 -- ---- a variable that had nothing gets a value
@@ -114,6 +118,14 @@ far_off s t f x g y same (Into w i) l base off (m, reach, e) = (m, far_off s t f
 far_off s t f x g y same (All w) l base off (m, c, reach, held, e) =
     (m, c, far_off s t f x g y same w m base off reach, same m (far_there s f x g y w m base off reach) ∙ held, e)
 
+-- a way from another variable reaches what it reached
+pub declared_low : (s : Typing) (m : Memory) (got : Waiting) (rest : List Waiting) (leaks : List Leak) (f x : ℕ) (w : Way) (g y : ℕ)
+    → base_of w ≡ OfRoot (OfVariable g y) → (OfVariable f x ≡ OfVariable g y → ⊥) → (n : ℕ)
+    → Reaches (seen s m (got ∷ rest) leaks) w (OfCell n) → Reaches (seen s (declared f x got.words m) rest leaks) w (OfCell n)
+declared_low s m got rest leaks f x w g y base off n reach =
+    far_off (seen s m (got ∷ rest) leaks) (seen s (declared f x got.words m) rest leaks) f x g y
+    (λ l there. word_off s m (got ∷ rest) rest leaks f x got.words l there) w (OfCell n) base off reach
+
 -- A variable isn't one that a way of others begins at.
 abbrev pub IsApart : (home : ℕ → ℕ) → Around home → ℕ → ℕ → Type 0
 IsApart home other f x = (w : Way) (n : ℕ) → other.kept w n → base_of w ≡ OfRoot (OfVariable f x) → ⊥
@@ -135,6 +147,7 @@ module _ (s : Typing) (settled : IsSettled s.table) (home : ℕ → ℕ) (observ
         covered = sound.covered;
         known = all_known home observer other v b facts sound.known;
         clear = viewed.clear;
+        lends = viewed.lends;
         views = λ y w has. (let view = viewed.views y w has in
             view_on home observer other v a b facts facts y w view (λ seen n loan. loan)
             (reaches_off home a b f x (λ l off. word_off s m (got ∷ rest) rest leaks f x got.words l off) w (OfCell (v.cell y))
@@ -150,6 +163,13 @@ stands_root v u = elim (lifts v u) [
   | inl e ↦ inl (ap number_of e)
   | inr l ↦ inr (l.object, l.way, l.has, ap number_of (lifted_way v u l) ∙ root_on l.way l.rest)
 ]
+
+base_frame : (f x g y : ℕ) → OfRoot (OfVariable f x) ≡ OfRoot (OfVariable g y) → f ≡ g
+base_frame f x g y e = cc
+
+along_base : (w : Way) (p : List Step) → base_of (along w p) ≡ base_of w
+along_base w [] = refl
+along_base w (i ∷ p) = along_base w p
 
 in_home : (home : ℕ → ℕ) (f x : ℕ) (p : List Step) → Named home (along (Object (OfVariable f x)) p) → f ≡ home x
 in_home home f x [] named = named
@@ -182,6 +202,10 @@ module _ (t : Turn) (settled : IsSettled (typing t).table) (own_law : OwnsByShap
   abbrev now : Now
   now = record { memory = t.state.memory; waits = [] }
 
+  -- with these values, which the instruction takes
+  abbrev at : List (List machine.Word) → Now
+  at ws = record { memory = m; waits = ws }
+
   abbrev Good : List Fact → Type 0
   Good facts = IsGood t settled own_law other alone no_formals v parts_named may frames none v facts t.state
 
@@ -199,22 +223,30 @@ module _ (t : Turn) (settled : IsSettled (typing t).table) (own_law : OwnsByShap
   abbrev pub IsUnmoved : ℕ → List Fact → Type 0
   IsUnmoved x facts = (name : PlaceName) → Has facts (Moved name) → name.root ≡ x → depth ≡ home s depth x → ⊥
 
-  -- no view has a way from it
+  -- no view has a way from it, and no part of it is lent to others
   abbrev pub IsFree : ℕ → Type 0
-  IsFree x = (y : ℕ) (w : Way) → v.way y ≡ Some w → IsElsewhere (home s depth) depth x w
+  IsFree x =
+      ((y : ℕ) (w : Way) → v.way y ≡ Some w → IsElsewhere (home s depth) depth x w)
+      × ((l : Loan) (name : PlaceName) → other.lent l name → name.root ≡ x → depth ≡ home s depth x → ⊥)
 
   -- a part of it that is gone would be known as moved
   pub not_gone : (x : ℕ) (facts : List Fact) (z : View) → Viewed (home s depth) (is_observer s) other v z facts → IsUnmoved x facts → IsFree x
       → (p : List Step) → ExcusedBy (home s depth) v other facts (along (Object (OfVariable depth x)) p) → ⊥
   not_gone x facts z viewed unmoved free p (inr o) = alone (along (Object (OfVariable depth x)) p) (near_along depth (Object (OfVariable depth x)) p (inr refl)) o
-  not_gone x facts z viewed unmoved free p (inl (u, moved, leads)) =
+  not_gone x facts z viewed unmoved free p (inl (inr away)) =
+      let t = other.through (along (Object (OfVariable depth x)) p) away in
+      let same = longer t.0 (along (Object (OfVariable depth x)) p) t.2 in
+      let base = sym (named_base (home s depth) t.0 t.1) ∙ sym same.base ∙ along_base (Object (OfVariable depth x)) p in
+      let root : number_of t.0 ≡ x = sym same.root ∙ number_part (Object (OfVariable depth x)) p in
+      free.1 Borrowed (ways.name_of t.0) t.3 root (sym (base_frame (home s depth (number_of t.0)) (number_of t.0) depth x base) ∙ ap (home s depth) root)
+  not_gone x facts z viewed unmoved free p (inl (inl (u, moved, leads))) =
       let root : number_of (expand v u) ≡ x = ap number_of leads ∙ number_part (Object (OfVariable depth x)) p in
       let named : Named (home s depth) (along (Object (OfVariable depth x)) p) = subst (Named (home s depth)) leads
       (named_way (home s depth) (is_observer s) other v z facts viewed.views (suc (number_of u)) u (omega arith)
       (moved.0, viewed.clear.owned (ways.name_of u) moved.1)) in
       elim (stands_root v u) [
         | inl e ↦ unmoved (ways.name_of u) moved.1 (sym e ∙ root) (in_home (home s depth) depth x p named)
-        | inr (y, k, has, e) ↦ free y k has (sym (in_home (home s depth) depth x p named)) (sym e ∙ root)
+        | inr (y, k, has, e) ↦ free.0 y k has (sym (in_home (home s depth) depth x p named)) (sym e ∙ root)
       ]
 
   blank_after : (x : ℕ) (facts : List Fact) (ws : List machine.Word) (n : Now) → Given_here (object_at s x).of facts (Done ws n)
@@ -241,41 +273,43 @@ module _ (t : Turn) (settled : IsSettled (typing t).table) (own_law : OwnsByShap
         ])
   ]
 
-  first_fades : (u : ℕ) (e : TypedTree) → FirstSource s u e → FadesTo (here t) m (first_value t u e now)
+  first_fades : (ws : List (List machine.Word)) (u : ℕ) (e : TypedTree) → FirstSource s u e → FadesTo (here t) m (first_value t u e (at ws))
   unfolding initial
-  first_fades u (More e rest) gives =
-      if_fades (here t) m (is_anonymous (full s.table u)) (viewed (here t) e now) (followed_by (value (here t) e now) (checked (here t) u))
-      (fades (here t) AsView e now)
-      (then_fades (here t) m (value (here t) e now) (checked (here t) u) (fades (here t) AsValue e now) (checked_fades (here t) u))
-  first_fades u NoMore gives = still s m
-  first_fades u e gives = absurd gives
+  first_fades ws u (More e rest) gives =
+      if_fades (here t) m (is_anonymous (full s.table u)) (viewed (here t) e (at ws)) (followed_by (value (here t) e (at ws)) (checked (here t) u))
+      (fades (here t) AsView e (at ws))
+      (then_fades (here t) m (value (here t) e (at ws)) (checked (here t) u) (fades (here t) AsValue e (at ws)) (checked_fades (here t) u))
+  first_fades ws u NoMore gives = still s m
+  first_fades ws u e gives = absurd gives
 
-  source_given : (u : ℕ) (e : TypedTree) → IsNamed s.table u → Source s u e → has_call e ≡ false → (facts : List Fact) → Good facts
-      → AllowsAll facts (acts (acts_in s e)) → AllKeep (is_observer s) (acts (acts_in s e)) → Given_here u (after (acts (acts_in s e)) facts) (taken_by t u e now)
-  source_given u e named (inl (view, is)) calls facts good allowed keep = absurd (true_false (is_anonymous (full s.table u)) view (named_plain s.table u named))
-  source_given u e named (inr gives) calls facts good allowed keep =
-      subst (λ b. Given_here u (after (acts (acts_in s e)) facts) (if b then viewed (here t) e now else followed_by (value (here t) e now) (checked (here t) u)))
+  pub source_given : (ws : List (List machine.Word)) (u : ℕ) (e : TypedTree) → IsNamed s.table u → Source s u e → TakesPlainly s (has_call e) → Takes (waits_in e) ws [] → (facts : List Fact) → Good facts
+      → AllowsAll facts (acts (acts_in s e)) → AllKeep (is_observer s) (acts (acts_in s e)) → Given_here u (after (acts (acts_in s e)) facts) (taken_by t u e (at ws))
+  source_given ws u e named (inl (view, is)) calls takes facts good allowed keep = absurd (true_false (is_anonymous (full s.table u)) view (named_plain s.table u named))
+  source_given ws u e named (inr gives) calls takes facts good allowed keep =
+      subst (λ b. Given_here u (after (acts (acts_in s e)) facts) (if b then viewed (here t) e (at ws) else followed_by (value (here t) e (at ws)) (checked (here t) u)))
       (sym (named_plain s.table u named))
       (checked_given (here t) settled t.state.leaks [] other alone (keeps s settled own_law) no_formals index_law own_law v parts_named u u hands
-      (after (acts (acts_in s e)) facts) (evaluate (here t) AsValue e now)
-      (evaluated (here t) settled t.state.leaks [] other alone (keeps s settled own_law) no_formals index_law own_law v parts_named e u gives calls
+      (after (acts (acts_in s e)) facts) (evaluate (here t) AsValue e (at ws))
+      (evaluated_on (here t) settled t.state.leaks [] other alone (keeps s settled own_law) no_formals index_law own_law v parts_named e u gives calls ws [] takes
       m hands facts (record { viewed = good.viewed; kept = good.kept; holds = good.holds }) allowed named keep))
 
-  pub first_given : (u : ℕ) (e : TypedTree) → IsNamed s.table u → FirstSource s u e → has_call e ≡ false → (facts : List Fact) → Good facts
-      → AllowsAll facts (acts (acts_in s e)) → AllKeep (is_observer s) (acts (acts_in s e)) → Given_here u (after (acts (acts_in s e)) facts) (first_value t u e now)
-  unfolding acts_in has_call initial
-  first_given u (More e rest) named (last, gives) calls facts good allowed keep =
+  pub first_given : (ws : List (List machine.Word)) (u : ℕ) (e : TypedTree) → IsNamed s.table u → FirstSource s u e → TakesPlainly s (has_call e) → Takes (waits_in e) ws [] → (facts : List Fact) → Good facts
+      → AllowsAll facts (acts (acts_in s e)) → AllKeep (is_observer s) (acts (acts_in s e)) → Given_here u (after (acts (acts_in s e)) facts) (first_value t u e (at ws))
+  unfolding acts_in has_call initial waits_in
+  first_given ws u (More e rest) named (last, gives) calls takes facts good allowed keep =
       let same : acts_in s e ++ acts_in s rest ≡ acts_in s e = ap (λ z. acts_in s e ++ acts_in s z) last ∙ append-nil (acts_in s e) in
-      subst (λ z. Given_here u (after (acts z) facts) (taken_by t u e now)) (sym same)
-      (source_given u e named gives (or_both (has_call e) (has_call rest) calls).0 facts good (subst (λ z. AllowsAll facts (acts z)) same allowed)
+      let alone_there : waits_in e + waits_in rest ≡ waits_in e = ap (λ z. waits_in e + waits_in z) last ∙ nothing_more (waits_in e) in
+      subst (λ z. Given_here u (after (acts z) facts) (taken_by t u e (at ws))) (sym same)
+      (source_given ws u e named gives (both_plainly s (has_call e) (has_call rest) calls).0
+      (takes_as (waits_in e + waits_in rest) (waits_in e) ws [] alone_there takes) facts good (subst (λ z. AllowsAll facts (acts z)) same allowed)
       (subst (λ z. AllKeep (is_observer s) (acts z)) same keep))
-  first_given u NoMore named gives calls facts good allowed keep = (
+  first_given ws u NoMore named gives calls takes facts good allowed keep = (
     blank_ready (here t) settled t.state.leaks [] other alone (keeps s settled own_law) no_formals index_law own_law v parts_named
         m hands facts u (default s.table u) (none_default s.table u) (record { viewed = good.viewed; kept = good.kept; holds = good.holds }),
     lengths s.table u,
-    refl,
+    takes_zero ws [] takes,
   )
-  first_given u e named gives calls facts good allowed keep = absurd gives
+  first_given ws u e named gives calls takes facts good allowed keep = absurd gives
 
   -- the variables of views stay
   holds_beside : (n : Memory) (x : ℕ) (ws : List machine.Word) → IsNamed s.table (object_at s x).of → Holds s depth v n → Holds s depth v (declared depth x ws n)
@@ -299,30 +333,38 @@ module _ (t : Turn) (settled : IsSettled (typing t).table) (own_law : OwnsByShap
       (unturned t settled own_law other alone no_formals v parts_named may frames none facts)
       (declared_viewed s settled (home s depth) (is_observer s) other v n.memory (record { of = (object_at s x).of; words = ws }) hands t.state.leaks facts depth x
       ready.viewed (λ h w under o. alone w (near_under depth (Object (OfHand h)) w under tt) o) ready.kept (blank_after x facts ws n (ready, long, same) faint new unmoved free) (no_formals x) long
-      (alike s.table settled (object_at s x).of (object_at s x).of (inl refl)) free apart)
+      (alike s.table settled (object_at s x).of (object_at s x).of (inl refl)) free.0 apart)
       (declared_kept s settled n.memory depth x (record { of = (object_at s x).of; words = ws }) hands ready.kept long (inl refl))
       (holds_beside n.memory x ws named ready.holds)
   then_declared well x facts named (Raises e n) given faint new unmoved free apart = (λ trap. trap, well n.memory)
   then_declared well x facts named (Traps e n) never faint new unmoved free apart = absurd never
 
   -- An object is declared. It has nothing yet, and no fact after the evaluation names it.
-  pub declare_leads : (x : ℕ) (e : TypedTree) → IsNamed s.table (object_at s x).of → FirstSource s (object_at s x).of e → has_call e ≡ false → (facts : List Fact)
+  pub declare_on : (ws : List (List machine.Word)) (x : ℕ) (e : TypedTree) → IsNamed s.table (object_at s x).of → FirstSource s (object_at s x).of e
+      → TakesPlainly s (has_call e) → Takes (waits_in e) ws [] → (facts : List Fact)
       → Good facts → AllowsAll facts (acts (declared_acts s x e)) → AllKeep (is_observer s) (acts (declared_acts s x e))
       → IsBlank x m → IsUnmoved x (after (acts (declared_acts s x e)) facts) → IsFree x → IsApart (home s depth) other depth x
-      → LeadsHere (after (acts (declared_acts s x e)) facts) (declare t x e)
-  declare_leads x e named gives calls facts good allowed keep new unmoved free apart =
+      → LeadsHere (after (acts (declared_acts s x e)) facts) (steps.evaluated t (first_value t (object_at s x).of e (at ws)) (λ ws n. goes t (declared depth x ws n) 0))
+  declare_on ws x e named gives calls takes facts good allowed keep new unmoved free apart =
       let kinds = not_views s x named in
       let same : declared_acts s x e ≡ acts_in s e =
       ap (λ b. if b then source_acts s (first e) (act.Borrow x) else
       (if is_observer s x then source_acts s (first e) (observe s x) else acts_in s e)) kinds.0
       ∙ ap (λ b. if b then source_acts s (first e) (observe s x) else acts_in s e) kinds.1 in
-      subst (λ z. LeadsHere (after (acts z) facts) (declare t x e)) (sym same)
-      (subst (λ z. LeadsHere (after (acts (acts_in s e)) facts) (steps.evaluated t (first_value t (object_at s x).of e z) (λ ws n. goes t (declared depth x ws n) 0)))
-      (sym (start_is t settled own_law other alone no_formals v parts_named may frames none))
+      subst (λ z. LeadsHere (after (acts z) facts) (steps.evaluated t (first_value t (object_at s x).of e (at ws)) (λ ws n. goes t (declared depth x ws n) 0))) (sym same)
       (then_declared (raises t settled own_law other alone no_formals v parts_named may frames none facts good) x (after (acts (acts_in s e)) facts) named
-      (first_value t (object_at s x).of e now)
-      (first_given (object_at s x).of e named gives calls facts good (subst (λ z. AllowsAll facts (acts z)) same allowed) (subst (λ z. AllKeep (is_observer s) (acts z)) same keep))
-      (first_fades (object_at s x).of e gives) new (subst (λ z. IsUnmoved x (after (acts z) facts)) same unmoved) free apart))
+      (first_value t (object_at s x).of e (at ws))
+      (first_given ws (object_at s x).of e named gives calls takes facts good (subst (λ z. AllowsAll facts (acts z)) same allowed) (subst (λ z. AllKeep (is_observer s) (acts z)) same keep))
+      (first_fades ws (object_at s x).of e gives) new (subst (λ z. IsUnmoved x (after (acts z) facts)) same unmoved) free apart)
+
+  pub declare_leads : (x : ℕ) (e : TypedTree) → IsNamed s.table (object_at s x).of → FirstSource s (object_at s x).of e → has_call e ≡ false → (facts : List Fact)
+      → Good facts → AllowsAll facts (acts (declared_acts s x e)) → AllKeep (is_observer s) (acts (declared_acts s x e))
+      → IsBlank x m → IsUnmoved x (after (acts (declared_acts s x e)) facts) → IsFree x → IsApart (home s depth) other depth x
+      → LeadsHere (after (acts (declared_acts s x e)) facts) (declare t x e)
+  declare_leads x e named gives calls facts good allowed keep new unmoved free apart =
+      subst (λ z. LeadsHere (after (acts (declared_acts s x e)) facts) (steps.evaluated t (first_value t (object_at s x).of e z) (λ ws n. goes t (declared depth x ws n) 0)))
+      (sym (start_is t settled own_law other alone no_formals v parts_named may frames none))
+      (declare_on [] x e named gives (inl calls) (no_takes e calls []) facts good allowed keep new unmoved free apart)
 
   -- ---- variables of other objects
 
@@ -333,8 +375,6 @@ module _ (t : Turn) (settled : IsSettled (typing t).table) (own_law : OwnsByShap
   then_stay x (Raises e n) faint = tt
   then_stay x (Traps e n) faint = tt
 
-  pub others_stay : (x : ℕ) (e : TypedTree) → FirstSource s (object_at s x).of e → Each (λ (state : State). OthersStay s m depth x state.memory) (declare t x e)
-  others_stay x e gives =
-      subst (λ z. Each (λ (state : State). OthersStay s m depth x state.memory) (steps.evaluated t (first_value t (object_at s x).of e z) (λ ws n. goes t (declared depth x ws n) 0)))
-      (sym (start_is t settled own_law other alone no_formals v parts_named may frames none))
-      (then_stay x (first_value t (object_at s x).of e now) (first_fades (object_at s x).of e gives))
+  pub others_stay : (ws : List (List machine.Word)) (x : ℕ) (e : TypedTree) → FirstSource s (object_at s x).of e
+      → Each (λ (state : State). OthersStay s m depth x state.memory) (steps.evaluated t (first_value t (object_at s x).of e (at ws)) (λ ws n. goes t (declared depth x ws n) 0))
+  others_stay ws x e gives = then_stay x (first_value t (object_at s x).of e (at ws)) (first_fades ws (object_at s x).of e gives)

@@ -1,5 +1,6 @@
--- Each instruction that calls nothing leads on, but the end of a scope.
-use Rattle.std.proofs.Common.{◌≡◌, refl, sym, ap, ◌∙◌, subst, ◌⊎◌, inl, inr, ℕ, suc, ◌<◌, Bool, true, false, not, ◌||◌, ◌==◌, List, [], ◌∷◌, ◌++◌, map, length, arith, Some, None, if◌then◌else◌}
+-- Each instruction leads on, but calls and their ends, operands that wait, returns with a value, and
+-- ends of scopes.
+use Rattle.std.proofs.Common.{◌≡◌, refl, sym, ap, ◌∙◌, subst, ◌⊎◌, inl, inr, ℕ, suc, ◌+◌, ◌<◌, Bool, true, false, not, ◌||◌, ◌==◌, List, [], ◌∷◌, ◌++◌, map, drop, length, arith, append-nil, Option, Some, None, nat_lt, int_le, ◌&&◌, if◌then◌else◌}
 use Rattle.spark_base.specs.Lists.{Has}
 use Rattle.spark_base.specs.declared.position.Pos.{Pos}
 use Rattle.place_names.specs.declared.act.Act.{Act}
@@ -7,61 +8,74 @@ use Rattle.place_names.specs.declared.act.Act.TheVariants as act
 use Rattle.place_names.specs.declared.act.Placed.{Placed}
 use Rattle.place_names.specs.declared.fact.Fact.{Fact}
 use Rattle.place_names.specs.declared.fact.Fact.TheVariants.{Moved, Lent}
+use Rattle.place_names.specs.declared.rule.Loan.{Loan}
 use Rattle.place_names.specs.declared.rule.Loan.TheVariants.{Observed}
 use Rattle.place_names.specs.Names.{Name as PlaceName}
 use Rattle.type_definitions.specs.Types.{Table, is_scalar, full, shape_of}
 use Rattle.type_definitions.specs.declared.table.Shape.TheVariants as shape
-use Rattle.typed_tree.specs.Trees.{TypedTree, Name, NoMore, More}
+use Rattle.typed_tree.specs.Trees.{TypedTree, TypedCode, Name, NoMore, More}
 use Rattle.typed_tree.specs.Programs.{TypedProgram}
 use Rattle.flow_paths.specs.declared.report.Effects.{Effects}
 use Rattle.flow_paths.specs.Instructions.{Instruction, Skip, Declare, Assign, Call, Output, Input, Release, Test, Choose, Start, Next, Evaluate, LeaveLoop, Hold, EndScope, Finish, Fall}
-use Rattle.flow_paths.specs.Objects.{Typing, object_at, is_anonymous, is_package_object, is_observer, view_of}
-use Rattle.flow_paths.specs.Names.{has_call, name_of}
+use Rattle.flow_paths.specs.Objects.{Typing, object_at, is_anonymous, is_package_object, is_observer, view_of, traverses}
+use Rattle.flow_paths.specs.Names.{has_call, waiting as waits_in, name_of}
 use Rattle.flow_paths.specs.Acts as flow
 use Rattle.flow_paths.specs.Acts.{acts_in}
 use Rattle.flow_paths.specs.Points.{NamedPoint}
 use Rattle.flow_paths.specs.Laid.{FlowProgram, NamedSub, number_in, typing_of, flow_typing, flow_program, flow_named}
 use Rattle.flow_paths.specs.Paths.{ControlPath}
 use Rattle.flow_paths.specs.Effects.{path_points}
-use Rattle.flow_paths.specs.Scopes.{taken, brought, scope_behind, is_within, is_last, is_ready, Leads}
-use Rattle.machine.specs.Memory.{Memory}
-use Rattle.machine.specs.States.{Frame, State, Outcome, Goes, Ends, sub_of}
-use Rattle.machine.specs.Step.{Turn, turn}
+use Rattle.flow_paths.specs.Scopes.{taken, brought, scope_behind, is_within, is_last, is_ready}
+use Rattle.run_values.specs.Items.{next_item}
+use Rattle.machine.specs.Words.{fits_type}
+use Rattle.machine.specs.Words as machine
+use Rattle.machine.specs.Memory.{Memory, given_up, declared, stored, words_of}
+use Rattle.machine.specs.Evaluate.{Exception, ConstraintError, ProgramError, Evaluated, Done, followed_by, value, place_of, text_of}
+use Rattle.machine.specs.Evaluate as run
+use Rattle.machine.specs.Calls.{checks_at}
+use Rattle.machine.specs.States.{Waiting, Loop, Frame, State, Outcome, Goes, Ends, sub_of}
+use Rattle.machine.specs.Step.{Turn, turn, start, successor}
+use Rattle.machine.specs.Step as steps
 use Rattle.machine.specs.Typed.{successors}
-use Rattle.machine.specs.Owners.{waiting_in}
+use Rattle.machine.specs.Owners.{WellOwned, waiting_in}
 use Rattle.owned_ways.specs.Ways.{Step, OfVariable, OfRoot, Way, Held, after, AllowsAll, along, number_of}
 use Rattle.owned_ways.specs.Ways as ways
 use Rattle.owned_ways.proofs.Locations.{reaches_along, named_along as rooted_along}
 use Rattle.soundness.specs.Seen.{IsNear, is_view_formal, content, word_in, home}
 use Rattle.soundness.specs.Typed.{Kept}
-use Rattle.typed_laws.specs.Needed.{IsFine, Source, FirstSource, FirstWrites, FirstStays}
-use Rattle.soundness.specs.Sound.{calls_nothing, Stage, facts_of, AreStages, IsProcedure, InScope, IsNamedSub, IsAtPoint, view_of as view_here}
+use Rattle.typed_laws.specs.Needed.{IsFine, Stays, Source, FirstSource, FirstWrites, FirstStays, Returns}
+use Rattle.soundness.specs.Sound.{IsNoCall, calls_procedures, Stage, facts_of, AreStages, IsRunnable, AreAwaited, AreWaiting as AreWaitingValues, returns_value, awaited, InScope, IsNamedSub, IsAtPoint, view_of as view_here}
 use Rattle.soundness.specs.Ready.{stored_at}
 use Rattle.soundness.proofs.Contents.{bool_cases, word_root}
 use Rattle.soundness.proofs.Scalars.{acts, acts_append}
 use Rattle.soundness.proofs.Scoped.{MayHold, Inside}
 use Rattle.soundness.proofs.Inherited.{Splits, after_splits}
 use Rattle.soundness.proofs.Around.{IsFar}
-use Rattle.soundness.proofs.Following.{Each, GoesOn, declare_follows, assign_follows, release_follows, input_follows, test_follows, choose_follows, stays_follows, output_follows, start_follows, next_follows}
-use Rattle.soundness.proofs.Waits.{or_both}
+use Rattle.soundness.proofs.Following.{Each}
+use Rattle.soundness.proofs.Onward.{GoesOn, declare_follows, assign_follows, release_follows, input_follows, test_follows, choose_follows, stays_follows, output_follows, start_follows, next_follows}
+use Rattle.soundness.proofs.Waits.{drop_none}
+use Rattle.soundness.proofs.Taking.{Takes, takes_as, takes_both, TakesPlainly, nothing_more}
+use Rattle.soundness.proofs.Waited.{FillsNone}
+use Rattle.soundness.proofs.Eased.{eased, waits_same, goes_same, from_eased}
+use Rattle.soundness.proofs.Continued.{got_with, released_with, started_with, input_eased, release_eased, start_eased}
 use Rattle.soundness.proofs.Successors.{not_true, both_not, below_one, below_two, successor_there}
 use Rattle.owned_loans.specs.Views.{Around, known_gone, Views, Viewed, Unused}
-use Rattle.viewed_soundness.specs.Holds.{IsNamed, AllKeep}
+use Rattle.viewed_soundness.specs.Holds.{AllKeep}
 use Rattle.viewed_soundness.proofs.Names.{plain_named, true_false}
 use Rattle.viewed_soundness.proofs.Evaluated.{keep_both}
-use Rattle.viewed_soundness.proofs.Outcomes.{named_plain, IsGood, Turned, Leads_on, test_leads, choose_leads, assign_leads}
+use Rattle.viewed_soundness.proofs.Outcomes.{named_plain, IsGood, Leads_on, decides_on, choose_on, assign_on, Turned}
 use Rattle.viewed_steps.specs.Sound.{IsResting, Lasts, HoldsAt, ArePlaced, NoneAbove, ViewStage, stages_of, GoneElsewhere, AreWaiting, IsStoredAt, AreTurned, steps_on, LeadsAlong}
 use Rattle.viewed_steps.specs.Ready.{AreOrderly, IsReady}
-use Rattle.viewed_steps.proofs.Declared.{IsElsewhere, not_gone, declare_leads}
-use Rattle.viewed_steps.proofs.Released.{release_leads}
-use Rattle.viewed_steps.proofs.Read.{input_leads}
-use Rattle.viewed_steps.proofs.Rounds.{skip_leads, fall_leads, leave_loop_leads, output_leads, line_leads, next_leads, start_leads}
+use Rattle.viewed_steps.proofs.Declared.{IsElsewhere, not_gone, declare_on}
+use Rattle.viewed_steps.proofs.Released.{released_on}
+use Rattle.viewed_steps.proofs.Read.{got_on}
+use Rattle.viewed_steps.proofs.Rounds.{skip_leads, line_leads, next_leads, output_on, started_on}
 use Rattle.viewed_steps.proofs.Lent.{Spare, loans_stay, spare_acts}
-use Rattle.viewed_steps.proofs.Placed.{scope_on, view_ends, placed_on, MayBe, turned_placed}
+use Rattle.viewed_steps.proofs.Placed.{lasts_more, scope_on, view_ends, placed_on, MayBe, turned_placed}
 use Rattle.viewed_steps.proofs.Sources.{leads_or, view_declared, view_assigned}
-use Rattle.viewed_steps.proofs.Beside.{OthersKept, others_keep}
+use Rattle.viewed_steps.proofs.Beside.{IsOther, OthersKept, others_keep}
 use Rattle.viewed_steps.proofs.Waiting.{StandsBetween, KeptElsewhere, beside_them, handed, apart_elsewhere}
-use Rattle.viewed_steps.proofs.Standing.{or_right, calls_none}
+use Rattle.viewed_steps.proofs.Standing.{or_right}
 use Rattle.viewed_steps.proofs.Standing as standing
 use Rattle.viewed_steps.proofs.Packages as packages
 use Rattle.viewed_steps.proofs.Innermost as innermost
@@ -70,25 +84,27 @@ last_within : (x : ℕ) (scope : List ℕ) → is_last x scope ≡ true → is_w
 last_within x [] last = cc
 last_within x (y ∷ scope) last = ap (λ b. b || is_within x scope) last
 
-brought_more : (i : Instruction) → calls_nothing i ≡ true → ((x : ℕ) → i ≡ EndScope x → ⊥) → (scope : List ℕ) (y : ℕ)
-    → is_within y scope ≡ true → is_within y (brought i scope) ≡ true
-brought_more (Declare x v) calls going scope y within = or_right (y == x) (is_within y scope) within
-brought_more (Start x reversed low high) calls going scope y within = or_right (y == x) (is_within y scope) within
-brought_more (Call sub actuals result) calls going scope y within = cc
-brought_more (Evaluate temporary e left) calls going scope y within = cc
-brought_more (EndScope x) calls going scope y within = absurd (going x refl)
-brought_more Skip calls going scope y within = within
-brought_more (Assign target e) calls going scope y within = within
-brought_more (Output text line) calls going scope y within = within
-brought_more (Input target) calls going scope y within = within
-brought_more (Release e) calls going scope y within = within
-brought_more (Test e) calls going scope y within = within
-brought_more (Choose e choices) calls going scope y within = within
-brought_more (Next x reversed low high) calls going scope y within = within
-brought_more (LeaveLoop e) calls going scope y within = within
-brought_more (Hold v) calls going scope y within = within
-brought_more Finish calls going scope y within = within
-brought_more Fall calls going scope y within = within
+-- what is in scope stays so, but where a scope ends
+brought_more : (i : Instruction) → ((x : ℕ) → i ≡ EndScope x → ⊥) → (scope : List ℕ) (y : ℕ) → is_within y scope ≡ true → is_within y (brought i scope) ≡ true
+brought_more (Declare x v) going scope y within = or_right (y == x) (is_within y scope) within
+brought_more (Start x reversed low high) going scope y within = or_right (y == x) (is_within y scope) within
+brought_more (Call sub actuals None) going scope y within = within
+brought_more (Call sub actuals (Some x)) going scope y within = or_right (y == x) (is_within y scope) within
+brought_more (Evaluate x e None) going scope y within = within
+brought_more (Evaluate x e (Some op)) going scope y within = or_right (y == x) (is_within y scope) within
+brought_more (EndScope x) going scope y within = absurd (going x refl)
+brought_more Skip going scope y within = within
+brought_more (Assign target e) going scope y within = within
+brought_more (Output text line) going scope y within = within
+brought_more (Input target) going scope y within = within
+brought_more (Release e) going scope y within = within
+brought_more (Test e) going scope y within = within
+brought_more (Choose e choices) going scope y within = within
+brought_more (Next x reversed low high) going scope y within = within
+brought_more (LeaveLoop e) going scope y within = within
+brought_more (Hold v) going scope y within = within
+brought_more Finish going scope y within = within
+brought_more Fall going scope y within = within
 
 module _ (table : Table) (typed : TypedProgram) (effects : Effects) (input : List ℕ) (ready : IsReady table typed effects) where
   abbrev program : FlowProgram
@@ -99,9 +115,6 @@ module _ (table : Table) (typed : TypedProgram) (effects : Effects) (input : Lis
 
   abbrev own : Typing
   own = typing_of table typed
-
-  abbrev same : s ≡ own
-  same = standing.same table typed effects input ready
 
   abbrev no_in_formals : (x : ℕ) → is_view_formal s x ≡ false
   no_in_formals = standing.no_in_formals table typed effects input ready
@@ -115,7 +128,8 @@ module _ (table : Table) (typed : TypedProgram) (effects : Effects) (input : Lis
   module _ (state : State) (top : Stage) (below : ViewStage) (more_frames : List ViewStage) (rest : List Frame) (named : NamedSub) (p : NamedPoint)
       (frames : state.frames ≡ top.frame ∷ (below.stage.frame ∷ rest)) (deep : top.depth ≡ suc (length rest))
       (stages : AreStages (stages_of (below ∷ more_frames)) (below.stage.frame ∷ rest))
-      (running : IsProcedure table typed top.frame.sub × IsResting s top × AreWaiting table typed effects state top.frame.sub top.frame.returns (below ∷ more_frames))
+      (running : IsRunnable table typed top.frame.sub × IsResting s top × AreWaiting table typed effects state top.frame.sub top.frame.returns (below ∷ more_frames))
+      (awaiting : AreAwaited table typed 0 (top ∷ stages_of (below ∷ more_frames)))
       (of_sub : IsNamedSub (flow_named table typed) top.frame.sub named) (at_point : IsAtPoint named.points top.frame.next p)
       (path : ControlPath (path_points program effects (sub_of program top.frame.sub)) top.before top.frame.next) (views : Views)
       (viewed_before : Viewed (home s (suc (length rest))) (is_observer s) (known_gone (home s (suc (length rest))) (GoneElsewhere program effects (below ∷ more_frames))) views
@@ -132,16 +146,13 @@ module _ (table : Table) (typed : TypedProgram) (effects : Effects) (input : Lis
     depth = suc (length rest)
 
     abbrev between : (g : ViewStage) → Has (below ∷ more_frames) g → StandsBetween table typed effects unmoved_stage local state (suc (length rest)) g
-    between = innermost.between table typed effects input ready state top below more_frames rest named p frames deep stages running of_sub at_point path views viewed_before kept scope holds placed_before above
+    between = innermost.between table typed effects input ready state top below more_frames rest named p frames deep stages running awaiting of_sub at_point path views viewed_before kept scope holds placed_before above
 
     abbrev other : Around (home s (suc (length rest)))
     other = beside_them table typed effects unmoved_stage local state (suc (length rest)) (below ∷ more_frames) between
 
     abbrev alone : (w : Way) → IsNear (suc (length rest)) w → IsFar (suc (length rest)) (GoneElsewhere program effects (below ∷ more_frames)) w → ⊥
-    alone = innermost.alone table typed effects input ready state top below more_frames rest named p frames deep stages running of_sub at_point path views viewed_before kept scope holds placed_before above
-
-    abbrev plain : top.frame.waits ≡ []
-    plain = innermost.plain table typed effects input ready state top below more_frames rest named p frames deep stages running of_sub at_point path views viewed_before kept scope holds placed_before above
+    alone = innermost.alone table typed effects input ready state top below more_frames rest named p frames deep stages running awaiting of_sub at_point path views viewed_before kept scope holds placed_before above
 
     abbrev main_turn : Turn
     main_turn = standing.t table typed effects input ready state top older outer named p frames of_sub at_point
@@ -156,136 +167,211 @@ module _ (table : Table) (typed : TypedProgram) (effects : Effects) (input : Lis
     facts_now = own_facts ++ handed_on
 
     abbrev from_both : Splits facts_now own_facts handed_on
-    from_both = innermost.from_both table typed effects input ready state top below more_frames rest named p frames deep stages running of_sub at_point path views viewed_before kept scope holds placed_before above
+    from_both = innermost.from_both table typed effects input ready state top below more_frames rest named p frames deep stages running awaiting of_sub at_point path views viewed_before kept scope holds placed_before above
 
     abbrev acts_of_main : Instruction → List Act
     acts_of_main i = standing.acts_here table typed effects input ready state top older outer named p frames of_sub at_point i
 
     abbrev allowed_now : Spare s (standing.acts_by table typed effects input ready state top older outer named p frames of_sub at_point s p.instr) → AllowsAll own_facts (acts_of_main p.instr)
         → AllowsAll facts_now (acts_of_main p.instr)
-    allowed_now = innermost.allowed_now table typed effects input ready state top below more_frames rest named p frames deep stages running of_sub at_point path views viewed_before kept scope holds placed_before above
+    allowed_now = innermost.allowed_now table typed effects input ready state top below more_frames rest named p frames deep stages running awaiting of_sub at_point path views viewed_before kept scope holds placed_before above
 
     abbrev viewed : Viewed (home s depth) (is_observer s) other views (view_here s state) facts_now
-    viewed = innermost.viewed table typed effects input ready state top below more_frames rest named p frames deep stages running of_sub at_point path views viewed_before kept scope holds placed_before above
+    viewed = innermost.viewed table typed effects input ready state top below more_frames rest named p frames deep stages running awaiting of_sub at_point path views viewed_before kept scope holds placed_before above
 
     abbrev apart_from_them : (done : List Act) (v : Views) (view : ways.View) → ((x : ℕ) (w : Way) → v.way x ≡ Some w → is_anonymous (view_of s x) ≡ true)
         → Viewed (home s depth) (is_observer s) other v view (after done facts_now)
         → Viewed (home s depth) (is_observer s) (known_gone (home s depth) (GoneElsewhere program effects older)) v view (after done own_facts)
-    apart_from_them = innermost.apart_from_them table typed effects input ready state top below more_frames rest named p frames deep stages running of_sub at_point path views viewed_before kept scope holds placed_before above
+    apart_from_them = innermost.apart_from_them table typed effects input ready state top below more_frames rest named p frames deep stages running awaiting of_sub at_point path views viewed_before kept scope holds placed_before above
 
-    abbrev placed_by : (some all : List Fact) (v : Views) (scope_there : List ℕ) → ((h : ℕ) (m : PlaceName) → Has some (Lent Observed h m) → Has all (Lent Observed h m))
+    abbrev placed_by : (some all : List Fact) (v : Views) (scope_there : List ℕ) → ((h : ℕ) (m : PlaceName) → is_observer s h ≡ true → Has some (Lent Observed h m) → Has all (Lent Observed h m))
         → ArePlaced program some v scope_there → ArePlaced program all v scope_there
-    placed_by = innermost.placed_by table typed effects input ready state top below more_frames rest named p frames deep stages running of_sub at_point path views viewed_before kept scope holds placed_before above
+    placed_by = innermost.placed_by table typed effects input ready state top below more_frames rest named p frames deep stages running awaiting of_sub at_point path views viewed_before kept scope holds placed_before above
 
     abbrev placed : ArePlaced program facts_now views p.scope
-    placed = innermost.placed table typed effects input ready state top below more_frames rest named p frames deep stages running of_sub at_point path views viewed_before kept scope holds placed_before above
+    placed = innermost.placed table typed effects input ready state top below more_frames rest named p frames deep stages running awaiting of_sub at_point path views viewed_before kept scope holds placed_before above
 
-    abbrev own_loans : (done : List Act) (h : ℕ) (m : PlaceName) → Has (after done facts_now) (Lent Observed h m) → Has (after done own_facts) (Lent Observed h m)
-    own_loans = innermost.own_loans table typed effects input ready state top below more_frames rest named p frames deep stages running of_sub at_point path views viewed_before kept scope holds placed_before above
+    abbrev own_loans : (done : List Act) (h : ℕ) (m : PlaceName) → is_observer s h ≡ true → Has (after done facts_now) (Lent Observed h m)
+        → Has (after done own_facts) (Lent Observed h m)
+    own_loans = innermost.own_loans table typed effects input ready state top below more_frames rest named p frames deep stages running awaiting of_sub at_point path views viewed_before kept scope holds placed_before above
 
     abbrev not_handed : (name : PlaceName) → Has handed_on (Moved name) → is_package_object s name.root ≡ false → ⊥
-    not_handed = innermost.not_handed table typed effects input ready state top below more_frames rest named p frames deep stages running of_sub at_point path views viewed_before kept scope holds placed_before above
+    not_handed = innermost.not_handed table typed effects input ready state top below more_frames rest named p frames deep stages running awaiting of_sub at_point path views viewed_before kept scope holds placed_before above
+
+    abbrev not_lent : (x : ℕ) → is_package_object s x ≡ false → (l : Loan) (name : PlaceName) → other.lent l name → name.root ≡ x → ⊥
+    not_lent = innermost.not_lent table typed effects input ready state top below more_frames rest named p frames deep stages running awaiting of_sub at_point path views viewed_before kept scope holds placed_before above
+
+    abbrev not_lent_home : (x : ℕ) (l : Loan) (name : PlaceName) → other.lent l name → name.root ≡ x → depth ≡ home s depth x → ⊥
+    not_lent_home = innermost.not_lent_home table typed effects input ready state top below more_frames rest named p frames deep stages running awaiting of_sub at_point path views viewed_before kept scope holds placed_before above
+
+    abbrev plain_traversal : traverses s.table named.sub.result ≡ false
+    plain_traversal = innermost.plain_traversal table typed effects input ready state top below more_frames rest named p frames deep stages running awaiting of_sub at_point path views viewed_before kept scope holds placed_before above
 
     abbrev not_at_home : (x : ℕ) (name : PlaceName) → Has handed_on (Moved name) → name.root ≡ x → depth ≡ home s depth x → ⊥
-    not_at_home = innermost.not_at_home table typed effects input ready state top below more_frames rest named p frames deep stages running of_sub at_point path views viewed_before kept scope holds placed_before above
+    not_at_home = innermost.not_at_home table typed effects input ready state top below more_frames rest named p frames deep stages running awaiting of_sub at_point path views viewed_before kept scope holds placed_before above
 
-    abbrev none_takes : taken main_turn.point.instr ≡ 0
-    none_takes = innermost.none_takes table typed effects input ready state top below more_frames rest named p frames deep stages running of_sub at_point path views viewed_before kept scope holds placed_before above
+    abbrev none_takes : (i : Instruction) → p.instr ≡ i → taken i ≡ 0 → taken main_turn.point.instr ≡ 0
+    none_takes = innermost.none_takes table typed effects input ready state top below more_frames rest named p frames deep stages running awaiting of_sub at_point path views viewed_before kept scope holds placed_before above
 
-    abbrev no_result : named.sub.result ≡ None
-    no_result = innermost.no_result table typed effects input ready state top below more_frames rest named p frames deep stages running of_sub at_point path views viewed_before kept scope holds placed_before above
+    abbrev left_scope : List ℕ
+    left_scope = drop (taken p.instr) p.scope
+
+    abbrev given_words : List (List machine.Word)
+    given_words = (start main_turn).waits
+
+    abbrev takes_of : (i : Instruction) → p.instr ≡ i → Takes (taken i) given_words []
+    takes_of = innermost.takes_of table typed effects input ready state top below more_frames rest named p frames deep stages running awaiting of_sub at_point path views viewed_before kept scope holds placed_before above
+
+    abbrev easy : Turn
+    easy = eased main_turn
+
+    abbrev viewed_easy : Viewed (home s depth) (is_observer s) other views (view_here s easy.state) facts_now × Kept s state.memory (waiting_in easy.state)
+    viewed_easy = innermost.viewed_easy table typed effects input ready state top below more_frames rest named p frames deep stages running awaiting of_sub at_point path views viewed_before kept scope holds placed_before above
+
+    abbrev plainly : (i : Instruction) → p.instr ≡ i → (calls : Bool) → (calls_procedures i ≡ true → calls ≡ false) → TakesPlainly s calls
+    plainly = innermost.plainly table typed effects input ready state top below more_frames rest named p frames deep stages running awaiting of_sub at_point path views viewed_before kept scope holds placed_before above
+
+    abbrev lasts_left : (r x : ℕ) → Lasts program p.scope r x → Lasts program left_scope r x
+    lasts_left = innermost.lasts_left table typed effects input ready state top below more_frames rest named p frames deep stages running awaiting of_sub at_point path views viewed_before kept scope holds placed_before above
+
+    abbrev placed_left : (facts : List Fact) → ArePlaced program facts views p.scope → ArePlaced program facts views left_scope
+    placed_left = innermost.placed_left table typed effects input ready state top below more_frames rest named p frames deep stages running awaiting of_sub at_point path views viewed_before kept scope holds placed_before above
+
+    abbrev Left : List Waiting → Type 0
+    Left waits = AreWaitingValues s waits (scope_behind p)
+
+    abbrev left_after : FillsNone s p.instr → Left (steps.waiting main_turn)
+    left_after = innermost.left_after table typed effects input ready state top below more_frames rest named p frames deep stages running awaiting of_sub at_point path views viewed_before kept scope holds placed_before above
+
+    abbrev others_await : returns_value p.instr ≡ false → AreAwaited table typed (awaited (sub_of program top.frame.sub) (top.frame.next ∷ top.before)) (stages_of older)
+    others_await = innermost.others_await table typed effects input ready state top below more_frames rest named p frames deep stages running awaiting of_sub at_point path views viewed_before kept scope holds placed_before above
+
+    abbrev raised_well : (m : Memory) → WellOwned s (steps.counted (record state { memory = given_up state.memory m }))
+    raised_well = innermost.raised_well table typed effects input ready state top below more_frames rest named p frames deep stages running awaiting of_sub at_point path views viewed_before kept scope holds placed_before above
 
     abbrev successors_there : length main_turn.point.next ≡ successors p.instr
-    successors_there = innermost.successors_there table typed effects input ready state top below more_frames rest named p frames deep stages running of_sub at_point path views viewed_before kept scope holds placed_before above
+    successors_there = innermost.successors_there table typed effects input ready state top below more_frames rest named p frames deep stages running awaiting of_sub at_point path views viewed_before kept scope holds placed_before above
 
     abbrev orderly : AreOrderly program p (λ q. (n : ℕ) × Has (map (number_in named.points) p.next) n × IsAtPoint named.points n q)
-    orderly = innermost.orderly table typed effects input ready state top below more_frames rest named p frames deep stages running of_sub at_point path views viewed_before kept scope holds placed_before above
-
-    abbrev scope_is : scope_behind p ≡ brought p.instr p.scope
-    scope_is = innermost.scope_is table typed effects input ready state top below more_frames rest named p frames deep stages running of_sub at_point path views viewed_before kept scope holds placed_before above
+    orderly = innermost.orderly table typed effects input ready state top below more_frames rest named p frames deep stages running awaiting of_sub at_point path views viewed_before kept scope holds placed_before above
 
     abbrev IsOld : ℕ → ℕ → Type 0
     IsOld f x =
         (f < suc (length rest)) × ((f ≡ 0)
         ⊎ ((q : List Step) × (k : ℕ) × (word_in s.table (content s state.memory [] (OfRoot (OfVariable f x))) q ≡ Held k)))
 
-    abbrev inside : Inside s IsOld state.memory depth p.scope
-    inside = innermost.inside table typed effects input ready state top below more_frames rest named p frames deep stages running of_sub at_point path views viewed_before kept scope holds placed_before above
+    abbrev inside_left : Inside s IsOld state.memory depth left_scope
+    inside_left = innermost.inside_left table typed effects input ready state top below more_frames rest named p frames deep stages running awaiting of_sub at_point path views viewed_before kept scope holds placed_before above
 
     abbrev in_scope : (m : Memory) (after_scope : List ℕ) → Inside s IsOld m depth after_scope → InScope s m depth after_scope
-    in_scope = innermost.in_scope table typed effects input ready state top below more_frames rest named p frames deep stages running of_sub at_point path views viewed_before kept scope holds placed_before above
+    in_scope = innermost.in_scope table typed effects input ready state top below more_frames rest named p frames deep stages running awaiting of_sub at_point path views viewed_before kept scope holds placed_before above
 
     abbrev home_frame : (x : ℕ) → is_package_object s x ≡ false → home s depth x ≡ depth
-    home_frame = innermost.home_frame table typed effects input ready state top below more_frames rest named p frames deep stages running of_sub at_point path views viewed_before kept scope holds placed_before above
+    home_frame = innermost.home_frame table typed effects input ready state top below more_frames rest named p frames deep stages running awaiting of_sub at_point path views viewed_before kept scope holds placed_before above
 
     abbrev may_hold : (x : ℕ) (in_there : List ℕ) → (is_package_object s x ≡ true) ⊎ (is_within x in_there ≡ true) → MayHold s IsOld depth in_there (home s depth x) x
-    may_hold = innermost.may_hold table typed effects input ready state top below more_frames rest named p frames deep stages running of_sub at_point path views viewed_before kept scope holds placed_before above
+    may_hold = innermost.may_hold table typed effects input ready state top below more_frames rest named p frames deep stages running awaiting of_sub at_point path views viewed_before kept scope holds placed_before above
 
     abbrev still_above : (m : Memory) → OthersKept s depth state.memory m → NoneAbove s depth m
-    still_above = innermost.still_above table typed effects input ready state top below more_frames rest named p frames deep stages running of_sub at_point path views viewed_before kept scope holds placed_before above
+    still_above = innermost.still_above table typed effects input ready state top below more_frames rest named p frames deep stages running awaiting of_sub at_point path views viewed_before kept scope holds placed_before above
 
     abbrev wait_still : (next : State) (after_scope : List ℕ) → Inside s IsOld next.memory depth after_scope → OthersKept s depth state.memory next.memory
         → ((w : Way) (n : ℕ) → KeptElsewhere table typed effects unmoved_stage local older w n → ways.Reaches (view_here s next) w (ways.OfCell n))
         → AreWaiting table typed effects next top.frame.sub top.frame.returns older
-    wait_still = innermost.wait_still table typed effects input ready state top below more_frames rest named p frames deep stages running of_sub at_point path views viewed_before kept scope holds placed_before above
+    wait_still = innermost.wait_still table typed effects input ready state top below more_frames rest named p frames deep stages running awaiting of_sub at_point path views viewed_before kept scope holds placed_before above
 
     abbrev with_successors : (i : Instruction) (n : ℕ) → p.instr ≡ i → n < successors i → n < successors main_turn.point.instr
-    with_successors = innermost.with_successors table typed effects input ready state top below more_frames rest named p frames deep stages running of_sub at_point path views viewed_before kept scope holds placed_before above
+    with_successors = innermost.with_successors table typed effects input ready state top below more_frames rest named p frames deep stages running awaiting of_sub at_point path views viewed_before kept scope holds placed_before above
 
-    abbrev same_scope : (x : ℕ) → is_within x p.scope ≡ true → is_within x p.scope ≡ true
-    same_scope = innermost.same_scope table typed effects input ready state top below more_frames rest named p frames deep stages running of_sub at_point path views viewed_before kept scope holds placed_before above
+    abbrev same_scope : (x : ℕ) → is_within x left_scope ≡ true → is_within x left_scope ≡ true
+    same_scope = innermost.same_scope table typed effects input ready state top below more_frames rest named p frames deep stages running awaiting of_sub at_point path views viewed_before kept scope holds placed_before above
 
-    abbrev one_more : (y x : ℕ) → is_within x p.scope ≡ true → is_within x (y ∷ p.scope) ≡ true
-    one_more = innermost.one_more table typed effects input ready state top below more_frames rest named p frames deep stages running of_sub at_point path views viewed_before kept scope holds placed_before above
+    abbrev one_more : (y x : ℕ) → is_within x left_scope ≡ true → is_within x (y ∷ left_scope) ≡ true
+    one_more = innermost.one_more table typed effects input ready state top below more_frames rest named p frames deep stages running awaiting of_sub at_point path views viewed_before kept scope holds placed_before above
 
-    abbrev new_one : (x : ℕ) → is_within x (x ∷ p.scope) ≡ true
-    new_one = innermost.new_one table typed effects input ready state top below more_frames rest named p frames deep stages running of_sub at_point path views viewed_before kept scope holds placed_before above
+    abbrev new_one : (x : ℕ) → is_within x (x ∷ left_scope) ≡ true
+    new_one = innermost.new_one table typed effects input ready state top below more_frames rest named p frames deep stages running awaiting of_sub at_point path views viewed_before kept scope holds placed_before above
 
-    abbrev stored_which : (i : Instruction) → p.instr ≡ i → (x : ℕ) → Has (stored_at i) x → (is_package_object s x ≡ true) ⊎ (is_within x p.scope ≡ true)
-    stored_which = innermost.stored_which table typed effects input ready state top below more_frames rest named p frames deep stages running of_sub at_point path views viewed_before kept scope holds placed_before above
+    abbrev stored_which : (i : Instruction) → p.instr ≡ i → (x : ℕ) → Has (stored_at i) x → (is_package_object s x ≡ true) ⊎ (is_within x left_scope ≡ true)
+    stored_which = innermost.stored_which table typed effects input ready state top below more_frames rest named p frames deep stages running awaiting of_sub at_point path views viewed_before kept scope holds placed_before above
 
-    abbrev stored_there : (i : Instruction) → p.instr ≡ i → (x : ℕ) → Has (stored_at i) x → MayHold s IsOld depth p.scope (home s depth x) x
-    stored_there = innermost.stored_there table typed effects input ready state top below more_frames rest named p frames deep stages running of_sub at_point path views viewed_before kept scope holds placed_before above
+    abbrev stored_there : (i : Instruction) → p.instr ≡ i → (x : ℕ) → Has (stored_at i) x → MayHold s IsOld depth left_scope (home s depth x) x
+    stored_there = innermost.stored_there table typed effects input ready state top below more_frames rest named p frames deep stages running awaiting of_sub at_point path views viewed_before kept scope holds placed_before above
 
     abbrev ready_there : (i : Instruction) → p.instr ≡ i → is_ready p i ≡ true
-    ready_there = innermost.ready_there table typed effects input ready state top below more_frames rest named p frames deep stages running of_sub at_point path views viewed_before kept scope holds placed_before above
+    ready_there = innermost.ready_there table typed effects input ready state top below more_frames rest named p frames deep stages running awaiting of_sub at_point path views viewed_before kept scope holds placed_before above
+
+    -- ---- an instruction that is neither the end of a scope nor a call
 
     -- where it leads, and how the frames come from those before
     abbrev Along : Outcome → Type 0
     Along outcome = LeadsAlong table typed effects p.instr state.memory (record { stage = top; views = views }) (below ∷ more_frames) outcome
 
-    -- ---- an instruction that isn't the end of a scope
-
-    module _ (going : (x : ℕ) → p.instr ≡ EndScope x → ⊥) (plain_calls : calls_nothing p.instr ≡ true) where
-      abbrev may : ℕ → ℕ → Type 0
+    module _ (going : (x : ℕ) → p.instr ≡ EndScope x → ⊥) (no_calls : IsNoCall p.instr) where
+      abbrev pub may : ℕ → ℕ → Type 0
       may x y = MayBe program (scope_behind p) x y × IsStoredAt p.instr x
 
-      more : (y : ℕ) → is_within y p.scope ≡ true → is_within y (scope_behind p) ≡ true
-      more y within = subst (λ z. is_within y z ≡ true) (sym scope_is) (brought_more p.instr plain_calls going p.scope y within)
+      more : (y : ℕ) → is_within y left_scope ≡ true → is_within y (scope_behind p) ≡ true
+      more y within = brought_more p.instr going left_scope y within
 
-      abbrev Good : List Fact → State → Type 0
-      Good fs st = IsGood main_turn ready.accepted.settled ready.owns other alone no_in_formals views ready.class.parts_named may frames none_takes views fs st
+      lasts_behind : (r z : ℕ) → Lasts program p.scope r z → Lasts program (scope_behind p) r z
+      lasts_behind r z lasts = lasts_more program left_scope (scope_behind p) r z more (lasts_left r z lasts)
 
-      abbrev LeadsFrom : Instruction → Outcome → Type 0
-      LeadsFrom i outcome =
-          Leads_on main_turn ready.accepted.settled ready.owns other alone no_in_formals views ready.class.parts_named may frames none_takes
-          (after (acts_of_main i) facts_now) outcome
+      abbrev pub Good : List Fact → State → Type 0
+      Good fs st = IsGood easy ready.accepted.settled ready.owns other alone no_in_formals views ready.class.parts_named may refl refl views fs st
 
-      abbrev GoesFrom : Instruction → Outcome → Type 0
-      GoesFrom i outcome = Each (GoesOn main_turn plain IsOld p.scope (brought i p.scope) inside) outcome
+      abbrev pub LeadsFrom : Instruction → Outcome → Type 0
+      LeadsFrom i outcome = Leads_on easy ready.accepted.settled ready.owns other alone no_in_formals views ready.class.parts_named may refl refl (after (acts_of_main i) facts_now) outcome
 
-      abbrev Both : Instruction → Type 0
-      Both i = LeadsFrom i (turn main_turn i) × GoesFrom i (turn main_turn i)
+      abbrev pub GoesFrom : Left (steps.waiting main_turn) → Instruction → Outcome → Type 0
+      GoesFrom left i outcome = Each (GoesOn main_turn Left left IsOld left_scope (brought i left_scope) inside_left) outcome
 
-      good : Good facts_now state
+      abbrev Both : Left (steps.waiting main_turn) → Instruction → Type 0
+      Both left i = LeadsFrom i (turn main_turn i) × GoesFrom left i (turn main_turn i)
+
+      pub good : Good facts_now easy.state
       good = record {
-        viewed = viewed;
-        kept = kept;
+        viewed = viewed_easy.0;
+        kept = viewed_easy.1;
         holds = record {
           held = λ x n view e. holds.held x n (λ fading. going fading.0 fading.1) view e;
           only = holds.only;
         };
       }
+
+      pub ends_so : (i : Instruction) (how : Exception) (m : Memory) → LeadsFrom i (steps.raised main_turn how m)
+      ends_so i how m = ((λ trap. trap), raised_well m)
+
+      pub from_easy : (i : Instruction) {A : Type 0} (y : Evaluated A) (f g : A → Memory → Outcome) → ((a : A) (m : Memory) → LeadsFrom i (f a m) → LeadsFrom i (g a m))
+          → LeadsFrom i (steps.evaluated easy y f) → LeadsFrom i (steps.evaluated main_turn y g)
+      from_easy i y f g same on = from_eased main_turn (LeadsFrom i) (ends_so i) (λ trap m on. on.0 tt) y f g same on
+
+      goes_too : (i : Instruction) (m : Memory) (k : ℕ) → LeadsFrom i (steps.goes easy m k) → LeadsFrom i (steps.goes main_turn m k)
+      goes_too i m k on = subst (LeadsFrom i) (goes_same main_turn m k) on
+
+      -- where nothing is taken, the step is like it is
+      module _ (nothing : taken main_turn.point.instr ≡ 0) where
+        abbrev Leads_main : List Fact → Outcome → Type 0
+        Leads_main fs outcome = Leads_on main_turn ready.accepted.settled ready.owns other alone no_in_formals views ready.class.parts_named may frames nothing fs outcome
+
+        good_main : IsGood main_turn ready.accepted.settled ready.owns other alone no_in_formals views ready.class.parts_named may frames nothing views facts_now state
+        good_main = record { viewed = viewed; kept = kept; holds = good.holds }
+
+        to_easy : (fs : List Fact) (outcome : Outcome) → Leads_main fs outcome → Leads_on easy ready.accepted.settled ready.owns other alone no_in_formals views ready.class.parts_named may refl refl fs outcome
+        to_easy fs (Goes st) (turned_views, turned, well) = (
+          turned_views,
+          λ x w e. elim (turned x w e) [
+            | inl same_view ↦ inl (record { way = same_view.way; loan = same_view.loan; up = same_view.up })
+            | inr (y, from, comes) ↦ inr (y, from, record { up = comes.up; root = comes.root; loan = comes.loan })
+          ],
+          record { viewed = well.viewed; kept = well.kept; holds = well.holds },
+        )
+        to_easy fs (Ends how st) leads = leads
+
+        skips_so : Leads_on easy ready.accepted.settled ready.owns other alone no_in_formals views ready.class.parts_named may refl refl facts_now (turn main_turn Skip)
+        skips_so =
+            to_easy facts_now (turn main_turn Skip)
+            (skip_leads main_turn ready.accepted.settled ready.owns other alone no_in_formals views ready.class.parts_named may frames nothing facts_now good_main)
 
       -- ---- declarations
 
@@ -299,19 +385,25 @@ module _ (table : Table) (typed : TypedProgram) (effects : Effects) (input : Lis
       unrooted x v e r z mine (inl shared) same_root = true_false (is_package_object s x) (ap (is_package_object s) (sym same_root) ∙ shared) mine
       unrooted x v e r z mine (inr (within, end, around)) same_root = not_within x v e (subst (λ z. is_within z p.scope ≡ true) same_root within)
 
-      pub free : (x : ℕ) (v : TypedTree) → p.instr ≡ Declare x v → (y : ℕ) (w : Way) → views.way y ≡ Some w → IsElsewhere (home s depth) depth x w
-      free x v e y w has at_home root = by_package (is_package_object s x) refl
+      free_views : (x : ℕ) (v : TypedTree) → p.instr ≡ Declare x v → (y : ℕ) (w : Way) → views.way y ≡ Some w → IsElsewhere (home s depth) depth x w
+      free_views x v e y w has at_home root = by_package (is_package_object s x) refl
         where
           by_package : (b : Bool) → is_package_object s x ≡ b → ⊥
           by_package true shared = (let first : home s depth x ≡ 0 = ap (λ b. if b then 0 else depth) shared in omega (arith, first, at_home))
           by_package false mine = unrooted x v e (number_of w) y mine (placed y w has).root root
 
-      unused : (x : ℕ) (v : TypedTree) → p.instr ≡ Declare x v → is_package_object s x ≡ false → Unused views facts_now x
+      free : (x : ℕ) (v : TypedTree) → p.instr ≡ Declare x v
+          → ((y : ℕ) (w : Way) → views.way y ≡ Some w → IsElsewhere (home s depth) depth x w)
+          × ((l : Loan) (name : PlaceName) → other.lent l name → name.root ≡ x → depth ≡ home s depth x → ⊥)
+      free x v e = (λ y w has. free_views x v e y w has, not_lent_home x)
+
+      unused : (x : ℕ) (v : TypedTree) → p.instr ≡ Declare x v → is_package_object s x ≡ false → Unused other.lent views facts_now x
       unused x v e mine = record {
         unmoved = λ name has root. elim (from_both (Moved name) has) [
           | inl mine_fact ↦ packages.new_before table typed effects input ready state top older outer named p frames of_sub at_point path x v e name mine_fact root
           | inr there ↦ not_handed name there (ap (is_package_object s) root ∙ mine)
         ];
+        unlent = not_lent x mine;
         untaken = λ z w has off root. unrooted x v e (number_of (views.up z)) z mine (placed z w has).up root;
       }
 
@@ -332,20 +424,30 @@ module _ (table : Table) (typed : TypedProgram) (effects : Effects) (input : Lis
       blank x v e q ways.Gone is =
           let root : ways.Root = OfVariable depth x in
           let w : Way = along (ways.Object root) q in
-          absurd (not_gone main_turn ready.accepted.settled ready.owns other alone no_in_formals views ready.class.parts_named may frames none_takes
+          absurd (not_gone easy ready.accepted.settled ready.owns other alone no_in_formals views ready.class.parts_named may refl refl
           x facts_now (view_here s state) viewed (unmoved_now x v e) (free x v e) q
           (viewed.known w (ways.part (OfRoot root) q) (rooted_along (ways.Object root) q tt)
           (reaches_along (view_here s state) (ways.Object root) (OfRoot root) q refl)
           (word_root s.table (content s state.memory (waiting_in state)) root q ∙ is)))
 
-      declares : (x : ℕ) (v : TypedTree) (e : p.instr ≡ Declare x v) → FirstSource s (object_at s x).of v → calls_nothing (Declare x v) ≡ true
+      -- a declaration, at these turns
+      abbrev Declared : ℕ → TypedTree → (Turn → Outcome)
+      Declared x w u = steps.evaluated u (steps.first_value main_turn (object_at s x).of w (start main_turn)) (λ vs m. steps.goes u (declared depth x vs m) 0)
+
+      declared_main : (i : Instruction) (x : ℕ) (w : TypedTree) → LeadsFrom i (Declared x w easy) → LeadsFrom i (Declared x w main_turn)
+      declared_main i x w leads =
+          from_easy i (steps.first_value main_turn (object_at s x).of w (start main_turn))
+          (λ vs m. steps.goes easy (declared depth x vs m) 0) (λ vs m. steps.goes main_turn (declared depth x vs m) 0)
+          (λ vs m on. goes_too i (declared depth x vs m) 0 on) leads
+
+      declares : (x : ℕ) (v : TypedTree) (e : p.instr ≡ Declare x v) → FirstSource s (object_at s x).of v
           → AllowsAll facts_now (acts_of_main (Declare x v)) → AllKeep (is_observer s) (acts_of_main (Declare x v)) → LeadsFrom (Declare x v) (turn main_turn (Declare x v))
-      unfolding has_call
-      declares x v e text calls allowed_there keep = by_view (is_anonymous (view_of s x)) refl
+      unfolding waits_in
+      declares x v e text allowed_there keep = by_view (is_anonymous (view_of s x)) refl
         where
           after_it : (name : PlaceName) → Has (after (acts_of_main (Declare x v)) facts_now) (Moved name) → name.root ≡ x → depth ≡ home s depth x → ⊥
           after_it name has root at_home = elim (after_splits (acts_of_main (Declare x v)) facts_now own_facts handed_on from_both (Moved name) has) [
-            | inl mine ↦ packages.new_after table typed effects input ready state top older outer named p frames of_sub at_point path x v e plain_calls name
+            | inl mine ↦ packages.new_after table typed effects input ready state top older outer named p frames of_sub at_point path x v e no_calls name
                 (subst (λ i. Has (after (acts_of_main i) own_facts) (Moved name)) (sym e) mine) root
             | inr there ↦ not_at_home x name there root at_home
           ]
@@ -355,53 +457,60 @@ module _ (table : Table) (typed : TypedProgram) (effects : Effects) (input : Lis
               → LeadsFrom (Declare x v) (turn main_turn (Declare x v))
           from_source w same_v q y u source is view lasts older_there =
               let here_is : v ≡ More (Name q y source u) NoMore = same_v ∙ is in
-              let in_behind : is_within x (scope_behind p) ≡ true =
-              subst (λ z. is_within x z ≡ true) (sym (scope_is ∙ ap (λ i. brought i p.scope) e)) (new_one x) in
+              let in_behind : is_within x (scope_behind p) ≡ true = subst (λ i. is_within x (brought i left_scope) ≡ true) (sym e) (new_one x) in
               let text_there : FirstSource s (object_at s x).of (More (Name q y source u) NoMore) = subst (FirstSource s (object_at s x).of) here_is text in
-              let calls_source : not (has_call (More (Name q y source u) NoMore)) ≡ true = subst (λ z. not (has_call z) ≡ true) here_is calls in
-              subst (λ z. LeadsFrom (Declare x z) (turn main_turn (Declare x z))) (sym here_is)
-              (view_declared main_turn ready.accepted.settled ready.owns other alone no_in_formals views ready.class.parts_named may frames none_takes
-              q x y u source view (ready.orderly.local x view).0 (home_frame x (local x view)) text_there.1
-              (or_both (has_call source) (has_call NoMore) (not_true (has_call source || has_call NoMore) calls_source)).0
+              let takes : Takes (waits_in source) given_words [] =
+              takes_as (taken (Declare x (More (Name q y source u) NoMore))) (waits_in source) given_words [] (nothing_more (waits_in source))
+              (subst (λ z. Takes (taken (Declare x z)) given_words []) here_is (takes_of (Declare x v) e)) in
+              declared_main (Declare x v) x v (subst (λ z. LeadsFrom (Declare x v) (Declared x z easy)) (sym here_is)
+              (subst (λ z. Leads_on easy ready.accepted.settled ready.owns other alone no_in_formals views ready.class.parts_named may refl refl (after (acts_of_main (Declare x z)) facts_now) (Declared x (More (Name q y source u) NoMore) easy)) (sym here_is)
+              (view_declared easy ready.accepted.settled ready.owns other alone no_in_formals views ready.class.parts_named may refl refl given_words
+              q x y u source view (ready.orderly.local x view).0 (home_frame x (local x view)) text_there.1 takes
               older_there (record { lasts = lasts_behind y x lasts; within = in_behind; view = view }, inl (v, e)) facts_now good (unused x v e (local x view))
-              (subst (λ z. AllowsAll facts_now (acts_of_main (Declare x z))) here_is allowed_there))
-            where
-              lasts_behind : (r z : ℕ) → Lasts program p.scope r z → Lasts program (scope_behind p) r z
-              lasts_behind r z (inl shared) = inl shared
-              lasts_behind r z (inr (within, end, around)) = inr (more r within, end, around)
+              (subst (λ z. AllowsAll facts_now (acts_of_main (Declare x z))) here_is allowed_there))))
 
           by_view : (b : Bool) → is_anonymous (view_of s x) ≡ b → LeadsFrom (Declare x v) (turn main_turn (Declare x v))
           by_view true view =
               let source = orderly.declared x v e view in
               from_source v refl source.0 source.1 source.3 source.2 source.4 view source.5 source.6
           by_view false owner =
-              declare_leads main_turn ready.accepted.settled ready.owns other alone no_in_formals views ready.class.parts_named may frames none_takes
-              x v (plain_named s.table (object_at s x).of owner) text (not_true (has_call v) calls) facts_now good allowed_there keep
+              declared_main (Declare x v) x v (declare_on easy ready.accepted.settled ready.owns other alone no_in_formals views ready.class.parts_named may refl refl given_words
+              x v (plain_named s.table (object_at s x).of owner) text (plainly (Declare x v) e (has_call v) (λ calls. not_true (has_call v) calls)) (takes_of (Declare x v) e)
+              facts_now good allowed_there keep
               (λ q. blank x v e q (word_in s.table (content s state.memory [] (OfRoot (OfVariable depth x))) q) refl) after_it (free x v e)
-              (λ w n keeps base. apart_elsewhere table typed effects unmoved_stage local state depth older between x w n keeps base)
+              (λ w n keeps base. apart_elsewhere table typed effects unmoved_stage local state depth older between x w n keeps base))
 
       -- ---- assignments
 
       abbrev Goal : TypedTree → TypedTree → Type 0
       Goal a b = LeadsFrom (Assign a b) (turn main_turn (Assign a b))
 
-      assigns : (target e : TypedTree) (is : p.instr ≡ Assign target e) → IsFine s None (Assign target e) → calls_nothing (Assign target e) ≡ true
-          → AllowsAll facts_now (acts_of_main (Assign target e)) → AllKeep (is_observer s) (acts_of_main (Assign target e)) → Both (Assign target e)
-      unfolding has_call
-      assigns (Name q x steps u) e is (v, (leads, type), source) calls allowed_there keep =
-          let both = both_not (has_call steps) (has_call e) calls in
+      -- an assignment, at these turns
+      abbrev Assigned : TypedTree → ℕ → TypedTree → (Turn → Outcome)
+      Assigned target of e u =
+          steps.evaluated u (followed_by (steps.taken_by main_turn of e (start main_turn))
+          (λ ws now. followed_by (place_of (steps.here main_turn) target now) (λ k now. Done (record { words = ws; place = k }) now)))
+          (λ (st : steps.Stored) m. steps.leaking_goes (checks_at s (steps.target_pos main_turn target) m st.place) (steps.goes u (stored s st.place st.words m) 0))
+
+      assigned_main : (i : Instruction) (target : TypedTree) (of : ℕ) (e : TypedTree) → LeadsFrom i (Assigned target of e easy) → LeadsFrom i (Assigned target of e main_turn)
+      assigned_main i target of e leads =
+          from_easy i _ (λ (st : steps.Stored) m. steps.leaking_goes (checks_at s (steps.target_pos main_turn target) m st.place) (steps.goes easy (stored s st.place st.words m) 0))
+          (λ (st : steps.Stored) m. steps.leaking_goes (checks_at s (steps.target_pos main_turn target) m st.place) (steps.goes main_turn (stored s st.place st.words m) 0))
+          (λ st m on. subst (λ z. LeadsFrom i (steps.leaking_goes (checks_at s (steps.target_pos main_turn target) m st.place) z))
+          (goes_same main_turn (stored s st.place st.words m) 0) on) leads
+
+      assigns : (left : Left (steps.waiting main_turn)) (target e : TypedTree) (is : p.instr ≡ Assign target e) → IsFine s None (Assign target e)
+          → AllowsAll facts_now (acts_of_main (Assign target e)) → AllKeep (is_observer s) (acts_of_main (Assign target e)) → Both left (Assign target e)
+      unfolding has_call waits_in
+      assigns left (Name q x steps u) e is (v, (leads, type), source) allowed_there keep =
           let source_there : Source s u e = subst (λ z. Source s z e) (sym type) source in (
-            by_view both source_there (is_anonymous (full s.table u)) refl,
-            assign_follows main_turn plain IsOld p.scope p.scope inside same_scope q x u steps e
+            by_view source_there (is_anonymous (full s.table u)) refl,
+            assign_follows main_turn Left left IsOld left_scope left_scope inside_left same_scope q x u steps e
                 (stored_there (Assign (Name q x steps u) e) is x (inl refl)) (with_successors (Assign (Name q x steps u) e) 0 is below_one),
           )
         where
           itself_lasts : is_anonymous (view_of s x) ≡ true → is_within x (scope_behind p) ≡ true → Lasts program (scope_behind p) x x
           itself_lasts view within = inr (within, view_ends s x view, ready.orderly.itself _)
-
-          lasts_behind : (r z : ℕ) → Lasts program p.scope r z → Lasts program (scope_behind p) r z
-          lasts_behind r z (inl shared) = inl shared
-          lasts_behind r z (inr (within, end, around)) = inr (more r within, end, around)
 
           within_now : is_anonymous (view_of s x) ≡ true → is_within x (scope_behind p) ≡ true
           within_now view = elim (stored_which (Assign (Name q x steps u) e) is x (inl refl)) [
@@ -409,16 +518,17 @@ module _ (table : Table) (typed : TypedProgram) (effects : Effects) (input : Lis
             | inr within ↦ more x within
           ]
 
-          to_view : (has_call e ≡ false) → Source s (object_at s x).of e → is_anonymous (view_of s x) ≡ true
+          to_view : Source s (object_at s x).of e → is_anonymous (view_of s x) ≡ true
               → p.instr ≡ Assign (Name q x NoMore (object_at s x).of) e
               → AllowsAll facts_now (acts_of_main (Assign (Name q x NoMore (object_at s x).of) e)) → Goal (Name q x NoMore (object_at s x).of) e
-          to_view no_call source view instr_is allowed_here =
+          to_view source view instr_is allowed_here =
               let found = orderly.assigned q x (object_at s x).of e instr_is view in
               from_name found.0 found.1 found.3 found.2 found.4 found.5 found.6
             where
               from_name : (r : Pos) (y w : ℕ) (rest : TypedTree) → e ≡ Name r y rest w → (is_observer s x ≡ true → Lasts program p.scope y x)
                   → (is_observer s x ≡ false → y ≡ x) → Goal (Name q x NoMore (object_at s x).of) e
               from_name r y w rest here_is lasts itself =
+                  let of : ℕ = (object_at s x).of in
                   let from : may x y = (
                     record {
                       lasts = elim (bool_cases (is_observer s x)) [
@@ -430,143 +540,211 @@ module _ (table : Table) (typed : TypedProgram) (effects : Effects) (input : Lis
                     },
                     inr (q, (object_at s x).of, e, instr_is),
                   ) in
-                  subst (λ z. Goal (Name q x NoMore (object_at s x).of) z) (sym here_is)
-                  (view_assigned main_turn ready.accepted.settled ready.owns other alone no_in_formals views ready.class.parts_named may frames none_takes
-                  p.pos q r x y w rest view (ready.orderly.local x view).0 (home_frame x (local x view)) (subst (Source s (object_at s x).of) here_is source)
-                  (subst (λ z. has_call z ≡ false) here_is no_call) itself from facts_now good
-                  (subst (λ z. AllowsAll facts_now (acts_of_main (Assign (Name q x NoMore (object_at s x).of) z))) here_is allowed_here))
+                  let takes : Takes (waits_in rest) given_words [] =
+                  takes_as (taken (Assign (Name q x NoMore of) (Name r y rest w))) (waits_in rest) given_words [] (nothing_more (waits_in rest))
+                  (subst (λ z. Takes (taken (Assign (Name q x NoMore of) z)) given_words []) here_is (takes_of (Assign (Name q x NoMore of) e) instr_is)) in
+                  subst (λ z. Goal (Name q x NoMore of) z) (sym here_is)
+                  (assigned_main (Assign (Name q x NoMore of) (Name r y rest w)) (Name q x NoMore of) of (Name r y rest w)
+                  (view_assigned easy ready.accepted.settled ready.owns other alone no_in_formals views ready.class.parts_named may refl refl given_words
+                  p.pos q r x y w rest view (ready.orderly.local x view).0 (home_frame x (local x view)) (subst (Source s of) here_is source) takes itself from facts_now good
+                  (subst (λ z. AllowsAll facts_now (acts_of_main (Assign (Name q x NoMore of) z))) here_is allowed_here)))
 
-          by_view : ((has_call steps ≡ false) × (has_call e ≡ false)) → Source s u e → (b : Bool) → is_anonymous (full s.table u) ≡ b → Goal (Name q x steps u) e
-          by_view both source (false) owner = elim source [
+          by_view : Source s u e → (b : Bool) → is_anonymous (full s.table u) ≡ b → Goal (Name q x steps u) e
+          by_view source (false) owner = elim source [
             | inl view ↦ absurd (true_false (is_anonymous (full s.table u)) view.0 owner)
-            | inr gives ↦ assign_leads main_turn ready.accepted.settled ready.owns other alone no_in_formals views ready.class.parts_named may frames none_takes
-                p.pos q x u steps e (plain_named s.table u owner) gives leads both.1 both.0 facts_now good allowed_there keep
+            | inr gives ↦ (
+                let two = takes_both (waits_in e) (waits_in steps) given_words [] (takes_of (Assign (Name q x steps u) e) is) in
+                assigned_main (Assign (Name q x steps u) e) (Name q x steps u) u e
+                (assign_on easy ready.accepted.settled ready.owns other alone no_in_formals views ready.class.parts_named may refl refl given_words two.0
+                p.pos q x u steps e (plain_named s.table u owner) gives leads
+                (plainly (Assign (Name q x steps u) e) is (has_call e) (λ calls. (both_not (has_call steps) (has_call e) calls).1)) two.1 two.2
+                facts_now good allowed_there keep))
           ]
-          by_view both source true view = elim (leads_or s ready.class.parts_named steps (object_at s x).of u leads) [
-            | inr own_type ↦ absurd (true_false (is_anonymous (full s.table u)) view (named_not u own_type))
+          by_view source true view = elim (leads_or s ready.class.parts_named steps (object_at s x).of u leads) [
+            | inr own_type ↦ absurd (true_false (is_anonymous (full s.table u)) view (named_plain s.table u own_type))
             | inl whole ↦ (
                 let target_is : Name q x steps u ≡ Name q x NoMore (object_at s x).of = (λ j. Name q x (whole.0 j) (sym whole.1 j)) in
                 subst (λ z. Goal z e) (sym target_is)
-                (to_view both.1 (subst (λ z. Source s z e) (sym whole.1) source) (ap (λ z. is_anonymous (full s.table z)) whole.1 ∙ view)
+                (to_view (subst (λ z. Source s z e) (sym whole.1) source) (ap (λ z. is_anonymous (full s.table z)) whole.1 ∙ view)
                 (is ∙ ap (λ z. Assign z e) target_is) (subst (λ z. AllowsAll facts_now (acts_of_main (Assign z e))) target_is allowed_there)))
           ]
-            where
-              named_not : (u : ℕ) → IsNamed s.table u → is_anonymous (full s.table u) ≡ false
-              named_not u own_type = named_plain s.table u own_type
-      assigns target e is (v, never, source) calls allowed_there keep = absurd never
+      assigns left target e is (v, never, source) allowed_there keep = absurd never
 
       -- ---- what changes no view
 
-      writes : (text : TypedTree) (line : Bool) → FirstWrites s text → calls_nothing (Output text line) ≡ true
+      writes : (text : TypedTree) (line : Bool) (is : p.instr ≡ Output text line) → FirstWrites s text
           → AllowsAll facts_now (acts_of_main (Output text line)) → LeadsFrom (Output text line) (turn main_turn (Output text line))
-      unfolding has_call acts_in
-      writes (More e rest) line (last, text) calls allowed_there =
-          output_leads main_turn ready.accepted.settled ready.owns other alone no_in_formals views ready.class.parts_named may frames none_takes
-          e rest line last text (or_both (has_call e) (has_call rest) (not_true (has_call e || has_call rest) calls)).0 facts_now good allowed_there
-      writes NoMore line text calls allowed_there =
-          line_leads main_turn ready.accepted.settled ready.owns other alone no_in_formals views ready.class.parts_named may frames none_takes line facts_now good
-      writes other_text line never calls allowed_there = absurd never
+      unfolding acts_in waits_in
+      writes (More e rest) line is (last, text) allowed_there =
+          from_easy (Output (More e rest) line) (text_of (steps.here main_turn) e (start main_turn))
+          (λ bytes m. Goes (record (steps.behind easy (steps.waiting easy) m 0) { output = state.output ++ bytes ++ (if line then 10 ∷ [] else []) }))
+          (λ bytes m. Goes (record (steps.behind main_turn (steps.waiting main_turn) m 0) { output = state.output ++ bytes ++ (if line then 10 ∷ [] else []) }))
+          (λ bytes m on. subst (λ z. LeadsFrom (Output (More e rest) line) (Goes (record (steps.behind main_turn z m 0) { output = state.output ++ bytes ++ (if line then 10 ∷ [] else []) })))
+          (waits_same main_turn) on)
+          (output_on easy ready.accepted.settled ready.owns other alone no_in_formals views ready.class.parts_named may refl refl given_words
+          e rest line last text (takes_of (Output (More e rest) line) is) facts_now good allowed_there)
+      writes NoMore line is text allowed_there =
+          let nothing = none_takes (Output NoMore line) is refl in
+          to_easy nothing facts_now (turn main_turn (Output NoMore line))
+          (line_leads main_turn ready.accepted.settled ready.owns other alone no_in_formals views ready.class.parts_named may frames nothing line facts_now (good_main nothing))
+      writes other_text line is never allowed_there = absurd never
 
-      reads : (target : TypedTree) (is : p.instr ≡ Input target) → IsFine s None (Input target) → calls_nothing (Input target) ≡ true
-          → AllowsAll facts_now (acts_of_main (Input target)) → Both (Input target)
-      unfolding has_call
-      reads (Name q x steps u) is (v, (leads, type), scalar) calls allowed_there = (
-        input_leads main_turn ready.accepted.settled ready.owns other alone no_in_formals views ready.class.parts_named may frames none_takes
-            q x u steps (subst (λ z. is_scalar (full s.table z) ≡ true) (sym type) scalar) leads (not_true (has_call steps) calls)
-            (orderly.read q x u steps is) facts_now good allowed_there,
-        input_follows main_turn plain IsOld p.scope p.scope inside same_scope q x u steps
-            (stored_there (Input (Name q x steps u)) is x (inl refl)) (with_successors (Input (Name q x steps u)) 0 is below_one),
+      reads : (left : Left (steps.waiting main_turn)) (target : TypedTree) (is : p.instr ≡ Input target) → IsFine s None (Input target)
+          → AllowsAll facts_now (acts_of_main (Input target)) → Both left (Input target)
+      unfolding waits_in
+      reads left (Name q x path u) is (v, (leads, type), scalar) allowed_there = (
+        input_eased main_turn (LeadsFrom (Input (Name q x path u))) (ends_so (Input (Name q x path u))) (λ trap m on. on.0 tt)
+            (Name q x path u)
+            (got_on easy ready.accepted.settled ready.owns other alone no_in_formals views ready.class.parts_named may refl refl given_words
+            (λ k m. got_with easy k (next_item input state.at) m) q x u path (record {
+              at_missing = λ k m next. rw next refl;
+              at_bad = λ k m next. rw next refl;
+              at_number = λ k m v end next fits. rw (next, fits) refl;
+              at_outside = λ k m v end next out. rw (next, out) refl;
+            }) (subst (λ z. is_scalar (full s.table z) ≡ true) (sym type) scalar) leads (takes_of (Input (Name q x path u)) is)
+            (orderly.read q x u path is) facts_now good allowed_there),
+        input_follows main_turn Left left IsOld left_scope left_scope inside_left same_scope q x u path
+            (stored_there (Input (Name q x path u)) is x (inl refl)) (with_successors (Input (Name q x path u)) 0 is below_one),
       )
-      reads target is (v, never, scalar) calls allowed_there = absurd never
+      reads left target is (v, never, scalar) allowed_there = absurd never
 
-      releases : (target : TypedTree) (is : p.instr ≡ Release target) → IsFine s None (Release target) → calls_nothing (Release target) ≡ true
-          → AllowsAll facts_now (acts_of_main (Release target)) → AllKeep (is_observer s) (acts_of_main (Release target)) → Both (Release target)
-      unfolding has_call
-      releases (Name q x steps u) is (v, d, (leads, type), access) calls allowed_there keep = (
-        release_leads main_turn ready.accepted.settled ready.owns other alone no_in_formals views ready.class.parts_named may frames none_takes
-            q x u d steps (subst (λ z. shape_of s.table z ≡ shape.Access d false true) (sym type) access) leads (not_true (has_call steps) calls)
-            (last_kept (acts_in s steps) keep) facts_now good allowed_there,
-        release_follows main_turn plain IsOld p.scope p.scope inside same_scope q x u steps
-            (stored_there (Release (Name q x steps u)) is x (inl refl)) (with_successors (Release (Name q x steps u)) 0 is below_one),
+      releases : (left : Left (steps.waiting main_turn)) (target : TypedTree) (is : p.instr ≡ Release target) → IsFine s None (Release target)
+          → AllowsAll facts_now (acts_of_main (Release target)) → AllKeep (is_observer s) (acts_of_main (Release target)) → Both left (Release target)
+      unfolding waits_in
+      releases left (Name q x path u) is (v, d, (leads, type), access) allowed_there keep = (
+        release_eased main_turn (LeadsFrom (Release (Name q x path u))) (ends_so (Release (Name q x path u))) (λ trap m on. on.0 tt)
+            q x u path
+            (released_on easy ready.accepted.settled ready.owns other alone no_in_formals views ready.class.parts_named may refl refl given_words
+            (λ k m. released_with easy q k (words_of s m k) m) q q x u d path (record {
+              at_null = λ k m is. rw is refl;
+              at_whole = λ k m v is. rw is refl;
+              at_listed = λ k m v is. rw is refl;
+              at_cell = λ k m n is alive. rw (is, alive) refl;
+            }) (subst (λ z. shape_of s.table z ≡ shape.Access d false true) (sym type) access) leads (takes_of (Release (Name q x path u)) is)
+            (last_kept (acts_in s path) keep) facts_now good allowed_there),
+        release_follows main_turn Left left IsOld left_scope left_scope inside_left same_scope q x u path
+            (stored_there (Release (Name q x path u)) is x (inl refl)) (with_successors (Release (Name q x path u)) 0 is below_one),
       )
         where
-          last_kept : (before : List Placed) → AllKeep (is_observer s) (acts (before ++ record { pos = q; act = act.Free (name_of x steps) } ∷ [])) → is_observer s x ≡ false
+          last_kept : (before : List Placed) → AllKeep (is_observer s) (acts (before ++ record { pos = q; act = act.Free (name_of x path) } ∷ [])) → is_observer s x ≡ false
           last_kept before keep =
-              (keep_both (is_observer s) (acts before) (act.Free (name_of x steps) ∷ [])
-              (subst (AllKeep (is_observer s)) (acts_append before (record { pos = q; act = act.Free (name_of x steps) } ∷ [])) keep)).1.0
-      releases target is (v, d, never, access) calls allowed_there keep = absurd never
+              (keep_both (is_observer s) (acts before) (act.Free (name_of x path) ∷ [])
+              (subst (AllKeep (is_observer s)) (acts_append before (record { pos = q; act = act.Free (name_of x path) } ∷ [])) keep)).1.0
+      releases left target is (v, d, never, access) allowed_there keep = absurd never
 
-      leaves : (e : TypedTree) (is : p.instr ≡ LeaveLoop e) → FirstStays s e → calls_nothing (LeaveLoop e) ≡ true
-          → AllowsAll facts_now (acts_of_main (LeaveLoop e)) → Both (LeaveLoop e)
-      unfolding has_call acts_in
-      leaves (More e rest) is (last, stays) calls allowed_there = (
-        leave_loop_leads main_turn ready.accepted.settled ready.owns other alone no_in_formals views ready.class.parts_named may frames none_takes
-            e rest last stays (or_both (has_call e) (has_call rest) (not_true (has_call e || has_call rest) calls)).0 facts_now good allowed_there,
-        test_follows main_turn plain IsOld p.scope p.scope inside same_scope e (with_successors (LeaveLoop (More e rest)) 1 is below_two),
-      )
-      leaves NoMore is text calls allowed_there = (
-        skip_leads main_turn ready.accepted.settled ready.owns other alone no_in_formals views ready.class.parts_named may frames none_takes facts_now good,
-        stays_follows main_turn plain IsOld p.scope p.scope inside same_scope (with_successors (LeaveLoop NoMore) 0 is below_one),
-      )
-      leaves e is never calls allowed_there = absurd never
+      decides : (i : Instruction) (is : p.instr ≡ i) (e : TypedTree) → taken i ≡ waits_in e → acts_of_main i ≡ acts (acts_in s e) → Stays s e
+          → AllowsAll facts_now (acts_of_main i) → (k : List machine.Word → ℕ)
+          → LeadsFrom i (steps.evaluated main_turn (value (steps.here main_turn) e (start main_turn)) (λ ws m. steps.goes main_turn m (k ws)))
+      decides i is e takes same_acts stays allowed_there k =
+          from_easy i (value (steps.here main_turn) e (start main_turn)) (λ ws m. steps.goes easy m (k ws)) (λ ws m. steps.goes main_turn m (k ws))
+          (λ ws m on. goes_too i m (k ws) on)
+          (subst (λ z. Leads_on easy ready.accepted.settled ready.owns other alone no_in_formals views ready.class.parts_named may refl refl (after z facts_now)
+          (steps.evaluated easy (value (steps.here easy) e (record { memory = state.memory; waits = given_words })) (λ ws m. steps.goes easy m (k ws)))) (sym same_acts)
+          (decides_on easy ready.accepted.settled ready.owns other alone no_in_formals views ready.class.parts_named may refl refl given_words
+          e stays (takes_as (taken i) (waits_in e) given_words [] takes (takes_of i is)) facts_now good (subst (AllowsAll facts_now) same_acts allowed_there) k))
 
-      holds_nothing : (v : TypedTree) (is : p.instr ≡ Hold v) → v ≡ NoMore → Both (Hold v)
-      unfolding acts_in
-      holds_nothing v is none = subst Both (ap Hold (sym none)) (
-        subst (λ z. Leads_on main_turn ready.accepted.settled ready.owns other alone no_in_formals views ready.class.parts_named may frames none_takes z (turn main_turn (Hold NoMore)))
-            (sym (ap (λ r. after (acts (flow.returned_acts s r NoMore)) facts_now) no_result))
-            (skip_leads main_turn ready.accepted.settled ready.owns other alone no_in_formals views ready.class.parts_named may frames none_takes facts_now good),
-        stays_follows main_turn plain IsOld p.scope p.scope inside same_scope (with_successors (Hold NoMore) 0 (is ∙ ap Hold none) below_one),
+      chooses : (left : Left (steps.waiting main_turn)) (e : TypedTree) (choices : List TypedCode) (is : p.instr ≡ Choose e choices) → Stays s e
+          → AllowsAll facts_now (acts_of_main (Choose e choices)) → Both left (Choose e choices)
+      chooses left e choices is stays allowed_there = (
+        from_easy (Choose e choices) (value (steps.here main_turn) e (start main_turn))
+            (λ ws m. steps.chosen easy (length choices) (steps.choice choices ws) m) (λ ws m. steps.chosen main_turn (length choices) (steps.choice choices ws) m)
+            (λ ws m on. chosen_too (nat_lt (steps.choice choices ws) (length choices)) (steps.choice choices ws) m on)
+            (choose_on easy ready.accepted.settled ready.owns other alone no_in_formals views ready.class.parts_named may refl refl given_words
+            e choices stays (takes_of (Choose e choices) is) facts_now good allowed_there),
+        choose_follows main_turn Left left IsOld left_scope left_scope inside_left same_scope e choices (ap successors (sym is)),
       )
+        where
+          chosen_too : (b : Bool) (k : ℕ) (m : Memory) → LeadsFrom (Choose e choices) (if b then steps.goes easy m k else steps.raised easy ConstraintError m)
+              → LeadsFrom (Choose e choices) (if b then steps.goes main_turn m k else steps.raised main_turn ConstraintError m)
+          chosen_too true k m on = goes_too (Choose e choices) m k on
+          chosen_too false k m on = ends_so (Choose e choices) ConstraintError m
 
-      each_instruction : (i : Instruction) → p.instr ≡ i → (i ≡ Finish → ⊥) → IsFine s None i → calls_nothing i ≡ true → AllowsAll facts_now (acts_of_main i)
-          → AllKeep (is_observer s) (acts_of_main i) → Both i
-      each_instruction Skip is end text calls allowed_there keep = (
-        skip_leads main_turn ready.accepted.settled ready.owns other alone no_in_formals views ready.class.parts_named may frames none_takes facts_now good,
-        stays_follows main_turn plain IsOld p.scope p.scope inside same_scope (with_successors Skip 0 is below_one),
+      leaves : (left : Left (steps.waiting main_turn)) (e : TypedTree) (is : p.instr ≡ LeaveLoop e) → FirstStays s e → AllowsAll facts_now (acts_of_main (LeaveLoop e))
+          → Both left (LeaveLoop e)
+      unfolding acts_in waits_in
+      leaves left (More e rest) is (last, stays) allowed_there = (
+        decides (LeaveLoop (More e rest)) is e (ap (λ z. waits_in e + waits_in z) last ∙ nothing_more (waits_in e))
+            (ap acts (ap (λ z. acts_in s e ++ acts_in s z) last ∙ append-nil (acts_in s e))) stays allowed_there (λ ws. if run.is_true ws then 0 else 1),
+        test_follows main_turn Left left IsOld left_scope left_scope inside_left same_scope e (with_successors (LeaveLoop (More e rest)) 1 is below_two),
       )
-      each_instruction (Declare x v) is end text calls allowed_there keep = (
-        declares x v is text calls allowed_there keep,
-        declare_follows main_turn plain IsOld p.scope (x ∷ p.scope) inside (one_more x) x v (new_one x) (with_successors (Declare x v) 0 is below_one),
+      leaves left NoMore is text allowed_there = (
+        skips_so (none_takes (LeaveLoop NoMore) is refl),
+        stays_follows main_turn Left left IsOld left_scope left_scope inside_left same_scope (with_successors (LeaveLoop NoMore) 0 is below_one),
       )
-      each_instruction (Assign target e) is end text calls allowed_there keep = assigns target e is text calls allowed_there keep
-      each_instruction (Call sub actuals result) is end text calls allowed_there keep = cc
-      each_instruction (Output text line) is end writing calls allowed_there keep = (
-        writes text line writing calls allowed_there,
-        output_follows main_turn plain IsOld p.scope p.scope inside same_scope text line (with_successors (Output text line) 0 is below_one),
-      )
-      each_instruction (Input target) is end text calls allowed_there keep = reads target is text calls allowed_there
-      each_instruction (Release e) is end text calls allowed_there keep = releases e is text calls allowed_there keep
-      each_instruction (Test e) is end stays calls allowed_there keep = (
-        test_leads main_turn ready.accepted.settled ready.owns other alone no_in_formals views ready.class.parts_named may frames none_takes
-            e stays (not_true (has_call e) calls) facts_now good allowed_there,
-        test_follows main_turn plain IsOld p.scope p.scope inside same_scope e (with_successors (Test e) 1 is below_two),
-      )
-      each_instruction (Choose e choices) is end stays calls allowed_there keep = (
-        choose_leads main_turn ready.accepted.settled ready.owns other alone no_in_formals views ready.class.parts_named may frames none_takes
-            e choices stays (not_true (has_call e) calls) facts_now good allowed_there,
-        choose_follows main_turn plain IsOld p.scope p.scope inside same_scope e choices (ap successors (sym is)),
-      )
-      each_instruction (Start x reversed low high) is end (scalar, stays, stays') calls allowed_there keep =
-          let both = both_not (has_call low) (has_call high) calls in (
-            start_leads main_turn ready.accepted.settled ready.owns other alone no_in_formals views ready.class.parts_named may frames none_takes
-                x low high scalar stays stays' both.0 both.1 facts_now good allowed_there,
-            start_follows main_turn plain IsOld p.scope (x ∷ p.scope) inside (one_more x) x low high (new_one x) (with_successors (Start x reversed low high) 0 is below_one),
+      leaves left e is never allowed_there = absurd never
+
+      starts : (left : Left (steps.waiting main_turn)) (x : ℕ) (reversed : Bool) (low high : TypedTree) (is : p.instr ≡ Start x reversed low high)
+          → is_scalar (full s.table (object_at s x).of) ≡ true → Stays s low → Stays s high → AllowsAll facts_now (acts_of_main (Start x reversed low high))
+          → Both left (Start x reversed low high)
+      starts left x reversed low high is scalar stays stays' allowed_there =
+          let two = takes_both (waits_in low) (waits_in high) given_words [] (takes_of (Start x reversed low high) is) in (
+            start_eased main_turn (LeadsFrom (Start x reversed low high)) (ends_so (Start x reversed low high)) (λ trap m on. on.0 tt) x low high
+                (started_on easy ready.accepted.settled ready.owns other alone no_in_formals views ready.class.parts_named may refl refl given_words two.0
+                x (λ b m. started_with easy x b m) low high (record {
+                  fails = λ b. int_le (steps.number b.low) (steps.number b.high)
+                      && not (fits_type s.table (object_at s x).of b.low && fits_type s.table (object_at s x).of b.high);
+                  loop = λ b. record { parameter = x; low = steps.number b.low; high = steps.number b.high; first = true };
+                  at_fault = λ b m e. rw e refl;
+                  at_turn = λ b m e. rw e refl;
+                }) scalar stays stays' two.1 two.2 facts_now good allowed_there),
+            start_follows main_turn Left left IsOld left_scope (x ∷ left_scope) inside_left (one_more x) x low high (new_one x) (with_successors (Start x reversed low high) 0 is below_one),
           )
-      each_instruction (Next x reversed low high) is end scalar calls allowed_there keep = (
-        next_leads main_turn ready.accepted.settled ready.owns other alone no_in_formals views ready.class.parts_named may frames none_takes x reversed scalar facts_now good,
-        next_follows main_turn plain IsOld p.scope p.scope inside same_scope x reversed
-            (may_hold x p.scope (inr (last_within x p.scope (ready_there (Next x reversed low high) is)))) (with_successors (Next x reversed low high) 1 is below_two),
+
+      turns : (left : Left (steps.waiting main_turn)) (x : ℕ) (reversed : Bool) (low high : TypedTree) (is : p.instr ≡ Next x reversed low high)
+          → is_scalar (full s.table (object_at s x).of) ≡ true → Both left (Next x reversed low high)
+      turns left x reversed low high is scalar =
+          let nothing = none_takes (Next x reversed low high) is refl in (
+            to_easy nothing facts_now (turn main_turn (Next x reversed low high))
+                (next_leads main_turn ready.accepted.settled ready.owns other alone no_in_formals views ready.class.parts_named may frames nothing x reversed scalar facts_now
+                (good_main nothing)),
+            next_follows main_turn Left left IsOld left_scope left_scope inside_left same_scope
+                (subst Left (ap (λ n. drop n top.frame.waits) (ap taken is) ∙ drop_none top.frame.waits) left) x reversed
+                (may_hold x left_scope (inr (ap (is_within x) (ap (λ n. drop n p.scope) (ap taken is) ∙ drop_none p.scope)
+                ∙ last_within x p.scope (ready_there (Next x reversed low high) is)))) (with_successors (Next x reversed low high) 1 is below_two),
+          )
+
+      holds_nothing : (left : Left (steps.waiting main_turn)) (v : TypedTree) (is : p.instr ≡ Hold v) → IsOther (Hold v) → (r : Option ℕ) → named.sub.result ≡ r
+          → Returns s r v → Both left (Hold v)
+      unfolding acts_in waits_in
+      holds_nothing left v is other_one None no_result none = subst (Both left) (ap Hold (sym none)) (
+        subst (λ z. Leads_on easy ready.accepted.settled ready.owns other alone no_in_formals views ready.class.parts_named may refl refl z (turn main_turn (Hold NoMore)))
+            (sym (ap (λ r. after (acts (flow.returned_acts s r NoMore)) facts_now) no_result))
+            (skips_so (none_takes (Hold NoMore) (is ∙ ap Hold none) refl)),
+        stays_follows main_turn Left left IsOld left_scope left_scope inside_left same_scope (with_successors (Hold NoMore) 0 (is ∙ ap Hold none) below_one),
       )
-      each_instruction (Evaluate temporary e left) is end text calls allowed_there keep = cc
-      each_instruction (LeaveLoop e) is end text calls allowed_there keep = leaves e is text calls allowed_there
-      each_instruction (Hold v) is end none calls allowed_there keep = holds_nothing v is none
-      each_instruction (EndScope x) is end text calls allowed_there keep = absurd (going x is)
-      each_instruction Finish is end text calls allowed_there keep = absurd (end refl)
-      each_instruction Fall is end text calls allowed_there keep = (
-        fall_leads main_turn ready.accepted.settled ready.owns other alone no_in_formals views ready.class.parts_named may frames none_takes facts_now good,
-        tt,
+      holds_nothing left v is other_one (Some of) result (value_of, same, source) = absurd (subst (λ z. IsOther (Hold z)) same other_one)
+
+      each_instruction : (left : Left (steps.waiting main_turn)) (i : Instruction) → p.instr ≡ i → IsOther i → IsFine s named.sub.result i → AllowsAll facts_now (acts_of_main i)
+          → AllKeep (is_observer s) (acts_of_main i) → Both left i
+      each_instruction left Skip is other_one text allowed_there keep = (
+        skips_so (none_takes Skip is refl),
+        stays_follows main_turn Left left IsOld left_scope left_scope inside_left same_scope (with_successors Skip 0 is below_one),
       )
+      each_instruction left (Declare x v) is other_one text allowed_there keep = (
+        declares x v is text allowed_there keep,
+        declare_follows main_turn Left left IsOld left_scope (x ∷ left_scope) inside_left (one_more x) x v (new_one x) (with_successors (Declare x v) 0 is below_one),
+      )
+      each_instruction left (Assign target e) is other_one text allowed_there keep = assigns left target e is text allowed_there keep
+      each_instruction left (Call sub actuals result) is other_one text allowed_there keep = absurd other_one
+      each_instruction left (Output text line) is other_one writing allowed_there keep = (
+        writes text line is writing allowed_there,
+        output_follows main_turn Left left IsOld left_scope left_scope inside_left same_scope text line (with_successors (Output text line) 0 is below_one),
+      )
+      each_instruction left (Input target) is other_one text allowed_there keep = reads left target is text allowed_there
+      each_instruction left (Release e) is other_one text allowed_there keep = releases left e is text allowed_there keep
+      each_instruction left (Test e) is other_one stays allowed_there keep = (
+        decides (Test e) is e refl refl stays allowed_there (λ ws. if run.is_true ws then 0 else 1),
+        test_follows main_turn Left left IsOld left_scope left_scope inside_left same_scope e (with_successors (Test e) 1 is below_two),
+      )
+      each_instruction left (Choose e choices) is other_one stays allowed_there keep = chooses left e choices is stays allowed_there
+      each_instruction left (Start x reversed low high) is other_one (scalar, stays, stays') allowed_there keep = starts left x reversed low high is scalar stays stays' allowed_there
+      each_instruction left (Next x reversed low high) is other_one scalar allowed_there keep = turns left x reversed low high is scalar
+      each_instruction left (Evaluate temporary e op) is other_one text allowed_there keep = absurd other_one
+      each_instruction left (LeaveLoop e) is other_one text allowed_there keep = leaves left e is text allowed_there
+      each_instruction left (Hold v) is other_one text allowed_there keep = holds_nothing left v is other_one named.sub.result refl text
+      each_instruction left (EndScope x) is other_one text allowed_there keep = absurd (going x is)
+      each_instruction left Finish is other_one text allowed_there keep = absurd other_one
+      each_instruction left Fall is other_one text allowed_there keep = (ends_so Fall ProgramError state.memory, tt)
 
       -- ---- the next point
 
@@ -575,14 +753,14 @@ module _ (table : Table) (typed : TypedProgram) (effects : Effects) (input : Lis
 
       pub spares : (p.instr ≡ Finish → ⊥) → sparing
       spares end =
-          spare_acts (record { typing = s; result = named.sub.result; roots = standing.roots table typed effects input ready state top older outer named p frames of_sub at_point }) p.pos p.instr plain_calls going end
+          spare_acts (record { typing = s; result = named.sub.result; roots = standing.roots table typed effects input ready state top older outer named p frames of_sub at_point }) p.pos p.instr plain_traversal no_calls going end
 
       lent_on : sparing → (h : ℕ) (n : PlaceName) → Has facts_now (Lent Observed h n) → Has (after (acts_of_main p.instr) facts_now) (Lent Observed h n)
       lent_on spare h n has = loans_stay s (standing.acts_by table typed effects input ready state top older outer named p frames of_sub at_point s p.instr) spare facts_now Observed h n has
 
       -- which views turned
       turned_so : (turned_views : Views) → {facts : List Fact}
-          → Turned main_turn ready.accepted.settled ready.owns other alone no_in_formals views ready.class.parts_named may frames none_takes turned_views facts
+          → Turned easy ready.accepted.settled ready.owns other alone no_in_formals views ready.class.parts_named may refl refl turned_views facts
           → AreTurned p.instr views turned_views
       turned_so turned_views turned x w has = elim (turned x w has) [
         | inl old ↦ inl (sym old.way ∙ has)
@@ -590,30 +768,30 @@ module _ (table : Table) (typed : TypedProgram) (effects : Effects) (input : Lis
       ]
 
       only_may : (turned_views : Views) (facts : List Fact)
-          → Turned main_turn ready.accepted.settled ready.owns other alone no_in_formals views ready.class.parts_named may frames none_takes turned_views facts
-          → Turned main_turn ready.accepted.settled ready.owns other alone no_in_formals views ready.class.parts_named (λ x y. MayBe program (scope_behind p) x y) frames none_takes
+          → Turned easy ready.accepted.settled ready.owns other alone no_in_formals views ready.class.parts_named may refl refl turned_views facts
+          → Turned easy ready.accepted.settled ready.owns other alone no_in_formals views ready.class.parts_named (λ x y. MayBe program (scope_behind p) x y) refl refl
           turned_views facts
       only_may turned_views facts turned x w has = elim (turned x w has) [
         | inl old ↦ inl (record { way = old.way; loan = old.loan; up = old.up })
         | inr (y, from, comes) ↦ inr (y, from.0, record { up = comes.up; root = comes.root; loan = comes.loan })
       ]
 
-      then_on : sparing → (outcome : Outcome) → LeadsFrom p.instr outcome → GoesFrom p.instr outcome
-          → Each (λ (next : State). OthersKept s depth state.memory next.memory) outcome → (p.instr ≡ Finish → ⊥) → Along outcome
-      then_on spare (Ends how after_step) leads on stay end = leads
-      then_on spare (Goes after_step) (turned_views, turned, well) on stay end =
-          let next = successor_there main_turn on.k (subst (λ z. on.k < z) (sym successors_there) on.less) in
+      pub goes_there : sparing → (p.instr ≡ Finish → ⊥) → returns_value p.instr ≡ false → (after_step : State) (waits : List Waiting) (loops : List Loop) (k : ℕ)
+          → k < successors p.instr → ((n : ℕ) → successor main_turn k ≡ Some n → after_step.frames ≡ record top.frame { waits = waits; loops = loops; next = n } ∷ outer)
+          → Left waits → Inside s IsOld after_step.memory depth (scope_behind p) → LeadsFrom p.instr (Goes after_step) → OthersKept s depth state.memory after_step.memory
+          → Along (Goes after_step)
+      goes_there spare end none after_step waits loops k less frames_then are inside_then (turned_views, turned, well) stay =
+          let next = successor_there main_turn k (subst (λ z. k < z) (sym successors_there) less) in
           let q = standing.next_at table typed effects input ready state top older outer named p frames of_sub at_point path next.0 next.2 in
-          let lead : Leads s (scope_behind p) (q.0).scope = subst (λ z. Leads z (scope_behind p) (q.0).scope) (sym same) q.2 in
-          let there = turned_placed main_turn ready.accepted.settled ready.owns other alone no_in_formals views ready.class.parts_named p.scope (scope_behind p) frames none_takes
-          ready.orderly.transitive ready.orderly.itself local holds.only more turned_views facts_now (after (acts_of_main p.instr) facts_now) (lent_on spare) placed
-          (only_may turned_views (after (acts_of_main p.instr) facts_now) turned) in
-          let placed_next = placed_on program (after (acts_of_main p.instr) facts_now) turned_views (scope_behind p) (q.0).scope well.holds.only lead there in
-          standing.goes_to_next table typed effects input ready state top older outer named p frames of_sub at_point path plain_calls after_step on.loops next.0 next.2 q.0 q.1 (on.frames next.0 next.1) deep stages turned_views
-          (running.0, (refl, running.1.1), wait_still after_step (brought p.instr p.scope) on.inside stay well.viewed.far)
+          let there = turned_placed easy ready.accepted.settled ready.owns other alone no_in_formals views ready.class.parts_named left_scope (scope_behind p) refl refl
+          ready.orderly.transitive ready.orderly.itself local holds.only more turned_views facts_now (after (acts_of_main p.instr) facts_now) (lent_on spare)
+          (placed_left facts_now placed) (only_may turned_views (after (acts_of_main p.instr) facts_now) turned) in
+          let placed_next = placed_on program (after (acts_of_main p.instr) facts_now) turned_views (scope_behind p) (q.0).scope well.holds.only q.2 there in
+          standing.goes_to_next table typed effects input ready state top older outer named p frames of_sub at_point path no_calls after_step waits loops next.0 next.2 q.0 q.1 (frames_then next.0 next.1) deep stages turned_views
+          (running.0, running.1, wait_still after_step (scope_behind p) inside_then stay well.viewed.far)
+          (standing.waits_next table typed effects input ready state top older outer named p frames of_sub at_point path waits loops next.0 next.2 are, others_await none)
           (apart_from_them (acts_of_main p.instr) turned_views (view_here s after_step) well.holds.only well.viewed) well.kept
-          (scope_on s ready.owns after_step.memory depth (scope_behind p) (q.0).scope
-          (subst (InScope s after_step.memory depth) (sym scope_is) (in_scope after_step.memory (brought p.instr p.scope) on.inside)) lead)
+          (scope_on s ready.owns after_step.memory depth (scope_behind p) (q.0).scope (in_scope after_step.memory (scope_behind p) inside_then) q.2)
           (record {
             held = λ x n lasts view e. well.holds.held x n view e;
             within = λ x n view e. (let own_way = well.holds.held x n view e in (placed_next x own_way.0 own_way.1).within);
@@ -621,12 +799,20 @@ module _ (table : Table) (typed : TypedProgram) (effects : Effects) (input : Lis
           })
           (placed_by (after (acts_of_main p.instr) facts_now) (after (acts_of_main p.instr) own_facts) turned_views (q.0).scope (own_loans (acts_of_main p.instr)) placed_next)
           (still_above after_step.memory stay) views
-          (steps_on (calls_none p.instr plain_calls) end going (refl, refl, refl) (turned_so turned_views turned) refl)
+          (steps_on no_calls end going (refl, refl, refl) (turned_so turned_views turned) refl)
 
-      pub goes_plainly : (p.instr ≡ Finish → ⊥) → Along (turn main_turn p.instr)
-      goes_plainly end =
-          let text = subst (λ r. IsFine s r p.instr) no_result (standing.fine table typed effects input ready state top older outer named p frames of_sub at_point) in
-          let both = each_instruction p.instr refl end text plain_calls
-          (allowed_now (spares end) (standing.allowed table typed effects input ready state top older outer named p frames of_sub at_point path plain_calls))
+      then_on : (left : Left (steps.waiting main_turn)) → sparing → (p.instr ≡ Finish → ⊥) → returns_value p.instr ≡ false → (outcome : Outcome)
+          → LeadsFrom p.instr outcome → GoesFrom left p.instr outcome
+          → Each (λ (next : State). OthersKept s depth state.memory next.memory) outcome → Along outcome
+      then_on left spare end none (Ends how after_step) leads on stay = leads
+      then_on left spare end none (Goes after_step) leads on stay =
+          goes_there spare end none after_step on.waits on.loops on.k on.less on.frames on.are on.inside leads stay
+
+      pub goes_plainly : IsOther p.instr → FillsNone s p.instr → (p.instr ≡ Finish → ⊥) → returns_value p.instr ≡ false → Along (turn main_turn p.instr)
+      goes_plainly other_one fills end none =
+          let left = left_after fills in
+          let text = standing.fine table typed effects input ready state top older outer named p frames of_sub at_point in
+          let both = each_instruction left p.instr refl other_one text
+          (allowed_now (spares end) (standing.allowed table typed effects input ready state top older outer named p frames of_sub at_point path no_calls))
           (standing.keeps_there table typed effects input ready state top older outer named p frames of_sub at_point) in
-          then_on (spares end) (turn main_turn p.instr) both.0 both.1 (others_keep main_turn p.instr text plain_calls end) end
+          then_on left (spares end) end none (turn main_turn p.instr) both.0 both.1 (others_keep main_turn named.sub.result p.instr text other_one)

@@ -4,7 +4,9 @@ use Rattle.spark_base.specs.Lists.{Has}
 use Rattle.place_names.specs.declared.act.Act.TheVariants as act
 use Rattle.place_names.specs.declared.fact.Fact.{Fact}
 use Rattle.place_names.specs.declared.fact.Fact.TheVariants.{Lent}
+use Rattle.place_names.specs.declared.rule.Loan.{Loan}
 use Rattle.place_names.specs.declared.rule.Loan.TheVariants.{Observed}
+use Rattle.place_names.specs.Names.{Name as PlaceName}
 use Rattle.place_names.specs.Facts.{effect}
 use Rattle.flow_paths.specs.Instructions.{EndScope}
 use Rattle.flow_paths.specs.Objects.{Typing, object_at, is_variable, is_anonymous, is_borrowing, is_observing, is_borrower, is_observer, is_package_object, view_of}
@@ -90,7 +92,8 @@ module _ (t : Turn) (settled : IsSettled (typing t).table) (own_law : OwnsByShap
     (facts : List Fact) (allowed : Allows facts (act.EndScope y (is_borrower (typing t) y)))
     (viewed : Viewed (home (typing t) (length t.outer)) (is_observer (typing t)) other v (sound.view_of (typing t) t.state) facts)
     (kept : Kept (typing t) t.state.memory (waiting_in t.state))
-    (holds : HoldsAt (typing t) (length t.outer) v t.state.memory p) (placed : ArePlaced t.program facts v p.scope) where
+    (holds : HoldsAt (typing t) (length t.outer) v t.state.memory p) (placed : ArePlaced t.program facts v p.scope)
+    (unlent : (l : Loan) (n : PlaceName) → other.lent l n → n.root ≡ y → ⊥) where
   abbrev pub s : Typing
   s = typing t
 
@@ -159,7 +162,8 @@ module _ (t : Turn) (settled : IsSettled (typing t).table) (own_law : OwnsByShap
   without_borrower borrows sees_not =
       let views : Views = with_view left y None (left.loan y) (left.up y) 0 in
       let becomes = becomes_with left y None (left.loan y) (left.up y) 0 in
-      let unused : Unused left facts y = record {
+      let unused : Unused other.lent left facts y = record {
+        unlent = unlent;
         unmoved = borrower_unmoved facts y (subst (λ b. Allows facts (act.EndScope y b)) borrows allowed);
         untaken = λ x w has off root. (
             let old = had_way v fades x w has in
@@ -212,6 +216,7 @@ module _ (t : Turn) (settled : IsSettled (typing t).table) (own_law : OwnsByShap
 
   holder_left : (x : ℕ) (w : Way) → views_left.way x ≡ Some w → is_observer s x ≡ true
       → (h : ℕ) × Has after_end (Lent Observed h (name_of (views_left.loan x))) × Lasts t.program p.scope h x × (h ≡ y → ⊥)
+      × (is_observer s h ≡ true)
   holder_left x w has sees =
       let old = leaves.1.was x w has in
       let place = placed x w old.2 in
@@ -223,13 +228,15 @@ module _ (t : Turn) (settled : IsSettled (typing t).table) (own_law : OwnsByShap
             (refused (h.0 == y) (λ e. off (eqb-true h.0 y e))),
         h.2,
         off,
+        h.3,
       )
 
   pub leaves_others : LeavesOthers t settled own_law other alone no_formals v parts_named may frames none views_left y after_end
   leaves_others = record {
     no_value = leaves.1.no_value;
     roots = root_left;
-    loans = λ x w has sees. (let h = holder_left x w has sees in (h.0, h.1));
+    loans = λ x w has sees. (let h = holder_left x w has sees in (h.0, h.1, h.4));
+    unlent = unlent;
   }
 
   pub ends_well : Is_left t settled own_law other alone no_formals v parts_named may frames none views_left y after_end (steps.end_scope t y)
@@ -250,7 +257,7 @@ module _ (t : Turn) (settled : IsSettled (typing t).table) (own_law : OwnsByShap
         up = subst (λ z. Lasts t.program q.scope (number_of z) x) (sym (leaves.1.ups x old.0))
             (lasts_left (number_of (v.up x)) x (other_root x place.within old.0 old.1 (number_of (v.up x)) place.up (viewed.views x w old.2).older) place.up);
         root = lasts_left (number_of w) x (root_left x w has) place.root;
-        holder = λ sees. (let h = holder_left x w has sees in (h.0, h.1, lasts_left h.0 x h.3 h.2));
+        holder = λ sees. (let h = holder_left x w has sees in (h.0, h.1, lasts_left h.0 x h.3 h.2, h.4));
       }
 
   -- the variable of a view that has a number was there before

@@ -1,6 +1,6 @@
 -- The formals of a call are declared. Those that are copied back have what their actuals had; the
 -- places of the actuals are gone meanwhile, and have no number.
-use Rattle.std.proofs.Common.{◌≡◌, refl, sym, ap, ◌∙◌, subst, ◌⊎◌, inl, inr, ℕ, suc, ◌+◌, Bool, true, false, not, ◌&&◌, ◌||◌, List, [], ◌∷◌, ◌++◌, take, drop, length, get_or, arith, if◌then◌else◌}
+use Rattle.std.proofs.Common.{◌≡◌, refl, sym, ap, ◌∙◌, subst, ◌⊎◌, inl, inr, ℕ, suc, ◌<◌, ◌+◌, Bool, true, false, not, ◌&&◌, ◌||◌, List, [], ◌∷◌, ◌++◌, take, drop, length, get_or, arith, if◌then◌else◌}
 use Rattle.std.proofs.lemmas.List.{length-map}
 use Rattle.spark_base.specs.Lists.{Has}
 use Rattle.place_names.specs.declared.fact.Fact.{Fact}
@@ -14,7 +14,7 @@ use Rattle.machine.specs.Memory.{Slot, Memory, Base, Place, fresh, no_slot, vari
 use Rattle.machine.specs.Memory as memory
 use Rattle.machine.specs.Calls.{Passed, Value, From, To, with_formal, with_formals, returns_of}
 use Rattle.machine.specs.States.{Waiting, Leak, Return}
-use Rattle.owned_ways.specs.Ways.{Step, OfVariable, OfHand, Loc, OfRoot, Way, Object, Empty, Held, Under, Past, Named, along, base_of, number_of, name_of}
+use Rattle.owned_ways.specs.Ways.{Step, OfVariable, OfHand, Loc, OfRoot, OfCell, Reaches, Way, Object, Empty, Held, Under, Past, Named, along, base_of, number_of, name_of}
 use Rattle.owned_ways.proofs.Locations.{same_loc, under_along, under_itself}
 use Rattle.part_offsets.specs.Parts.{type_in, IsSettled}
 use Rattle.soundness.specs.Seen.{content, word_in, seen, home, is_view_formal}
@@ -27,18 +27,19 @@ use Rattle.soundness.proofs.Lasting.{keeps, declared_kept}
 use Rattle.soundness.proofs.Passing.{IsLaid}
 use Rattle.owned_loans.specs.Views.{Around, Views, expand, ExcusedBy, Viewed}
 use Rattle.owned_loans.proofs.Ways.{beginnings}
-use Rattle.owned_loans.proofs.Safe.{clean_below, off_view}
-use Rattle.owned_loans.proofs.Moves.{far_named, expand_along, same_viewed}
+use Rattle.owned_loans.proofs.Safe.{off_view}
+use Rattle.owned_loans.proofs.Others.{clean_away}
+use Rattle.owned_loans.proofs.Moves.{expand_along, same_viewed}
 use Rattle.viewed_soundness.proofs.Names.{true_false, view_access, not_view}
 use Rattle.viewed_soundness.proofs.Evaluated.{matches_named}
 use Rattle.viewed_steps.specs.Sound.{IsScalarObject}
 use Rattle.viewed_steps.proofs.Left.{cells_same}
 use Rattle.viewed_steps.specs.Taken.{TakenBy, IsInside, IsPassedOn, IsBare, IsApartFrom, AreTaken}
-use Rattle.viewed_steps.proofs.Between.{gone_also, more_gone, IsClearOf, base_along, base_under, same_variable, taken_more}
-use Rattle.viewed_steps.proofs.Carried.{inside_at, inside_spot, inside_reached, inside_base, inside_rooted, inside_owns, inside_word, carried_bare, carried_held, carried_off}
-use Rattle.viewed_steps.proofs.Called.{Enters, with_one}
+use Rattle.viewed_steps.proofs.Between.{same_reaches, gone_also, more_gone, IsClearOf, base_along, base_under, same_variable, taken_more}
+use Rattle.viewed_steps.proofs.Carried.{inside_at, inside_spot, inside_reached, inside_base, inside_rooted, inside_owns, inside_word, carried_bare, carried_held, carried_off_low, carried_off}
+use Rattle.viewed_steps.proofs.Alike.{Enters, with_one}
 use Rattle.viewed_steps.proofs.Beside.{put_beside}
-use Rattle.viewed_steps.proofs.Declared.{declared_viewed}
+use Rattle.viewed_steps.proofs.Declared.{declared_viewed, declared_low}
 
 named_part : (home : ℕ → ℕ) (w : Way) (p : List Step) → Named home w → Named home (along w p)
 named_part home w [] n = n
@@ -137,12 +138,11 @@ module _ (s : Typing) (settled : IsSettled s.table) (own_law : OwnsByShape s.tab
       by_package true e = omega (arith, e)
       by_package false e = omega (arith, e)
 
-  -- Nothing is gone elsewhere in hands, or in the places that are still to be taken; and no way of others
-  -- begins above.
+  -- Nothing is gone elsewhere in hands, or in the places that are still to be taken; and others keep no way.
   pub record IsOpen (other : Around (home s depth)) (ways : List Way) : Type 0 where
     pub free : (h : ℕ) (w : Way) → Under (Object (OfHand h)) w → other.gone w → ⊥
     pub whole : (to : Way) → Has ways to → (w : Way) → Under to w → other.gone w → ⊥
-    pub low : (x : ℕ) (w : Way) (n : ℕ) → other.kept w n → base_of w ≡ OfRoot (OfVariable (suc depth) x) → ⊥
+    pub none : (w : Way) (n : ℕ) → other.kept w n → ⊥
 
   abbrev ViewedIn : Around (home s depth) → Memory → Type 0
   ViewedIn other m = Viewed (home s depth) (is_observer s) other v (seen s m hands leaks) facts
@@ -164,6 +164,9 @@ module _ (s : Typing) (settled : IsSettled s.table) (own_law : OwnsByShape s.tab
     pub views : (g y : ℕ) → is_anonymous (view_of s y) ≡ true
         → (get_or (variable_slots s g y n.variables) 0 no_slot).word ≡ (get_or (variable_slots s g y m.variables) 0 no_slot).word
     pub words : ((x : ℕ) → Has formals x → IsScalarObject s x) → AreSameWords s (λ g. Unit {0}) m n
+    -- ways from the variables of frames around reach what they reached
+    pub low : (w : Way) (g y : ℕ) → base_of w ≡ OfRoot (OfVariable g y) → g < depth → (c : ℕ)
+        → Reaches (seen s m hands leaks) w (OfCell c) → Reaches (seen s n hands leaks) w (OfCell c)
 
   abbrev pub Enter : Around (home s depth) → List ℕ → List Passed → List Way → Memory → Memory → Type 0
   Enter other formals passed ways m n =
@@ -207,7 +210,7 @@ module _ (s : Typing) (settled : IsSettled s.table) (own_law : OwnsByShape s.tab
 
     clean : (w : Way) → Under to w → ExcusedBy (home s depth) v other facts w → ⊥
     clean w under (inl moved) =
-        clean_below (home s depth) (is_observer s) v (seen s m hands leaks) facts viewed.views viewed.clear to w (named_to, plain_name)
+        clean_away (home s depth) (is_observer s) other v (seen s m hands leaks) facts viewed to w (named_to, plain_name)
         (λ h n has over. passed.unlent Borrowed h n has over) whole (subst (λ z. Under z w) (sym itself) under) moved
     clean w under (inr o) = open_there.whole to (inl refl) w under o
 
@@ -216,7 +219,7 @@ module _ (s : Typing) (settled : IsSettled s.table) (own_law : OwnsByShape s.tab
       own = λ y w has past.
           off_view (home s depth) (is_observer s) v (seen s m hands leaks) facts viewed.views viewed.clear to y w (named_to, plain_name) passed.unlent has
           (subst (λ z. Past z w) (sym itself) past);
-      far = λ w n keeps_it past. far_named (home s depth) other to w n named_to keeps_it past;
+      far = λ w n keeps_it past. open_there.none w n keeps_it;
     }
 
     viewed_mid : Viewed (home s depth) (is_observer s) with_it v (seen s mid (got ∷ hands) leaks) facts
@@ -261,7 +264,7 @@ module _ (s : Typing) (settled : IsSettled s.table) (own_law : OwnsByShape s.tab
           | inl away ↦ open_there.free h w under away
           | inr (p, is) ↦ hand_base (sym (base_under (Object (OfHand h)) w under) ∙ ap base_of is ∙ base_along to p ∙ inside_base s depth k to passed.inside)
         ]) kept_mid blank_mid (no_formals x) long (alike s.table settled k.of (object_at s x).of passed.fits)
-        (λ y w has at_home root. not_above x at_home) (λ w n keeps_it base. open_there.low x w n keeps_it base)
+        (λ y w has at_home root. not_above x at_home) (λ w n keeps_it base. open_there.none w n keeps_it)
       where
         hand_base : {h f x : ℕ} → OfRoot (OfHand h) ≡ OfRoot (OfVariable f x) → ⊥
         hand_base e = cc
@@ -315,6 +318,15 @@ module _ (s : Typing) (settled : IsSettled s.table) (own_law : OwnsByShape s.tab
         bare_mid p c
         (sym (new_word depth (passed.inside).object (frames_differ (suc depth) x depth (passed.inside).object (λ e. omega (arith, e))) (p ++ (passed.inside).steps)) ∙ held)
 
+    pub one_low : (w : Way) (g y : ℕ) → base_of w ≡ OfRoot (OfVariable g y) → g < depth → (c : ℕ)
+        → Reaches (seen s m hands leaks) w (OfCell c) → Reaches (seen s next hands leaks) w (OfCell c)
+    one_low w g y base less c reach =
+        declared_low s mid got hands leaks (suc depth) x w g y base (frames_differ (suc depth) x g y (λ e. omega (arith, less, e))) c
+        (carried_off_low s settled (home s depth) (is_observer s) v other with_it.gone m hands leaks facts k at to viewed typed spot
+        (inside_rooted s depth k to passed.inside) (inside_reached s depth k to passed.inside (seen s m hands leaks))
+        (inside_owns s depth k to passed.inside m hands (no_formals (passed.inside).object)) clean
+        depth (passed.inside).object (inside_base s depth k to passed.inside) w g y base (λ e. omega (arith, less, e)) c reach)
+
     -- what is left to be declared has nothing still
     pub one_blank : (y : ℕ) → (y ≡ x → ⊥) → (p : List Step) → word_in s.table (content s m [] (OfRoot (OfVariable (suc depth) y))) p ≡ Empty
         → word_in s.table (content s next [] (OfRoot (OfVariable (suc depth) y))) p ≡ Empty
@@ -337,7 +349,7 @@ module _ (s : Typing) (settled : IsSettled s.table) (own_law : OwnsByShape s.tab
           | inr b ↦ (apart z has).1 b
         ]
       ];
-      low = open_there.low;
+      none = open_there.none;
     }
       where
         hand_base : {h f x : ℕ} → OfRoot (OfHand h) ≡ OfRoot (OfVariable f x) → ⊥
@@ -363,7 +375,7 @@ module _ (s : Typing) (settled : IsSettled s.table) (own_law : OwnsByShape s.tab
   plain_returns n x (To k) formals passed (to ∷ ways) plain taken = inl (plain, taken)
 
   nothing_declared : (formals : List ℕ) (m : Memory) → Kept s m hands → AreDeclared formals m m
-  nothing_declared formals m typed = record { typed = typed; held = λ g y p c held. inl held; views = λ g y view. refl; words = λ plain. ((λ g y p any. refl), (λ c p. refl)) }
+  nothing_declared formals m typed = record { typed = typed; held = λ g y p c held. inl held; views = λ g y view. refl; words = λ plain. ((λ g y p any. refl), (λ c p. refl)); low = λ w g y base less c reach. reach }
 
   nothing_entered : (other : Around (home s depth)) (formals : List ℕ) (passed : List Passed) (ways : List Way) (m : Memory)
       → returns_of formals passed ≡ [] → ways ≡ [] → Kept s m hands → ViewedIn other m → Enter other formals passed ways m m
@@ -385,9 +397,10 @@ module _ (s : Typing) (settled : IsSettled s.table) (own_law : OwnsByShape s.tab
       ];
       views = λ g y view. later.0.views g y view ∙ on.views g y view;
       words = λ plain_all. (let more = later.0.words (λ y has. plain_all y (inr has)) in (
-          λ g y p any. more.0 g y p any ∙ on.hold g y p,
-          λ c p. more.1 c p ∙ cells_same s m then_m hands leaks on.same c p,
-        ));
+        λ g y p any. more.0 g y p any ∙ on.hold g y p,
+        λ c p. more.1 c p ∙ cells_same s m then_m hands leaks on.same c p,
+      ));
+      low = λ w g y base less c reach. later.0.low w g y base less c (same_reaches (seen s m hands leaks) (seen s then_m hands leaks) on.same w (OfCell c) reach);
     },
     later.1,
     plain_returns n x a formals passed ways plain later.2,
@@ -400,9 +413,11 @@ module _ (s : Typing) (settled : IsSettled s.table) (own_law : OwnsByShape s.tab
       → ((g y : ℕ) → is_anonymous (view_of s y) ≡ true
       → (get_or (variable_slots s g y next.variables) 0 no_slot).word ≡ (get_or (variable_slots s g y m.variables) 0 no_slot).word)
       → IsBare s depth k to next one.inside
+      → ((w : Way) (g y : ℕ) → base_of w ≡ OfRoot (OfVariable g y) → g < depth → (c : ℕ)
+      → Reaches (seen s m hands leaks) w (OfCell c) → Reaches (seen s next hands leaks) w (OfCell c))
       → Enter (gone_also (home s depth) other (λ w. other.gone w ⊎ ((p : List Step) × (w ≡ along to p)))) formals passed ways next n
       → Enter other (x ∷ formals) (From k ∷ passed) (to ∷ ways) m n
-  taken_then other x k to formals passed ways m next n one apart differ held views bare later = (
+  taken_then other x k to formals passed ways m next n one apart differ held views bare low later = (
     record {
       typed = later.0.typed;
       held = λ g y p c is. elim (later.0.held g y p c is) [
@@ -411,6 +426,7 @@ module _ (s : Typing) (settled : IsSettled s.table) (own_law : OwnsByShape s.tab
       ];
       views = λ g y view. later.0.views g y view ∙ views g y view;
       words = λ plain_all. absurd (true_false (is_scalar (full s.table (object_at s x).of)) (plain_all x (inl refl)) one.many);
+      low = λ w g y base less c reach. later.0.low w g y base less c (low w g y base less c reach);
     },
     more_gone (home s depth) (is_observer s) v
         (taken_also (gone_also (home s depth) other (λ w. other.gone w ⊎ ((p : List Step) × (w ≡ along to p)))) ways)
@@ -420,10 +436,13 @@ module _ (s : Typing) (settled : IsSettled s.table) (own_law : OwnsByShape s.tab
           | inl before ↦ elim before [ inl away ↦ inl away | inr (p, is) ↦ inr (to, inl refl, p, is) ]
         ]) later.1,
     inr (
-      (one, (λ p c is. elim (later.0.held depth (one.inside).object (p ++ (one.inside).steps) c is) [
-        | inl h ↦ bare p c h
-        | inr h ↦ (let same = h.0 in omega (arith, same))
-      ])),
+      (
+        one,
+        (λ p c is. elim (later.0.held depth (one.inside).object (p ++ (one.inside).steps) c is) [
+          | inl h ↦ bare p c h
+          | inr h ↦ (let same = h.0 in omega (arith, same))
+        ]),
+      ),
       apart,
       (λ r has. differ r.formal (formals_of_returns formals passed r has)),
       later.2,
@@ -457,6 +476,7 @@ module _ (s : Typing) (settled : IsSettled s.table) (own_law : OwnsByShape s.tab
       (taken_then other x k to formals passed ways m next (with_formals s (suc depth) formals passed next) one apart differ
       (one_held other x k to ways one whole apart open_there m typed viewed new) (one_views other x k to ways one whole apart open_there m typed viewed new)
       (one_bare other x k to ways one whole apart open_there m typed viewed new)
+      (one_low other x k to ways one whole apart open_there m typed viewed new)
       (all_declared away formals passed ways next more (one_open other x k to ways one whole apart open_there m typed viewed new)
       (kept_next other x k to ways one whole apart open_there m typed viewed new) (viewed_next other x k to ways one whole apart open_there m typed viewed new)
       (λ y has p. one_blank other x k to ways one whole apart open_there m typed viewed new y (differ y has) p (blank y (inr has) p))))

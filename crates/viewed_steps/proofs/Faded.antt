@@ -55,7 +55,8 @@ module _ (home : ℕ → ℕ) (observer : ℕ → Bool) (other : Around home) (v
     covered = viewed.covered;
     known = λ w l rooted r gone. elim (viewed.known w l rooted r gone) [
       | inr o ↦ inr o
-      | inl (u, moved, leads) ↦ inl (u, moved, expand_left u (viewed.clear.owned (name_of u) moved.1) ∙ leads)
+      | inl (inr away) ↦ inl (inr away)
+      | inl (inl (u, moved, leads)) ↦ inl (inl (u, moved, expand_left u (viewed.clear.owned (name_of u) moved.1) ∙ leads))
     ];
     clear = viewed.clear;
     views = λ x w has. (
@@ -71,5 +72,10 @@ module _ (home : ℕ → ℕ) (observer : ℕ → Bool) (other : Around home) (v
           lent = view.lent;
           reaches = view.reaches;
         });
+    lends = λ l n lent. (let old = viewed.lends l n lent in record {
+      has = old.has;
+      none = has_way v fades n.root (stays n.root old.plain) ∙ old.none;
+      plain = old.plain;
+    });
     far = viewed.far;
   }

@@ -13,10 +13,11 @@ use Rattle.place_names.specs.declared.act.Act.TheVariants as act
 use Rattle.place_names.specs.declared.fact.Fact.{Fact}
 use Rattle.place_names.specs.declared.fact.Fact.TheVariants.{Moved, Lent}
 use Rattle.place_names.specs.declared.rule.Loan.{Loan}
+use Rattle.place_names.specs.declared.rule.Loan.TheVariants.{Borrowed, Observed}
 use Rattle.place_names.specs.declared.rule.Rule.{Rule}
-use Rattle.place_names.specs.Names.{Name, agree_along, agrees_whole, overlaps}
+use Rattle.place_names.specs.Names.{Name, agree_along, agrees_whole, overlaps, strict_fronts, strict_prefixes}
 use Rattle.place_names.specs.Facts.{adds, removes, effect}
-use Rattle.place_names.specs.Rules.{forbidden_if, forbids, breaks_O1, breaks_O3, breaks_O5, breaks_O6, breaks_O7, breaks_O8, breaks_O10, breaks_O2}
+use Rattle.place_names.specs.Rules.{forbidden_if, forbids, breaks_O1, breaks_O3, breaks_O4, breaks_O5, breaks_O6, breaks_O7, breaks_O8, breaks_O10, breaks_O14, breaks_O2}
 use Rattle.flow_paths.specs.Effects.{act_reads, act_writes, actual_writes}
 use Rattle.flow_paths.specs.Objects.{Typing, is_borrower, is_package_object}
 use Rattle.owned_ways.specs.Ways.{after}
@@ -125,8 +126,106 @@ module _ (s : Typing) (n : Name) (shared : is_package_object s n.root ≡ true)
       forbidden_none (breaks_O10 m how owning access (Moved n)) _ m (Moved n)
       (apart_actual m how owning access (no_kind (m.root == n.root) (actual_writes how access) writes reads))
   apart_act (act.Global g written) fits writes reads = cc
-  apart_act (act.Give m true) fits writes reads = forbidden_none (breaks_O5 m (Moved n)) _ m (Moved n) (apart_overlap m reads)
+  apart_act (act.Give m true) fits writes reads = cc
   apart_act (act.Give m false) fits writes reads = forbidden_none (breaks_O6 m (Moved n)) _ m (Moved n) (apart_overlap m reads)
+
+  -- ---- loans
+
+  lends_on : (b : Bool) → not b ≡ false → b ≡ true
+  lends_on true e = refl
+  lends_on false e = cc
+
+  kind_first : (b : Bool) → b && true ≡ false → b ≡ false
+  kind_first true e = cc
+  kind_first false e = refl
+
+  abbrev Observing : ℕ → Fact
+  Observing h = Lent Observed h n
+
+  seen_fronts : (h r : ℕ) (fronts : List (List Sel)) → list_any (λ p. breaks_O2 p (Observing h)) (map (λ front. record { root = r; sels = front }) fronts) ≡ false
+  seen_fronts h r [] = refl
+  seen_fronts h r (front ∷ fronts) = seen_fronts h r fronts
+
+  seen_write : (h : ℕ) (m : Name) → (m.root == n.root) ≡ false → breaks_O3 m (Observing h) ≡ false
+  seen_write h m other =
+      neither (list_any (λ p. breaks_O2 p (Observing h)) (strict_prefixes m)) (overlaps n m) (seen_fronts h m.root (strict_fronts m.sels)) (apart_overlap m other)
+
+  seen_actual : (h : ℕ) (m : Name) (how : Mode) (owning access : Bool) → ((m.root == n.root) && actual_writes how access ≡ false)
+      → breaks_O10 m how owning access (Observing h) ≡ false
+  seen_actual h m mode.In owning true writes = apart_overlap m (kind_first (m.root == n.root) writes)
+  seen_actual h m mode.In true false writes = refl
+  seen_actual h m mode.In false false writes = refl
+  seen_actual h m mode.InOut true access writes = apart_overlap m (kind_first (m.root == n.root) writes)
+  seen_actual h m mode.InOut false access writes = seen_write h m (kind_first (m.root == n.root) writes)
+  seen_actual h m mode.Out owning access writes = seen_write h m (kind_first (m.root == n.root) writes)
+
+  -- an act that doesn't write the object leaves its observers alone
+  pub apart_seen : (h : ℕ) (a : Act) → ends s a ≡ false → act_writes n.root a ≡ false → forbids a (Observing h) ≡ None
+  apart_seen h (act.Read m) fits writes = refl
+  apart_seen h (act.Look m) fits writes = refl
+  apart_seen h (act.Write m) fits writes = forbidden_none (breaks_O3 m (Observing h)) _ m (Observing h) (seen_write h m writes)
+  apart_seen h (act.Move m parts) fits writes = forbidden_none (breaks_O4 m (Observing h)) _ m (Observing h) (apart_overlap m writes)
+  apart_seen h (act.Free m) fits writes = forbidden_none (breaks_O14 m (Observing h)) _ m (Observing h) (apart_overlap m writes)
+  apart_seen h (act.Borrow b m) fits writes = forbidden_none (breaks_O5 m (Observing h)) _ m (Observing h) (apart_overlap m writes)
+  apart_seen h (act.Observe b m from) fits writes = refl
+  apart_seen h (act.Reborrow b m) fits writes =
+      forbidden_none (breaks_O7 b (Observing h)) _ _ (Observing h) (apart_overlap (record { root = b; sels = [] }) (own_root b (local b (lends_on (is_borrower s b) fits))))
+  apart_seen h (act.EndScope x borrower) fits writes = cc
+  apart_seen h (act.Return roots) fits writes = cc
+  apart_seen h (act.Actual m how owning access) fits writes =
+      forbidden_none (breaks_O10 m how owning access (Observing h)) _ m (Observing h) (seen_actual h m how owning access writes)
+  apart_seen h (act.Global g written) fits writes = cc
+  apart_seen h (act.Give m true) fits writes = cc
+  apart_seen h (act.Give m false) fits writes = refl
+
+  abbrev Borrowing : ℕ → Fact
+  Borrowing h = Lent Borrowed h n
+
+  lent_lead : (h : ℕ) (m : Name) → (m.root == n.root) ≡ false → breaks_O2 m (Borrowing h) ≡ false
+  lent_lead h m other = ap (λ b. b && agrees_whole n.sels m.sels) (other_root m.root other)
+
+  lent_fronts : (h r : ℕ) → (r == n.root) ≡ false → (fronts : List (List Sel)) → list_any (λ p. breaks_O2 p (Borrowing h)) (map (λ front. record { root = r; sels = front }) fronts) ≡ false
+  lent_fronts h r other [] = refl
+  lent_fronts h r other (front ∷ fronts) =
+      ap (λ b. b || list_any (λ p. breaks_O2 p (Borrowing h)) (map (λ front. record { root = r; sels = front }) fronts))
+      (lent_lead h (record { root = r; sels = front }) other)
+      ∙ lent_fronts h r other fronts
+
+  lent_write : (h : ℕ) (m : Name) → (m.root == n.root) ≡ false → breaks_O3 m (Borrowing h) ≡ false
+  lent_write h m other =
+      neither (list_any (λ p. breaks_O2 p (Borrowing h)) (strict_prefixes m)) (overlaps n m) (lent_fronts h m.root other (strict_fronts m.sels)) (apart_overlap m other)
+
+  lent_actual : (h : ℕ) (m : Name) (how : Mode) (owning access : Bool) → (m.root == n.root) ≡ false → breaks_O10 m how owning access (Borrowing h) ≡ false
+  lent_actual h m mode.In owning true other = apart_overlap m other
+  lent_actual h m mode.In true false other = apart_overlap m other
+  lent_actual h m mode.In false false other = refl
+  lent_actual h m mode.InOut true access other = apart_overlap m other
+  lent_actual h m mode.InOut false access other = neither (breaks_O1 m (Borrowing h)) (breaks_O3 m (Borrowing h)) (apart_overlap m other) (lent_write h m other)
+  lent_actual h m mode.Out owning access other = lent_write h m other
+
+  -- one that uses none of it leaves its borrowers alone: it is as if the place was moved
+  pub apart_borrowed : (h : ℕ) (a : Act) → ends s a ≡ false → act_writes n.root a ≡ false → act_reads n.root a ≡ false → forbids a (Borrowing h) ≡ None
+  apart_borrowed h (act.Read m) fits writes reads = forbidden_none (breaks_O1 m (Borrowing h)) _ m (Borrowing h) (apart_overlap m reads)
+  apart_borrowed h (act.Look m) fits writes reads = forbidden_none (breaks_O2 m (Borrowing h)) _ m (Borrowing h) (lent_lead h m reads)
+  apart_borrowed h (act.Write m) fits writes reads = forbidden_none (breaks_O3 m (Borrowing h)) _ m (Borrowing h) (lent_write h m writes)
+  apart_borrowed h (act.Move m parts) fits writes reads = forbidden_none (breaks_O4 m (Borrowing h)) _ m (Borrowing h) (apart_overlap m writes)
+  apart_borrowed h (act.Free m) fits writes reads = forbidden_none (breaks_O14 m (Borrowing h)) _ m (Borrowing h) (apart_overlap m writes)
+  apart_borrowed h (act.Borrow b m) fits writes reads = forbidden_none (breaks_O5 m (Borrowing h)) _ m (Borrowing h) (apart_overlap m writes)
+  apart_borrowed h (act.Observe b m from) fits writes reads = forbidden_none (breaks_O6 m (Borrowing h)) _ m (Borrowing h) (apart_overlap m reads)
+  apart_borrowed h (act.Reborrow b m) fits writes reads =
+      forbidden_none (breaks_O7 b (Borrowing h)) _ _ (Borrowing h) (apart_overlap (record { root = b; sels = [] }) (own_root b (local b (lends_on (is_borrower s b) fits))))
+  apart_borrowed h (act.EndScope x borrower) fits writes reads = cc
+  apart_borrowed h (act.Return roots) fits writes reads = cc
+  apart_borrowed h (act.Actual m how owning access) fits writes reads =
+      forbidden_none (breaks_O10 m how owning access (Borrowing h)) _ m (Borrowing h)
+      (lent_actual h m how owning access (no_kind (m.root == n.root) (actual_writes how access) writes reads))
+  apart_borrowed h (act.Global g written) fits writes reads = cc
+  apart_borrowed h (act.Give m true) fits writes reads = cc
+  apart_borrowed h (act.Give m false) fits writes reads = forbidden_none (breaks_O6 m (Borrowing h)) _ m (Borrowing h) (apart_overlap m reads)
+
+  pub lent_end : (l : Loan) (h x : ℕ) (borrower : Bool) → forbids (act.EndScope x borrower) (Lent l h n) ≡ None
+  lent_end l h x true = refl
+  lent_end l h x false = refl
 
 -- what is lent to a view is read or written
 pub lending_uses : (a : Act) (l : Loan) (h : ℕ) (m : Name) → Has (adds a) (Lent l h m) → (act_writes m.root a ≡ true) ⊎ (act_reads m.root a ≡ true)

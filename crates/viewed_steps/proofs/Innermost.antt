@@ -1,6 +1,7 @@
 -- The innermost frame of a run, beside those that wait: which acts its facts and theirs allow, where
 -- its variables own, and that the others wait still.
-use Rattle.std.proofs.Common.{◌≡◌, refl, sym, ap, ◌∙◌, subst, ◌⊎◌, inl, inr, ℕ, suc, ◌<◌, Bool, true, false, ◌&&◌, ◌||◌, ◌==◌, eq-eqb, List, [], ◌∷◌, ◌++◌, map, drop, length, arith, Some, None, if◌then◌else◌}
+use Rattle.std.proofs.Common.{◌≡◌, refl, sym, ap, ◌∙◌, subst, ◌⊎◌, inl, inr, ℕ, suc, ◌<◌, Bool, true, false, not, ◌&&◌, ◌||◌, ◌==◌, eq-eqb, List, [], ◌∷◌, ◌++◌, map, take, drop, length, get_or, arith, Some, None, if◌then◌else◌, Option}
+use Rattle.std.specs.Prelude.{is_some}
 use Rattle.spark_base.specs.Lists.{Has}
 use Rattle.spark_base.proofs.Lists.{Has-append_left, Has-append_cases, Has-map_from}
 use Rattle.place_names.specs.declared.act.Act.{Act}
@@ -8,48 +9,62 @@ use Rattle.place_names.specs.declared.act.Placed.{Placed}
 use Rattle.place_names.specs.declared.fact.Fact.{Fact}
 use Rattle.place_names.specs.declared.fact.Fact.TheVariants.{Moved, Lent}
 use Rattle.place_names.specs.declared.rule.Loan.{Loan}
-use Rattle.place_names.specs.declared.rule.Loan.TheVariants.{Observed}
+use Rattle.place_names.specs.declared.rule.Loan.TheVariants.{Borrowed, Observed}
 use Rattle.place_names.specs.Names.{Name as PlaceName}
-use Rattle.type_definitions.specs.Types.{Table}
+use Rattle.type_definitions.specs.Types.{Table, full, is_scalar}
+use Rattle.typed_tree.specs.Trees.{TypedTree}
 use Rattle.typed_tree.specs.Programs.{TypedProgram}
 use Rattle.flow_paths.specs.declared.report.Effects.{Effects}
-use Rattle.flow_paths.specs.Instructions.{Instruction, EndScope}
-use Rattle.flow_paths.specs.Objects.{Typing, object_at, is_anonymous, is_package_object, is_variable, is_borrower, is_observer, is_borrowing, is_observing, view_of}
+use Rattle.flow_paths.specs.Instructions.{Instruction, Call, EndScope}
+use Rattle.flow_paths.specs.Objects.{Typing, Signature, traverses, object_at, is_anonymous, is_package_object, is_variable, is_borrower, is_observer, is_borrowing, is_observing, has_scope_end, view_of}
 use Rattle.flow_paths.specs.Points.{NamedPoint, FlowPoint}
 use Rattle.flow_paths.specs.Laid.{FlowSub, FlowProgram, NamedSub, number_in, flow_sub, typing_of, flow_typing, flow_program, flow_named}
 use Rattle.flow_paths.specs.Paths.{ControlPath}
-use Rattle.flow_paths.specs.Effects.{act_reads, act_writes, flow_sub_at, path_points}
+use Rattle.flow_paths.specs.Effects.{act_reads, act_writes, flow_sub_at, path_points, written_by}
 use Rattle.place_names.specs.Rules.{forbids}
-use Rattle.flow_paths.specs.Scopes.{taken, brought, scope_behind, is_within, is_ready}
-use Rattle.machine.specs.Memory.{Memory}
+use Rattle.flow_paths.specs.Scopes.{taken, scope_behind, is_within, is_last, is_ready}
+use Rattle.machine.specs.Words as machine
+use Rattle.machine.specs.Memory.{Memory, given_up}
 use Rattle.machine.specs.Evaluate.{Exception}
-use Rattle.machine.specs.States.{Frame, State, sub_of}
-use Rattle.machine.specs.Step.{Turn}
+use Rattle.machine.specs.States.{Waiting, Frame, State, sub_of}
+use Rattle.machine.specs.Step.{Turn, start}
 use Rattle.machine.specs.Step as steps
 use Rattle.machine.specs.Typed.{successors}
-use Rattle.machine.specs.Owners.{waiting_in}
-use Rattle.owned_ways.specs.Ways.{Step, OfVariable, OfRoot, Way, Held, after, AllowsAll}
+use Rattle.machine.specs.Owners.{WellOwned, waiting_in}
+use Rattle.owned_ways.specs.Ways.{Step, OfVariable, OfRoot, Way, Held, after, AllowsAll, number_of}
 use Rattle.owned_ways.specs.Ways as ways
 use Rattle.soundness.specs.Seen.{IsNear, is_view_formal, content, word_in, home}
 use Rattle.soundness.specs.Typed.{Kept}
-use Rattle.soundness.specs.Sound.{Stage, facts_of, AreStages, Uses, IsProcedure, InScope, IsNamedSub, IsAtPoint, view_of as view_here}
-use Rattle.soundness.specs.Ready.{stored_at}
-use Rattle.soundness.proofs.Contents.{bool_cases}
-use Rattle.soundness.proofs.Points.{flow_at, sub_at_number, sub_in_range}
+use Rattle.soundness.specs.Sound.{Stage, facts_of, AreStages, Uses, IsRunnable, AreAwaited, AreWaiting as AreWaitingValues, is_temporary_object, calls_procedures, returns_value, has_returned, awaited, InScope, IsNamedSub, IsAtPoint, view_of as view_here}
+use Rattle.soundness.specs.Ready.{stored_at, IsSupplied}
+use Rattle.soundness.proofs.Contents.{bool_cases, word_no}
+use Rattle.machine.specs.Run.{no_point}
+use Rattle.soundness.proofs.Points.{flow_at, point_there, sub_there, sub_at_number, sub_in_range}
 use Rattle.soundness.proofs.Scoped.{MayHold, Inside}
 use Rattle.soundness.proofs.Inherited.{Splits, after_splits, allowed_beside}
 use Rattle.soundness.proofs.Used.{writes_used, reads_used, fact_added}
-use Rattle.soundness.proofs.Around.{IsFar, is_inherited, inherited_from}
+use Rattle.soundness.proofs.Around.{IsFar}
 use Rattle.soundness.proofs.Waits.{drop_none}
+use Rattle.soundness.proofs.Taking.{Takes, TakesPlainly}
+use Rattle.soundness.proofs.Waited.{Shares, shares, within_left, FillsNone, brought_count}
+use Rattle.soundness.proofs.Eased.{eased, takes_all}
+use Rattle.soundness.proofs.Raised.{raised_owned}
+use Rattle.soundness.proofs.Passing.{plain_type, signature_is}
+use Rattle.soundness.proofs.Steps.{no_leaf}
 use Rattle.owned_loans.specs.Views.{Around, known_gone, Views, Viewed}
 use Rattle.viewed_soundness.proofs.Names.{true_false}
-use Rattle.viewed_soundness.proofs.Outcomes.{raises}
-use Rattle.viewed_steps.specs.Sound.{IsResting, HoldsAt, ArePlaced, NoneAbove, ViewStage, stages_of, GoneElsewhere, AreWaiting, LeadsOn}
-use Rattle.viewed_steps.specs.Ready.{AreOrderly, IsReady}
+use Rattle.viewed_soundness.proofs.Outcomes.{named_plain}
+use Rattle.viewed_steps.specs.Sound.{IsResting, HoldsAt, ArePlaced, NoneAbove, Lasts, ViewStage, stages_of, GoneElsewhere, Disturbs, AreWaiting, LeadsOn}
+use Rattle.viewed_steps.specs.Ready.{IsCalled, AreOrderly, IsReady}
 use Rattle.viewed_steps.proofs.Lent.{ends, Spare, spare_has}
-use Rattle.viewed_steps.proofs.Inherited.{after_more, apart_act, lending_uses}
+use Rattle.viewed_steps.proofs.Inherited.{after_more, apart_act, lending_uses, apart_borrowed, apart_seen}
 use Rattle.viewed_steps.proofs.Beside.{OthersKept, faint_held}
-use Rattle.viewed_steps.proofs.Waiting.{StandsBetween, all_between, KeptElsewhere, unused_there, around as concern, beside_them, handed, with_them, without_them, far, all_on}
+use Rattle.viewed_steps.proofs.Waiting.{StandsBetween, all_between, KeptElsewhere, LentElsewhere, unused_there, beside_them, handed, handed_cases, moved_handed, lent_handed, AreApart, with_them, without_them, far, all_on}
+use Rattle.viewed_steps.proofs.Uses.{writes_there, borrowing_writes, moving_writes}
+use Rattle.viewed_steps.proofs.Apart.{spared_there, written_disturbs, moved_apart, seen_apart}
+use Rattle.viewed_steps.proofs.Eased.{eased_viewed}
+use Rattle.viewed_steps.proofs.Placed.{view_ends}
+use Rattle.viewed_steps.proofs.Read.{scalar_named}
 use Rattle.viewed_steps.proofs.Standing.{or_right}
 use Rattle.viewed_steps.proofs.Standing as standing
 use Rattle.viewed_steps.proofs.Packages as packages
@@ -57,9 +72,6 @@ use Rattle.viewed_steps.proofs.Packages as packages
 unless : (b : Bool) → (b ≡ true → ⊥) → b ≡ false
 unless true e = absurd (e refl)
 unless false e = refl
-
-moved_same : (name other : PlaceName) → Moved name ≡ Moved other → name ≡ other
-moved_same name other e = cc
 
 borrower_anonymous : (s : Typing) (x : ℕ) → is_borrower s x ≡ true → is_anonymous (view_of s x) ≡ true
 borrower_anonymous s x e = either_view (is_variable (object_at s x).kind) (is_borrowing (view_of s x)) (is_observing (view_of s x)) e
@@ -88,9 +100,6 @@ module _ (table : Table) (typed : TypedProgram) (effects : Effects) (input : Lis
   abbrev own : Typing
   own = typing_of table typed
 
-  abbrev same : s ≡ own
-  same = standing.same table typed effects input ready
-
   abbrev no_in_formals : (x : ℕ) → is_view_formal s x ≡ false
   no_in_formals = standing.no_in_formals table typed effects input ready
 
@@ -105,7 +114,8 @@ module _ (table : Table) (typed : TypedProgram) (effects : Effects) (input : Lis
   module _ (state : State) (top : Stage) (below : ViewStage) (more_frames : List ViewStage) (rest : List Frame) (named : NamedSub) (p : NamedPoint)
       (frames : state.frames ≡ top.frame ∷ (below.stage.frame ∷ rest)) (deep : top.depth ≡ suc (length rest))
       (stages : AreStages (stages_of (below ∷ more_frames)) (below.stage.frame ∷ rest))
-      (running : IsProcedure table typed top.frame.sub × IsResting s top × AreWaiting table typed effects state top.frame.sub top.frame.returns (below ∷ more_frames))
+      (running : IsRunnable table typed top.frame.sub × IsResting s top × AreWaiting table typed effects state top.frame.sub top.frame.returns (below ∷ more_frames))
+      (awaiting : AreAwaited table typed 0 (top ∷ stages_of (below ∷ more_frames)))
       (of_sub : IsNamedSub (flow_named table typed) top.frame.sub named) (at_point : IsAtPoint named.points top.frame.next p)
       (path : ControlPath (path_points program effects (sub_of program top.frame.sub)) top.before top.frame.next) (views : Views)
       (viewed_before : Viewed (home s (suc (length rest))) (is_observer s) (known_gone (home s (suc (length rest))) (GoneElsewhere program effects (below ∷ more_frames))) views
@@ -124,18 +134,12 @@ module _ (table : Table) (typed : TypedProgram) (effects : Effects) (input : Lis
     pub between : (g : ViewStage) → Has (below ∷ more_frames) g → StandsBetween table typed effects unmoved_stage local state (suc (length rest)) g
     between g has = all_between table typed effects unmoved_stage local state top.frame.sub (suc (length rest)) top.frame.returns (below ∷ more_frames) (below.stage.frame ∷ rest) stages (omega arith) running.2 g has
 
-    -- what concerns it of them, and that with their facts on package objects beside its own
-    abbrev pub other_all : Around (home s (suc (length rest)))
-    other_all = concern table typed effects unmoved_stage local state (suc (length rest)) (below ∷ more_frames) between
-
+    -- what concerns it of them, with their facts on package objects beside its own
     abbrev pub other : Around (home s (suc (length rest)))
     other = beside_them table typed effects unmoved_stage local state (suc (length rest)) (below ∷ more_frames) between
 
     pub alone : (w : Way) → IsNear (suc (length rest)) w → IsFar (suc (length rest)) (GoneElsewhere program effects (below ∷ more_frames)) w → ⊥
     alone w near o = o.0 near
-
-    pub plain : top.frame.waits ≡ []
-    plain = running.1.0
 
     abbrev pub main_turn : Turn
     main_turn = standing.t table typed effects input ready state top older outer named p frames of_sub at_point
@@ -167,18 +171,20 @@ module _ (table : Table) (typed : TypedProgram) (effects : Effects) (input : Lis
     sub_less = sub_in_range table typed top.frame.sub named of_sub
 
     -- none that a frame around has moved
-    pub unused_here : (f : Fact) → Has handed_on f
-        → (name : PlaceName) × (f ≡ Moved name) × (is_package_object s name.root ≡ true) × (Uses effects top.frame.sub name.root → ⊥)
-    unused_here f has =
-        let found = inherited_from program effects (stages_of older) f has in
-        let view = Has-map_from (λ (z : ViewStage). z.stage) older found.0 found.1 in
-        by_fact f view.0 view.1 (subst (λ z. Has (facts_of program effects z) f) (sym view.2) found.2) found.3
-      where
-        by_fact : (f : Fact) (g : ViewStage) → Has older g → Has (facts_of program effects g.stage) f → is_inherited s f ≡ true
-            → (name : PlaceName) × (f ≡ Moved name) × (is_package_object s name.root ≡ true) × (Uses effects top.frame.sub name.root → ⊥)
-        by_fact (Moved name) g has fact shared =
-            (name, refl, shared, λ uses. unused_there table typed effects unmoved_stage local state top.frame.sub top.frame.returns older running.2 g has name fact shared uses)
-        by_fact (Lent l h n) g has fact shared = cc
+    pub unused_here : (name : PlaceName) → Has handed_on (Moved name) → (is_package_object s name.root ≡ true) × (Uses effects top.frame.sub name.root → ⊥)
+    unused_here name has =
+        let found = moved_handed table typed effects unmoved_stage local state (suc (length rest)) (below ∷ more_frames) between name has in (
+          found.3,
+          λ uses. unused_there table typed effects unmoved_stage local state top.frame.sub top.frame.returns older running.2 found.0 found.1 name found.2 found.3 uses,
+        )
+
+    abbrev pub LentAround : Loan → PlaceName → Type 0
+    LentAround l name = LentElsewhere table typed effects unmoved_stage local (below ∷ more_frames) l name
+
+    -- and it disturbs none that one has lent
+    pub spared_here : (l : Loan) (name : PlaceName) → LentAround l name → Disturbs effects l top.frame.sub name.root → ⊥
+    spared_here l name (g, has, some, h, fact, shared_object) disturbs =
+        spared_there table typed effects ready.accepted.effects_are state top.frame.sub top.frame.returns older running.2 g has some l h name fact shared_object disturbs
 
     pub act_uses : (x : ℕ) → is_package_object s x ≡ true → (q : FlowPoint) → Has (flow_sub own named).points q → (a : Placed) → Has q.acts a
         → (act_writes x a.act ≡ true) ⊎ (act_reads x a.act ≡ true) → Uses effects top.frame.sub x
@@ -187,15 +193,51 @@ module _ (table : Table) (typed : TypedProgram) (effects : Effects) (input : Lis
     act_uses x shared q point a has (inr e) =
         reads_used program effects ready.accepted.effects_are top.frame.sub (flow_sub own named) sub_at_all sub_less x shared q point a has e
 
-    -- and none of these is lent
-    pub unlent : (name : PlaceName) → Has handed_on (Moved name) → (l : Loan) (h : ℕ) (m : PlaceName) → Has own_facts (Lent l h m) → name.root ≡ m.root → ⊥
-    unlent name has l h m lends root =
-        let found = unused_here (Moved name) has in
-        let same_name : name ≡ found.0 = moved_same name found.0 found.1 in
-        let shared : is_package_object s m.root ≡ true = ap (is_package_object s) (sym root ∙ ap (λ (z : PlaceName). z.root) same_name) ∙ found.2 in
+    pub act_writes_it : (x : ℕ) → is_package_object s x ≡ true → (q : FlowPoint) → Has (flow_sub own named).points q → (a : Placed) → Has q.acts a
+        → act_writes x a.act ≡ true → Has (written_by effects top.frame.sub) x
+    act_writes_it x shared q point a has e =
+        writes_there program effects ready.accepted.effects_are top.frame.sub (flow_sub own named) sub_at_all sub_less x shared q point a has e
+
+    -- its own facts on package objects are of such that it uses, or writes
+    lent_uses : (l : Loan) (h : ℕ) (m : PlaceName) → Has own_facts (Lent l h m) → is_package_object s m.root ≡ true → Uses effects top.frame.sub m.root
+    lent_uses l h m lends shared =
         let from = fact_added program effects ready.accepted.effects_are (flow_sub own named) top.before (Lent l h m) lends in
-        found.3 (subst (Uses effects top.frame.sub) (sym root ∙ ap (λ (z : PlaceName). z.root) same_name)
-        (act_uses m.root shared from.0 from.2 from.1 from.3 (lending_uses (from.1).act l h m from.4)))
+        act_uses m.root shared from.0 from.2 from.1 from.3 (lending_uses (from.1).act l h m from.4)
+
+    borrowed_writes : (h : ℕ) (m : PlaceName) → Has own_facts (Lent Borrowed h m) → is_package_object s m.root ≡ true → Has (written_by effects top.frame.sub) m.root
+    borrowed_writes h m lends shared =
+        let from = fact_added program effects ready.accepted.effects_are (flow_sub own named) top.before (Lent Borrowed h m) lends in
+        act_writes_it m.root shared from.0 from.2 from.1 from.3 (borrowing_writes (from.1).act h m from.4)
+
+    moved_writes : (m : PlaceName) → Has own_facts (Moved m) → is_package_object s m.root ≡ true → Has (written_by effects top.frame.sub) m.root
+    moved_writes m moved shared =
+        let from = fact_added program effects ready.accepted.effects_are (flow_sub own named) top.before (Moved m) moved in
+        act_writes_it m.root shared from.0 from.2 from.1 from.3 (moving_writes (from.1).act m from.4)
+
+    -- so they meet none of what is handed on
+    pub apart : AreApart table typed effects unmoved_stage local state (suc (length rest)) (below ∷ more_frames) between own_facts
+    apart = record {
+      moved = λ n has l m (k, there, some, h, fact, shared) over. (
+          let found = moved_handed table typed effects unmoved_stage local state (suc (length rest)) (below ∷ more_frames) between n has in
+          moved_apart table typed effects ready.accepted.effects_are unmoved_stage (unused_there table typed effects unmoved_stage local) state top.frame.sub top.frame.returns older running.2
+          found.0 k found.1 there some n found.2 found.3 l h m fact over);
+      seen = λ n m (g, has, deep_there, b, lends, shared) (k, there, some, h, fact, also) over.
+          seen_apart table typed effects ready.accepted.effects_are unmoved_stage (unused_there table typed effects unmoved_stage local) state top.frame.sub top.frame.returns older running.2
+          g k has there deep_there some b n lends shared h m fact over;
+      own_lent = λ n has l h m lends root. (
+          let found = unused_here n has in
+          found.1 (subst (Uses effects top.frame.sub) (sym root) (lent_uses l h m lends (ap (is_package_object s) (sym root) ∙ found.0))));
+      own_moved = λ n moved l m lent root. (
+          let written = moved_writes n moved (ap (is_package_object s) root ∙ lent.5) in
+          spared_here l m lent (written_disturbs table typed effects ready.accepted.effects_are l top.frame.sub m.root
+          (subst (Has (written_by effects top.frame.sub)) root written)));
+      own_borrowed = λ b n lends l m lent root. (
+          let written = borrowed_writes b n lends (ap (is_package_object s) root ∙ lent.5) in
+          spared_here l m lent (written_disturbs table typed effects ready.accepted.effects_are l top.frame.sub m.root
+          (subst (Has (written_by effects top.frame.sub)) root written)));
+      own_seen = λ h m lends n lent root.
+          spared_here Borrowed n lent (subst (Uses effects top.frame.sub) (sym root) (lent_uses Observed h m lends (ap (is_package_object s) (sym root) ∙ lent.5)));
+    }
 
     pub borrower_local : (x : ℕ) → is_borrower s x ≡ true → is_package_object s x ≡ false
     borrower_local x borrows = local x (borrower_anonymous s x borrows)
@@ -203,14 +245,28 @@ module _ (table : Table) (typed : TypedProgram) (effects : Effects) (input : Lis
     pub one_apart : (a : Placed) → Has (standing.acts_by table typed effects input ready state top older outer named p frames of_sub at_point s p.instr) a → ends s a.act ≡ false
         → (f : Fact) → Has handed_on f → forbids a.act f ≡ None
     one_apart a has fits f there =
-        let found = unused_here f there in
         let in_point : Has (flow_at own named p).acts a =
-        subst (λ z. Has (standing.acts_by table typed effects input ready state top older outer named p frames of_sub at_point z p.instr) a) same has in
+        subst (λ z. Has z a) (standing.acts_agree table typed effects input ready state top older outer named p frames of_sub at_point) has in
         let in_main = standing.in_sub table typed effects input ready state top older outer named p frames of_sub at_point in
-        ap (forbids a.act) found.1
-        ∙ apart_act s found.0 found.2 borrower_local a.act fits
-        (unless (act_writes (found.0).root a.act) (λ e. found.3 (act_uses (found.0).root found.2 (flow_at own named p) in_main a in_point (inl e))))
-        (unless (act_reads (found.0).root a.act) (λ e. found.3 (act_uses (found.0).root found.2 (flow_at own named p) in_main a in_point (inr e))))
+        elim (handed_cases table typed effects unmoved_stage local state (suc (length rest)) (below ∷ more_frames) between f there) [
+          | inl (name, is, g, has_stage, fact, shared) ↦ (
+              let unused = (unused_here name (subst (Has handed_on) is there)).1 in
+              ap (forbids a.act) is
+              ∙ apart_act s name shared borrower_local a.act fits
+              (unless (act_writes name.root a.act) (λ e. unused (act_uses name.root shared (flow_at own named p) in_main a in_point (inl e))))
+              (unless (act_reads name.root a.act) (λ e. unused (act_uses name.root shared (flow_at own named p) in_main a in_point (inr e)))))
+          | inr (l, name, is, lent) ↦ ap (forbids a.act) is ∙ loan_apart l name lent in_main in_point
+        ]
+      where
+        loan_apart : (l : Loan) (name : PlaceName) → LentAround l name → Has (flow_sub own named).points (flow_at own named p) → Has (flow_at own named p).acts a
+            → forbids a.act (Lent l name.root name) ≡ None
+        loan_apart Borrowed name lent in_main in_point =
+            apart_borrowed s name lent.5 borrower_local name.root a.act fits
+            (unless (act_writes name.root a.act) (λ e. spared_here Borrowed name lent (act_uses name.root lent.5 (flow_at own named p) in_main a in_point (inl e))))
+            (unless (act_reads name.root a.act) (λ e. spared_here Borrowed name lent (act_uses name.root lent.5 (flow_at own named p) in_main a in_point (inr e))))
+        loan_apart Observed name lent in_main in_point =
+            apart_seen s name lent.5 borrower_local name.root a.act fits
+            (unless (act_writes name.root a.act) (λ e. spared_here Observed name lent (act_writes_it name.root lent.5 (flow_at own named p) in_main a in_point e)))
 
     pub acts_apart : Spare s (standing.acts_by table typed effects input ready state top older outer named p frames of_sub at_point s p.instr) → (a : Act) → Has (acts_of_main p.instr) a
         → (f : Fact) → Has handed_on f → forbids a f ≡ None
@@ -229,17 +285,19 @@ module _ (table : Table) (typed : TypedProgram) (effects : Effects) (input : Lis
     pub package_plain : (x : ℕ) → is_package_object s x ≡ true → is_observer s x ≡ false
     package_plain x shared = unless (is_observer s x) (λ sees. true_false (is_package_object s x) shared (local x (observer_anonymous s x sees)))
 
+    -- what is lent around is no part of an object of the frame
+    pub not_lent : (x : ℕ) → is_package_object s x ≡ false → (l : Loan) (name : PlaceName) → other.lent l name → name.root ≡ x → ⊥
+    not_lent x own_object l name lent root = true_false (is_package_object s x) (ap (is_package_object s) (sym root) ∙ lent.5) own_object
+
+    pub not_lent_home : (x : ℕ) (l : Loan) (name : PlaceName) → other.lent l name → name.root ≡ x → depth ≡ home s depth x → ⊥
+    not_lent_home x l name lent root at_home =
+        let shared : is_package_object s x ≡ true = ap (is_package_object s) (sym root) ∙ lent.5 in
+        let none : depth ≡ 0 = at_home ∙ ap (λ b. if b then 0 else depth) shared in omega (arith, none)
+
     -- with the views of those that wait, and their facts on package objects
     pub viewed : Viewed (home s depth) (is_observer s) other views (view_here s state) facts_now
-    viewed = with_them table typed effects unmoved_stage local state depth older between views (view_here s state) own_facts own_views package_plain unlent
-        (record {
-          owned = viewed_own.owned;
-          covered = viewed_own.covered;
-          known = viewed_own.known;
-          clear = viewed_own.clear;
-          views = viewed_own.views;
-          far = λ w n keeps. far table typed effects unmoved_stage local state depth older between w n keeps;
-        })
+    viewed = with_them table typed effects unmoved_stage local state depth older between views (view_here s state) own_facts own_views package_plain apart
+        (λ w n keeps. far table typed effects unmoved_stage local state depth older between w n keeps) viewed_own
 
     -- and without them
     pub apart_from_them : (done : List Act) (v : Views) (view : ways.View) → ((x : ℕ) (w : Way) → v.way x ≡ Some w → is_anonymous (view_of s x) ≡ true)
@@ -247,45 +305,46 @@ module _ (table : Table) (typed : TypedProgram) (effects : Effects) (input : Lis
         → Viewed (home s depth) (is_observer s) (known_gone (home s depth) (GoneElsewhere program effects older)) v view (after done own_facts)
     apart_from_them done v view only well =
         without_them table typed effects unmoved_stage local state depth older between v view (after done facts_now) (after done own_facts)
-        (λ x w has. local x (only x w has)) (after_more done own_facts facts_now (λ f has. Has-append_left own_facts handed_on f has))
+        (λ x w has. local x (only x w has)) package_plain (after_more done own_facts facts_now (λ f has. Has-append_left own_facts handed_on f has))
         (after_splits done facts_now own_facts handed_on from_both) well
 
     pub placed_own : ArePlaced program own_facts views p.scope
     placed_own = subst (λ z. ArePlaced program z views p.scope) (standing.facts_are table typed effects input ready state top older outer named p frames of_sub at_point path) placed_before
 
-    pub placed_by : (some all : List Fact) (v : Views) (scope_there : List ℕ) → ((h : ℕ) (m : PlaceName) → Has some (Lent Observed h m) → Has all (Lent Observed h m))
+    pub placed_by : (some all : List Fact) (v : Views) (scope_there : List ℕ)
+        → ((h : ℕ) (m : PlaceName) → is_observer s h ≡ true → Has some (Lent Observed h m) → Has all (Lent Observed h m))
         → ArePlaced program some v scope_there → ArePlaced program all v scope_there
     placed_by some all v scope_there lends there x w has = (let old = there x w has in record {
       within = old.within;
       up = old.up;
       root = old.root;
-      holder = λ sees. (let h = old.holder sees in (h.0, lends h.0 (ways.name_of (v.loan x)) h.1, h.2));
+      holder = λ sees. (let h = old.holder sees in (h.0, lends h.0 (ways.name_of (v.loan x)) h.3 h.1, h.2, h.3));
     })
 
     pub placed : ArePlaced program facts_now views p.scope
-    placed = placed_by own_facts facts_now views p.scope (λ h m has. Has-append_left own_facts handed_on (Lent Observed h m) has) placed_own
+    placed = placed_by own_facts facts_now views p.scope (λ h m sees has. Has-append_left own_facts handed_on (Lent Observed h m) has) placed_own
 
     -- loans are those of the frame
-    pub own_loans : (done : List Act) (h : ℕ) (m : PlaceName) → Has (after done facts_now) (Lent Observed h m) → Has (after done own_facts) (Lent Observed h m)
-    own_loans done h m has = elim (after_splits done facts_now own_facts handed_on from_both (Lent Observed h m) has) [
+    pub own_loans : (done : List Act) (h : ℕ) (m : PlaceName) → is_observer s h ≡ true → Has (after done facts_now) (Lent Observed h m)
+        → Has (after done own_facts) (Lent Observed h m)
+    own_loans done h m sees has = elim (after_splits done facts_now own_facts handed_on from_both (Lent Observed h m) has) [
       | inl mine ↦ mine
-      | inr there ↦ (let never : false ≡ true = (inherited_from program effects (stages_of older) (Lent Observed h m) there).3 in cc)
+      | inr there ↦ (
+          let lent = lent_handed table typed effects unmoved_stage local state (suc (length rest)) (below ∷ more_frames) between Observed h m there in
+          absurd (true_false (is_observer s h) sees (package_plain h (ap (is_package_object s) lent.0 ∙ (lent.1).5))))
     ]
 
     -- what is handed on is of no object of the frame
     pub not_handed : (name : PlaceName) → Has handed_on (Moved name) → is_package_object s name.root ≡ false → ⊥
-    not_handed name has own_root = true_false (is_package_object s name.root) (inherited_from program effects (stages_of older) (Moved name) has).3 own_root
+    not_handed name has own_root = true_false (is_package_object s name.root) (unused_here name has).0 own_root
 
     pub not_at_home : (x : ℕ) (name : PlaceName) → Has handed_on (Moved name) → name.root ≡ x → depth ≡ home s depth x → ⊥
     not_at_home x name has root at_home =
-        let shared : is_package_object s x ≡ true = ap (is_package_object s) (sym root) ∙ (inherited_from program effects (stages_of older) (Moved name) has).3 in
+        let shared : is_package_object s x ≡ true = ap (is_package_object s) (sym root) ∙ (unused_here name has).0 in
         let none : depth ≡ 0 = at_home ∙ ap (λ b. if b then 0 else depth) shared in omega (arith, none)
 
-    pub none_takes : taken main_turn.point.instr ≡ 0
-    none_takes = standing.takes table typed effects input ready state top older outer named p frames of_sub at_point
-
-    pub no_result : named.sub.result ≡ None
-    no_result = (running.0).procedure named of_sub
+    pub none_takes : (i : Instruction) → p.instr ≡ i → taken i ≡ 0 → taken main_turn.point.instr ≡ 0
+    none_takes i e none = ap taken e ∙ none
 
     pub named_there : Has (flow_named table typed) named
     named_there = standing.named_in table typed effects input ready state top older outer named p frames of_sub at_point
@@ -302,8 +361,142 @@ module _ (table : Table) (typed : TypedProgram) (effects : Effects) (input : Lis
     pub orderly : AreOrderly program p (λ q. (n : ℕ) × Has (map (number_in named.points) p.next) n × IsAtPoint named.points n q)
     orderly = ready.orderly.points named named_there p point_there_now
 
-    pub scope_is : scope_behind p ≡ brought p.instr p.scope
-    scope_is = ap (λ n. brought p.instr (drop n p.scope)) none_takes ∙ ap (brought p.instr) (drop_none p.scope)
+    -- ---- its result
+
+    sub_result : (of : ℕ) → named.sub.result ≡ Some of → (sub_of program top.frame.sub).result ≡ Some of
+    sub_result of result =
+        ap (λ (z : FlowSub). z.result) (standing.sub_is table typed effects input ready state top older outer named p frames of_sub at_point) ∙ result
+
+    -- only functions give results
+    pub plain_result : (of : ℕ) → named.sub.result ≡ Some of → is_scalar (full s.table of) ≡ true
+    plain_result of result = elim ready.class.results [
+      | inr plain ↦ plain.0 top.frame.sub of (ap (λ (z : Signature). z.result) (signature_is program top.frame.sub) ∙ sub_result of result)
+      | inl procedures ↦ absurd (elim (running.0).entered [
+        | inl main ↦ (
+            let same : Some top.frame.sub ≡ Some ready.main = sym main ∙ ready.is_main in
+            let number : top.frame.sub ≡ ready.main = cc in
+            no_some (sym (sub_result of result) ∙ ap (λ n. (sub_of program n).result) number ∙ main_result))
+        | inr (sub, has, q, there, actuals, temporary, calls) ↦
+            called_then actuals temporary (sym (ap calls_procedures calls) ∙ procedures sub has q there) (ready.called sub has q there top.frame.sub actuals temporary calls)
+      ])
+    ]
+      where
+        no_some : Some of ≡ None → ⊥
+        no_some never = cc
+
+        main_result : (sub_of program ready.main).result ≡ None
+        main_result =
+            ap (λ (z : FlowSub). z.result) (sub_there table typed ready.main ready.main_there.named ready.main_there.stands)
+            ∙ ready.main_there.procedure ready.main_there.named ready.main_there.stands
+
+        called_then : (actuals : TypedTree) (temporary : Option ℕ) → calls_procedures (Call top.frame.sub actuals temporary) ≡ true
+            → IsCalled table typed top.frame.sub actuals temporary → ⊥
+        called_then actuals None calls called = (let never : true ≡ false = sym (ap is_some (sub_result of result)) ∙ called.answers in cc)
+        called_then actuals (Some t) calls called = cc
+
+    -- so the value is no view
+    pub plain_traversal : traverses s.table named.sub.result ≡ false
+    plain_traversal = by_result named.sub.result refl
+      where
+        by_result : (r : Option ℕ) → named.sub.result ≡ r → traverses s.table r ≡ false
+        by_result None is = refl
+        by_result (Some of) is = named_plain s.table of (scalar_named s.table of (plain_result of is))
+
+    -- ---- what waits
+
+    abbrev pub count : ℕ
+    count = taken p.instr
+
+    abbrev pub left_scope : List ℕ
+    left_scope = drop count p.scope
+
+    pub waits_here : AreWaitingValues s top.frame.waits p.scope
+    waits_here = subst (AreWaitingValues s top.frame.waits) (drop_none p.scope) (awaiting.0 named of_sub p at_point).0
+
+    pub supplied_here : IsSupplied s p
+    supplied_here = standing.supplied table typed effects input ready state top older outer named p frames of_sub at_point
+
+    pub shared : Shares s count top.frame.waits p.scope
+    shared = shares s count top.frame.waits p.scope waits_here supplied_here.0
+
+    abbrev pub given_words : List (List machine.Word)
+    given_words = (start main_turn).waits
+
+    pub takes_here : Takes count given_words []
+    takes_here = takes_all s (take count top.frame.waits) count shared.count shared.plain
+
+    pub takes_of : (i : Instruction) → p.instr ≡ i → Takes (taken i) given_words []
+    takes_of i e = subst (λ z. Takes (taken z) given_words []) e takes_here
+
+    -- the step without the values that it takes
+    abbrev pub easy : Turn
+    easy = eased main_turn
+
+    pub viewed_easy : Viewed (home s depth) (is_observer s) other views (view_here s easy.state) facts_now × Kept s state.memory (waiting_in easy.state)
+    viewed_easy = eased_viewed main_turn ready.accepted.settled (home s depth) (is_observer s) other views facts_now frames shared.plain viewed kept
+
+    pub plainly : (i : Instruction) → p.instr ≡ i → (calls : Bool) → (calls_procedures i ≡ true → calls ≡ false) → TakesPlainly s calls
+    plainly i e calls none =
+        standing.takes_plainly table typed effects input ready (flow_sub own named) (standing.in_program table typed effects input ready state top older outer named p frames of_sub at_point)
+        main_turn.point (standing.in_sub table typed effects input ready state top older outer named p frames of_sub at_point) i e calls none
+
+    -- a temporary has no end of scope of its own
+    no_end : (x : ℕ) → is_temporary_object s x ≡ true → has_scope_end s x ≡ false
+    no_end x temporary =
+        let scalar = ready.class.temporaries x temporary in
+        (λ j. plain_type s ready.owns (object_at s x).of scalar j || named_plain s.table (object_at s x).of (scalar_named s.table (object_at s x).of scalar) j)
+
+    -- what has one is there still
+    pub left_within : (x : ℕ) → has_scope_end s x ≡ true → is_within x p.scope ≡ true → is_within x left_scope ≡ true
+    left_within x end within = elim (within_left s count p.scope supplied_here.0 x within) [
+      | inr left ↦ left
+      | inl temporary ↦ absurd (true_false (has_scope_end s x) end (no_end x temporary))
+    ]
+
+    pub lasts_left : (r x : ℕ) → Lasts program p.scope r x → Lasts program left_scope r x
+    lasts_left r x (inl shared_object) = inl shared_object
+    lasts_left r x (inr (within, end, around)) = inr (left_within r end within, end, around)
+
+    pub placed_left : (facts : List Fact) → ArePlaced program facts views p.scope → ArePlaced program facts views left_scope
+    placed_left facts there x w has = (let old = there x w has in record {
+      within = left_within x (view_ends s x (holds.only x w has)) old.within;
+      up = lasts_left (number_of (views.up x)) x old.up;
+      root = lasts_left (number_of w) x old.root;
+      holder = λ sees. (let h = old.holder sees in (h.0, h.1, lasts_left h.0 x h.2, h.3));
+    })
+
+    -- the values that wait on, after an instruction that fills no temporary
+    abbrev pub Left : List Waiting → Type 0
+    Left waits = AreWaitingValues s waits (scope_behind p)
+
+    pub left_after : FillsNone s p.instr → Left (steps.waiting main_turn)
+    left_after none = (
+      (shared.left).0,
+      (shared.left).1 ∙ sym (brought_count s p.instr left_scope none supplied_here.1 last_there),
+    )
+      where
+        last_there : (x : ℕ) → p.instr ≡ EndScope x → is_last x left_scope ≡ true
+        last_there x e =
+            ap (is_last x) (ap (λ n. drop n p.scope) (ap taken e) ∙ drop_none p.scope)
+            ∙ subst (λ z. is_ready p z ≡ true) e (standing.is_ready_there table typed effects input ready state top older outer named p frames of_sub at_point)
+
+    -- ---- what a caller awaits
+
+    abbrev pub sub_here : FlowSub
+    sub_here = sub_of program top.frame.sub
+
+    pub instr_there : (get_or sub_here.points top.frame.next no_point).instr ≡ p.instr
+    instr_there =
+        ap (λ (z : FlowSub). (get_or z.points top.frame.next no_point).instr) (standing.sub_is table typed effects input ready state top older outer named p frames of_sub at_point)
+        ∙ ap (λ (q : FlowPoint). q.instr) (point_there own named top.frame.next p at_point)
+
+    -- an instruction that returns no value leaves that as it is
+    still_awaited : returns_value p.instr ≡ false → awaited sub_here top.before ≡ awaited sub_here (top.frame.next ∷ top.before)
+    still_awaited none =
+        ap (λ b. if is_some sub_here.result && not (b || has_returned sub_here top.before) then 1 else 0) (sym (ap returns_value instr_there ∙ none))
+
+    pub others_await : returns_value p.instr ≡ false → AreAwaited table typed (awaited sub_here (top.frame.next ∷ top.before)) (stages_of older)
+    others_await none = subst (λ n. AreAwaited table typed n (stages_of older)) (still_awaited none) awaiting.1
 
     -- ---- which variables own
 
@@ -317,6 +510,19 @@ module _ (table : Table) (typed : TypedProgram) (effects : Effects) (input : Lis
     inside f x q n held = elim (scope f x q n held) [
       | inl less ↦ inl (less, inr (q, n, held))
       | inr mine ↦ inr mine
+    ]
+
+    -- what is taken owns nothing
+    pub inside_left : Inside s IsOld state.memory depth left_scope
+    inside_left f x q n held = elim (inside f x q n held) [
+      | inl old ↦ inl old
+      | inr mine ↦ elim (within_left s count p.scope supplied_here.0 x mine.1) [
+        | inr left ↦ inr (mine.0, left)
+        | inl temporary ↦ (
+            let none = word_no s.table (content s state.memory [] (OfRoot (OfVariable f x))) q
+            (no_leaf s.table ready.accepted.settled (object_at s x).of (ready.class.temporaries x temporary) q) in
+            let no_number : ways.Empty ≡ Held n = sym none ∙ held in cc)
+      ]
     ]
 
     pub in_scope : (m : Memory) (after_scope : List ℕ) → Inside s IsOld m depth after_scope → InScope s m depth after_scope
@@ -361,36 +567,29 @@ module _ (table : Table) (typed : TypedProgram) (effects : Effects) (input : Lis
     pub with_successors : (i : Instruction) (n : ℕ) → p.instr ≡ i → n < successors i → n < successors main_turn.point.instr
     with_successors i n e less = subst (λ z. n < successors z) (sym e) less
 
-    pub same_scope : (x : ℕ) → is_within x p.scope ≡ true → is_within x p.scope ≡ true
+    pub same_scope : (x : ℕ) → is_within x left_scope ≡ true → is_within x left_scope ≡ true
     same_scope x within = within
 
-    pub one_more : (y x : ℕ) → is_within x p.scope ≡ true → is_within x (y ∷ p.scope) ≡ true
-    one_more y x within = or_right (x == y) (is_within x p.scope) within
+    pub one_more : (y x : ℕ) → is_within x left_scope ≡ true → is_within x (y ∷ left_scope) ≡ true
+    one_more y x within = or_right (x == y) (is_within x left_scope) within
 
-    pub new_one : (x : ℕ) → is_within x (x ∷ p.scope) ≡ true
-    new_one x = ap (λ b. b || is_within x p.scope) (eq-eqb x x refl)
+    pub new_one : (x : ℕ) → is_within x (x ∷ left_scope) ≡ true
+    new_one x = ap (λ b. b || is_within x left_scope) (eq-eqb x x refl)
 
-    pub stored_which : (i : Instruction) → p.instr ≡ i → (x : ℕ) → Has (stored_at i) x → (is_package_object s x ≡ true) ⊎ (is_within x p.scope ≡ true)
+    pub stored_which : (i : Instruction) → p.instr ≡ i → (x : ℕ) → Has (stored_at i) x → (is_package_object s x ≡ true) ⊎ (is_within x left_scope ≡ true)
     stored_which i e x has = ready.scoped.stored named named_there p point_there_now x (subst (λ z. Has (stored_at z) x) (sym e) has)
 
-    pub stored_there : (i : Instruction) → p.instr ≡ i → (x : ℕ) → Has (stored_at i) x → MayHold s IsOld depth p.scope (home s depth x) x
-    stored_there i e x has = may_hold x p.scope (stored_which i e x has)
+    pub stored_there : (i : Instruction) → p.instr ≡ i → (x : ℕ) → Has (stored_at i) x → MayHold s IsOld depth left_scope (home s depth x) x
+    stored_there i e x has = may_hold x left_scope (stored_which i e x has)
 
     pub ready_there : (i : Instruction) → p.instr ≡ i → is_ready p i ≡ true
     ready_there i e = subst (λ z. is_ready p z ≡ true) e (standing.is_ready_there table typed effects input ready state top older outer named p frames of_sub at_point)
 
     -- ---- exceptions
 
-    abbrev pub none_taken : ℕ → ℕ → Type 0
-    none_taken a b = ⊥
-
     -- an exception ends the run
-    pub ends_raised : ((x : ℕ) → p.instr ≡ EndScope x → ⊥) → (how : Exception) (m : Memory) → LeadsOn table typed effects (steps.raised main_turn how m)
-    ends_raised not_end how m = (
-      (λ trap. trap),
-      raises main_turn ready.accepted.settled ready.owns other alone no_in_formals views ready.class.parts_named none_taken frames none_takes facts_now (record {
-        viewed = viewed;
-        kept = kept;
-        holds = record { held = λ x k view at. holds.held x k (λ fading. not_end fading.0 fading.1) view at; only = holds.only };
-      }) m,
-    )
+    pub raised_well : (m : Memory) → WellOwned s (steps.counted (record state { memory = given_up state.memory m }))
+    raised_well m = raised_owned s ready.accepted.settled ready.owns state viewed.owned viewed.covered m
+
+    pub ends_raised : (how : Exception) (m : Memory) → LeadsOn table typed effects (steps.raised main_turn how m)
+    ends_raised how m = ((λ trap. trap), raised_well m)

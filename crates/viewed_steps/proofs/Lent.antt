@@ -1,6 +1,6 @@
 -- Loans end where scopes end, and nowhere else. Other acts of an instruction that calls nothing read or
 -- write what they name, or give a borrower another place.
-use Rattle.std.proofs.Common.{◌≡◌, refl, sym, ap, ◌∙◌, inl, inr, ℕ, Bool, true, false, not, List, [], ◌∷◌, ◌++◌, Option, Some, None, if◌then◌else◌}
+use Rattle.std.proofs.Common.{◌≡◌, refl, sym, ap, ◌∙◌, subst, inl, inr, ℕ, Bool, true, false, not, List, [], ◌∷◌, ◌++◌, Option, Some, None, if◌then◌else◌}
 use Rattle.spark_base.specs.Lists.{Has}
 use Rattle.spark_base.specs.declared.position.Pos.{Pos}
 use Rattle.place_names.specs.declared.act.Act.{Act}
@@ -22,15 +22,17 @@ use Rattle.flow_paths.specs.Names.{Written, has_call, name_of, written, first, s
 use Rattle.flow_paths.specs.Acts.{Frame, placed, naming, used, acts_in, index_acts, source_acts, observe, declared_acts, reborrow, target_pos, stored_acts, assigned_to, returned_acts, gives_variable, acts_of}
 use Rattle.owned_ways.specs.Ways.{after}
 use Rattle.owned_ways.proofs.Assigned.{kept_fact}
-use Rattle.soundness.specs.Sound.{calls_nothing}
+use Rattle.soundness.specs.Sound.{IsNoCall}
 use Rattle.soundness.proofs.Scalars.{acts}
 
--- An act ends a scope or a call, is that of a call, or gives a place to what is no borrower.
+-- An act ends a scope or a call, is that of a call, gives a place to what is no borrower, or to a
+-- caller that may write it.
 abbrev pub ends : Typing → Act → Bool
 ends s (act.EndScope x borrower) = true
 ends s (act.Return roots) = true
 ends s (act.Global g written) = true
 ends s (act.Reborrow b m) = not (is_borrower s b)
+ends s (act.Give m borrows) = borrows
 ends s _ = false
 
 -- other acts end no loan
@@ -187,30 +189,28 @@ module _ (s : Typing) where
       by_kind false true is = spare_source e (observe s x) (λ n. refl)
       by_kind false false is = spare_stored target e
 
-  spare_returned : (result : Option ℕ) (v : TypedTree) → Spare s (returned_acts s result v)
-  spare_returned result v = by_kind (traverses s.table result)
-    where
-      by_kind : (b : Bool) → Spare s (if b then source_acts s (first v) (λ m. act.Give m (gives_variable s result)) else acts_in s v)
-      by_kind true = spare_source (first v) (λ m. act.Give m (gives_variable s result)) (λ n. refl)
-      by_kind false = spare_in v
+  spare_returned : (result : Option ℕ) (v : TypedTree) → traverses s.table result ≡ false → Spare s (returned_acts s result v)
+  spare_returned result v plain =
+      subst (λ b. Spare s (if b then source_acts s (first v) (λ m. act.Give m (gives_variable s result)) else acts_in s v)) (sym plain) (spare_in v)
 
--- an instruction that calls nothing and isn't the end of a scope or of a call has none such
-pub spare_acts : (f : Frame) (p : Pos) (i : Instruction) → calls_nothing i ≡ true → ((x : ℕ) → i ≡ EndScope x → ⊥) → (i ≡ Finish → ⊥)
+-- an instruction that is no call and isn't the end of a scope or of a call has none such, but in
+-- traversal functions
+pub spare_acts : (f : Frame) (p : Pos) (i : Instruction) → traverses f.typing.table f.result ≡ false → IsNoCall i → ((x : ℕ) → i ≡ EndScope x → ⊥) → (i ≡ Finish → ⊥)
     → Spare f.typing (acts_of f p i)
-spare_acts f p Skip calls going end = tt
-spare_acts f p (Declare x v) calls going end = spare_declared f.typing x v
-spare_acts f p (Assign target e) calls going end = spare_assigned f.typing p (whole target) target e
-spare_acts f p (instruction.Call sub actuals result) calls going end = cc
-spare_acts f p (Output text line) calls going end = spare_in f.typing text
-spare_acts f p (Input target) calls going end = spare_source f.typing target (λ m. act.Actual m mode.Out false false) (λ n. refl)
-spare_acts f p (Release m) calls going end = spare_source f.typing m act.Free (λ n. refl)
-spare_acts f p (Test e) calls going end = spare_in f.typing e
-spare_acts f p (Choose e choices) calls going end = spare_in f.typing e
-spare_acts f p (Start x reversed low high) calls going end = spare_both f.typing (acts_in f.typing low) (acts_in f.typing high) (spare_in f.typing low) (spare_in f.typing high)
-spare_acts f p (Next x reversed low high) calls going end = tt
-spare_acts f p (Evaluate t e left) calls going end = spare_in f.typing e
-spare_acts f p (LeaveLoop e) calls going end = spare_in f.typing e
-spare_acts f p (Hold v) calls going end = spare_returned f.typing f.result v
-spare_acts f p (EndScope x) calls going end = absurd (going x refl)
-spare_acts f p Finish calls going end = absurd (end refl)
-spare_acts f p Fall calls going end = tt
+spare_acts f p Skip plain calls going end = tt
+spare_acts f p (Declare x v) plain calls going end = spare_declared f.typing x v
+spare_acts f p (Assign target e) plain calls going end = spare_assigned f.typing p (whole target) target e
+spare_acts f p (instruction.Call sub actuals result) plain calls going end = absurd (calls sub actuals result refl)
+spare_acts f p (Output text line) plain calls going end = spare_in f.typing text
+spare_acts f p (Input target) plain calls going end = spare_source f.typing target (λ m. act.Actual m mode.Out false false) (λ n. refl)
+spare_acts f p (Release m) plain calls going end = spare_source f.typing m act.Free (λ n. refl)
+spare_acts f p (Test e) plain calls going end = spare_in f.typing e
+spare_acts f p (Choose e choices) plain calls going end = spare_in f.typing e
+spare_acts f p (Start x reversed low high) plain calls going end = spare_both f.typing (acts_in f.typing low) (acts_in f.typing high) (spare_in f.typing low) (spare_in f.typing high)
+spare_acts f p (Next x reversed low high) plain calls going end = tt
+spare_acts f p (Evaluate t e left) plain calls going end = spare_in f.typing e
+spare_acts f p (LeaveLoop e) plain calls going end = spare_in f.typing e
+spare_acts f p (Hold v) plain calls going end = spare_returned f.typing f.result v plain
+spare_acts f p (EndScope x) plain calls going end = absurd (going x refl)
+spare_acts f p Finish plain calls going end = absurd (end refl)
+spare_acts f p Fall plain calls going end = tt

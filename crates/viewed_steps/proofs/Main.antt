@@ -27,7 +27,7 @@ use Rattle.soundness.proofs.Points.{sub_there}
 use Rattle.owned_loans.specs.Views.{known_gone, Views, Viewed}
 use Rattle.viewed_steps.specs.Sound.{ViewStage, GoneElsewhere, IsSound, LeadsOn}
 use Rattle.viewed_steps.specs.Ready.{IsReady}
-use Rattle.viewed_steps.proofs.Packages.{stage, first_point}
+use Rattle.viewed_steps.proofs.Packages.{stage, first_point, first_waits, main_awaits, main_runs}
 use Rattle.viewed_steps.proofs.Stepping.{sound_step}
 
 -- ---- the start
@@ -54,6 +54,7 @@ module _ (s : Typing) where
           owned = λ n has. absurd has;
         };
         views = λ x w has. absurd (none_some w has);
+        lends = λ l n lent. absurd lent;
         far = λ w n none. absurd none;
       }
 
@@ -87,7 +88,8 @@ module _ (table : Table) (typed : TypedProgram) (effects : Effects) (input : Lis
       views = no_views;
       older = [];
       stages = (refl, refl, tt);
-      running = (refl, (refl, refl, refl), (λ x. refl));
+      running = (refl, (refl, refl, refl), (λ x. refl), refl);
+      awaited = (refl, refl);
       path = begins (first_point table typed effects input ready 0 ready.packages ready.stands p rest is);
       viewed = empty_viewed s (home s 0) (GoneElsewhere program effects []);
       kept = empty_kept s;
@@ -115,7 +117,16 @@ module _ (table : Table) (typed : TypedProgram) (effects : Effects) (input : Lis
       views = no_views;
       older = record { stage = stage_of 0 0; views = no_views } ∷ [];
       stages = (refl, refl, (refl, refl, tt));
-      running = (ready.main_there, (refl, ((λ x has. inl (ready.main_plain x has)), (λ r has. absurd has))), ((refl, (refl, refl, refl), (λ x. refl)), refl));
+      running = (
+        main_runs table typed effects input ready,
+        ((λ x has. inl (ready.main_plain x has)), (λ r has. absurd has)),
+        ((refl, (refl, refl, refl), (λ x. refl), refl), refl),
+      );
+      awaited = (
+        first_waits table typed effects input ready 1 ready.main [] ready.main_there.named ready.main_there.stands ready.main_there.point
+            ready.main_there.points ready.main_there.begins,
+        (main_awaits table typed effects input ready, refl),
+      );
       path = begins (first_point table typed effects input ready ready.main ready.main_there.named ready.main_there.stands
           ready.main_there.point ready.main_there.points ready.main_there.begins);
       viewed = empty_viewed s (home s 1) (GoneElsewhere program effects (record { stage = stage_of 0 0; views = no_views } ∷ []));

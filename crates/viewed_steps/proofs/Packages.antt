@@ -1,12 +1,14 @@
 -- The package objects are elaborated: no part of theirs is moved, no object has a way, and the main
 -- procedure begins after them.
-use Rattle.std.proofs.Common.{◌≡◌, refl, sym, ap, ◌∙◌, subst, inl, inr, ℕ, ◌<◌, true, false, not, ◌||◌, ◌==◌, eq-eqb, List, [], ◌∷◌, ◌++◌, drop, get_or, arith, Option, Some, None, if◌then◌else◌}
+use Rattle.std.proofs.Common.{◌≡◌, refl, sym, ap, ◌∙◌, subst, inl, inr, ℕ, ◌<◌, true, false, not, ◌&&◌, ◌||◌, ◌==◌, eq-eqb, List, [], ◌∷◌, ◌++◌, drop, get_or, arith, Option, Some, None, if◌then◌else◌}
+use Rattle.std.specs.Prelude.{is_some}
 use Rattle.spark_base.specs.Lists.{Has}
 use Rattle.spark_base.specs.declared.position.Pos.{Pos}
 use Rattle.spark_base.proofs.Lists.{Has-append_cases, Has-map_from}
 use Rattle.place_names.specs.declared.act.Act.{Act}
 use Rattle.place_names.specs.declared.act.Placed.{Placed}
 use Rattle.place_names.specs.declared.fact.Fact.{Fact}
+use Rattle.place_names.specs.declared.rule.Loan.{Loan}
 use Rattle.place_names.specs.declared.fact.Fact.TheVariants.{Moved}
 use Rattle.place_names.specs.Facts.{adds}
 use Rattle.place_names.specs.Names.{Name as PlaceName}
@@ -14,7 +16,7 @@ use Rattle.type_definitions.specs.Types.{Table}
 use Rattle.typed_tree.specs.Trees.{TypedTree}
 use Rattle.typed_tree.specs.Programs.{TypedProgram}
 use Rattle.flow_paths.specs.declared.report.Effects.{Effects}
-use Rattle.flow_paths.specs.Instructions.{Instruction, Declare, EndScope, Finish}
+use Rattle.flow_paths.specs.Instructions.{Instruction, Declare, Call, EndScope, Finish}
 use Rattle.flow_paths.specs.Objects.{Typing, object_at, is_anonymous, is_package_object, is_observer, view_of}
 use Rattle.flow_paths.specs.Names.{has_call}
 use Rattle.flow_paths.specs.Points.{NamedPoint, FlowPoint}
@@ -24,8 +26,8 @@ use Rattle.flow_paths.specs.Effects.{path_points, called_acts}
 use Rattle.flow_paths.specs.Scopes.{taken, brought, scope_behind, is_within, is_ready, Leads}
 use Rattle.machine.specs.Words as machine
 use Rattle.machine.specs.Memory.{no_slot, variable_slots}
-use Rattle.machine.specs.States.{Frame, State, Outcome, Goes, Ends, sub_of, frame_at_start}
-use Rattle.machine.specs.Step.{Turn, turn, led, main_frame}
+use Rattle.machine.specs.States.{Return, Frame, State, Outcome, Goes, Ends, sub_of, frame_at_start}
+use Rattle.machine.specs.Step.{Turn, turn, start, led, main_frame}
 use Rattle.machine.specs.Owners.{waiting_in}
 use Rattle.machine.specs.Run.{no_point, step}
 use Rattle.owned_ways.specs.Ways.{Step, OfVariable, OfRoot, Way, Held, after, AllowsAll, along}
@@ -34,13 +36,14 @@ use Rattle.owned_ways.proofs.Locations.{reaches_along, named_along as rooted_alo
 use Rattle.soundness.specs.Seen.{IsNear, is_view_formal, content, word_in, home}
 use Rattle.soundness.specs.Typed.{Kept}
 use Rattle.typed_laws.specs.Needed.{IsFine}
-use Rattle.soundness.specs.Sound.{calls_nothing, calls_procedures, Stage, facts_of, AreStages, IsPlain, InScope, IsNamedSub, IsAtPoint, view_of as view_here}
+use Rattle.soundness.specs.Sound.{IsNoCall, IsRunnable, WaitsAt, temporaries_in, awaited, Stage, facts_of, AreStages, IsPlain, InScope, IsNamedSub, IsAtPoint, view_of as view_here}
 use Rattle.soundness.proofs.Contents.{word_root}
 use Rattle.soundness.proofs.Paths.{facts_next}
-use Rattle.soundness.proofs.Points.{sub_there, point_there}
+use Rattle.soundness.proofs.Points.{named_has, sub_there, point_there}
 use Rattle.soundness.proofs.Used.{path_acts}
 use Rattle.soundness.proofs.Following.{Each, Declares, declare_on}
-use Rattle.soundness.proofs.Waits.{drop_none}
+use Rattle.soundness.proofs.Beginning.{one_named, one_point}
+use Rattle.soundness.proofs.Waits.{no_waits, take_none, drop_none}
 use Rattle.soundness.proofs.Successors.{not_true, successor_cases, unmoved_after}
 use Rattle.owned_loans.specs.Views.{Around, known_gone, Views, Viewed}
 use Rattle.viewed_soundness.specs.Holds.{AllKeep}
@@ -51,7 +54,7 @@ use Rattle.viewed_steps.specs.Ready.{IsReady}
 use Rattle.viewed_steps.proofs.Declared.{IsElsewhere, OthersStay, not_gone, declare_leads, others_stay}
 use Rattle.viewed_steps.proofs.Placed.{scope_on}
 use Rattle.viewed_steps.proofs.Ended.{none_some}
-use Rattle.viewed_steps.proofs.Standing.{or_right, calls_none}
+use Rattle.viewed_steps.proofs.Standing.{or_right}
 use Rattle.viewed_steps.proofs.Standing as standing
 
 module _ (table : Table) (typed : TypedProgram) (effects : Effects) (input : List ℕ) (ready : IsReady table typed effects) where
@@ -63,9 +66,6 @@ module _ (table : Table) (typed : TypedProgram) (effects : Effects) (input : Lis
 
   abbrev own : Typing
   own = typing_of table typed
-
-  abbrev same : s ≡ own
-  same = standing.same table typed effects input ready
 
   abbrev no_in_formals : (x : ℕ) → is_view_formal s x ≡ false
   no_in_formals = standing.no_in_formals table typed effects input ready
@@ -115,7 +115,7 @@ module _ (table : Table) (typed : TypedProgram) (effects : Effects) (input : Lis
         (ready.new (flow_sub own named) (standing.in_program table typed effects input ready state top older outer named p frames of_sub at_point) top.before top.frame.next
         (standing.path_here table typed effects input ready state top older outer named p frames of_sub at_point path) x v declared_at name root).0 has
 
-    pub new_after : calls_nothing p.instr ≡ true → (name : PlaceName) → Has (after (standing.acts_here table typed effects input ready state top older outer named p frames of_sub at_point p.instr) (standing.facts table typed effects input ready state top older outer named p frames of_sub at_point path)) (Moved name)
+    pub new_after : IsNoCall p.instr → (name : PlaceName) → Has (after (standing.acts_here table typed effects input ready state top older outer named p frames of_sub at_point p.instr) (standing.facts table typed effects input ready state top older outer named p frames of_sub at_point path)) (Moved name)
         → name.root ≡ x → ⊥
     new_after plain name has root =
         (ready.new (flow_sub own named) (standing.in_program table typed effects input ready state top older outer named p frames of_sub at_point) top.before top.frame.next
@@ -140,6 +140,38 @@ module _ (table : Table) (typed : TypedProgram) (effects : Effects) (input : Lis
               → is_some_point (path_points program effects (flow_sub own (record named { points = points })))
           by_points [] is = cc
           by_points (q ∷ others) is = tt
+
+  -- nothing waits at the first point of a subprogram
+  pub first_waits : (depth k : ℕ) (returns : List Return) (named : NamedSub) → IsNamedSub (flow_named table typed) k named → (p : NamedPoint) (rest : List NamedPoint)
+      → named.points ≡ p ∷ rest → WaitsAt table typed 0 (record (stage k depth) { frame = frame_at_start k returns })
+  first_waits depth k returns named stands p rest is other other_stands q at_point =
+      let same : other ≡ named = one_named (flow_named table typed) k other named other_stands stands in
+      let first : p ≡ q = one_point (p ∷ rest) 0 p q ([], rest, refl, refl) (subst (λ z. IsAtPoint z 0 q) (ap (λ (z : NamedSub). z.points) same ∙ is) at_point) in (
+        (
+          tt,
+          sym (ap (temporaries_in s) (drop_none q.scope)
+              ∙ ap (λ (z : NamedPoint). temporaries_in s z.scope) (sym first)
+              ∙ ready.scoped.starts named (named_has (flow_named table typed) k named stands) p rest is),
+        ),
+        ap (temporaries_in s) (take_none q.scope),
+      )
+
+  -- the main procedure runs, and nothing is to wait for it
+  pub main_awaits : awaited (sub_of program ready.main) [] ≡ 0
+  main_awaits =
+      ap (λ b. if b && true then 1 else 0) (ap (λ (z : FlowSub). is_some z.result) (sub_there table typed ready.main ready.main_there.named ready.main_there.stands)
+      ∙ ap is_some (ready.main_there.procedure ready.main_there.named ready.main_there.stands))
+
+  pub main_runs : IsRunnable table typed ready.main
+  main_runs = record {
+    named = ready.main_there.named;
+    stands = ready.main_there.stands;
+    entered = inl ready.is_main;
+    point = ready.main_there.point;
+    points = ready.main_there.points;
+    begins = ready.main_there.begins;
+    leads = ready.main_there.leads;
+  }
 
   -- a state without views
   abbrev HasNone : Views → Type 0
@@ -171,13 +203,18 @@ module _ (table : Table) (typed : TypedProgram) (effects : Effects) (input : Lis
       views = views;
       older = below ∷ [];
       stages = subst (AreStages (stage ready.main 1 ∷ (below.stage ∷ []))) (sym begins_main) (refl, refl, (refl, deep, tt));
-      running = (ready.main_there, (refl, ((λ x has. inl (ready.main_plain x has)), (λ r has. absurd has))), (first, refl));
+      running = (main_runs, ((λ x has. inl (ready.main_plain x has)), (λ r has. absurd has)), (first, refl));
+      awaited = (
+        first_waits 1 ready.main [] ready.main_there.named ready.main_there.stands ready.main_there.point ready.main_there.points ready.main_there.begins,
+        (main_awaits, first.1.0),
+      );
       path = begins (first_point ready.main ready.main_there.named ready.main_there.stands ready.main_there.point ready.main_there.points ready.main_there.begins);
       viewed = record {
         owned = viewed.owned;
         covered = viewed.covered;
         known = λ w l rooted r gone. absurd (elim (viewed.known w l rooted r gone) [
-          | inl (u, moved, leads) ↦ unmoved (ways.name_of u) moved.1
+          | inl (inl (u, moved, leads)) ↦ unmoved (ways.name_of u) moved.1
+          | inl (inr none_away) ↦ none_away
           | inr (g, has, what) ↦ has
         ]);
         clear = record {
@@ -187,6 +224,7 @@ module _ (table : Table) (typed : TypedProgram) (effects : Effects) (input : Lis
           owned = λ n has. absurd has;
         };
         views = λ x w has. no_views views none x w has;
+        lends = λ l n lent. absurd lent;
         far = λ w n keeps. absurd keeps;
       };
       kept = kept;
@@ -205,7 +243,7 @@ module _ (table : Table) (typed : TypedProgram) (effects : Effects) (input : Lis
     }
 
   module _ (state : State) (top : Stage) (named : NamedSub) (p : NamedPoint) (frames : state.frames ≡ top.frame ∷ []) (deep : top.depth ≡ 0) (views : Views)
-      (running : (top.frame.sub ≡ 0) × IsPlain top × ((x : ℕ) → views.way x ≡ None)) (above : NoneAbove s 0 state.memory)
+      (running : (top.frame.sub ≡ 0) × IsPlain top × ((x : ℕ) → views.way x ≡ None) × (top.depth ≡ 0)) (above : NoneAbove s 0 state.memory)
       (of_sub : IsNamedSub (flow_named table typed) top.frame.sub named) (at_point : IsAtPoint named.points top.frame.next p)
       (path : ControlPath (path_points program effects (sub_of program top.frame.sub)) top.before top.frame.next)
       (viewed_before : Viewed (home s 0) (is_observer s) (known_gone (home s 0) (GoneElsewhere program effects [])) views (view_here s state) (facts_of program effects top))
@@ -235,20 +273,20 @@ module _ (table : Table) (typed : TypedProgram) (effects : Effects) (input : Lis
     viewed_first : Viewed (home s 0) (is_observer s) (known_gone (home s 0) (GoneElsewhere program effects [])) views (view_here s state) facts_first
     viewed_first = subst (Viewed (home s 0) (is_observer s) (known_gone (home s 0) (GoneElsewhere program effects [])) views (view_here s state)) (standing.facts_are table typed effects input ready state top [] [] named p frames of_sub at_point path) viewed_before
 
-    first_takes : taken first_turn.point.instr ≡ 0
-    first_takes = standing.takes table typed effects input ready state top [] [] named p frames of_sub at_point
-
     in_packages : Has (sub_of program 0).points first_turn.point
     in_packages =
         subst (λ (z : FlowSub). Has z.points first_turn.point)
         (sym (standing.sub_is table typed effects input ready state top [] [] named p frames of_sub at_point) ∙ ap (sub_of program) running.0)
         (standing.in_sub table typed effects input ready state top [] [] named p frames of_sub at_point)
 
-    -- its instruction calls nothing
-    calls_plain : (x : ℕ) (v : TypedTree) → p.instr ≡ Declare x v → calls_nothing p.instr ≡ true
-    calls_plain x v e = ap calls_nothing e ∙ subst (λ i. calls_procedures i ≡ true) e (standing.calls_there table typed effects input ready state top [] [] named p frames of_sub at_point)
+    -- its instruction is no call
+    calls_plain : (x : ℕ) (v : TypedTree) → p.instr ≡ Declare x v → IsNoCall p.instr
+    calls_plain x v e n actuals result is = (let never : Declare x v ≡ Call n actuals result = sym e ∙ is in cc)
 
-    module _ (x : ℕ) (v : TypedTree) (e : p.instr ≡ Declare x v) where
+    module _ (x : ℕ) (v : TypedTree) (e : p.instr ≡ Declare x v) (no_call : has_call v ≡ false) where
+      first_takes : taken first_turn.point.instr ≡ 0
+      first_takes = ap taken e ∙ no_waits v no_call
+
       scope_first : scope_behind p ≡ x ∷ p.scope
       scope_first = ap (λ n. brought p.instr (drop n p.scope)) first_takes ∙ ap (brought p.instr) (drop_none p.scope) ∙ ap (λ i. brought i p.scope) e
 
@@ -263,8 +301,9 @@ module _ (table : Table) (typed : TypedProgram) (effects : Effects) (input : Lis
       owner : is_anonymous (view_of s x) ≡ false
       owner = ready.orderly.packages first_turn.point in_packages x v e
 
-      free_first : (y : ℕ) (w : Way) → views.way y ≡ Some w → IsElsewhere (home s 0) 0 x w
-      free_first y w has = no_views views running.2 y w has
+      free_first : ((y : ℕ) (w : Way) → views.way y ≡ Some w → IsElsewhere (home s 0) 0 x w)
+          × ((l : Loan) (name : PlaceName) → nowhere.lent l name → name.root ≡ x → 0 ≡ home s 0 x → ⊥)
+      free_first = (λ y w has. no_views views running.2 y w has, λ l name lent root at_home. lent)
 
       blank_first : (q : List Step) (w : ways.Word) → word_in s.table (content s state.memory [] (OfRoot (OfVariable 0 x))) q ≡ w
           → word_in s.table (content s state.memory [] (OfRoot (OfVariable 0 x))) q ≡ ways.Empty
@@ -305,10 +344,9 @@ module _ (table : Table) (typed : TypedProgram) (effects : Effects) (input : Lis
 
       first_leads : LeadsFirst (turn first_turn (Declare x v))
       first_leads =
-          let plain_calls = subst (λ i. calls_nothing i ≡ true) e (calls_plain x v e) in
           declare_leads first_turn ready.accepted.settled ready.owns nowhere alone_first no_in_formals views ready.class.parts_named no_sources frames first_takes
           x v (plain_named s.table (object_at s x).of owner) (subst (IsFine s named.sub.result) e (standing.fine table typed effects input ready state top [] [] named p frames of_sub at_point))
-          (not_true (has_call v) plain_calls) facts_first good_first
+          no_call facts_first good_first
           (subst (λ i. AllowsAll facts_first (acts_first i)) e (standing.allowed table typed effects input ready state top [] [] named p frames of_sub at_point path (calls_plain x v e)))
           (subst (λ i. AllKeep (is_observer s) (acts_first i)) e (standing.keeps_there table typed effects input ready state top [] [] named p frames of_sub at_point))
           (λ q. blank_first q (word_in s.table (content s state.memory [] (OfRoot (OfVariable 0 x))) q) refl)
@@ -338,10 +376,10 @@ module _ (table : Table) (typed : TypedProgram) (effects : Effects) (input : Lis
           elim (successor_cases first_turn 0) [
             | inl found ↦ (
                 let q = standing.next_at table typed effects input ready state top [] [] named p frames of_sub at_point path found.0 found.2 in
-                let lead : Leads s (scope_behind p) (q.0).scope = subst (λ z. Leads z (scope_behind p) (q.0).scope) (sym same) q.2 in
-                standing.goes_to_next table typed effects input ready state top [] [] named p frames of_sub at_point path (calls_plain x v e) after_step top.frame.loops found.0 found.2 q.0 q.1
+                let lead : Leads s (scope_behind p) (q.0).scope = q.2 in
+                standing.goes_to_next table typed effects input ready state top [] [] named p frames of_sub at_point path (calls_plain x v e) after_step [] top.frame.loops found.0 found.2 q.0 q.1
                 (on.frames ∙ ap (led first_turn (record top.frame { waits = [] })) found.1) deep tt turned_views
-                (running.0, (refl, running.1.1, running.1.2), none_now)
+                (running.0, (refl, running.1.1, running.1.2), none_now, deep) (refl, refl)
                 (subst (Viewed (home s 0) (is_observer s) nowhere turned_views (view_here s after_step)) facts_on_e well.viewed) well.kept
                 (scope_on s ready.owns after_step.memory 0 (scope_behind p) (q.0).scope (subst (InScope s after_step.memory 0) (sym scope_first) on.inside) lead)
                 (record {
@@ -350,7 +388,7 @@ module _ (table : Table) (typed : TypedProgram) (effects : Effects) (input : Lis
                   only = well.holds.only;
                 })
                 (λ y w has. no_views turned_views none_now y w has) nones views
-                (steps_on (calls_none p.instr (calls_plain x v e)) (λ end. (let never : Declare x v ≡ Finish = sym e ∙ end in cc))
+                (steps_on (calls_plain x v e) (λ end. (let never : Declare x v ≡ Finish = sym e ∙ end in cc))
                 (λ y end. (let never : Declare x v ≡ EndScope y = sym e ∙ end in cc)) (refl, refl, refl) (λ y w has. no_views turned_views none_now y w has) refl))
             | inr none ↦ (
                 let below : Stage = record { frame = record top.frame { waits = [] }; depth = 0; before = top.frame.next ∷ top.before; returns = [] } in
@@ -360,7 +398,7 @@ module _ (table : Table) (typed : TypedProgram) (effects : Effects) (input : Lis
                 let same_facts : after (acts_first p.instr) facts_first ≡ facts_of program effects below =
                 sym (standing.facts_on table typed effects input ready state top [] [] named p frames of_sub at_point path (calls_plain x v e))
                 ∙ ap (λ (z : FlowSub). facts_before (path_points program effects z) (top.frame.next ∷ top.before)) (sym (standing.sub_is table typed effects input ready state top [] [] named p frames of_sub at_point)) in (
-                  main_begun (record { stage = below; views = turned_views }) (running.0, (refl, running.1.1, refl), none_now) refl after_step turned_views none_now main_frames (after (acts_first (Declare x v)) facts_first) well.viewed
+                  main_begun (record { stage = below; views = turned_views }) (running.0, (refl, running.1.1, refl), none_now, refl) refl after_step turned_views none_now main_frames (after (acts_first (Declare x v)) facts_first) well.viewed
                       (λ name has. unmoved_stage below running.0 name (subst (λ z. Has z (Moved name)) (facts_on_e ∙ same_facts) has)) well.kept
                       (λ f y q n held. elim (on.inside f y q n held) [
                         | inl less ↦ absurd (omega (arith, less))
@@ -373,7 +411,7 @@ module _ (table : Table) (typed : TypedProgram) (effects : Effects) (input : Lis
       have_none_on : Each (λ (st : State). NoneAbove s 0 st.memory) (turn first_turn (Declare x v))
       have_none_on = each_on (turn first_turn (Declare x v))
           (others_stay first_turn ready.accepted.settled ready.owns nowhere alone_first no_in_formals views ready.class.parts_named no_sources frames first_takes
-          x v (subst (IsFine s named.sub.result) e (standing.fine table typed effects input ready state top [] [] named p frames of_sub at_point)))
+          (start first_turn).waits x v (subst (IsFine s named.sub.result) e (standing.fine table typed effects input ready state top [] [] named p frames of_sub at_point)))
         where
           frame_is : (g x y : ℕ) → OfVariable 0 x ≡ OfVariable g y → 0 ≡ g
           frame_is g x y same_there = cc
@@ -393,4 +431,4 @@ module _ (table : Table) (typed : TypedProgram) (effects : Effects) (input : Lis
     package_step =
         let declares = ready.elaborated.declared first_turn.point in_packages in
         subst Along (sym (standing.step_is table typed effects input ready state top [] [] named p frames of_sub at_point))
-        (subst (λ i. Along (turn first_turn i)) (sym declares.2) (declares_first declares.0 declares.1 declares.2))
+        (subst (λ i. Along (turn first_turn i)) (sym declares.2) (declares_first declares.0 declares.1 declares.2 declares.3))

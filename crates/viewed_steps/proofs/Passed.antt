@@ -53,6 +53,7 @@ use Rattle.owned_loans.proofs.Allowed.{either_right}
 use Rattle.owned_loans.proofs.Safe.{Unlent, Unmoved}
 use Rattle.viewed_steps.specs.Sound.{IsScalarObject, IsKindOfFormal}
 use Rattle.viewed_steps.specs.Ready.{roots_passed, AreDifferent, AreActualsTo}
+use Rattle.viewed_soundness.proofs.Names.{true_false}
 use Rattle.viewed_steps.specs.Taken.{IsApartFrom}
 use Rattle.viewed_steps.proofs.Called.{IsOwnPut, IsLaidOne, AreLaidOut, copies_add}
 use Rattle.viewed_steps.proofs.Entered.{IsPlainOne, DiffersFrom, ArePassedOn}
@@ -170,9 +171,9 @@ after_less (a ∷ more) none facts f has =
 
 -- ---- all that is passed
 
-module _ (s : Typing) (own_law : OwnsByShape s.table) (depth : ℕ) (facts : List Fact) (scope : List ℕ) where
+module _ (s : Typing) (own_law : OwnsByShape s.table) (depth : ℕ) (facts : List Fact) (scope : List ℕ) (procedure : Bool) where
   abbrev copies_of : List ℕ → TypedTree → List Placed
-  copies_of formals actuals = actual_acts (map (passing s true) formals) actuals
+  copies_of formals actuals = actual_acts (map (passing s procedure) formals) actuals
 
   -- its ways
   abbrev Passes : List ℕ → TypedTree → List Passed → Type 0
@@ -194,11 +195,11 @@ module _ (s : Typing) (own_law : OwnsByShape s.table) (depth : ℕ) (facts : Lis
       → DiffersFrom x formals
       → ((y : ℕ) → Has (root_of e) y → is_package_object s y ≡ false → is_owning s.table (object_at s y).of ≡ true → is_within y scope ≡ true)
       → ((r : Report) → Has (overlap_reports s (alias.passed (x ∷ formals) (More e actuals))) r → ⊥)
-      → ((f : Fact) → Has facts f → Has known f) → AllowsAll known (acts (actual_act (passing s true x) e))
+      → ((f : Fact) → Has facts f → Has known f) → AllowsAll known (acts (actual_act (passing s procedure x) e))
       → Passes formals actuals passed → Passes (x ∷ formals) (More e actuals) (From k ∷ passed)
   own_first x (Name p y path u) k formals actuals passed known in_out many (to, inside, called, object_is, fits) local differ within none less allowed (ways_left, are, names) =
       let owning : Bool = is_owning s.table (object_at s x).of in
-      let access : Bool = is_named_access (view_of s x) in
+      let access : Bool = procedure && is_named_access (view_of s x) in
       let m : Written = record { pos = p; name = name_of y path; of = u } in
       let here_allowed : Allows known (act.Actual (name_of y path) mode.InOut owning access) =
       (subst (λ z. AllowsAll known (acts (actual_act (passing_by z owning access) (Name p y path u)))) in_out allowed).0 in
@@ -241,8 +242,8 @@ module _ (s : Typing) (own_law : OwnsByShape s.table) (depth : ℕ) (facts : Lis
   first_passed : (x : ℕ) (m : Mode) (e : TypedTree) (a : Passed) (formals : List ℕ) (actuals : TypedTree) (passed : List Passed) (known : List Fact)
       → (object_at s x).mode ≡ m → IsLaidOne s depth x m e a → IsKindOfFormal s x → is_package_object s x ≡ false → DiffersFrom x formals
       → ((y : ℕ) → Has (root_of e) y → is_package_object s y ≡ false → is_owning s.table (object_at s y).of ≡ true → is_within y scope ≡ true)
-      → ((r : Report) → Has (overlap_reports s (alias.passed (x ∷ formals) (More e actuals))) r → ⊥)
-      → ((f : Fact) → Has facts f → Has known f) → AllowsAll known (acts (actual_act (passing s true x) e))
+      → ((r : Report) → Has (overlap_reports s (alias.passed (x ∷ formals) (More e actuals))) r → ⊥) ⊎ ((y : ℕ) → Has (x ∷ formals) y → IsScalarObject s y)
+      → ((f : Fact) → Has facts f → Has known f) → AllowsAll known (acts (actual_act (passing s procedure x) e))
       → Passes formals actuals passed → Passes (x ∷ formals) (More e actuals) (a ∷ passed)
   first_passed x mode.In e (Value ws) formals actuals passed known is laid kind local differ within none less allowed later =
       plain_first x e (Value ws) formals actuals passed (kind_scalar x mode.In is no_in kind, laid) later
@@ -250,31 +251,33 @@ module _ (s : Typing) (own_law : OwnsByShape s.table) (depth : ℕ) (facts : Lis
       plain_first x e (To k) formals actuals passed (kind_scalar x mode.Out is no_out kind, laid) later
   first_passed x mode.InOut e (From k) formals actuals passed known is (inl (plain, fixed)) kind local differ within none less allowed later =
       plain_first x e (From k) formals actuals passed (plain, fixed) later
-  first_passed x mode.InOut e (From k) formals actuals passed known is (inr (many, put)) kind local differ within none less allowed later =
+  first_passed x mode.InOut e (From k) formals actuals passed known is (inr (many, put)) kind local differ within (inl none) less allowed later =
       own_first x e k formals actuals passed known is many put local differ within none less allowed later
+  first_passed x mode.InOut e (From k) formals actuals passed known is (inr (many, put)) kind local differ within (inr plain) less allowed later =
+      absurd (true_false (is_scalar (full s.table (object_at s x).of)) (plain x (inl refl)) many)
   first_passed x m e a formals actuals passed known is laid kind local differ within none less allowed later = absurd laid
 
   pub all_passed_on : (formals : List ℕ) (actuals : TypedTree) (passed : List Passed) (known : List Fact) → AreLaidOut s depth formals actuals passed
       → ((x : ℕ) → Has formals x → IsKindOfFormal s x) → ((x : ℕ) → Has formals x → is_package_object s x ≡ false) → AreDifferent formals
       → ((y : ℕ) → Has (roots_passed actuals) y → is_package_object s y ≡ false → is_owning s.table (object_at s y).of ≡ true → is_within y scope ≡ true)
-      → ((r : Report) → Has (overlap_reports s (alias.passed formals actuals)) r → ⊥)
-      → facts ≡ after (acts (actual_acts (map (passing s true) formals) actuals)) known
-      → AllowsAll known (acts (actual_acts (map (passing s true) formals) actuals)) → Passes formals actuals passed
+      → ((r : Report) → Has (overlap_reports s (alias.passed formals actuals)) r → ⊥) ⊎ ((x : ℕ) → Has formals x → IsScalarObject s x)
+      → facts ≡ after (acts (actual_acts (map (passing s procedure) formals) actuals)) known
+      → AllowsAll known (acts (actual_acts (map (passing s procedure) formals) actuals)) → Passes formals actuals passed
   unfolding roots_passed
   all_passed_on [] actuals passed known laid kinds local differ within none same allowed = ([], refl, λ k has. absurd has)
   all_passed_on (x ∷ formals) (More e rest) (a ∷ passed) known laid kinds local differ within none same allowed =
-      let first : List Act = acts (actual_act (passing s true x) e) in
+      let first : List Act = acts (actual_act (passing s procedure x) e) in
       let others : List Act = acts (copies_of formals rest) in
-      let both : acts (copies_of (x ∷ formals) (More e rest)) ≡ first ++ others = acts_append (actual_act (passing s true x) e) (copies_of formals rest) in
+      let both : acts (copies_of (x ∷ formals) (More e rest)) ≡ first ++ others = acts_append (actual_act (passing s procedure x) e) (copies_of formals rest) in
       let each = allows_both known first others (subst (AllowsAll known) both allowed) in
       first_passed x (object_at s x).mode e a formals rest passed known refl laid.0 (kinds x (inl refl)) (local x (inl refl)) differ.0
       (λ y has. within y (Has-append_left (root_of e) (roots_passed rest) y has)) none
       (λ f has. after_less (acts (copies_of (x ∷ formals) (More e rest)))
       (λ b there. (let from = Has-map_from (λ (z : Placed). z.act) (copies_of (x ∷ formals) (More e rest)) b there in
-      λ g new. copies_add s own_law (x ∷ formals) (More e rest) from.0 from.1 g (subst (λ z. Has (adds z) g) (sym from.2) new))) known f (subst (λ z. Has z f) same has))
+      λ g new. copies_add s own_law procedure (x ∷ formals) (More e rest) from.0 from.1 g (subst (λ z. Has (adds z) g) (sym from.2) new))) known f (subst (λ z. Has z f) same has))
       each.0
       (all_passed_on formals rest passed (after first known) laid.1 (λ y has. kinds y (inr has)) (λ y has. local y (inr has)) differ.1
-      (λ y has. within y (Has-append_right (root_of e) (roots_passed rest) y has)) (later_none s x e formals rest none)
+      (λ y has. within y (Has-append_right (root_of e) (roots_passed rest) y has)) (elim none [ inl no_reports ↦ inl (later_none s x e formals rest no_reports) | inr plain ↦ inr (λ y has. plain y (inr has)) ])
       (same ∙ ap (λ z. after z known) both ∙ after_append first others known) each.1)
   all_passed_on (x ∷ formals) (More e rest) [] known laid kinds local differ within none same allowed = absurd laid
   all_passed_on (x ∷ formals) actuals passed known laid kinds local differ within none same allowed =
@@ -356,15 +359,15 @@ module _ (t : Turn) (settled : IsSettled (typing t).table) (n : ℕ) (actuals : 
   by_values f enters now same (Traps e m) never_there = absurd never_there
 
   called_by : (f : List Passed → Memory → Outcome) → Enters t settled n actuals f → (ways_there : List Passing) → passings (typing t) (sub_at (typing t) n) ≡ ways_there
-      → (now : Now) → start t ≡ now → now.memory ≡ t.state.memory → Quiet now Given (all_passed (here t) ways_there (formals_there t settled n actuals) actuals now)
+      → (before now : Now) → start t ≡ before → now.memory ≡ t.state.memory → Quiet now Given (all_passed (here t) ways_there (formals_there t settled n actuals) actuals before)
       → P (steps.evaluated t (all_passed (here t) (passings (typing t) (sub_at (typing t) n)) (formals_there t settled n actuals) actuals (start t)) f)
-  called_by f enters ways_there are now started same quiet_there =
+  called_by f enters ways_there are before now started same quiet_there =
       subst (λ z. P (steps.evaluated t (all_passed (here t) z (formals_there t settled n actuals) actuals (start t)) f)) (sym are)
       (subst (λ z. P (steps.evaluated t (all_passed (here t) ways_there (formals_there t settled n actuals) actuals z) f)) (sym started)
-      (by_values f enters now same (all_passed (here t) ways_there (formals_there t settled n actuals) actuals now) quiet_there))
+      (by_values f enters now same (all_passed (here t) ways_there (formals_there t settled n actuals) actuals before) quiet_there))
 
   pub call_goes : (ways_there : List Passing) → passings (typing t) (sub_at (typing t) n) ≡ ways_there
-      → (now : Now) → start t ≡ now → now.memory ≡ t.state.memory → Quiet now Given (all_passed (here t) ways_there (formals_there t settled n actuals) actuals now)
+      → (before now : Now) → start t ≡ before → now.memory ≡ t.state.memory → Quiet now Given (all_passed (here t) ways_there (formals_there t settled n actuals) actuals before)
       → P (call t n actuals)
-  call_goes ways_there are now started same quiet_there =
-      called_by _ (record { fits = λ passed m e. rw e refl; full = λ passed m e. rw e refl }) ways_there are now started same quiet_there
+  call_goes ways_there are before now started same quiet_there =
+      called_by _ (record { fits = λ passed m e. rw e refl; full = λ passed m e. rw e refl }) ways_there are before now started same quiet_there

@@ -110,7 +110,7 @@ module _ (program : FlowProgram) where
         within = within_on s a b x leads (view_ends s x (only x w has)) old.within;
         up = lasts_on a b (number_of (v.up x)) x leads old.up;
         root = lasts_on a b (number_of w) x leads old.root;
-        holder = λ sees. (let h = old.holder sees in (h.0, h.1, lasts_on a b h.0 x leads h.2));
+        holder = λ sees. (let h = old.holder sees in (h.0, h.1, lasts_on a b h.0 x leads h.2, h.3));
       }
 
   -- An object may be the source of a view.
@@ -142,7 +142,7 @@ module _ (t : Turn) (settled : IsSettled (typing t).table) (own_law : OwnsByShap
           up = subst (λ z. Lasts t.program b (number_of z) x) (sym same.up) (lasts_more t.program a b (number_of (v.up x)) x more old.up);
           root = lasts_more t.program a b (number_of w) x more old.root;
           holder = λ sees. (let h = old.holder sees in
-              (h.0, subst (λ z. Has facts' (Lent Observed h.0 (name_of z))) (sym same.loan) (lent h.0 (name_of (v.loan x)) h.1), lasts_more t.program a b h.0 x more h.2));
+              (h.0, subst (λ z. Has facts' (Lent Observed h.0 (name_of z))) (sym same.loan) (lent h.0 (name_of (v.loan x)) h.1), lasts_more t.program a b h.0 x more h.2, h.3));
         })
     | inr (y, from, comes) ↦ record {
       within = from.within;
@@ -155,10 +155,10 @@ module _ (t : Turn) (settled : IsSettled (typing t).table) (own_law : OwnsByShap
         | inr (k, has_y, is) ↦ subst (λ z. Lasts t.program b z x) (sym is) (through y k has_y from (number_of k) (placed y k has_y).root)
       ];
       holder = λ sees. elim (comes.loan sees) [
-        | inl own ↦ (x, own, inr (from.within, view_ends (typing t) x from.view, itself (scope_of (typing t) x)))
+        | inl own ↦ (x, own, inr (from.within, view_ends (typing t) x from.view, itself (scope_of (typing t) x)), sees)
         | inr (k, has_y, sees_y, is) ↦ (
             let h = (placed y k has_y).holder sees_y in
-            (h.0, subst (λ z. Has facts' (Lent Observed h.0 (name_of z))) (sym is) (lent h.0 (name_of (v.loan y)) h.1), through y k has_y from h.0 h.2))
+            (h.0, subst (λ z. Has facts' (Lent Observed h.0 (name_of z))) (sym is) (lent h.0 (name_of (v.loan y)) h.1), through y k has_y from h.0 h.2, h.3))
       ];
     }
   ]

@@ -13,7 +13,7 @@ use Rattle.type_definitions.specs.declared.table.Shape.TheVariants as shape
 use Rattle.type_definitions.specs.Types.{Table, shape_of, words, parts, is_scalar, full, view_of as view_of_shape}
 use Rattle.typed_tree.specs.Trees.{TypedTree, Name}
 use Rattle.flow_paths.specs.Objects.{Typing, object_at, is_observer}
-use Rattle.flow_paths.specs.Names.{has_call, name_of}
+use Rattle.flow_paths.specs.Names.{waiting as waits_in, name_of}
 use Rattle.flow_paths.specs.Scopes.{taken}
 use Rattle.flow_paths.specs.Acts.{acts_in, source_acts}
 use Rattle.run_values.specs.declared.items.Item.{Item}
@@ -26,7 +26,7 @@ use Rattle.machine.specs.Evaluate.{Now, Evaluated, Done, Raises, Traps, followed
 use Rattle.machine.specs.Evaluate as run
 use Rattle.machine.specs.Calls.{checked_at}
 use Rattle.machine.specs.States.{Waiting, Outcome, Goes}
-use Rattle.machine.specs.Step.{Turn, typing, here, start, waiting, goes, behind}
+use Rattle.machine.specs.Step.{Turn, typing, here, waiting, goes, behind}
 use Rattle.machine.specs.Step as steps
 use Rattle.machine.specs.Owners.{waiting_in}
 use Rattle.owned_ways.specs.Ways.{OfVariable, OfHand, Loc, Way, Object, Reaches, IsRooted, Named, Allows, after, AllowsAll, number_of}
@@ -43,6 +43,7 @@ use Rattle.soundness.proofs.Walks.{way_along, Walked}
 use Rattle.soundness.proofs.Steps.{plain_shape}
 use Rattle.soundness.proofs.Scalars.{acts, acts_append, after_append, allows_both, number_along, named_along}
 use Rattle.soundness.proofs.Stays.{Quiet}
+use Rattle.soundness.proofs.Taking.{Takes}
 use Rattle.soundness.proofs.Numbers.{index_law}
 use Rattle.soundness.proofs.Lasting.{keeps, put_away}
 use Rattle.soundness.proofs.Freeing.{plain_parts, switched}
@@ -51,11 +52,11 @@ use Rattle.owned_loans.proofs.Allowed.{write_open}
 use Rattle.owned_loans.proofs.Moves.{named_way}
 use Rattle.viewed_soundness.specs.Holds.{IsNamed, PartsAreNamed}
 use Rattle.viewed_soundness.proofs.Names.{is_place}
-use Rattle.viewed_soundness.proofs.Stays.{Goes as GoesAlong, steps_quiet, name_quiet}
+use Rattle.viewed_soundness.proofs.Stays.{Goes as GoesAlong, steps_taking, name_quiet}
 use Rattle.viewed_soundness.proofs.Moments.{stored_viewed}
 use Rattle.viewed_soundness.proofs.Evaluated.{Ready, blank_ready, live_trunk}
 use Rattle.viewed_soundness.proofs.Stored.{holds_stored, no_view_place}
-use Rattle.viewed_soundness.proofs.Outcomes.{IsGood, Leads_on, raises, start_is, unturned, goes_to, live}
+use Rattle.viewed_soundness.proofs.Outcomes.{IsGood, Leads_on, raises, unturned, goes_to, live}
 
 -- a scalar type isn't anonymous
 pub scalar_named : (table : Table) (u : ℕ) → is_scalar (full table u) ≡ true → IsNamed table u
@@ -82,6 +83,10 @@ module _ (t : Turn) (settled : IsSettled (typing t).table) (own_law : OwnsByShap
 
   abbrev now : Now
   now = record { memory = t.state.memory; waits = [] }
+
+  -- with these values, which the instruction takes
+  abbrev at : List (List machine.Word) → Now
+  at ws = record { memory = m; waits = ws }
 
   abbrev Good : List Fact → Type 0
   Good facts = IsGood t settled own_law other alone no_formals v parts_named may frames none v facts t.state
@@ -211,47 +216,34 @@ module _ (t : Turn) (settled : IsSettled (typing t).table) (own_law : OwnsByShap
   abbrev out_act : PlaceName → Act
   out_act name = act.Actual name mode.Out false false
 
-  got_by : (f : Place → Memory → Outcome) (p : Pos) (x u : ℕ) (path : TypedTree) → Gets f → is_scalar (full s.table u) ≡ true
-      → Leads s (object_at s x).of path u → has_call path ≡ false → is_observer s x ≡ false → (facts : List Fact) (good : Good facts)
+  pub got_on : (ws : List (List machine.Word)) (f : Place → Memory → Outcome) (p : Pos) (x u : ℕ) (path : TypedTree) → Gets f → is_scalar (full s.table u) ≡ true
+      → Leads s (object_at s x).of path u → Takes (waits_in path) ws [] → is_observer s x ≡ false → (facts : List Fact) (good : Good facts)
       → AllowsAll facts (acts (source_acts s (Name p x path u) out_act))
-      → LeadsHere (after (acts (source_acts s (Name p x path u) out_act)) facts) (steps.evaluated t (place_of (here t) (Name p x path u) (start t)) f)
-  got_by f p x u path gets scalar lead calls plain facts good allowed =
+      → LeadsHere (after (acts (source_acts s (Name p x path u) out_act)) facts) (steps.evaluated t (place_of (here t) (Name p x path u) (at ws)) f)
+  got_on ws f p x u path gets scalar lead takes plain facts good allowed =
       let b : List Act = acts (acts_in s path) in
       let whole_acts : acts (source_acts s (Name p x path u) out_act) ≡ b ++ (out_act (name_of x path) ∷ []) =
       acts_append (acts_in s path) (record { pos = p; act = out_act (name_of x path) } ∷ []) in
       let each = allows_both facts b (out_act (name_of x path) ∷ []) (subst (AllowsAll facts) whole_acts allowed) in
-      let inner = steps_quiet (here t) settled hands t.state.leaks m [] other facts v good.kept good.viewed good.holds alone
-      (live t settled own_law other alone no_formals v parts_named may frames none facts good) index_law own_law parts_named (object_at s x).of u path lead calls each.0 in
+      let inner = steps_taking (here t) settled hands t.state.leaks m [] other facts v good.kept good.viewed good.holds alone
+      (live t settled own_law other alone no_formals v parts_named may frames none facts good) index_law own_law parts_named (object_at s x).of u path lead ws [] takes each.0 in
       let actual : Allows facts (out_act (name_of x path)) = subst (λ z. Allows z (out_act (name_of x path))) inner.1 each.1.0 in
       let writes : Allows facts (act.Write (name_of x path)) = (λ g has. switched (breaks_O3 (name_of x path) g) _ _ (actual g has)) in
       let behind_acts : after (acts (source_acts s (Name p x path u) out_act)) facts ≡ effect (act.Write (name_of x path)) facts =
       ap (λ z. after z facts) whole_acts ∙ after_append b (out_act (name_of x path) ∷ []) facts ∙ ap (effect (act.Write (name_of x path))) inner.1 in
-      subst (λ z. LeadsHere z (steps.evaluated t (place_of (here t) (Name p x path u) (start t)) f)) (sym behind_acts)
-      (subst (λ z. LeadsHere (effect (act.Write (name_of x path)) facts) (steps.evaluated t (place_of (here t) (Name p x path u) z) f))
-      (sym (start_is t settled own_law other alone no_formals v parts_named may frames none))
-      (by_item writes inner.0 (next_item t.input t.state.at) refl))
+      subst (λ z. LeadsHere z (steps.evaluated t (place_of (here t) (Name p x path u) (at ws)) f)) (sym behind_acts)
+      (by_item writes inner.0 (next_item t.input t.state.at) refl)
     where
       no_number : (i : ℤ) (it : Item) → ((j : ℤ) (end : ℕ) → it ≡ item.Number j end → ⊥) → (j : ℤ) (end : ℕ) → it ≡ item.Number j end → j ≡ i
       no_number i it not j end e = absurd (not j end e)
 
       by_item : Allows facts (act.Write (name_of x path))
-          → Quiet now (λ way. GoesAlong s.table (object_at s x).of u path way) (steps_of (here t) path now)
+          → Quiet now (λ way. GoesAlong s.table (object_at s x).of u path way) (steps_of (here t) path (at ws))
           → (it : Item) → next_item t.input t.state.at ≡ it
-          → LeadsHere (effect (act.Write (name_of x path)) facts) (steps.evaluated t (place_of (here t) (Name p x path u) now) f)
+          → LeadsHere (effect (act.Write (name_of x path)) facts) (steps.evaluated t (place_of (here t) (Name p x path u) (at ws)) f)
       by_item writes q item.Missing e =
-          then_got f gets facts good u scalar (int.pos 0) x path plain writes item.Missing e (λ j end is. cc) (steps_of (here t) path now) q
+          then_got f gets facts good u scalar (int.pos 0) x path plain writes item.Missing e (λ j end is. cc) (steps_of (here t) path (at ws)) q
       by_item writes q item.Bad e =
-          then_got f gets facts good u scalar (int.pos 0) x path plain writes item.Bad e (λ j end is. cc) (steps_of (here t) path now) q
+          then_got f gets facts good u scalar (int.pos 0) x path plain writes item.Bad e (λ j end is. cc) (steps_of (here t) path (at ws)) q
       by_item writes q (item.Number i end) e =
-          then_got f gets facts good u scalar i x path plain writes (item.Number i end) e (λ j last is. cc) (steps_of (here t) path now) q
-
-  pub input_leads : (p : Pos) (x u : ℕ) (path : TypedTree) → is_scalar (full s.table u) ≡ true → Leads s (object_at s x).of path u → has_call path ≡ false
-      → is_observer s x ≡ false → (facts : List Fact) → Good facts → AllowsAll facts (acts (source_acts s (Name p x path u) out_act))
-      → LeadsHere (after (acts (source_acts s (Name p x path u) out_act)) facts) (steps.input t (Name p x path u))
-  input_leads p x u path scalar lead calls plain facts good allowed =
-      got_by _ p x u path (record {
-        at_missing = λ k m next. rw next refl;
-        at_bad = λ k m next. rw next refl;
-        at_number = λ k m i end next fits. rw (next, fits) refl;
-        at_outside = λ k m i end next out. rw (next, out) refl;
-      }) scalar lead calls plain facts good allowed
+          then_got f gets facts good u scalar i x path plain writes (item.Number i end) e (λ j last is. cc) (steps_of (here t) path (at ws)) q

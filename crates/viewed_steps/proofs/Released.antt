@@ -15,7 +15,7 @@ use Rattle.type_definitions.specs.declared.table.Shape.TheVariants as shape
 use Rattle.type_definitions.specs.Types.{Table, shape_of, words, words_of as words_of_shape, view_of as view_of_shape}
 use Rattle.typed_tree.specs.Trees.{TypedTree, Name}
 use Rattle.flow_paths.specs.Objects.{Typing, object_at, is_observer, designated, designated_of}
-use Rattle.flow_paths.specs.Names.{has_call, name_of}
+use Rattle.flow_paths.specs.Names.{waiting as waits_in, name_of}
 use Rattle.flow_paths.specs.Scopes.{taken}
 use Rattle.flow_paths.specs.Acts.{acts_in, source_acts}
 use Rattle.machine.specs.Words as machine
@@ -24,7 +24,7 @@ use Rattle.machine.specs.Evaluate.{Now, Evaluated, Done, Raises, Traps, followed
 use Rattle.machine.specs.Evaluate as run
 use Rattle.machine.specs.Calls.{checks_at}
 use Rattle.machine.specs.States.{Waiting, Leak, Outcome}
-use Rattle.machine.specs.Step.{Turn, release, typing, here, start, goes, leaking_goes}
+use Rattle.machine.specs.Step.{Turn, typing, here, goes, leaking_goes}
 use Rattle.machine.specs.Step as steps
 use Rattle.machine.specs.Owners.{waiting_in}
 use Rattle.owned_ways.specs.Ways.{OfVariable, Loc, OfCell, Inside, Way, Object, Lost, Into, All, Empty, Gone, Held, View, Reaches, Below, IsRooted, Under, Named, IsMoved, Allows, part, after, AllowsAll, number_of}
@@ -48,22 +48,24 @@ use Rattle.soundness.proofs.Keeping.{cell_has}
 use Rattle.soundness.proofs.Steps.{alike}
 use Rattle.soundness.proofs.Scalars.{acts, acts_append, after_append, allows_both, number_along, named_along}
 use Rattle.soundness.proofs.Stays.{Quiet}
+use Rattle.soundness.proofs.Taking.{Takes}
 use Rattle.soundness.proofs.Numbers.{index_law}
 use Rattle.soundness.proofs.Lasting.{keeps, stored_kept, freed_kept}
 use Rattle.owned_ways.proofs.Unique.{one_way, one_location}
-use Rattle.owned_loans.specs.Views.{Around, Views, expand, ExcusedBy, IsMovedBy, Viewed}
+use Rattle.owned_loans.specs.Views.{Around, Views, expand, ExcusedBy, IsAway, Viewed}
 use Rattle.owned_loans.proofs.Ways.{meet_overlaps, under_on}
 use Rattle.owned_loans.proofs.Meeting.{IsPlain, meeting}
 use Rattle.owned_loans.proofs.Clear.{refused, clear_same}
 use Rattle.owned_loans.proofs.Safe.{loan_of}
 use Rattle.owned_loans.proofs.Allowed.{loan_kept, free_open, free_unlent}
-use Rattle.owned_loans.proofs.Moves.{IsPlace, named_way, view_on, expand_under}
+use Rattle.owned_loans.proofs.Others.{below_through}
+use Rattle.owned_loans.proofs.Moves.{IsPlace, named_way, view_on, own_loan, lends_on, expand_under}
 use Rattle.owned_loans.proofs.Freed as view
 use Rattle.viewed_soundness.specs.Holds.{IsNamed, PartsAreNamed, Holds}
 use Rattle.viewed_soundness.proofs.Names.{is_place}
-use Rattle.viewed_soundness.proofs.Stays.{Goes, steps_quiet, name_quiet}
+use Rattle.viewed_soundness.proofs.Stays.{Goes, steps_taking, name_quiet}
 use Rattle.viewed_soundness.proofs.Stored.{holds_stored, no_view_place}
-use Rattle.viewed_soundness.proofs.Outcomes.{IsGood, Leads_on, raises, start_is, unturned, goes_to, goes_on, live}
+use Rattle.viewed_soundness.proofs.Outcomes.{IsGood, Leads_on, raises, unturned, goes_to, goes_on, live}
 
 -- ---- facts at a release
 
@@ -86,8 +88,12 @@ module _ (view : View) (k : Way) (at : Loc) (target : Reaches view k at) (empty 
 module _ (home : ℕ → ℕ) (observer : ℕ → Bool) (other : Around home) (v : Views) (s : View) (facts : List Fact)
     (viewed : Viewed home observer other v s facts) where
   -- what is freed wasn't moved
-  pub free_clean : (k : Way) → Named home k → observer (number_of k) ≡ false → Allows facts (act.Free (ways.name_of k)) → IsMovedBy home v facts (expand v k) → ⊥
-  free_clean k named plain allowed (u, moved, same) =
+  pub free_clean : (k : Way) → Named home k → observer (number_of k) ≡ false → Allows facts (act.Free (ways.name_of k)) → IsAway home v other facts (expand v k) → ⊥
+  free_clean k named plain allowed (inr away) =
+      let t = other.through (expand v k) away in
+      below_through home observer other v s facts viewed t.0 t.1 t.3 k (expand v k) (named, plain) (λ h n. free_unlent facts k allowed Borrowed h n) t.2
+      (under_itself (expand v k))
+  free_clean k named plain allowed (inl (u, moved, same)) =
       elim (meeting home observer v s facts viewed.views u k (moved.0, viewed.clear.owned (ways.name_of u) moved.1) (named, plain)
       (subst (Under (expand v u)) same (under_itself (expand v u)))) [
         | inl under ↦ refused (breaks_O14 (ways.name_of k) (Moved (ways.name_of u))) O14 (ways.name_of k) (Moved (ways.name_of u))
@@ -116,7 +122,8 @@ module _ (home : ℕ → ℕ) (observer : ℕ → Bool) (other : Around home) (v
         covered = viewed.covered;
         known = λ w l rooted r h. elim (viewed.known w l rooted r h) [
           | inr o ↦ inr o
-          | inl (u, moved, leads) ↦ inl (
+          | inl (inr away) ↦ inl (inr away)
+          | inl (inl (u, moved, leads)) ↦ inl (inl (
             u,
             (
               moved.0,
@@ -127,11 +134,12 @@ module _ (home : ℕ → ℕ) (observer : ℕ → Bool) (other : Around home) (v
                   let gone : Gone ≡ Empty = sym h ∙ ap s.word b.1 ∙ empty b.0 in cc))),
             ),
             leads,
-          )
+          ))
         ];
         clear = clear_same observer facts viewed.clear a refl;
         views = λ x w has. (let own = viewed.views x w has in
-            view_on home observer other v s s facts (effect a facts) x w own (λ seen n. loan_kept a facts (λ l h z. refl) seen x n) own.reaches);
+            view_on home observer other v s s facts (effect a facts) x w own (λ seen n. own_loan observer facts (effect a facts) (loan_kept a facts (λ l h z. refl)) seen x n) own.reaches);
+        lends = λ l n lent. lends_on observer v facts (effect a facts) (loan_kept a facts (λ l h z. refl)) l n (viewed.lends l n lent);
         far = viewed.far;
       }
 
@@ -145,7 +153,8 @@ module _ (home : ℕ → ℕ) (observer : ℕ → Bool) (other : Around home) (v
         covered = viewed.covered;
         known = λ w l rooted r h. elim (viewed.known w l rooted r h) [
           | inr o ↦ inr o
-          | inl (u, moved, leads) ↦ inl (
+          | inl (inr away) ↦ inl (inr away)
+          | inl (inl (u, moved, leads)) ↦ inl (inl (
             u,
             (
               moved.0,
@@ -156,11 +165,12 @@ module _ (home : ℕ → ℕ) (observer : ℕ → Bool) (other : Around home) (v
                   let gone : Gone ≡ Empty = sym h ∙ ap s.word b.1 ∙ empty b.0 in cc))),
             ),
             leads,
-          )
+          ))
         ];
         clear = clear_same observer facts viewed.clear a refl;
         views = λ x w has. (let own = viewed.views x w has in
-            view_on home observer other v s s facts (effect a facts) x w own (λ seen n. loan_kept a facts (λ l h z. refl) seen x n) own.reaches);
+            view_on home observer other v s s facts (effect a facts) x w own (λ seen n. own_loan observer facts (effect a facts) (loan_kept a facts (λ l h z. refl)) seen x n) own.reaches);
+        lends = λ l n lent. lends_on observer v facts (effect a facts) (loan_kept a facts (λ l h z. refl)) l n (viewed.lends l n lent);
         far = viewed.far;
       }
 
@@ -184,6 +194,10 @@ module _ (t : Turn) (settled : IsSettled (typing t).table) (own_law : OwnsByShap
 
   abbrev now : Now
   now = record { memory = t.state.memory; waits = [] }
+
+  -- with these values, which the instruction takes
+  abbrev at : List (List machine.Word) → Now
+  at ws = record { memory = m; waits = ws }
 
   abbrev Good : List Fact → Type 0
   Good facts = IsGood t settled own_law other alone no_formals v parts_named may frames none v facts t.state
@@ -377,33 +391,20 @@ module _ (t : Turn) (settled : IsSettled (typing t).table) (own_law : OwnsByShap
     then_released x path plain allowed (Raises e n) is = (λ trap. trap, raises t settled own_law other alone no_formals v parts_named may frames none facts good n.memory)
     then_released x path plain allowed (Traps e n) never = absurd never
 
-  released_by : (f : Place → Memory → Outcome) (pos p : Pos) (x u d : ℕ) (path : TypedTree) → Releases f pos
-      → shape_of s.table u ≡ shape.Access d false true → Leads s (object_at s x).of path u → has_call path ≡ false → is_observer s x ≡ false
+  pub released_on : (ws : List (List machine.Word)) (f : Place → Memory → Outcome) (pos p : Pos) (x u d : ℕ) (path : TypedTree) → Releases f pos
+      → shape_of s.table u ≡ shape.Access d false true → Leads s (object_at s x).of path u → Takes (waits_in path) ws [] → is_observer s x ≡ false
       → (facts : List Fact) (good : Good facts)
       → AllowsAll facts (acts (source_acts s (Name p x path u) act.Free))
-      → LeadsHere (after (acts (source_acts s (Name p x path u) act.Free)) facts) (steps.evaluated t (place_of (here t) (Name p x path u) (start t)) f)
-  released_by f pos p x u d path does access lead calls plain facts good allowed =
+      → LeadsHere (after (acts (source_acts s (Name p x path u) act.Free)) facts) (steps.evaluated t (place_of (here t) (Name p x path u) (at ws)) f)
+  released_on ws f pos p x u d path does access lead takes plain facts good allowed =
       let b : List Act = acts (acts_in s path) in
       let whole_acts : acts (source_acts s (Name p x path u) act.Free) ≡ b ++ (act.Free (name_of x path) ∷ []) =
       acts_append (acts_in s path) (record { pos = p; act = act.Free (name_of x path) } ∷ []) in
       let each = allows_both facts b (act.Free (name_of x path) ∷ []) (subst (AllowsAll facts) whole_acts allowed) in
-      let inner = steps_quiet (here t) settled hands t.state.leaks m [] other facts v good.kept good.viewed good.holds alone
-      (live t settled own_law other alone no_formals v parts_named may frames none facts good) index_law own_law parts_named (object_at s x).of u path lead calls each.0 in
+      let inner = steps_taking (here t) settled hands t.state.leaks m [] other facts v good.kept good.viewed good.holds alone
+      (live t settled own_law other alone no_formals v parts_named may frames none facts good) index_law own_law parts_named (object_at s x).of u path lead ws [] takes each.0 in
       let frees : Allows facts (act.Free (name_of x path)) = subst (λ z. Allows z (act.Free (name_of x path))) inner.1 each.1.0 in
       let behind_acts : after (acts (source_acts s (Name p x path u) act.Free)) facts ≡ effect (act.Free (name_of x path)) facts =
       ap (λ z. after z facts) whole_acts ∙ after_append b (act.Free (name_of x path) ∷ []) facts ∙ ap (effect (act.Free (name_of x path))) inner.1 in
-      subst (λ z. LeadsHere z (steps.evaluated t (place_of (here t) (Name p x path u) (start t)) f)) (sym behind_acts)
-      (subst (λ z. LeadsHere (effect (act.Free (name_of x path)) facts) (steps.evaluated t (place_of (here t) (Name p x path u) z) f))
-      (sym (start_is t settled own_law other alone no_formals v parts_named may frames none))
-      (then_released f pos does facts good u d access x path plain frees (steps_of (here t) path now) inner.0))
-
-  pub release_leads : (p : Pos) (x u d : ℕ) (path : TypedTree) → shape_of s.table u ≡ shape.Access d false true → Leads s (object_at s x).of path u
-      → has_call path ≡ false → is_observer s x ≡ false → (facts : List Fact) → Good facts → AllowsAll facts (acts (source_acts s (Name p x path u) act.Free))
-      → LeadsHere (after (acts (source_acts s (Name p x path u) act.Free)) facts) (release t (Name p x path u))
-  release_leads p x u d path access lead calls plain facts good allowed =
-      released_by _ p p x u d path (record {
-        at_null = λ k m is. rw is refl;
-        at_whole = λ k m v is. rw is refl;
-        at_listed = λ k m v is. rw is refl;
-        at_cell = λ k m n is alive. rw (is, alive) refl;
-      }) access lead calls plain facts good allowed
+      subst (λ z. LeadsHere z (steps.evaluated t (place_of (here t) (Name p x path u) (at ws)) f)) (sym behind_acts)
+      (then_released f pos does facts good u d access x path plain frees (steps_of (here t) path (at ws)) inner.0)

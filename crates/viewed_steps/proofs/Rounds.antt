@@ -1,11 +1,11 @@
 -- Loops, output, and instructions that change nothing.
-use Rattle.std.proofs.Common.{◌≡◌, refl, sym, ap, ◌∙◌, subst, inl, inr, ℕ, ◌+◌, Bool, true, false, not, ◌&&◌, List, [], ◌∷◌, ◌++◌, flat_map, take, drop, length, get_or, int_le, append-nil, ℤ, Option, Some, None, if◌then◌else◌}
+use Rattle.std.proofs.Common.{◌≡◌, refl, sym, ap, ◌∙◌, subst, inl, inr, ℕ, ◌+◌, Bool, true, false, List, [], ◌∷◌, ◌++◌, flat_map, take, drop, length, get_or, append-nil, ℤ, Option, Some, None, if◌then◌else◌}
 use Rattle.place_names.specs.declared.fact.Fact.{Fact}
 use Rattle.type_definitions.specs.Types.{shape_of, words, is_scalar, full}
 use Rattle.typed_tree.specs.Trees.{TypedTree, Text, Parens, Image, Binary, NoMore, More}
 use Rattle.flow_paths.specs.Instructions.{Skip, Fall}
 use Rattle.flow_paths.specs.Objects.{Typing, object_at, is_anonymous, is_observer, view_of}
-use Rattle.flow_paths.specs.Names.{has_call}
+use Rattle.flow_paths.specs.Names.{waiting as waits_in}
 use Rattle.flow_paths.specs.Scopes.{taken}
 use Rattle.flow_paths.specs.Acts.{acts_in}
 use Rattle.machine.specs.Words.{fits_type}
@@ -27,18 +27,19 @@ use Rattle.soundness.proofs.Memories.{put_other, removed_other}
 use Rattle.soundness.proofs.Steps.{plain_shape}
 use Rattle.soundness.proofs.Keeping.{cell_has}
 use Rattle.soundness.proofs.Scalars.{acts, acts_append, after_append, allows_both}
-use Rattle.soundness.proofs.Stays.{Quiet, Any, One, quiet_then}
+use Rattle.soundness.proofs.Stays.{Quiet, Any, One, quiet_then, quiet_from}
 use Rattle.soundness.proofs.Numbers.{index_law}
 use Rattle.soundness.proofs.Lasting.{keeps, stored_kept, declared_kept, removed_kept}
 use Rattle.soundness.proofs.Loops.{scalar_same, value_plain}
-use Rattle.soundness.proofs.Waits.{or_both, waits_of, led_waits}
+use Rattle.soundness.proofs.Taking.{Takes, takes_as, takes_both, takes_zero, nothing_more}
+use Rattle.soundness.proofs.Waits.{waits_of, led_waits}
 use Rattle.owned_loans.specs.Views.{Around, Views, Viewed}
 use Rattle.owned_loans.proofs.Moves.{same_viewed}
 use Rattle.viewed_soundness.specs.Holds.{PartsAreNamed, Holds}
 use Rattle.viewed_soundness.proofs.Names.{true_false}
-use Rattle.viewed_soundness.proofs.Stays.{quiet}
+use Rattle.viewed_soundness.proofs.Stays.{taking}
 use Rattle.viewed_soundness.proofs.Evaluated.{scalar_given}
-use Rattle.viewed_soundness.proofs.Outcomes.{named_plain, IsGood, Leads_on, raises, start_is, hands_behind, unturned, goes_to, live, test_leads}
+use Rattle.viewed_soundness.proofs.Outcomes.{named_plain, IsGood, Leads_on, raises, start_is, hands_behind, unturned, goes_to, live}
 use Rattle.viewed_steps.proofs.Declared.{same_root}
 use Rattle.viewed_steps.proofs.Read.{scalar_named}
 
@@ -69,6 +70,10 @@ module _ (t : Turn) (settled : IsSettled (typing t).table) (own_law : OwnsByShap
   abbrev now : Now
   now = record { memory = t.state.memory; waits = [] }
 
+  -- with these values, which the instruction takes
+  abbrev at : List (List machine.Word) → Now
+  at ws = record { memory = m; waits = ws }
+
   abbrev GoodState : List Fact → State → Type 0
   GoodState facts state = IsGood t settled own_law other alone no_formals v parts_named may frames none v facts state
 
@@ -98,36 +103,29 @@ module _ (t : Turn) (settled : IsSettled (typing t).table) (own_law : OwnsByShap
   pub fall_leads : (facts : List Fact) → Good facts → LeadsHere facts (steps.turn t Fall)
   fall_leads facts good = (λ trap. trap, raises t settled own_law other alone no_formals v parts_named may frames none facts good m)
 
-  pub leave_loop_leads : (e rest : TypedTree) → rest ≡ NoMore → Stays s e → has_call e ≡ false → (facts : List Fact) → Good facts
-      → AllowsAll facts (acts (acts_in s (More e rest))) → LeadsHere (after (acts (acts_in s (More e rest))) facts) (steps.leave_loop t (More e rest))
-  unfolding acts_in
-  leave_loop_leads e rest last stays calls facts good allowed =
-      let same : acts_in s e ++ acts_in s rest ≡ acts_in s e = ap (λ z. acts_in s e ++ acts_in s z) last ∙ append-nil (acts_in s e) in
-      subst (λ z. LeadsHere (after (acts z) facts) (steps.test t e 0 1)) (sym same)
-      (test_leads t settled own_law other alone no_formals v parts_named may frames none e stays calls facts good (subst (λ z. AllowsAll facts (acts z)) same allowed))
-
   -- ---- output
 
-  pub text_quiet : (e : TypedTree) → Writes s e → has_call e ≡ false → (facts : List Fact) → Good facts → AllowsAll facts (acts (acts_in s e))
-      → Quiet now (Any {A = List ℕ}) (text_of (here t) e now) × (after (acts (acts_in s e)) facts ≡ facts)
-  unfolding Writes text_of has_call acts_in
-  text_quiet (Text b) writes calls facts good allowed = ((refl, tt), refl)
-  text_quiet (Image u e) stays calls facts good allowed =
-      let q = quiet (here t) settled hands t.state.leaks m [] other facts v good.kept good.viewed good.holds alone (alive_trunk facts good)
-      index_law own_law parts_named AsValue e stays calls allowed in
-      (quiet_then now One (Any {A = List ℕ}) (value (here t) e now) (λ ws n. Done (run.image_of s.table u ws) n) q.0 (λ ws one. (refl, tt)), q.1)
-  text_quiet (Parens e) writes calls facts good allowed = text_quiet e writes calls facts good allowed
-  text_quiet (Binary op a b) (wa, wb) calls facts good allowed =
-      let both = or_both (has_call a) (has_call b) calls in
+  pub text_quiet : (before on : List (List machine.Word)) (e : TypedTree) → Writes s e → Takes (waits_in e) before on → (facts : List Fact) → Good facts
+      → AllowsAll facts (acts (acts_in s e))
+      → Quiet (at on) (Any {A = List ℕ}) (text_of (here t) e (at before)) × (after (acts (acts_in s e)) facts ≡ facts)
+  unfolding Writes text_of acts_in waits_in
+  text_quiet before on (Text b) writes takes facts good allowed = ((ap at (takes_zero before on takes), tt), refl)
+  text_quiet before on (Image u e) stays takes facts good allowed =
+      let q = taking (here t) settled hands t.state.leaks m [] other facts v good.kept good.viewed good.holds alone (alive_trunk facts good)
+      index_law own_law parts_named AsValue e stays before on takes allowed in
+      (quiet_then (at on) One (Any {A = List ℕ}) (value (here t) e (at before)) (λ ws n. Done (run.image_of s.table u ws) n) q.0 (λ ws one. (refl, tt)), q.1)
+  text_quiet before on (Parens e) writes takes facts good allowed = text_quiet before on e writes takes facts good allowed
+  text_quiet before on (Binary op a b) (wa, wb) takes facts good allowed =
+      let two = takes_both (waits_in a) (waits_in b) before on takes in
       let each = allows_both facts (acts (acts_in s a)) (acts (acts_in s b)) (subst (AllowsAll facts) (acts_append (acts_in s a) (acts_in s b)) allowed) in
-      let left = text_quiet a wa both.0 facts good each.0 in
-      let right = text_quiet b wb both.1 facts good (subst (λ z. AllowsAll z (acts (acts_in s b))) left.1 each.1) in (
-        quiet_then now (Any {A = List ℕ}) (Any {A = List ℕ}) (text_of (here t) a now) (λ x n. followed_by (text_of (here t) b n) (λ y n. Done (x ++ y) n)) left.0
-            (λ x any. quiet_then now (Any {A = List ℕ}) (Any {A = List ℕ}) (text_of (here t) b now) (λ y n. Done (x ++ y) n) right.0 (λ y any. (refl, tt))),
+      let left = text_quiet before two.0 a wa two.1 facts good each.0 in
+      let right = text_quiet two.0 on b wb two.2 facts good (subst (λ z. AllowsAll z (acts (acts_in s b))) left.1 each.1) in (
+        quiet_from (at two.0) (at on) (Any {A = List ℕ}) (Any {A = List ℕ}) refl (text_of (here t) a (at before)) (λ x n. followed_by (text_of (here t) b n) (λ y n. Done (x ++ y) n)) left.0
+            (λ x any. quiet_then (at on) (Any {A = List ℕ}) (Any {A = List ℕ}) (text_of (here t) b (at two.0)) (λ y n. Done (x ++ y) n) right.0 (λ y any. (refl, tt))),
         ap (λ z. after z facts) (acts_append (acts_in s a) (acts_in s b)) ∙ after_append (acts (acts_in s a)) (acts (acts_in s b)) facts
             ∙ ap (after (acts (acts_in s b))) left.1 ∙ right.1,
       )
-  text_quiet e writes calls facts good allowed = absurd writes
+  text_quiet before on e writes takes facts good allowed = absurd writes
 
   then_written : (facts : List Fact) → Good facts → (line : Bool) (y : Evaluated (List ℕ)) → Quiet now (Any {A = List ℕ}) y
       → LeadsHere facts (steps.evaluated t y (λ bytes m. Goes (record (behind t (waiting t) m 0) {
@@ -141,16 +139,20 @@ module _ (t : Turn) (settled : IsSettled (typing t).table) (own_law : OwnsByShap
   then_written facts good line (Raises e n) is = raised_here facts good e n.memory
   then_written facts good line (Traps e n) never = absurd never
 
-  pub output_leads : (e rest : TypedTree) (line : Bool) → rest ≡ NoMore → Writes s e → has_call e ≡ false → (facts : List Fact) → Good facts
-      → AllowsAll facts (acts (acts_in s (More e rest))) → LeadsHere (after (acts (acts_in s (More e rest))) facts) (steps.output t (More e rest) line)
-  unfolding acts_in
-  output_leads e rest line last writes calls facts good allowed =
-      let same : acts_in s e ++ acts_in s rest ≡ acts_in s e = ap (λ z. acts_in s e ++ acts_in s z) last ∙ append-nil (acts_in s e) in
-      let q = text_quiet e writes calls facts good (subst (λ z. AllowsAll facts (acts z)) same allowed) in
-      subst (λ z. LeadsHere z (steps.output t (More e rest) line)) (sym (ap (λ z. after (acts z) facts) same ∙ q.1))
-      (subst (λ z. LeadsHere facts (steps.evaluated t (text_of (here t) e z) (λ bytes m. Goes (record (behind t (waiting t) m 0) {
+  pub output_on : (ws : List (List machine.Word)) (e rest : TypedTree) (line : Bool) → rest ≡ NoMore → Writes s e → Takes (waits_in (More e rest)) ws []
+      → (facts : List Fact) → Good facts → AllowsAll facts (acts (acts_in s (More e rest)))
+      → LeadsHere (after (acts (acts_in s (More e rest))) facts) (steps.evaluated t (text_of (here t) e (at ws)) (λ bytes m. Goes (record (behind t (waiting t) m 0) {
         output = t.state.output ++ bytes ++ (if line then 10 ∷ [] else []);
-      })))) (sym started_is) (then_written facts good line (text_of (here t) e now) q.0))
+      })))
+  unfolding acts_in waits_in
+  output_on ws e rest line last writes takes facts good allowed =
+      let same : acts_in s e ++ acts_in s rest ≡ acts_in s e = ap (λ z. acts_in s e ++ acts_in s z) last ∙ append-nil (acts_in s e) in
+      let alone_there : waits_in e + waits_in rest ≡ waits_in e = ap (λ z. waits_in e + waits_in z) last ∙ nothing_more (waits_in e) in
+      let q = text_quiet ws [] e writes (takes_as (waits_in e + waits_in rest) (waits_in e) ws [] alone_there takes) facts good
+      (subst (λ z. AllowsAll facts (acts z)) same allowed) in
+      subst (λ z. LeadsHere z (steps.evaluated t (text_of (here t) e (at ws)) (λ bytes m. Goes (record (behind t (waiting t) m 0) {
+        output = t.state.output ++ bytes ++ (if line then 10 ∷ [] else []);
+      })))) (sym (ap (λ z. after (acts z) facts) same ∙ q.1)) (then_written facts good line (text_of (here t) e (at ws)) q.0)
 
   -- a line that ends without a text
   pub line_leads : (line : Bool) (facts : List Fact) → Good facts → LeadsHere facts (steps.output t NoMore line)
@@ -282,34 +284,20 @@ module _ (t : Turn) (settled : IsSettled (typing t).table) (own_law : OwnsByShap
     then_started (Raises e n) is = raised_here facts good e n.memory
     then_started (Traps e n) never = absurd never
 
-  started_by : (x : ℕ) (f : steps.Bounds → Memory → Outcome) (low high : TypedTree) → Starts x f → is_scalar (full s.table (object_at s x).of) ≡ true
-      → Stays s low → Stays s high → has_call low ≡ false → has_call high ≡ false → (facts : List Fact) → Good facts
+  pub started_on : (ws mid : List (List machine.Word)) (x : ℕ) (f : steps.Bounds → Memory → Outcome) (low high : TypedTree) → Starts x f → is_scalar (full s.table (object_at s x).of) ≡ true
+      → Stays s low → Stays s high → Takes (waits_in low) ws mid → Takes (waits_in high) mid [] → (facts : List Fact) → Good facts
       → AllowsAll facts (acts (acts_in s low ++ acts_in s high))
-      → LeadsHere (after (acts (acts_in s low ++ acts_in s high)) facts) (steps.evaluated t (steps.bounds t low high (start t)) f)
-  started_by x f low high starts scalar stays stays' calls calls' facts good allowed =
+      → LeadsHere (after (acts (acts_in s low ++ acts_in s high)) facts) (steps.evaluated t (steps.bounds t low high (at ws)) f)
+  started_on ws mid x f low high starts scalar stays stays' takes takes' facts good allowed =
       let each = allows_both facts (acts (acts_in s low)) (acts (acts_in s high)) (subst (AllowsAll facts) (acts_append (acts_in s low) (acts_in s high)) allowed) in
-      let first_bound = quiet (here t) settled hands t.state.leaks m [] other facts v good.kept good.viewed good.holds alone (alive_trunk facts good) index_law own_law parts_named AsValue low stays calls each.0 in
-      let second_bound = quiet (here t) settled hands t.state.leaks m [] other facts v good.kept good.viewed good.holds alone (alive_trunk facts good) index_law own_law parts_named AsValue high stays' calls'
+      let first_bound = taking (here t) settled hands t.state.leaks m [] other facts v good.kept good.viewed good.holds alone (alive_trunk facts good) index_law own_law parts_named AsValue low stays ws mid takes each.0 in
+      let second_bound = taking (here t) settled hands t.state.leaks m [] other facts v good.kept good.viewed good.holds alone (alive_trunk facts good) index_law own_law parts_named AsValue high stays' mid [] takes'
       (subst (λ z. AllowsAll z (acts (acts_in s high))) first_bound.1 each.1) in
       let all : after (acts (acts_in s low ++ acts_in s high)) facts ≡ facts =
       ap (λ z. after z facts) (acts_append (acts_in s low) (acts_in s high)) ∙ after_append (acts (acts_in s low)) (acts (acts_in s high)) facts
       ∙ ap (after (acts (acts_in s high))) first_bound.1 ∙ second_bound.1 in
-      let q : Quiet now Both (steps.bounds t low high now) =
-      quiet_then now One Both (value (here t) low now) (λ a n. followed_by (value (here t) high n) (λ b n. Done (record { low = a; high = b }) n)) first_bound.0
-      (λ a one. quiet_then now One Both (value (here t) high now) (λ b n. Done (record { low = a; high = b }) n) second_bound.0 (λ b other_one. (refl, (one, other_one)))) in
-      subst (λ z. LeadsHere z (steps.evaluated t (steps.bounds t low high (start t)) f)) (sym all)
-      (subst (λ z. LeadsHere facts (steps.evaluated t (steps.bounds t low high z) f)) (sym started_is)
-      (then_started x f starts scalar facts good (steps.bounds t low high now) q))
-
-  pub start_leads : (x : ℕ) (low high : TypedTree) → is_scalar (full s.table (object_at s x).of) ≡ true
-      → Stays s low → Stays s high → has_call low ≡ false → has_call high ≡ false → (facts : List Fact) → Good facts
-      → AllowsAll facts (acts (acts_in s low ++ acts_in s high))
-      → LeadsHere (after (acts (acts_in s low ++ acts_in s high)) facts) (steps.start_loop t x low high)
-  start_leads x low high scalar stays stays' calls calls' facts good allowed =
-      started_by x _ low high (record {
-        fails = λ b. int_le (steps.number b.low) (steps.number b.high)
-            && not (fits_type s.table (object_at s x).of b.low && fits_type s.table (object_at s x).of b.high);
-        loop = λ b. record { parameter = x; low = steps.number b.low; high = steps.number b.high; first = true };
-        at_fault = λ b m e. rw e refl;
-        at_turn = λ b m e. rw e refl;
-      }) scalar stays stays' calls calls' facts good allowed
+      let q : Quiet now Both (steps.bounds t low high (at ws)) =
+      quiet_from (at mid) now One Both refl (value (here t) low (at ws)) (λ a n. followed_by (value (here t) high n) (λ b n. Done (record { low = a; high = b }) n)) first_bound.0
+      (λ a one. quiet_then now One Both (value (here t) high (at mid)) (λ b n. Done (record { low = a; high = b }) n) second_bound.0 (λ b other_one. (refl, (one, other_one)))) in
+      subst (λ z. LeadsHere z (steps.evaluated t (steps.bounds t low high (at ws)) f)) (sym all)
+      (then_started x f starts scalar facts good (steps.bounds t low high (at ws)) q)

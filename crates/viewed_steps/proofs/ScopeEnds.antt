@@ -5,12 +5,13 @@ use Rattle.place_names.specs.declared.act.Act.{Act}
 use Rattle.place_names.specs.declared.act.Act.TheVariants as act
 use Rattle.place_names.specs.declared.fact.Fact.{Fact}
 use Rattle.place_names.specs.declared.fact.Fact.TheVariants.{Moved, Lent}
+use Rattle.place_names.specs.declared.rule.Loan.{Loan}
 use Rattle.place_names.specs.declared.rule.Loan.TheVariants.{Observed}
 use Rattle.place_names.specs.Names.{Name as PlaceName}
 use Rattle.type_definitions.specs.Types.{Table}
 use Rattle.typed_tree.specs.Programs.{TypedProgram}
 use Rattle.flow_paths.specs.declared.report.Effects.{Effects}
-use Rattle.flow_paths.specs.Instructions.{Instruction, EndScope}
+use Rattle.flow_paths.specs.Instructions.{Instruction, Call, EndScope}
 use Rattle.flow_paths.specs.Objects.{Typing, is_anonymous, is_package_object, is_borrower, is_observer, view_of}
 use Rattle.flow_paths.specs.Points.{NamedPoint}
 use Rattle.flow_paths.specs.Laid.{FlowProgram, NamedSub, number_in, typing_of, flow_typing, flow_program, flow_named}
@@ -19,29 +20,33 @@ use Rattle.flow_paths.specs.Effects.{path_points}
 use Rattle.place_names.specs.Rules.{forbids}
 use Rattle.flow_paths.specs.Scopes.{taken, brought, scope_behind, is_ready, Leads}
 use Rattle.machine.specs.Memory.{Memory}
-use Rattle.machine.specs.States.{Frame, State, Outcome, Goes, Ends, sub_of}
+use Rattle.machine.specs.States.{Waiting, Frame, State, Outcome, Goes, Ends, sub_of}
 use Rattle.machine.specs.Step.{Turn, turn, successor}
+use Rattle.machine.specs.Step as steps
 use Rattle.machine.specs.Typed.{successors}
 use Rattle.machine.specs.Owners.{waiting_in}
 use Rattle.owned_ways.specs.Ways.{Step, OfVariable, OfRoot, Way, Held, after, AllowsAll}
 use Rattle.owned_ways.specs.Ways as ways
 use Rattle.soundness.specs.Seen.{IsNear, is_view_formal, content, word_in, home}
 use Rattle.soundness.specs.Typed.{Kept}
-use Rattle.soundness.specs.Sound.{calls_nothing, Stage, facts_of, AreStages, Uses, IsProcedure, InScope, IsNamedSub, IsAtPoint, view_of as view_here}
+use Rattle.soundness.specs.Sound.{IsNoCall, Stage, facts_of, AreStages, IsRunnable, AreAwaited, AreWaiting as AreWaitingValues, returns_value, awaited, InScope, IsNamedSub, IsAtPoint, view_of as view_here}
 use Rattle.soundness.proofs.Scoped.{Inside}
 use Rattle.soundness.proofs.Inherited.{Splits, allowed_beside}
 use Rattle.soundness.proofs.Around.{IsFar}
-use Rattle.soundness.proofs.Following.{Each, GoesOn, end_scope_follows}
+use Rattle.soundness.proofs.Following.{Each}
+use Rattle.soundness.proofs.Onward.{GoesOn, end_scope_follows}
+use Rattle.soundness.proofs.Waited.{FillsNone}
+use Rattle.soundness.proofs.Waits.{drop_none}
 use Rattle.soundness.proofs.Successors.{below_one, successor_there}
 use Rattle.owned_loans.specs.Views.{Around, known_gone, Views, Viewed}
 use Rattle.viewed_soundness.proofs.Outcomes.{Is_left}
 use Rattle.viewed_steps.specs.Sound.{IsResting, HoldsAt, ArePlaced, NoneAbove, ViewStage, stages_of, GoneElsewhere, AreWaiting, AreLeft, leaves_scope, LeadsAlong}
 use Rattle.viewed_steps.specs.Ready.{AreOrderly, IsReady}
-use Rattle.viewed_steps.proofs.Inherited.{apart_end}
+use Rattle.viewed_steps.proofs.Inherited.{apart_end, lent_end}
 use Rattle.viewed_steps.proofs.Placed.{scope_on}
 use Rattle.viewed_steps.proofs.Ended.{views_left, ends_well, placed_left, holds_left, leaves, leaves_others}
 use Rattle.viewed_steps.proofs.Beside.{OthersKept, end_scope_keeps}
-use Rattle.viewed_steps.proofs.Waiting.{StandsBetween, KeptElsewhere, beside_them, handed}
+use Rattle.viewed_steps.proofs.Waiting.{StandsBetween, KeptElsewhere, beside_them, handed, handed_cases}
 use Rattle.viewed_steps.proofs.Standing as standing
 use Rattle.viewed_steps.proofs.Packages as packages
 use Rattle.viewed_steps.proofs.Innermost as innermost
@@ -60,9 +65,6 @@ module _ (table : Table) (typed : TypedProgram) (effects : Effects) (input : Lis
   abbrev own : Typing
   own = typing_of table typed
 
-  abbrev same : s ≡ own
-  same = standing.same table typed effects input ready
-
   abbrev no_in_formals : (x : ℕ) → is_view_formal s x ≡ false
   no_in_formals = standing.no_in_formals table typed effects input ready
 
@@ -75,7 +77,8 @@ module _ (table : Table) (typed : TypedProgram) (effects : Effects) (input : Lis
   module _ (state : State) (top : Stage) (below : ViewStage) (more_frames : List ViewStage) (rest : List Frame) (named : NamedSub) (p : NamedPoint)
       (frames : state.frames ≡ top.frame ∷ (below.stage.frame ∷ rest)) (deep : top.depth ≡ suc (length rest))
       (stages : AreStages (stages_of (below ∷ more_frames)) (below.stage.frame ∷ rest))
-      (running : IsProcedure table typed top.frame.sub × IsResting s top × AreWaiting table typed effects state top.frame.sub top.frame.returns (below ∷ more_frames))
+      (running : IsRunnable table typed top.frame.sub × IsResting s top × AreWaiting table typed effects state top.frame.sub top.frame.returns (below ∷ more_frames))
+      (awaiting : AreAwaited table typed 0 (top ∷ stages_of (below ∷ more_frames)))
       (of_sub : IsNamedSub (flow_named table typed) top.frame.sub named) (at_point : IsAtPoint named.points top.frame.next p)
       (path : ControlPath (path_points program effects (sub_of program top.frame.sub)) top.before top.frame.next) (views : Views)
       (viewed_before : Viewed (home s (suc (length rest))) (is_observer s) (known_gone (home s (suc (length rest))) (GoneElsewhere program effects (below ∷ more_frames))) views
@@ -92,19 +95,25 @@ module _ (table : Table) (typed : TypedProgram) (effects : Effects) (input : Lis
     depth = suc (length rest)
 
     abbrev between : (g : ViewStage) → Has (below ∷ more_frames) g → StandsBetween table typed effects unmoved_stage local state (suc (length rest)) g
-    between = innermost.between table typed effects input ready state top below more_frames rest named p frames deep stages running of_sub at_point path views viewed_before kept scope holds placed_before above
+    between = innermost.between table typed effects input ready state top below more_frames rest named p frames deep stages running awaiting of_sub at_point path views viewed_before kept scope holds placed_before above
 
     abbrev other : Around (home s (suc (length rest)))
     other = beside_them table typed effects unmoved_stage local state (suc (length rest)) (below ∷ more_frames) between
 
     abbrev alone : (w : Way) → IsNear (suc (length rest)) w → IsFar (suc (length rest)) (GoneElsewhere program effects (below ∷ more_frames)) w → ⊥
-    alone = innermost.alone table typed effects input ready state top below more_frames rest named p frames deep stages running of_sub at_point path views viewed_before kept scope holds placed_before above
-
-    abbrev plain : top.frame.waits ≡ []
-    plain = innermost.plain table typed effects input ready state top below more_frames rest named p frames deep stages running of_sub at_point path views viewed_before kept scope holds placed_before above
+    alone = innermost.alone table typed effects input ready state top below more_frames rest named p frames deep stages running awaiting of_sub at_point path views viewed_before kept scope holds placed_before above
 
     abbrev main_turn : Turn
     main_turn = standing.t table typed effects input ready state top older outer named p frames of_sub at_point
+
+    abbrev Left : List Waiting → Type 0
+    Left waits = AreWaitingValues s waits (scope_behind p)
+
+    abbrev left_after : FillsNone s p.instr → Left (steps.waiting main_turn)
+    left_after = innermost.left_after table typed effects input ready state top below more_frames rest named p frames deep stages running awaiting of_sub at_point path views viewed_before kept scope holds placed_before above
+
+    abbrev others_await : returns_value p.instr ≡ false → AreAwaited table typed (awaited (sub_of program top.frame.sub) (top.frame.next ∷ top.before)) (stages_of older)
+    others_await = innermost.others_await table typed effects input ready state top below more_frames rest named p frames deep stages running awaiting of_sub at_point path views viewed_before kept scope holds placed_before above
 
     abbrev own_facts : List Fact
     own_facts = standing.facts table typed effects input ready state top older outer named p frames of_sub at_point path
@@ -116,53 +125,50 @@ module _ (table : Table) (typed : TypedProgram) (effects : Effects) (input : Lis
     facts_now = own_facts ++ handed_on
 
     abbrev from_both : Splits facts_now own_facts handed_on
-    from_both = innermost.from_both table typed effects input ready state top below more_frames rest named p frames deep stages running of_sub at_point path views viewed_before kept scope holds placed_before above
+    from_both = innermost.from_both table typed effects input ready state top below more_frames rest named p frames deep stages running awaiting of_sub at_point path views viewed_before kept scope holds placed_before above
 
     abbrev acts_of_main : Instruction → List Act
     acts_of_main i = standing.acts_here table typed effects input ready state top older outer named p frames of_sub at_point i
 
-    abbrev unused_here : (f : Fact) → Has handed_on f
-        → (name : PlaceName) × (f ≡ Moved name) × (is_package_object s name.root ≡ true) × (Uses effects top.frame.sub name.root → ⊥)
-    unused_here = innermost.unused_here table typed effects input ready state top below more_frames rest named p frames deep stages running of_sub at_point path views viewed_before kept scope holds placed_before above
+    abbrev not_lent : (x : ℕ) → is_package_object s x ≡ false → (l : Loan) (name : PlaceName) → other.lent l name → name.root ≡ x → ⊥
+    not_lent = innermost.not_lent table typed effects input ready state top below more_frames rest named p frames deep stages running awaiting of_sub at_point path views viewed_before kept scope holds placed_before above
 
     abbrev borrower_local : (x : ℕ) → is_borrower s x ≡ true → is_package_object s x ≡ false
-    borrower_local = innermost.borrower_local table typed effects input ready state top below more_frames rest named p frames deep stages running of_sub at_point path views viewed_before kept scope holds placed_before above
+    borrower_local = innermost.borrower_local table typed effects input ready state top below more_frames rest named p frames deep stages running awaiting of_sub at_point path views viewed_before kept scope holds placed_before above
 
     abbrev viewed : Viewed (home s depth) (is_observer s) other views (view_here s state) facts_now
-    viewed = innermost.viewed table typed effects input ready state top below more_frames rest named p frames deep stages running of_sub at_point path views viewed_before kept scope holds placed_before above
+    viewed = innermost.viewed table typed effects input ready state top below more_frames rest named p frames deep stages running awaiting of_sub at_point path views viewed_before kept scope holds placed_before above
 
     abbrev apart_from_them : (done : List Act) (v : Views) (view : ways.View) → ((x : ℕ) (w : Way) → v.way x ≡ Some w → is_anonymous (view_of s x) ≡ true)
         → Viewed (home s depth) (is_observer s) other v view (after done facts_now)
         → Viewed (home s depth) (is_observer s) (known_gone (home s depth) (GoneElsewhere program effects older)) v view (after done own_facts)
-    apart_from_them = innermost.apart_from_them table typed effects input ready state top below more_frames rest named p frames deep stages running of_sub at_point path views viewed_before kept scope holds placed_before above
+    apart_from_them = innermost.apart_from_them table typed effects input ready state top below more_frames rest named p frames deep stages running awaiting of_sub at_point path views viewed_before kept scope holds placed_before above
 
-    abbrev placed_by : (some all : List Fact) (v : Views) (scope_there : List ℕ) → ((h : ℕ) (m : PlaceName) → Has some (Lent Observed h m) → Has all (Lent Observed h m))
+    abbrev placed_by : (some all : List Fact) (v : Views) (scope_there : List ℕ) → ((h : ℕ) (m : PlaceName) → is_observer s h ≡ true → Has some (Lent Observed h m) → Has all (Lent Observed h m))
         → ArePlaced program some v scope_there → ArePlaced program all v scope_there
-    placed_by = innermost.placed_by table typed effects input ready state top below more_frames rest named p frames deep stages running of_sub at_point path views viewed_before kept scope holds placed_before above
+    placed_by = innermost.placed_by table typed effects input ready state top below more_frames rest named p frames deep stages running awaiting of_sub at_point path views viewed_before kept scope holds placed_before above
 
     abbrev placed : ArePlaced program facts_now views p.scope
-    placed = innermost.placed table typed effects input ready state top below more_frames rest named p frames deep stages running of_sub at_point path views viewed_before kept scope holds placed_before above
+    placed = innermost.placed table typed effects input ready state top below more_frames rest named p frames deep stages running awaiting of_sub at_point path views viewed_before kept scope holds placed_before above
 
-    abbrev own_loans : (done : List Act) (h : ℕ) (m : PlaceName) → Has (after done facts_now) (Lent Observed h m) → Has (after done own_facts) (Lent Observed h m)
-    own_loans = innermost.own_loans table typed effects input ready state top below more_frames rest named p frames deep stages running of_sub at_point path views viewed_before kept scope holds placed_before above
+    abbrev own_loans : (done : List Act) (h : ℕ) (m : PlaceName) → is_observer s h ≡ true → Has (after done facts_now) (Lent Observed h m)
+        → Has (after done own_facts) (Lent Observed h m)
+    own_loans = innermost.own_loans table typed effects input ready state top below more_frames rest named p frames deep stages running awaiting of_sub at_point path views viewed_before kept scope holds placed_before above
 
-    abbrev none_takes : taken main_turn.point.instr ≡ 0
-    none_takes = innermost.none_takes table typed effects input ready state top below more_frames rest named p frames deep stages running of_sub at_point path views viewed_before kept scope holds placed_before above
+    abbrev none_takes : (i : Instruction) → p.instr ≡ i → taken i ≡ 0 → taken main_turn.point.instr ≡ 0
+    none_takes = innermost.none_takes table typed effects input ready state top below more_frames rest named p frames deep stages running awaiting of_sub at_point path views viewed_before kept scope holds placed_before above
 
     abbrev named_there : Has (flow_named table typed) named
-    named_there = innermost.named_there table typed effects input ready state top below more_frames rest named p frames deep stages running of_sub at_point path views viewed_before kept scope holds placed_before above
+    named_there = innermost.named_there table typed effects input ready state top below more_frames rest named p frames deep stages running awaiting of_sub at_point path views viewed_before kept scope holds placed_before above
 
     abbrev point_there_now : Has named.points p
-    point_there_now = innermost.point_there_now table typed effects input ready state top below more_frames rest named p frames deep stages running of_sub at_point path views viewed_before kept scope holds placed_before above
+    point_there_now = innermost.point_there_now table typed effects input ready state top below more_frames rest named p frames deep stages running awaiting of_sub at_point path views viewed_before kept scope holds placed_before above
 
     abbrev successors_there : length main_turn.point.next ≡ successors p.instr
-    successors_there = innermost.successors_there table typed effects input ready state top below more_frames rest named p frames deep stages running of_sub at_point path views viewed_before kept scope holds placed_before above
+    successors_there = innermost.successors_there table typed effects input ready state top below more_frames rest named p frames deep stages running awaiting of_sub at_point path views viewed_before kept scope holds placed_before above
 
     abbrev orderly : AreOrderly program p (λ q. (n : ℕ) × Has (map (number_in named.points) p.next) n × IsAtPoint named.points n q)
-    orderly = innermost.orderly table typed effects input ready state top below more_frames rest named p frames deep stages running of_sub at_point path views viewed_before kept scope holds placed_before above
-
-    abbrev scope_is : scope_behind p ≡ brought p.instr p.scope
-    scope_is = innermost.scope_is table typed effects input ready state top below more_frames rest named p frames deep stages running of_sub at_point path views viewed_before kept scope holds placed_before above
+    orderly = innermost.orderly table typed effects input ready state top below more_frames rest named p frames deep stages running awaiting of_sub at_point path views viewed_before kept scope holds placed_before above
 
     abbrev IsOld : ℕ → ℕ → Type 0
     IsOld f x =
@@ -170,27 +176,27 @@ module _ (table : Table) (typed : TypedProgram) (effects : Effects) (input : Lis
         ⊎ ((q : List Step) × (k : ℕ) × (word_in s.table (content s state.memory [] (OfRoot (OfVariable f x))) q ≡ Held k)))
 
     abbrev inside : Inside s IsOld state.memory depth p.scope
-    inside = innermost.inside table typed effects input ready state top below more_frames rest named p frames deep stages running of_sub at_point path views viewed_before kept scope holds placed_before above
+    inside = innermost.inside table typed effects input ready state top below more_frames rest named p frames deep stages running awaiting of_sub at_point path views viewed_before kept scope holds placed_before above
 
     abbrev in_scope : (m : Memory) (after_scope : List ℕ) → Inside s IsOld m depth after_scope → InScope s m depth after_scope
-    in_scope = innermost.in_scope table typed effects input ready state top below more_frames rest named p frames deep stages running of_sub at_point path views viewed_before kept scope holds placed_before above
+    in_scope = innermost.in_scope table typed effects input ready state top below more_frames rest named p frames deep stages running awaiting of_sub at_point path views viewed_before kept scope holds placed_before above
 
     abbrev home_frame : (x : ℕ) → is_package_object s x ≡ false → home s depth x ≡ depth
-    home_frame = innermost.home_frame table typed effects input ready state top below more_frames rest named p frames deep stages running of_sub at_point path views viewed_before kept scope holds placed_before above
+    home_frame = innermost.home_frame table typed effects input ready state top below more_frames rest named p frames deep stages running awaiting of_sub at_point path views viewed_before kept scope holds placed_before above
 
     abbrev still_above : (m : Memory) → OthersKept s depth state.memory m → NoneAbove s depth m
-    still_above = innermost.still_above table typed effects input ready state top below more_frames rest named p frames deep stages running of_sub at_point path views viewed_before kept scope holds placed_before above
+    still_above = innermost.still_above table typed effects input ready state top below more_frames rest named p frames deep stages running awaiting of_sub at_point path views viewed_before kept scope holds placed_before above
 
     abbrev wait_still : (next : State) (after_scope : List ℕ) → Inside s IsOld next.memory depth after_scope → OthersKept s depth state.memory next.memory
         → ((w : Way) (n : ℕ) → KeptElsewhere table typed effects unmoved_stage local older w n → ways.Reaches (view_here s next) w (ways.OfCell n))
         → AreWaiting table typed effects next top.frame.sub top.frame.returns older
-    wait_still = innermost.wait_still table typed effects input ready state top below more_frames rest named p frames deep stages running of_sub at_point path views viewed_before kept scope holds placed_before above
+    wait_still = innermost.wait_still table typed effects input ready state top below more_frames rest named p frames deep stages running awaiting of_sub at_point path views viewed_before kept scope holds placed_before above
 
     abbrev with_successors : (i : Instruction) (n : ℕ) → p.instr ≡ i → n < successors i → n < successors main_turn.point.instr
-    with_successors = innermost.with_successors table typed effects input ready state top below more_frames rest named p frames deep stages running of_sub at_point path views viewed_before kept scope holds placed_before above
+    with_successors = innermost.with_successors table typed effects input ready state top below more_frames rest named p frames deep stages running awaiting of_sub at_point path views viewed_before kept scope holds placed_before above
 
     abbrev ready_there : (i : Instruction) → p.instr ≡ i → is_ready p i ≡ true
-    ready_there = innermost.ready_there table typed effects input ready state top below more_frames rest named p frames deep stages running of_sub at_point path views viewed_before kept scope holds placed_before above
+    ready_there = innermost.ready_there table typed effects input ready state top below more_frames rest named p frames deep stages running awaiting of_sub at_point path views viewed_before kept scope holds placed_before above
 
     -- ---- the end of a scope
 
@@ -202,86 +208,100 @@ module _ (table : Table) (typed : TypedProgram) (effects : Effects) (input : Lis
       abbrev no_source : ℕ → ℕ → Type 0
       no_source a b = ⊥
 
+      no_call_here : IsNoCall p.instr
+      no_call_here k actuals result call = (let never : EndScope y ≡ Call k actuals result = sym is ∙ call in cc)
+
+      nothing_taken : taken main_turn.point.instr ≡ 0
+      nothing_taken = none_takes (EndScope y) is refl
+
+      left_values : Left (steps.waiting main_turn)
+      left_values = left_after (subst (FillsNone s) (sym is) tt)
+
+      scope_is : scope_behind p ≡ drop 1 p.scope
+      scope_is = ap (λ i. brought i (drop (taken i) p.scope)) is ∙ ap (drop 1) (drop_none p.scope)
+
       not_shared : is_package_object s y ≡ false
       not_shared = ready.scoped.ends named named_there p point_there_now y is
 
       next_point : (n : ℕ) × (successor main_turn 0 ≡ Some n) × Has main_turn.point.next n
       next_point = successor_there main_turn 0 (subst (λ z. 0 < z) (sym (successors_there ∙ ap successors is)) below_one)
 
-      at_next_point : (q : NamedPoint) × IsAtPoint named.points next_point.0 q × Leads own (scope_behind p) q.scope
+      at_next_point : (q : NamedPoint) × IsAtPoint named.points next_point.0 q × Leads s (scope_behind p) q.scope
       at_next_point = standing.next_at table typed effects input ready state top older outer named p frames of_sub at_point path next_point.0 next_point.2
 
       lead : Leads s (drop 1 p.scope) (at_next_point.0).scope
-      lead = subst (λ z. Leads s z (at_next_point.0).scope) (scope_is ∙ ap (λ i. brought i p.scope) is)
-          (subst (λ z. Leads z (scope_behind p) (at_next_point.0).scope) (sym same) at_next_point.2)
+      lead = subst (λ z. Leads s z (at_next_point.0).scope) scope_is at_next_point.2
 
       pub end_allowed : AllowsAll facts_now (acts_of_main (EndScope y))
       end_allowed =
           allowed_beside (acts_of_main (EndScope y)) facts_now own_facts handed_on from_both
-          (subst (λ i. AllowsAll own_facts (acts_of_main i)) is (standing.allowed table typed effects input ready state top older outer named p frames of_sub at_point path (ap calls_nothing is)))
+          (subst (λ i. AllowsAll own_facts (acts_of_main i)) is (standing.allowed table typed effects input ready state top older outer named p frames of_sub at_point path no_call_here))
           (λ a has f there. elim has [
-            | inl end_act ↦ (
-                let found = unused_here f there in
-                ap (λ z. forbids z f) (sym end_act) ∙ ap (forbids (act.EndScope y (is_borrower s y))) found.1
-                ∙ apart_end s found.0 found.2 borrower_local y (is_borrower s y) not_shared)
+            | inl end_act ↦ ap (λ z. forbids z f) (sym end_act) ∙ elim (handed_cases table typed effects unmoved_stage local state (suc (length rest)) (below ∷ more_frames) between f there) [
+              | inl (name, same, g, has_stage, fact, shared) ↦ ap (forbids (act.EndScope y (is_borrower s y))) same
+                  ∙ apart_end s name shared borrower_local y (is_borrower s y) not_shared
+              | inr (l, name, same, lent) ↦ ap (forbids (act.EndScope y (is_borrower s y))) same
+                  ∙ lent_end s name lent.5 borrower_local l name.root y (is_borrower s y)
+            ]
             | inr never ↦ absurd never
           ])
 
       abbrev left_views : Views
       left_views =
-          views_left main_turn ready.accepted.settled ready.owns other alone no_in_formals views ready.class.parts_named no_source frames none_takes
+          views_left main_turn ready.accepted.settled ready.owns other alone no_in_formals views ready.class.parts_named no_source frames nothing_taken
           p at_next_point.0 y is (home_frame y not_shared) not_shared (ready_there (EndScope y) is) ready.orderly.local (λ x within off. orderly.ended y x is within off)
           (λ x within sees region. orderly.followed y x is at_next_point.0 (next_point.0, next_point.2, at_next_point.1) within sees region)
-          lead facts_now end_allowed.0 viewed kept holds placed
+          lead facts_now end_allowed.0 viewed kept holds placed (not_lent y not_shared)
 
       -- they had their ways before, and none begins at the object
       were_left : AreLeft y views left_views
       were_left x w has = (
-        ((leaves main_turn ready.accepted.settled ready.owns other alone no_in_formals views ready.class.parts_named no_source frames none_takes
+        ((leaves main_turn ready.accepted.settled ready.owns other alone no_in_formals views ready.class.parts_named no_source frames nothing_taken
             p at_next_point.0 y is (home_frame y not_shared) not_shared (ready_there (EndScope y) is) ready.orderly.local (λ x within off. orderly.ended y x is within off)
             (λ x within sees region. orderly.followed y x is at_next_point.0 (next_point.0, next_point.2, at_next_point.1) within sees region)
-            lead facts_now end_allowed.0 viewed kept holds placed).1.was x w has).2,
-        (leaves_others main_turn ready.accepted.settled ready.owns other alone no_in_formals views ready.class.parts_named no_source frames none_takes
+            lead facts_now end_allowed.0 viewed kept holds placed (not_lent y not_shared)).1.was x w has).2,
+        (leaves_others main_turn ready.accepted.settled ready.owns other alone no_in_formals views ready.class.parts_named no_source frames nothing_taken
             p at_next_point.0 y is (home_frame y not_shared) not_shared (ready_there (EndScope y) is) ready.orderly.local (λ x within off. orderly.ended y x is within off)
             (λ x within sees region. orderly.followed y x is at_next_point.0 (next_point.0, next_point.2, at_next_point.1) within sees region)
-            lead facts_now end_allowed.0 viewed kept holds placed).roots x w has,
+            lead facts_now end_allowed.0 viewed kept holds placed (not_lent y not_shared)).roots x w has,
       )
 
       then_left : (outcome : Outcome)
-          → Is_left main_turn ready.accepted.settled ready.owns other alone no_in_formals views ready.class.parts_named no_source frames none_takes
+          → Is_left main_turn ready.accepted.settled ready.owns other alone no_in_formals views ready.class.parts_named no_source frames nothing_taken
           left_views y (after (acts_of_main (EndScope y)) facts_now) outcome
-          → Each (GoesOn main_turn plain IsOld p.scope (drop 1 p.scope) inside) outcome
+          → Each (GoesOn main_turn Left left_values IsOld p.scope (drop 1 p.scope) inside) outcome
           → Each (λ (next : State). OthersKept s depth state.memory next.memory) outcome → Along outcome
       then_left (Ends how after_step) leads on stay = absurd leads
       then_left (Goes after_step) (still_viewed, still_kept, memory) on stay =
           let facts_are_there : after (acts_of_main (EndScope y)) facts_now ≡ after (acts_of_main p.instr) facts_now = ap (λ i. after (acts_of_main i) facts_now) (sym is) in
           let still_holds : HoldsAt s depth left_views after_step.memory at_next_point.0 =
           (subst (λ z. HoldsAt s depth left_views z at_next_point.0) (sym memory)
-          (holds_left main_turn ready.accepted.settled ready.owns other alone no_in_formals views ready.class.parts_named no_source frames none_takes
+          (holds_left main_turn ready.accepted.settled ready.owns other alone no_in_formals views ready.class.parts_named no_source frames nothing_taken
           p at_next_point.0 y is (home_frame y not_shared) not_shared (ready_there (EndScope y) is) ready.orderly.local (λ x within off. orderly.ended y x is within off)
           (λ x within sees region. orderly.followed y x is at_next_point.0 (next_point.0, next_point.2, at_next_point.1) within sees region)
-          lead facts_now end_allowed.0 viewed kept holds placed)) in
+          lead facts_now end_allowed.0 viewed kept holds placed (not_lent y not_shared))) in
           let frames_there = on.frames next_point.0 (ap (successor main_turn) (only_first on.k (subst (λ z. on.k < z) (ap successors is) on.less)) ∙ next_point.1) in
-          standing.goes_to_next table typed effects input ready state top older outer named p frames of_sub at_point path (ap calls_nothing is) after_step on.loops next_point.0 next_point.2 at_next_point.0 at_next_point.1
-          frames_there deep stages left_views (running.0, (refl, running.1.1), wait_still after_step (drop 1 p.scope) on.inside stay still_viewed.far)
+          standing.goes_to_next table typed effects input ready state top older outer named p frames of_sub at_point path no_call_here after_step on.waits on.loops next_point.0 next_point.2 at_next_point.0 at_next_point.1
+          frames_there deep stages left_views (running.0, running.1, wait_still after_step (drop 1 p.scope) on.inside stay still_viewed.far)
+          (standing.waits_next table typed effects input ready state top older outer named p frames of_sub at_point path on.waits on.loops next_point.0 next_point.2 on.are, others_await (ap returns_value is))
           (apart_from_them (acts_of_main p.instr) left_views (view_here s after_step) still_holds.only
           (subst (Viewed (home s depth) (is_observer s) other left_views (view_here s after_step)) facts_are_there still_viewed)) still_kept
           (scope_on s ready.owns after_step.memory depth (drop 1 p.scope) (at_next_point.0).scope (in_scope after_step.memory (drop 1 p.scope) on.inside) lead)
           still_holds
           (placed_by (after (acts_of_main p.instr) facts_now) (after (acts_of_main p.instr) own_facts) left_views (at_next_point.0).scope (own_loans (acts_of_main p.instr))
           (subst (λ z. ArePlaced program z left_views (at_next_point.0).scope) facts_are_there
-          (placed_left main_turn ready.accepted.settled ready.owns other alone no_in_formals views ready.class.parts_named no_source frames none_takes
+          (placed_left main_turn ready.accepted.settled ready.owns other alone no_in_formals views ready.class.parts_named no_source frames nothing_taken
           p at_next_point.0 y is (home_frame y not_shared) not_shared (ready_there (EndScope y) is) ready.orderly.local (λ x within off. orderly.ended y x is within off)
           (λ x within sees region. orderly.followed y x is at_next_point.0 (next_point.0, next_point.2, at_next_point.1) within sees region)
-          lead facts_now end_allowed.0 viewed kept holds placed))) (still_above after_step.memory stay) views
+          lead facts_now end_allowed.0 viewed kept holds placed (not_lent y not_shared)))) (still_above after_step.memory stay) views
           (leaves_scope y is (refl, refl, refl) were_left refl)
 
       pub ends_scope : Along (turn main_turn (EndScope y))
       ends_scope =
           then_left (turn main_turn (EndScope y))
-          (ends_well main_turn ready.accepted.settled ready.owns other alone no_in_formals views ready.class.parts_named no_source frames none_takes
+          (ends_well main_turn ready.accepted.settled ready.owns other alone no_in_formals views ready.class.parts_named no_source frames nothing_taken
           p at_next_point.0 y is (home_frame y not_shared) not_shared (ready_there (EndScope y) is) ready.orderly.local (λ x within off. orderly.ended y x is within off)
           (λ x within sees region. orderly.followed y x is at_next_point.0 (next_point.0, next_point.2, at_next_point.1) within sees region)
-          lead facts_now end_allowed.0 viewed kept holds placed)
-          (end_scope_follows main_turn plain IsOld p.scope (drop 1 p.scope) inside y (ready_there (EndScope y) is) refl (with_successors (EndScope y) 0 is below_one))
+          lead facts_now end_allowed.0 viewed kept holds placed (not_lent y not_shared))
+          (end_scope_follows main_turn Left left_values IsOld p.scope (drop 1 p.scope) inside y (ready_there (EndScope y) is) refl (with_successors (EndScope y) 0 is below_one))
           (end_scope_keeps main_turn y)

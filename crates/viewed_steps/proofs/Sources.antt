@@ -1,6 +1,6 @@
 -- Declarations of borrowers and observers and assignments to them, by what typing says of their
 -- sources.
-use Rattle.std.proofs.Common.{◌≡◌, refl, sym, ap, ◌∙◌, subst, ◌⊎◌, inl, inr, ℕ, ◌<◌, Bool, true, false, not, ◌&&◌, List, ◌∷◌, length, Some}
+use Rattle.std.proofs.Common.{◌≡◌, refl, sym, ap, ◌∙◌, subst, ◌⊎◌, inl, inr, ℕ, ◌<◌, Bool, true, false, not, ◌&&◌, List, [], ◌∷◌, length, Some}
 use Rattle.spark_base.specs.declared.position.Pos.{Pos}
 use Rattle.place_names.specs.declared.fact.Fact.{Fact}
 use Rattle.type_definitions.specs.declared.table.Shape.{Shape}
@@ -8,21 +8,23 @@ use Rattle.type_definitions.specs.declared.table.Shape.TheVariants as shape
 use Rattle.type_definitions.specs.Types.{shape_of, is_scalar, view_of as view_of_shape}
 use Rattle.typed_tree.specs.Trees.{TypedTree, Name, Component, Designated, Element, NoMore, More}
 use Rattle.flow_paths.specs.Objects.{Typing, object_at, is_variable, is_anonymous, is_borrowing, is_observing, is_borrower, is_observer, view_of}
-use Rattle.flow_paths.specs.Names.{has_call}
+use Rattle.flow_paths.specs.Names.{waiting as waits_in}
 use Rattle.flow_paths.specs.Scopes.{taken}
 use Rattle.flow_paths.specs.Acts.{declared_acts, assigned_to}
 use Rattle.machine.specs.Words as machine
 use Rattle.machine.specs.States.{Outcome}
-use Rattle.machine.specs.Step.{Turn, typing, declare, assign}
+use Rattle.machine.specs.Step.{Turn, typing, taken_by, target_pos}
 use Rattle.owned_ways.specs.Ways.{Way, after, AllowsAll}
 use Rattle.part_offsets.specs.Parts.{IsSettled}
 use Rattle.soundness.specs.Seen.{IsNear, is_view_formal, home}
 use Rattle.soundness.specs.Typed.{OwnsByShape}
 use Rattle.typed_laws.specs.Needed.{Leads, Gives, Source}
 use Rattle.soundness.proofs.Scalars.{acts}
+use Rattle.soundness.proofs.Taking.{Takes}
 use Rattle.owned_loans.specs.Views.{Around, Views, Unused}
 use Rattle.viewed_soundness.specs.Holds.{IsNamed, PartsAreNamed}
-use Rattle.viewed_soundness.proofs.Outcomes.{IsGood, Leads_on, Observes, borrower_leads, observer_leads, observer_again_leads, assign_borrower_leads, assign_observer_leads}
+use Rattle.viewed_soundness.proofs.Outcomes.{IsGood, Leads_on}
+use Rattle.viewed_soundness.proofs.Lends.{Observes, Declares, Puts, borrower_on, observer_on, observer_again_on, assign_borrower_on, assign_observer_on}
 use Rattle.viewed_steps.proofs.Ended.{view_kinds}
 
 -- ---- types of views
@@ -104,6 +106,15 @@ module _ (t : Turn) (settled : IsSettled (typing t).table) (own_law : OwnsByShap
   abbrev LeadsHere : List Fact → Outcome → Type 0
   LeadsHere facts outcome = Leads_on t settled own_law other alone no_formals v parts_named may frames none facts outcome
 
+  -- the instructions, with the values that they take
+  abbrev Declares_here : List (List machine.Word) → ℕ → TypedTree → Outcome
+  Declares_here ws x e = Declares t settled own_law other alone no_formals v parts_named may frames none ws x e
+
+  abbrev Puts_here : List (List machine.Word) → Pos → ℕ → TypedTree → Outcome
+  Puts_here ws r x e =
+      Puts t settled own_law other alone no_formals v parts_named may frames none (target_pos t (Name r x NoMore (object_at s x).of)) r x (object_at s x).of
+      (taken_by t (object_at s x).of e (record { memory = t.state.memory; waits = ws }))
+
   abbrev Observes_here : ℕ → ℕ → ℕ → ℕ → TypedTree → Type 0
   Observes_here x y u d path = Observes t settled own_law other alone no_formals v parts_named may frames none x y u d path
 
@@ -122,53 +133,53 @@ module _ (t : Turn) (settled : IsSettled (typing t).table) (own_law : OwnsByShap
   observes q x y u path view mine (inr (lead, inr scalar)) = absurd (view_scalar (shape_of s.table (object_at s x).of) view scalar.1)
 
   -- a view is declared
-  pub view_declared : (q : Pos) (x y u : ℕ) (path : TypedTree) → is_anonymous (view_of s x) ≡ true → is_variable (object_at s x).kind ≡ true
-      → home s depth x ≡ depth → Source s (object_at s x).of (Name q y path u) → has_call path ≡ false
-      → (is_observer s x ≡ false → (is_observer s y ≡ false) × (y < x)) → may x y → (facts : List Fact) → Good facts → Unused v facts x
+  pub view_declared : (ws : List (List machine.Word)) (q : Pos) (x y u : ℕ) (path : TypedTree) → is_anonymous (view_of s x) ≡ true → is_variable (object_at s x).kind ≡ true
+      → home s depth x ≡ depth → Source s (object_at s x).of (Name q y path u) → Takes (waits_in path) ws []
+      → (is_observer s x ≡ false → (is_observer s y ≡ false) × (y < x)) → may x y → (facts : List Fact) → Good facts → Unused other.lent v facts x
       → AllowsAll facts (acts (declared_acts s x (More (Name q y path u) NoMore)))
-      → LeadsHere (after (acts (declared_acts s x (More (Name q y path u) NoMore))) facts) (declare t x (More (Name q y path u) NoMore))
-  view_declared q x y u path view variable mine source calls older from facts good unused allowed =
+      → LeadsHere (after (acts (declared_acts s x (More (Name q y path u) NoMore))) facts) (Declares_here ws x (More (Name q y path u) NoMore))
+  view_declared ws q x y u path view variable mine source takes older from facts good unused allowed =
       let from_it = observes q x y u path view mine source in
       by_kind from_it.0 from_it.1 (is_observer s x) refl (is_observer s y) refl
     where
       by_kind : (d : ℕ) → Observes_here x y u d path → (b : Bool) → is_observer s x ≡ b → (c : Bool) → is_observer s y ≡ c
-          → LeadsHere (after (acts (declared_acts s x (More (Name q y path u) NoMore))) facts) (declare t x (More (Name q y path u) NoMore))
+          → LeadsHere (after (acts (declared_acts s x (More (Name q y path u) NoMore))) facts) (Declares_here ws x (More (Name q y path u) NoMore))
       by_kind d found true e true f =
-          observer_again_leads t settled own_law other alone no_formals v parts_named may frames none x y u d q path NoMore found (observer_only s x e) e f from calls facts good allowed
+          observer_again_on t settled own_law other alone no_formals v parts_named may frames none ws x y u d q path NoMore found (observer_only s x e) e f from takes facts good allowed
       by_kind d found true e false f =
-          observer_leads t settled own_law other alone no_formals v parts_named may frames none x y u d q path NoMore found (observer_only s x e) e f from calls facts good allowed
+          observer_on t settled own_law other alone no_formals v parts_named may frames none ws x y u d q path NoMore found (observer_only s x e) e f from takes facts good allowed
       by_kind d found false e c f =
-          borrower_leads t settled own_law other alone no_formals v parts_named may frames none x y u d q path NoMore found
+          borrower_on t settled own_law other alone no_formals v parts_named may frames none ws x y u d q path NoMore found
           (view_kinds (is_variable (object_at s x).kind) (is_borrowing (view_of s x)) (is_observing (view_of s x)) view variable e) e
-          (older e).0 (older e).1 from calls facts good unused allowed
+          (older e).0 (older e).1 from takes facts good unused allowed
 
   -- a view is assigned
-  pub view_assigned : (pos r q : Pos) (x y u : ℕ) (path : TypedTree) → is_anonymous (view_of s x) ≡ true → is_variable (object_at s x).kind ≡ true
-      → home s depth x ≡ depth → Source s (object_at s x).of (Name q y path u) → has_call path ≡ false
+  pub view_assigned : (ws : List (List machine.Word)) (pos r q : Pos) (x y u : ℕ) (path : TypedTree) → is_anonymous (view_of s x) ≡ true → is_variable (object_at s x).kind ≡ true
+      → home s depth x ≡ depth → Source s (object_at s x).of (Name q y path u) → Takes (waits_in path) ws []
       → (is_observer s x ≡ false → y ≡ x) → may x y → (facts : List Fact) → Good facts
       → AllowsAll facts (acts (assigned_to s pos (Some x) (Name r x NoMore (object_at s x).of) (Name q y path u)))
       → LeadsHere (after (acts (assigned_to s pos (Some x) (Name r x NoMore (object_at s x).of) (Name q y path u))) facts)
-      (assign t (Name r x NoMore (object_at s x).of) (Name q y path u))
-  view_assigned pos r q x y u path view variable mine source calls itself from facts good allowed =
+      (Puts_here ws r x (Name q y path u))
+  view_assigned ws pos r q x y u path view variable mine source takes itself from facts good allowed =
       let from_it = observes q x y u path view mine source in
       by_kind from_it.0 from_it.1 (is_observer s x) refl
     where
       by_kind : (d : ℕ) → Observes_here x y u d path → (b : Bool) → is_observer s x ≡ b
           → LeadsHere (after (acts (assigned_to s pos (Some x) (Name r x NoMore (object_at s x).of) (Name q y path u))) facts)
-          (assign t (Name r x NoMore (object_at s x).of) (Name q y path u))
+          (Puts_here ws r x (Name q y path u))
       by_kind d found true e =
-          assign_observer_leads t settled own_law other alone no_formals v parts_named may frames none pos r q x y u d path found (observer_only s x e) e from calls facts good allowed
+          assign_observer_on t settled own_law other alone no_formals v parts_named may frames none ws pos r q x y u d path found (observer_only s x e) e from takes facts good allowed
       by_kind d found false e = at_itself y (itself e) found from allowed
         where
           at_itself : (y : ℕ) → y ≡ x → Observes_here x y u d path → may x y
               → AllowsAll facts (acts (assigned_to s pos (Some x) (Name r x NoMore (object_at s x).of) (Name q y path u)))
               → LeadsHere (after (acts (assigned_to s pos (Some x) (Name r x NoMore (object_at s x).of) (Name q y path u))) facts)
-              (assign t (Name r x NoMore (object_at s x).of) (Name q y path u))
+              (Puts_here ws r x (Name q y path u))
           at_itself y same found from allowed =
               subst (λ z. LeadsHere (after (acts (assigned_to s pos (Some x) (Name r x NoMore (object_at s x).of) (Name q z path u))) facts)
-              (assign t (Name r x NoMore (object_at s x).of) (Name q z path u))) (sym same)
-              (assign_borrower_leads t settled own_law other alone no_formals v parts_named may frames none pos r q x u d path
+              (Puts_here ws r x (Name q z path u))) (sym same)
+              (assign_borrower_on t settled own_law other alone no_formals v parts_named may frames none ws pos r q x u d path
               (subst (λ z. Observes_here x z u d path) same found)
               (view_kinds (is_variable (object_at s x).kind) (is_borrowing (view_of s x)) (is_observing (view_of s x)) view variable e) e
-              (subst (may x) same from) calls facts good
+              (subst (may x) same from) takes facts good
               (subst (λ z. AllowsAll facts (acts (assigned_to s pos (Some x) (Name r x NoMore (object_at s x).of) (Name q z path u)))) same allowed))

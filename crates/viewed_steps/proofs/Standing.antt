@@ -1,21 +1,22 @@
 -- A frame that stands at a point of a program that is ready: its acts, its facts and its successors.
-use Rattle.std.proofs.Common.{◌≡◌, refl, sym, ap, ◌∙◌, subst, inl, inr, ℕ, Bool, true, false, ◌&&◌, ◌||◌, List, [], ◌∷◌, ◌++◌, length, get_or, append-nil}
+use Rattle.std.proofs.Common.{◌≡◌, refl, sym, ap, ◌∙◌, subst, inl, inr, ℕ, Bool, true, false, ◌&&◌, ◌||◌, List, [], ◌∷◌, ◌++◌, length, get_or, append-nil, Option}
 use Rattle.spark_base.specs.Lists.{Has}
 use Rattle.place_names.specs.declared.act.Act.{Act}
 use Rattle.place_names.specs.declared.act.Placed.{Placed}
 use Rattle.place_names.specs.declared.fact.Fact.{Fact}
 use Rattle.type_definitions.specs.Types.{Table, is_owning}
+use Rattle.typed_tree.specs.Trees.{TypedTree}
 use Rattle.typed_tree.specs.Programs.{TypedProgram}
 use Rattle.flow_paths.specs.declared.report.Effects.{Effects}
 use Rattle.flow_paths.specs.Instructions.{Instruction, Skip, Declare, Assign, Call, Output, Input, Release, Test, Choose, Start, Next, Evaluate, LeaveLoop, Hold, EndScope, Finish, Fall}
-use Rattle.flow_paths.specs.Objects.{Typing, object_at, is_formal, is_anonymous, is_package_object, is_observer, view_of}
+use Rattle.flow_paths.specs.Objects.{Typing, Signature, object_at, sub_at, is_formal, is_anonymous, is_package_object, is_observer, view_of}
 use Rattle.flow_paths.specs.Acts.{acts_of}
 use Rattle.flow_paths.specs.Points.{NamedPoint, FlowPoint}
 use Rattle.flow_paths.specs.Laid.{FlowSub, FlowProgram, NamedSub, flow_sub, kept_roots, sub_facts, typing_of, flow_typing, flow_program, flow_named}
 use Rattle.flow_paths.specs.Paths.{PathPoint, path_point, ControlPath, goes_on, acts_at, facts_before}
 use Rattle.flow_paths.specs.Effects.{path_points, called_acts}
-use Rattle.flow_paths.specs.Scopes.{taken, scope_behind, is_ready, Leads}
-use Rattle.machine.specs.States.{Loop, Frame, State, sub_of, Goes}
+use Rattle.flow_paths.specs.Scopes.{scope_behind, is_ready, Leads}
+use Rattle.machine.specs.States.{Waiting, Loop, Frame, State, sub_of, Goes}
 use Rattle.machine.specs.Step.{Turn, turn}
 use Rattle.machine.specs.Owners.{is_in, is_in_formal, waiting_in}
 use Rattle.machine.specs.Run.{no_point, stepped, step}
@@ -23,13 +24,18 @@ use Rattle.owned_ways.specs.Ways.{after, AllowsAll}
 use Rattle.soundness.specs.Seen.{is_view_formal, home}
 use Rattle.soundness.specs.Typed.{Kept}
 use Rattle.typed_laws.specs.Needed.{IsFine}
-use Rattle.soundness.specs.Sound.{IsNoCall, calls_nothing, calls_procedures, Stage, facts_of, AreStages, InScope, IsNamedSub, IsAtPoint, view_of as view_here}
+use Rattle.soundness.specs.Sound.{IsNoCall, calls_procedures, temporaries_in, WaitsAt, AreAwaited, AreWaiting as AreWaitingValues, Stage, facts_of, AreStages, InScope, IsNamedSub, IsAtPoint, view_of as view_here}
 use Rattle.soundness.proofs.Contents.{bool_cases}
-use Rattle.soundness.proofs.Passing.{plain_type}
+use Rattle.soundness.specs.Ready.{IsSupplied}
+use Rattle.soundness.proofs.Passing.{plain_type, signature_is}
+use Rattle.soundness.proofs.Beginning.{one_named, one_point}
+use Rattle.soundness.proofs.Taking.{TakesPlainly}
+use Rattle.soundness.proofs.Typings.{Agree, flow_agrees, instruction_same}
+use Rattle.soundness.proofs.Waited.{leads_count}
+use Rattle.soundness.proofs.Waits.{take_none, drop_none}
 use Rattle.soundness.proofs.Scalars.{acts}
 use Rattle.soundness.proofs.Paths.{accepted_point, facts_next}
-use Rattle.soundness.proofs.Points.{flow_at, named_has, point_has, sub_there, sub_has, typing_same, point_there, point_in, path_there, IsLaid, all_laid, next_there}
-use Rattle.soundness.proofs.Successors.{procedures_take_none}
+use Rattle.soundness.proofs.Points.{flow_at, named_has, point_has, sub_there, sub_has, point_there, point_in, path_there, IsLaid, next_there}
 use Rattle.owned_loans.specs.Views.{known_gone, Views, Viewed}
 use Rattle.viewed_soundness.specs.Holds.{AllKeep}
 use Rattle.viewed_steps.specs.Sound.{HoldsAt, ArePlaced, NoneAbove, ViewStage, stages_of, GoneElsewhere, IsRunning, Follows, LeadsAlong}
@@ -42,9 +48,6 @@ no_second false b e = refl
 pub or_right : (a b : Bool) → b ≡ true → a || b ≡ true
 or_right true b e = refl
 or_right false b e = e
-
-pub calls_none : (i : Instruction) → calls_nothing i ≡ true → IsNoCall i
-calls_none i calls n actuals result is = (let no : false ≡ true = sym (ap calls_nothing is) ∙ calls in cc)
 
 no_middle : (a b : Bool) → (a && false) && b ≡ false
 no_middle true b = refl
@@ -60,8 +63,8 @@ module _ (table : Table) (typed : TypedProgram) (effects : Effects) (input : Lis
   abbrev pub own : Typing
   own = typing_of table typed
 
-  pub same : s ≡ own
-  same = typing_same table typed ready.scoped.objects
+  pub agree : Agree s own
+  agree = flow_agrees table typed
 
   pub no_in_formals : (x : ℕ) → is_view_formal s x ≡ false
   no_in_formals x = elim (bool_cases (is_formal s x)) [
@@ -73,8 +76,16 @@ module _ (table : Table) (typed : TypedProgram) (effects : Effects) (input : Lis
     | inr e ↦ ap (λ b. (b && is_in (object_at s x).mode) && is_owning s.table (object_at s x).of) e
   ]
 
-  pub laid : (named : NamedSub) → Has (flow_named table typed) named → IsLaid own named
-  laid named has = all_laid own typed.subs ready.scoped.bodies named has
+  pub laid : (named : NamedSub) → Has (flow_named table typed) named → IsLaid s named
+  laid named has = ready.scoped.goes named has
+
+  -- what an instruction takes is plain
+  pub takes_plainly : (sub : FlowSub) → Has program.subs sub → (p : FlowPoint) → Has sub.points p → (i : Instruction) → p.instr ≡ i → (calls : Bool)
+      → (calls_procedures i ≡ true → calls ≡ false) → TakesPlainly s calls
+  takes_plainly sub in_program p in_sub i e calls none = elim ready.class.results [
+    | inr plain ↦ inr plain
+    | inl procedures ↦ inl (none (sym (ap calls_procedures e) ∙ procedures sub in_program p in_sub))
+  ]
 
   pub local : (x : ℕ) → is_anonymous (view_of s x) ≡ true → is_package_object s x ≡ false
   local x view = (ready.orderly.local x view).1
@@ -118,11 +129,8 @@ module _ (table : Table) (typed : TypedProgram) (effects : Effects) (input : Lis
         ∙ ap (λ (q : FlowPoint). turn (record { program = program; input = input; point = q; state = state; frame = top.frame; outer = outer }) q.instr)
         (ap (λ (z : FlowSub). get_or z.points top.frame.next no_point) sub_is ∙ point_there own named top.frame.next p at_point)
 
-    pub calls_there : calls_procedures p.instr ≡ true
-    calls_there = ready.class.calls sub in_program here in_sub
-
-    pub takes : taken here.instr ≡ 0
-    takes = procedures_take_none p.instr calls_there
+    pub supplied : IsSupplied s p
+    supplied = ready.scoped.supplied named named_in p point_in_named
 
     pub fine : IsFine s named.sub.result p.instr
     fine = ready.accepted.fine sub in_program here in_sub
@@ -137,11 +145,11 @@ module _ (table : Table) (typed : TypedProgram) (effects : Effects) (input : Lis
     abbrev pub acts_by : Typing → Instruction → List Placed
     acts_by z i = acts_of (record { typing = z; result = named.sub.result; roots = roots }) p.pos i
 
-    pub no_callee : (i : Instruction) → calls_nothing i ≡ true → called_acts program effects p.pos i ≡ []
+    pub no_callee : (i : Instruction) → IsNoCall i → called_acts program effects p.pos i ≡ []
     no_callee Skip calls = refl
     no_callee (Declare x v) calls = refl
     no_callee (Assign target e) calls = refl
-    no_callee (Call sub actuals result) calls = cc
+    no_callee (Call sub actuals result) calls = absurd (calls sub actuals result refl)
     no_callee (Output text line) calls = refl
     no_callee (Input target) calls = refl
     no_callee (Release e) calls = refl
@@ -163,16 +171,24 @@ module _ (table : Table) (typed : TypedProgram) (effects : Effects) (input : Lis
     abbrev pub whole_acts : Instruction → List Act
     whole_acts i = acts (acts_by s i ++ called_acts program effects p.pos i)
 
+    -- formals of what is called are such objects
+    formals_called : (n : ℕ) (actuals : TypedTree) (result : Option ℕ) → p.instr ≡ Call n actuals result → (x : ℕ) → Has (sub_at s n).formals x → is_formal s x ≡ true
+    formals_called n actuals result e x has =
+        (ready.called sub in_program here in_sub n actuals result e).formals x (subst (λ (z : Signature). Has z.formals x) (signature_is program n) has)
+
+    pub acts_agree : acts_by s p.instr ≡ acts_by own p.instr
+    acts_agree = instruction_same s own agree named.sub.result roots p.pos p.instr formals_called
+
     pub acts_are : acts_at points top.frame.next ≡ whole_acts p.instr
     acts_are =
         ap (λ (z : PathPoint). acts z.acts) (path_there own named top.frame.next p at_point program effects)
-        ∙ ap (λ z. acts (acts_by z p.instr ++ called_acts program effects p.pos p.instr)) (sym same)
+        ∙ ap (λ z. acts (z ++ called_acts program effects p.pos p.instr)) (sym acts_agree)
 
-    pub acts_plain : calls_nothing p.instr ≡ true → whole_acts p.instr ≡ acts_here p.instr
+    pub acts_plain : IsNoCall p.instr → whole_acts p.instr ≡ acts_here p.instr
     acts_plain plain = ap (λ z. acts (acts_by s p.instr ++ z)) (no_callee p.instr plain) ∙ ap acts (append-nil (acts_by s p.instr))
 
     pub keeps_there : AllKeep (is_observer s) (acts_here p.instr)
-    keeps_there = subst (λ z. AllKeep (is_observer s) (acts (acts_by z p.instr))) (sym same) (ready.orderly.kept sub in_program here in_sub)
+    keeps_there = subst (λ z. AllKeep (is_observer s) (acts z)) (sym acts_agree) (ready.orderly.kept sub in_program here in_sub)
 
     module _ (path : ControlPath (path_points program effects (sub_of program top.frame.sub)) top.before top.frame.next) where
       pub path_here : ControlPath points top.before top.frame.next
@@ -190,52 +206,70 @@ module _ (table : Table) (typed : TypedProgram) (effects : Effects) (input : Lis
       pub facts_whole : facts_before points (top.frame.next ∷ top.before) ≡ after (whole_acts p.instr) facts
       facts_whole = facts_next points top.before top.frame.next ∙ ap (λ z. after z facts) acts_are
 
-      -- of an instruction that calls nothing
-      pub allowed : calls_nothing p.instr ≡ true → AllowsAll facts (acts_here p.instr)
+      -- of an instruction that is no call
+      pub allowed : IsNoCall p.instr → AllowsAll facts (acts_here p.instr)
       allowed plain = subst (AllowsAll facts) (acts_plain plain) allowed_whole
 
-      pub facts_on : calls_nothing p.instr ≡ true → facts_before points (top.frame.next ∷ top.before) ≡ after (acts_here p.instr) facts
+      pub facts_on : IsNoCall p.instr → facts_before points (top.frame.next ∷ top.before) ≡ after (acts_here p.instr) facts
       facts_on plain = facts_whole ∙ ap (λ z. after z facts) (acts_plain plain)
 
       -- ---- a successor
 
       -- the frame at the successor with a number
-      abbrev pub at_next : List Loop → ℕ → Stage
-      at_next loops n = record {
-        frame = record top.frame { waits = []; loops = loops; next = n };
+      abbrev pub at_next : List Waiting → List Loop → ℕ → Stage
+      at_next waits loops n = record {
+        frame = record top.frame { waits = waits; loops = loops; next = n };
         depth = top.depth;
         before = top.frame.next ∷ top.before;
         returns = top.returns;
       }
 
       -- the point there
-      pub next_at : (n : ℕ) → Has here.next n → (q : NamedPoint) × IsAtPoint named.points n q × Leads own (scope_behind p) q.scope
-      next_at n next = next_there own named (laid named named_in) p point_in_named n next
+      pub next_at : (n : ℕ) → Has here.next n → (q : NamedPoint) × IsAtPoint named.points n q × Leads s (scope_behind p) q.scope
+      next_at n next = next_there s named (laid named named_in) p point_in_named n next
 
-      pub goes_to_next : calls_nothing p.instr ≡ true → (after_step : State) (loops : List Loop) (n : ℕ) (next : Has here.next n) (q : NamedPoint) → IsAtPoint named.points n q
-          → after_step.frames ≡ record top.frame { waits = []; loops = loops; next = n } ∷ outer
+      -- what waits there
+      pub waits_next : (waits : List Waiting) (loops : List Loop) (n : ℕ) → Has here.next n → AreWaitingValues s waits (scope_behind p)
+          → WaitsAt table typed 0 (at_next waits loops n)
+      waits_next waits loops n next are other other_stands q at_q =
+          let found = next_at n next in
+          let same_sub : other ≡ named = one_named (flow_named table typed) top.frame.sub other named other_stands of_sub in
+          let same_point : found.0 ≡ q =
+          one_point named.points n found.0 q found.1 (subst (λ (z : NamedSub). IsAtPoint z.points n q) same_sub at_q) in (
+            (
+              are.0,
+              are.1 ∙ leads_count s (scope_behind p) (found.0).scope found.2 ∙ ap (λ (z : NamedPoint). temporaries_in s z.scope) same_point
+                  ∙ ap (temporaries_in s) (sym (drop_none q.scope)),
+            ),
+            ap (temporaries_in s) (take_none q.scope),
+          )
+
+      pub goes_to_next : IsNoCall p.instr → (after_step : State) (waits : List Waiting) (loops : List Loop) (n : ℕ) (next : Has here.next n) (q : NamedPoint) → IsAtPoint named.points n q
+          → after_step.frames ≡ record top.frame { waits = waits; loops = loops; next = n } ∷ outer
           → top.depth ≡ length outer → AreStages (stages_of older) outer → (views : Views)
-          → IsRunning table typed effects after_step (record { stage = at_next loops n; views = views }) older
+          → IsRunning table typed effects after_step (record { stage = at_next waits loops n; views = views }) older
+          → AreAwaited table typed 0 (at_next waits loops n ∷ stages_of older)
           → Viewed (home s (length outer)) (is_observer s) (known_gone (home s (length outer)) (GoneElsewhere program effects older)) views (view_here s after_step) (after (acts_here p.instr) facts)
           → Kept s after_step.memory (waiting_in after_step) → InScope s after_step.memory (length outer) q.scope
           → HoldsAt s (length outer) views after_step.memory q → ArePlaced program (after (acts_here p.instr) facts) views q.scope
           → NoneAbove s (length outer) after_step.memory → (before : Views)
-          → Follows program effects p.instr state.memory (record { stage = top; views = before }) older after_step.memory (record { stage = at_next loops n; views = views }) older
+          → Follows program effects p.instr state.memory (record { stage = top; views = before }) older after_step.memory (record { stage = at_next waits loops n; views = views }) older
           → LeadsAlong table typed effects p.instr state.memory (record { stage = top; views = before }) older (Goes after_step)
-      goes_to_next plain after_step loops n next q at is deep stages views running viewed kept scope holds placed above before follows =
+      goes_to_next plain after_step waits loops n next q at is deep stages views running awaited viewed kept scope holds placed above before follows =
           let step_on : Has (path_point points top.frame.next).next n =
           subst (λ (z : PathPoint). Has z.next n) (sym (path_there own named top.frame.next p at_point program effects)) next in
-          let facts_there : facts_of program effects (at_next loops n) ≡ after (acts_here p.instr) facts =
+          let facts_there : facts_of program effects (at_next waits loops n) ≡ after (acts_here p.instr) facts =
           ap (λ (z : FlowSub). facts_before (path_points program effects z) (top.frame.next ∷ top.before)) sub_is ∙ facts_on plain in (
             record {
-              top = at_next loops n;
+              top = at_next waits loops n;
               views = views;
               older = older;
-              stages = subst (AreStages (at_next loops n ∷ stages_of older)) (sym is) (refl, deep, stages);
+              stages = subst (AreStages (at_next waits loops n ∷ stages_of older)) (sym is) (refl, deep, stages);
               running = running;
+              awaited = awaited;
               path = subst (λ (z : FlowSub). ControlPath (path_points program effects z) (top.frame.next ∷ top.before) n) (sym sub_is)
                   (goes_on top.before top.frame.next n path_here step_on);
-              viewed = subst (λ d. Viewed (home s d) (is_observer s) (known_gone (home s d) (GoneElsewhere program effects older)) views (view_here s after_step) (facts_of program effects (at_next loops n))) (sym deep)
+              viewed = subst (λ d. Viewed (home s d) (is_observer s) (known_gone (home s d) (GoneElsewhere program effects older)) views (view_here s after_step) (facts_of program effects (at_next waits loops n))) (sym deep)
                   (subst (Viewed (home s (length outer)) (is_observer s) (known_gone (home s (length outer)) (GoneElsewhere program effects older)) views (view_here s after_step)) (sym facts_there) viewed);
               kept = kept;
               named = named;

@@ -1,35 +1,34 @@
 -- Each step of a sound state leads on, in a program with borrowers and observers that is ready.
-use Rattle.std.proofs.Common.{◌≡◌, refl, sym, ap, ◌∙◌, subst, ◌⊎◌, inl, inr, ℕ, suc, List, [], ◌∷◌, length}
+use Rattle.std.proofs.Common.{◌≡◌, refl, sym, ap, ◌∙◌, subst, ℕ, suc, List, [], ◌∷◌, length}
 use Rattle.type_definitions.specs.Types.{Table}
+use Rattle.typed_tree.specs.Trees.{More}
 use Rattle.typed_tree.specs.Programs.{TypedProgram}
 use Rattle.flow_paths.specs.declared.report.Effects.{Effects}
-use Rattle.flow_paths.specs.Instructions.{Instruction, EndScope}
+use Rattle.flow_paths.specs.Instructions.{Instruction, Call, Evaluate, Hold, EndScope, Finish}
 use Rattle.flow_paths.specs.Objects.{Typing, is_observer}
 use Rattle.flow_paths.specs.Points.{NamedPoint}
 use Rattle.flow_paths.specs.Laid.{FlowProgram, NamedSub, flow_typing, flow_program, flow_named}
 use Rattle.flow_paths.specs.Paths.{ControlPath}
 use Rattle.flow_paths.specs.Effects.{path_points}
-use Rattle.machine.specs.States.{Frame, State, Outcome, Goes, Ends, sub_of}
+use Rattle.machine.specs.States.{Frame, State, sub_of, Outcome, Goes, Ends}
 use Rattle.machine.specs.Step.{Turn, turn}
 use Rattle.machine.specs.Owners.{waiting_in}
 use Rattle.machine.specs.Run.{step}
 use Rattle.soundness.specs.Seen.{home}
 use Rattle.soundness.specs.Typed.{Kept}
-use Rattle.soundness.specs.Sound.{Stage, facts_of, AreStages, IsProcedure, InScope, IsNamedSub, IsAtPoint, view_of as view_here}
-use Rattle.soundness.proofs.Successors.{calls_cases, finish_or}
+use Rattle.soundness.specs.Sound.{Stage, facts_of, AreStages, IsRunnable, AreAwaited, returns_value, InScope, IsNamedSub, IsAtPoint, view_of as view_here}
+use Rattle.soundness.proofs.Waited.{FillsNone}
 use Rattle.owned_loans.specs.Views.{known_gone, Views, Viewed}
 use Rattle.viewed_steps.specs.Sound.{IsResting, HoldsAt, ArePlaced, NoneAbove, ViewStage, stages_of, GoneElsewhere, AreWaiting, IsRunning, LeadsAlong, StepsLeadAlong, LeadsOn, StepsLeadOn}
 use Rattle.viewed_steps.specs.Ready.{IsReady}
+use Rattle.viewed_steps.proofs.Beside.{IsOther}
 use Rattle.viewed_steps.proofs.Standing as standing
 use Rattle.viewed_steps.proofs.Packages as packages
 use Rattle.viewed_steps.proofs.EachInstruction as each
+use Rattle.viewed_steps.proofs.Results as results
 use Rattle.viewed_steps.proofs.ScopeEnds as scopes
 use Rattle.viewed_steps.proofs.CallEnds as ends
 use Rattle.viewed_steps.proofs.Calling as calling
-
-end_or : (i : Instruction) → ((x : ℕ) × (i ≡ EndScope x)) ⊎ ((x : ℕ) → i ≡ EndScope x → ⊥)
-end_or (EndScope x) = inl (x, refl)
-end_or i = inr (λ x e. cc)
 
 module _ (table : Table) (typed : TypedProgram) (effects : Effects) (input : List ℕ) (ready : IsReady table typed effects) where
   abbrev program : FlowProgram
@@ -41,7 +40,8 @@ module _ (table : Table) (typed : TypedProgram) (effects : Effects) (input : Lis
   module _ (state : State) (top : Stage) (below : ViewStage) (more_frames : List ViewStage) (rest : List Frame) (named : NamedSub) (p : NamedPoint)
       (frames : state.frames ≡ top.frame ∷ (below.stage.frame ∷ rest)) (deep : top.depth ≡ suc (length rest))
       (stages : AreStages (stages_of (below ∷ more_frames)) (below.stage.frame ∷ rest))
-      (running : IsProcedure table typed top.frame.sub × IsResting s top × AreWaiting table typed effects state top.frame.sub top.frame.returns (below ∷ more_frames))
+      (running : IsRunnable table typed top.frame.sub × IsResting s top × AreWaiting table typed effects state top.frame.sub top.frame.returns (below ∷ more_frames))
+      (awaiting : AreAwaited table typed 0 (top ∷ stages_of (below ∷ more_frames)))
       (of_sub : IsNamedSub (flow_named table typed) top.frame.sub named) (at_point : IsAtPoint named.points top.frame.next p)
       (path : ControlPath (path_points program effects (sub_of program top.frame.sub)) top.before top.frame.next) (views : Views)
       (viewed_before : Viewed (home s (suc (length rest))) (is_observer s) (known_gone (home s (suc (length rest))) (GoneElsewhere program effects (below ∷ more_frames))) views
@@ -61,24 +61,26 @@ module _ (table : Table) (typed : TypedProgram) (effects : Effects) (input : Lis
     abbrev Along : Outcome → Type 0
     Along outcome = LeadsAlong table typed effects p.instr state.memory (record { stage = top; views = views }) (below ∷ more_frames) outcome
 
+    by_instruction : (i : Instruction) → p.instr ≡ i → Along (turn main_turn i)
+    by_instruction Finish is = ends.ends_call table typed effects input ready state top below more_frames rest named p frames deep stages running awaiting of_sub at_point path views viewed_before kept scope holds placed_before above is
+    by_instruction (Call n actuals result) is = calling.calls_it table typed effects input ready state top below more_frames rest named p frames deep stages running awaiting of_sub at_point path views viewed_before kept scope holds placed_before above n actuals result is
+    by_instruction (Evaluate temporary e op) is = results.operand_step table typed effects input ready state top below more_frames rest named p frames deep stages running awaiting of_sub at_point path views viewed_before kept scope holds placed_before above temporary e op is
+    by_instruction (Hold (More e last)) is = results.return_step table typed effects input ready state top below more_frames rest named p frames deep stages running awaiting of_sub at_point path views viewed_before kept scope holds placed_before above e last is
+    by_instruction (EndScope y) is = scopes.ends_scope table typed effects input ready state top below more_frames rest named p frames deep stages running awaiting of_sub at_point path views viewed_before kept scope holds placed_before above y is
+    by_instruction i is = subst (λ z. Along (turn main_turn z)) is
+        (each.goes_plainly table typed effects input ready state top below more_frames rest named p frames deep stages running awaiting of_sub at_point path views viewed_before kept scope holds placed_before above
+        (λ x e. (let same = sym is ∙ e in cc)) (λ n actuals result e. (let same = sym is ∙ e in cc))
+        (subst IsOther (sym is) tt) (subst (FillsNone s) (sym is) tt) (λ e. (let same = sym is ∙ e in cc)) (ap returns_value is))
+
     pub main_step : Along (step program input state)
     main_step =
         subst Along (sym (standing.step_is table typed effects input ready state top older outer named p frames of_sub at_point))
-        (elim (finish_or p.instr) [
-          | inl is ↦ subst (λ i. Along (turn main_turn i)) (sym is) (ends.ends_call table typed effects input ready state top below more_frames rest named p frames deep stages running of_sub at_point path views viewed_before kept scope holds placed_before above is)
-          | inr end ↦ elim (end_or p.instr) [
-            | inl (y, is) ↦ subst (λ i. Along (turn main_turn i)) (sym is) (scopes.ends_scope table typed effects input ready state top below more_frames rest named p frames deep stages running of_sub at_point path views viewed_before kept scope holds placed_before above y is)
-            | inr going ↦ elim (calls_cases p.instr (standing.calls_there table typed effects input ready state top older outer named p frames of_sub at_point)) [
-              | inl calls ↦ each.goes_plainly table typed effects input ready state top below more_frames rest named p frames deep stages running of_sub at_point path views viewed_before kept scope holds placed_before above going calls end
-              | inr call ↦ subst (λ i. Along (turn main_turn i)) (sym call.2) (calling.calls_it table typed effects input ready state top below more_frames rest named p frames deep stages running of_sub at_point path views viewed_before kept scope holds placed_before above call.0 call.1 call.2 call.3)
-            ]
-          ]
-        ])
+        (by_instruction p.instr refl)
 
   -- ---- each step
 
   by_stages : (state : State) (top : Stage) (views : Views) (older : List ViewStage) (fs : List Frame) → state.frames ≡ fs → AreStages (top ∷ stages_of older) fs
-      → IsRunning table typed effects state (record { stage = top; views = views }) older
+      → IsRunning table typed effects state (record { stage = top; views = views }) older → AreAwaited table typed 0 (top ∷ stages_of older)
       → ControlPath (path_points program effects (sub_of program top.frame.sub)) top.before top.frame.next
       → Viewed (home s top.depth) (is_observer s) (known_gone (home s top.depth) (GoneElsewhere program effects older)) views (view_here s state) (facts_of program effects top)
       → Kept s state.memory (waiting_in state)
@@ -86,23 +88,23 @@ module _ (table : Table) (typed : TypedProgram) (effects : Effects) (input : Lis
       → InScope s state.memory top.depth p.scope → HoldsAt s top.depth views state.memory p → ArePlaced program (facts_of program effects top) views p.scope
       → NoneAbove s top.depth state.memory
       → LeadsAlong table typed effects p.instr state.memory (record { stage = top; views = views }) older (step program input state)
-  by_stages state top views [] (f ∷ []) is (frame, deep, none) running path seen_well kept named of_sub p at_point scope holds there above =
+  by_stages state top views [] (f ∷ []) is (frame, deep, none) running awaiting path seen_well kept named of_sub p at_point scope holds there above =
       packages.package_step table typed effects input ready state top named p (is ∙ ap (λ z. z ∷ []) (sym frame)) deep views running (subst (λ d. NoneAbove s d state.memory) deep above) of_sub at_point path
       (subst (λ d. Viewed (home s d) (is_observer s) (known_gone (home s d) (GoneElsewhere program effects [])) views (view_here s state) (facts_of program effects top)) deep seen_well) kept
       (subst (λ d. InScope s state.memory d p.scope) deep scope) (subst (λ d. HoldsAt s d views state.memory p) deep holds)
-  by_stages state top views (below ∷ more) (f ∷ (g ∷ rest)) is (frame, deep, (around_frame, deeper, others)) running path seen_well kept named of_sub p at_point scope holds there above =
-      main_step state top below more rest named p (is ∙ (λ j. sym frame j ∷ (sym around_frame j ∷ rest))) deep (refl, deeper, others) running of_sub at_point path views
+  by_stages state top views (below ∷ more) (f ∷ (g ∷ rest)) is (frame, deep, (around_frame, deeper, others)) running awaiting path seen_well kept named of_sub p at_point scope holds there above =
+      main_step state top below more rest named p (is ∙ (λ j. sym frame j ∷ (sym around_frame j ∷ rest))) deep (refl, deeper, others) running awaiting of_sub at_point path views
       (subst (λ d. Viewed (home s d) (is_observer s) (known_gone (home s d) (GoneElsewhere program effects (below ∷ more))) views (view_here s state) (facts_of program effects top)) deep seen_well) kept
       (subst (λ d. InScope s state.memory d p.scope) deep scope) (subst (λ d. HoldsAt s d views state.memory p) deep holds) there
       (subst (λ d. NoneAbove s d state.memory) deep above)
-  by_stages state top views [] [] is stages running path seen_well kept named of_sub p at_point scope holds there above = absurd stages
-  by_stages state top views [] (f ∷ (g ∷ others)) is stages running path seen_well kept named of_sub p at_point scope holds there above = absurd stages.2
-  by_stages state top views (below ∷ more) [] is stages running path seen_well kept named of_sub p at_point scope holds there above = absurd stages
-  by_stages state top views (below ∷ more) (f ∷ []) is stages running path seen_well kept named of_sub p at_point scope holds there above = absurd stages.2
+  by_stages state top views [] [] is stages running awaiting path seen_well kept named of_sub p at_point scope holds there above = absurd stages
+  by_stages state top views [] (f ∷ (g ∷ others)) is stages running awaiting path seen_well kept named of_sub p at_point scope holds there above = absurd stages.2
+  by_stages state top views (below ∷ more) [] is stages running awaiting path seen_well kept named of_sub p at_point scope holds there above = absurd stages
+  by_stages state top views (below ∷ more) (f ∷ []) is stages running awaiting path seen_well kept named of_sub p at_point scope holds there above = absurd stages.2
 
   pub sound_along : StepsLeadAlong table typed effects input
   sound_along state sound =
-      by_stages state sound.top sound.views sound.older state.frames refl sound.stages sound.running sound.path sound.viewed sound.kept sound.named sound.of_sub
+      by_stages state sound.top sound.views sound.older state.frames refl sound.stages sound.running sound.awaited sound.path sound.viewed sound.kept sound.named sound.of_sub
       sound.point sound.at_point sound.scope sound.holds sound.placed sound.none_above
 
   pub sound_step : StepsLeadOn table typed effects input

@@ -1,6 +1,7 @@
 -- Frames that wait for a call to end, with views: what they keep concerns the innermost frame as ways
 -- of others, and they wait still after its steps.
-use Rattle.std.proofs.Common.{◌≡◌, refl, sym, ap, ◌∙◌, subst, ◌⊎◌, inl, inr, ℕ, zero, suc, ◌<◌, ◌≤◌, Bool, true, false, ◌&&◌, ◌==◌, eqb-true, List, [], ◌∷◌, ◌++◌, length, get_or, arith, Option, Some, None, if◌then◌else◌}
+use Rattle.std.proofs.Common.{◌≡◌, refl, sym, ap, ◌∙◌, subst, ◌⊎◌, inl, inr, ℕ, suc, ◌<◌, ◌≤◌, Bool, true, false, ◌&&◌, ◌==◌, eqb-true, nat_lt, ltb-true, lt-ltb, List, [], ◌∷◌, ◌++◌, length, get_or, arith, Option, Some, None, if◌then◌else◌}
+use Rattle.std.specs.Prelude.{flat_map}
 use Rattle.spark_base.specs.Lists.{Has}
 use Rattle.spark_base.proofs.Lists.{Has-append_left, Has-append_right, Has-append_cases, Has-map, Has-map_from}
 use Rattle.place_names.specs.declared.fact.Fact.{Fact}
@@ -16,60 +17,22 @@ use Rattle.flow_paths.specs.Laid.{FlowProgram, flow_typing, flow_program}
 use Rattle.machine.specs.Words as machine
 use Rattle.machine.specs.Memory.{variable_slots, no_slot}
 use Rattle.machine.specs.States.{Frame, Return, State}
-use Rattle.owned_ways.specs.Ways.{Loc, IsSame, Step, OfVariable, OfHand, OfRoot, OfCell, Way, Object, Lost, Into, All, Held, View, Reaches, Named, IsMoved, base_of, number_of, name_of}
+use Rattle.owned_ways.specs.Ways.{Loc, IsSame, Step, OfVariable, OfHand, OfRoot, OfCell, Way, Object, Lost, Into, All, Held, View, Reaches, Under, Named, IsMoved, base_of, number_of, name_of}
 use Rattle.owned_ways.proofs.Named.{longer}
 use Rattle.owned_ways.proofs.Dropped.{named_base}
 use Rattle.soundness.specs.Seen.{IsNear, content, word_in, home}
 use Rattle.soundness.specs.Sound.{Stage, facts_of, AreStages, Uses, view_of as view_here}
 use Rattle.soundness.proofs.Around.{near_or_far, IsFar, near_package, package_named, is_inherited, inherited, inherited_has, inherited_from}
+use Rattle.soundness.proofs.Contents.{bool_cases}
 use Rattle.soundness.proofs.Inherited.{Splits}
-use Rattle.owned_loans.specs.Views.{Around, known_gone, Views, expand, IsMovedBy, HasLoan, AreViews, Viewed}
+use Rattle.owned_loans.specs.Views.{on, Around, known_gone, Views, expand, IsThrough, IsMovedBy, HasLoan, Viewed}
 use Rattle.owned_loans.proofs.Ended.{stands_itself}
-use Rattle.owned_loans.proofs.Ways.{root_on, lifts, lifted_way}
-use Rattle.owned_loans.proofs.Moves.{view_named, named_way, view_on}
+use Rattle.owned_loans.proofs.Ways.{under_on, on_under, lifts, lifted_root, lifted_way}
+use Rattle.owned_loans.proofs.Moves.{view_named, named_way, view_on, own_loan}
 use Rattle.viewed_steps.specs.Taken.{TakenBy}
-use Rattle.viewed_steps.proofs.Between.{taken_from, taken_base, still_taken, near_base}
+use Rattle.viewed_steps.proofs.Between.{taken_from as words_taken, taken_base, still_taken, near_base}
+use Rattle.viewed_steps.proofs.Roots.{borrower_goes, view_goes}
 use Rattle.viewed_steps.specs.Sound.{ViewStage, stages_of, GoneElsewhere, IsWaiting, IsFirst, AreWaiting}
-
--- ---- the roots of views
-
--- The way of each view is rooted in an object of which a part is lent.
-module _ (at_home : ℕ → ℕ) (observer : ℕ → Bool) (v : Views) (s : View) (facts : List Fact) (views : AreViews at_home observer v s facts) where
-  abbrev IsLent : ℕ → Type 0
-  IsLent r = (l : Loan) × (h : ℕ) × (n : Name) × Has facts (Lent l h n) × (n.root ≡ r)
-
-  own_loan : (x : ℕ) (b : Bool) (m : Name) → HasLoan b x facts m → IsLent m.root
-  own_loan x true m (h, has) = (Observed, h, m, has, refl)
-  own_loan x false m has = (Borrowed, x, m, has, refl)
-
-  -- by what it was taken from
-  by_up : (x : ℕ) (w : Way) → v.way x ≡ Some w
-      → ((y : ℕ) (k : Way) → v.way y ≡ Some k → y ≡ number_of (v.up x) → IsLent (number_of k)) → IsLent (number_of w)
-  by_up x w has others =
-      let view = views x w has in
-      elim (lifts v (v.up x)) [
-        | inl e ↦ (
-            let root : number_of (v.loan x) ≡ number_of w = sym (longer (v.loan x) (v.up x) view.begins).root ∙ ap number_of (sym e ∙ view.leads) in
-            let lent = own_loan x (observer x) (name_of (v.loan x)) view.lent in
-            (lent.0, lent.1, lent.2, lent.3, lent.4 ∙ root))
-        | inr l ↦ (
-            let root : number_of l.way ≡ number_of w =
-            sym (root_on l.way l.rest) ∙ ap number_of (sym (lifted_way v (v.up x) l) ∙ view.leads) in
-            subst IsLent root (others l.object l.way l.has (sym (ap number_of l.is ∙ root_on _ l.rest))))
-      ]
-
-  borrower_lent : (n x : ℕ) (w : Way) → x < n → observer x ≡ false → v.way x ≡ Some w → IsLent (number_of w)
-  borrower_lent zero x w less borrows has = absurd (omega (arith, less))
-  borrower_lent (suc n) x w less borrows has =
-      let view = views x w has in
-      by_up x w has (λ y k there is. (
-      let older = view.older borrows in
-      borrower_lent n y k (omega (arith, less, older, is)) (ap observer is ∙ view.plain) there))
-
-  pub view_lent : (x : ℕ) (w : Way) → v.way x ≡ Some w → IsLent (number_of w)
-  view_lent x w has =
-      let view = views x w has in
-      by_up x w has (λ y k there is. borrower_lent (suc y) y k (omega arith) (ap observer is ∙ view.plain) there)
 
 -- ---- near ways
 
@@ -158,26 +121,140 @@ module _ (table : Table) (typed : TypedProgram) (effects : Effects)
   abbrev pub KeptElsewhere : List ViewStage → Way → ℕ → Type 0
   KeptElsewhere older w n = (g : ViewStage) × Has older g × (x : ℕ) × (g.views.way x ≡ Some w) × (g.views.cell x ≡ n)
 
-  -- a view of a frame that waits begins at its own variable
-  pub root_own : (state : State) (callee : ℕ) (backs : List Return) (g : ViewStage) → IsWaiting table typed effects state callee backs g → (x : ℕ) (w : Way) → g.views.way x ≡ Some w
-      → Named (home s g.stage.depth) w × (is_package_object s (number_of w) ≡ false)
-  root_own state callee backs g waits x w has =
-      let lent = view_lent (home s g.stage.depth) (is_observer s) g.views (view_here s state) (facts_of program effects g.stage) waits.views x w has in (
-        view_named (home s g.stage.depth) (is_observer s) (known_gone (home s g.stage.depth) (λ w. ⊥)) g.views (view_here s state) (facts_of program effects g.stage)
-            waits.views x w has,
-        ap (is_package_object s) (sym lent.4) ∙ waits.lends lent.0 lent.1 lent.2 lent.3,
-      )
+  -- The loans on package objects among facts, as ones that the objects hold themselves.
+  loans_of : List Fact → List Fact
+  loans_of [] = []
+  loans_of (Moved n ∷ facts) = loans_of facts
+  loans_of (Lent l h n ∷ facts) = if is_package_object s n.root then Lent l n.root n ∷ loans_of facts else loans_of facts
+
+  pub loans_in : (g : ViewStage) → List Fact
+  loans_in g = if nat_lt 0 g.stage.depth then loans_of (facts_of program effects g.stage) else []
+
+  abbrev pub loans_there : List ViewStage → List Fact
+  loans_there older = flat_map loans_in older
+
+  -- A place of a package object that is lent to a frame that waits.
+  abbrev pub LentElsewhere : List ViewStage → Loan → Name → Type 0
+  LentElsewhere older l n =
+      (g : ViewStage) × Has older g × (0 < g.stage.depth) × (h : ℕ) × Has (facts_of program effects g.stage) (Lent l h n) × (is_package_object s n.root ≡ true)
+
+  moved_same : (n m : Name) → Moved n ≡ Moved m → n ≡ m
+  moved_same n m e = cc
+
+  loan_same : (l k : Loan) (h b : ℕ) (n m : Name) → Lent l h n ≡ Lent k b m → (l ≡ k) × (h ≡ b) × (n ≡ m)
+  loan_same l k h b n m e = (cc, cc, cc)
+
+  taken_from : (facts : List Fact) (f : Fact) → Has (loans_of facts) f
+      → (l : Loan) × (n : Name) × (f ≡ Lent l n.root n) × (h : ℕ) × Has facts (Lent l h n) × (is_package_object s n.root ≡ true)
+  unfolding loans_of
+  taken_from [] f has = absurd has
+  taken_from (Moved n ∷ facts) f has = later f (Moved n) facts (taken_from facts f has)
+    where
+      later : (f g : Fact) (facts : List Fact) → (l : Loan) × (n : Name) × (f ≡ Lent l n.root n) × (h : ℕ) × Has facts (Lent l h n) × (is_package_object s n.root ≡ true)
+          → (l : Loan) × (n : Name) × (f ≡ Lent l n.root n) × (h : ℕ) × Has (g ∷ facts) (Lent l h n) × (is_package_object s n.root ≡ true)
+      later f g facts (l, n, is, h, has, shared) = (l, n, is, h, inr has, shared)
+  taken_from (Lent l h n ∷ facts) f has = by_root (is_package_object s n.root) refl has (λ rest. taken_from facts f rest)
+    where
+      later : (l : Loan) × (n : Name) × (f ≡ Lent l n.root n) × (h : ℕ) × Has facts (Lent l h n) × (is_package_object s n.root ≡ true)
+          → (k : Loan) × (m : Name) × (f ≡ Lent k m.root m) × (b : ℕ) × Has (Lent l h n ∷ facts) (Lent k b m) × (is_package_object s m.root ≡ true)
+      later (k, m, is, b, has, shared) = (k, m, is, b, inr has, shared)
+
+      by_root : (b : Bool) → is_package_object s n.root ≡ b → Has (if b then Lent l n.root n ∷ loans_of facts else loans_of facts) f
+          → (Has (loans_of facts) f → (k : Loan) × (m : Name) × (f ≡ Lent k m.root m) × (b : ℕ) × Has facts (Lent k b m) × (is_package_object s m.root ≡ true))
+          → (k : Loan) × (m : Name) × (f ≡ Lent k m.root m) × (b : ℕ) × Has (Lent l h n ∷ facts) (Lent k b m) × (is_package_object s m.root ≡ true)
+      by_root true shared (inl e) rest = (l, n, sym e, h, inl refl, shared)
+      by_root true shared (inr has) rest = later (rest has)
+      by_root false own has rest = later (rest has)
+
+  taken_has : (facts : List Fact) (l : Loan) (h : ℕ) (n : Name) → Has facts (Lent l h n) → is_package_object s n.root ≡ true → Has (loans_of facts) (Lent l n.root n)
+  unfolding loans_of
+  taken_has [] l h n has shared = absurd has
+  taken_has (Moved m ∷ facts) l h n (inl e) shared = cc
+  taken_has (Moved m ∷ facts) l h n (inr has) shared = taken_has facts l h n has shared
+  taken_has (Lent k b m ∷ facts) l h n has shared = by_place has (λ later. taken_has facts l h n later shared)
+    where
+      by_root : (c : Bool) → Has (loans_of facts) (Lent l n.root n) → Has (if c then Lent k m.root m ∷ loans_of facts else loans_of facts) (Lent l n.root n)
+      by_root true has = inr has
+      by_root false has = has
+
+      by_place : Has (Lent k b m ∷ facts) (Lent l h n) → (Has facts (Lent l h n) → Has (loans_of facts) (Lent l n.root n))
+          → Has (if is_package_object s m.root then Lent k m.root m ∷ loans_of facts else loans_of facts) (Lent l n.root n)
+      by_place (inr later) rest = by_root (is_package_object s m.root) (rest later)
+      by_place (inl e) rest =
+          let same = loan_same k l b h m n e in
+          subst (λ c. Has (if c then Lent k m.root m ∷ loans_of facts else loans_of facts) (Lent l n.root n))
+          (sym (ap (λ (z : Name). is_package_object s z.root) same.2 ∙ shared))
+          (inl ((λ j. Lent (same.0 j) ((same.2 j).root) (same.2 j))))
+
+  loans_from : (older : List ViewStage) (f : Fact) → Has (loans_there older) f → (l : Loan) × (n : Name) × (f ≡ Lent l n.root n) × LentElsewhere older l n
+  unfolding loans_in
+  loans_from [] f has = absurd has
+  loans_from (g ∷ older) f has = elim (Has-append_cases (loans_in g) (loans_there older) f has) [
+    | inl mine ↦ by_depth (nat_lt 0 g.stage.depth) refl mine
+    | inr later ↦ (
+        let found = loans_from older f later in
+        (found.0, found.1, found.2, ((found.3).0, inr (found.3).1, (found.3).2, (found.3).3, (found.3).4, (found.3).5)))
+  ]
+    where
+      by_depth : (b : Bool) → nat_lt 0 g.stage.depth ≡ b → Has (if b then loans_of (facts_of program effects g.stage) else []) f
+          → (l : Loan) × (n : Name) × (f ≡ Lent l n.root n) × LentElsewhere (g ∷ older) l n
+      by_depth true some has =
+          let found = taken_from (facts_of program effects g.stage) f has in
+          (found.0, found.1, found.2, (g, inl refl, ltb-true 0 g.stage.depth some, found.3, found.4, found.5))
+      by_depth false none has = absurd has
+
+  loans_has : (older : List ViewStage) (l : Loan) (n : Name) → LentElsewhere older l n → Has (loans_there older) (Lent l n.root n)
+  unfolding loans_in
+  loans_has [] l n (g, has, some, h, lent, shared) = absurd has
+  loans_has (k ∷ older) l n (g, inl same, some, h, lent, shared) =
+      Has-append_left (loans_in k) (loans_there older) (Lent l n.root n)
+      (subst (λ z. Has (loans_in z) (Lent l n.root n)) (sym same)
+      (subst (λ b. Has (if b then loans_of (facts_of program effects g.stage) else []) (Lent l n.root n)) (sym (lt-ltb 0 g.stage.depth some))
+      (taken_has (facts_of program effects g.stage) l h n lent shared)))
+  loans_has (k ∷ older) l n (g, inr has, some, h, lent, shared) =
+      Has-append_right (loans_in k) (loans_there older) (Lent l n.root n) (loans_has older l n (g, has, some, h, lent, shared))
 
   module _ (state : State) (depth : ℕ) (older : List ViewStage) (between : (g : ViewStage) → Has older g → StandsBetween state depth g) where
-    pub begins_elsewhere : (w : Way) (n : ℕ) → KeptElsewhere older w n → (f : ℕ) × (x : ℕ) × (base_of w ≡ OfRoot (OfVariable f x)) × (f ≡ home s depth x → ⊥)
+    -- A way goes on from such a place.
+    abbrev pub IsLentFor : Loan → Way → Type 0
+    IsLentFor l w = IsThrough (home s depth) (LentElsewhere older) l w
+
+    -- the innermost frame has the same names for what belongs to packages
+    lent_for : (g : ViewStage) → Has older g → 0 < g.stage.depth → (l : Loan) (h : ℕ) (k w : Way) → Has (facts_of program effects g.stage) (Lent l h (name_of k))
+        → Named (home s g.stage.depth) k → Under k w → is_package_object s (number_of w) ≡ true → IsLentFor l w
+    lent_for g has some l h k w lent named under shared =
+        let root : is_package_object s (number_of k) ≡ true = ap (is_package_object s) (sym (longer k w under).root) ∙ shared in
+        (k, package_named s g.stage.depth depth k root named, under, (g, has, some, h, lent, root))
+
+    -- the way of a view begins at an own variable of its frame, or goes on from such a place
+    way_cases : (callee : ℕ) (backs : List Return) (g : ViewStage) → Has older g → 0 < g.stage.depth → IsWaiting table typed effects state callee backs g → (x : ℕ) (w : Way)
+        → g.views.way x ≡ Some w
+        → Named (home s g.stage.depth) w × ((is_package_object s (number_of w) ≡ false) ⊎ ((l : Loan) × IsLentFor l w))
+    way_cases callee backs g has some waits x w way = (
+      view_named (home s g.stage.depth) (is_observer s) (known_gone (home s g.stage.depth) (λ w. ⊥)) g.views (view_here s state) (facts_of program effects g.stage)
+          waits.views x w way,
+      elim (bool_cases (is_package_object s (number_of w))) [
+        | inr own ↦ inl own
+        | inl shared ↦ (
+            let goes = view_goes (home s g.stage.depth) (is_observer s) g.views (view_here s state) (facts_of program effects g.stage) waits.views x w way in
+            let place = goes.1 in
+            inr (goes.0, lent_for g has some goes.0 place.0 place.1 w place.2 place.3 place.4 shared))
+      ],
+    )
+
+    pub begins_elsewhere : (w : Way) (n : ℕ) → KeptElsewhere older w n
+        → (f : ℕ) × (x : ℕ) × (base_of w ≡ OfRoot (OfVariable f x)) × ((f ≡ home s depth x → ⊥) ⊎ ((l : Loan) × IsLentFor l w))
     begins_elsewhere w n (g, has, x, is, cell) = elim (between g has) [
       | inl first ↦ none_some x w g.views (first.2 x) is
       | inr (some, less, callee, backs, waits) ↦ (
-          let root = root_own state callee backs g waits x w is in (
-            g.stage.depth,
+          let way = way_cases callee backs g has some waits x w is in (
+            home s g.stage.depth (number_of w),
             number_of w,
-            named_base (home s g.stage.depth) w root.0 ∙ ap (λ f. OfRoot (OfVariable f (number_of w))) (ap (λ z. if z then 0 else g.stage.depth) root.1),
-            other_frame s g.stage.depth depth some less (number_of w) root.1,
+            named_base (home s g.stage.depth) w way.0,
+            elim way.1 [
+              | inr lent ↦ inr lent
+              | inl own ↦ inl (λ e. other_frame s g.stage.depth depth some less (number_of w) own (sym (ap (λ z. if z then 0 else g.stage.depth) own) ∙ e))
+            ],
           ))
     ]
 
@@ -186,22 +263,29 @@ module _ (table : Table) (typed : TypedProgram) (effects : Effects)
     apart_elsewhere x w n (g, has, y, is, cell) base = elim (between g has) [
       | inl first ↦ none_some y w g.views (first.2 y) is
       | inr (some, less, callee, backs, waits) ↦ (
-          let root = root_own state callee backs g waits y w is in
-          let there = sym (named_base (home s g.stage.depth) w root.0 ∙ ap (λ f. OfRoot (OfVariable f (number_of w))) (ap (λ z. if z then 0 else g.stage.depth) root.1)) ∙ base in
-          let frames = same_frame g.stage.depth (number_of w) depth x there in
-          omega (arith, less, frames))
+          let way = way_cases callee backs g has some waits y w is in
+          let frames = same_frame (home s g.stage.depth (number_of w)) (number_of w) depth x (sym (named_base (home s g.stage.depth) w way.0) ∙ base) in
+          below (is_package_object s (number_of w)) g.stage.depth some less frames)
     ]
+      where
+        below : (b : Bool) (a : ℕ) → 0 < a → a < depth → (if b then 0 else a) ≡ depth → ⊥
+        below true a some less e = omega (arith, some, less, e)
+        below false a some less e = omega (arith, less, e)
 
     -- the ways of their views begin below
+    low_home : (b : Bool) (d : ℕ) → d < depth → (if b then 0 else d) < depth
+    low_home true d less = omega (arith, less)
+    low_home false d less = less
+
     pub kept_low : (w : Way) (n : ℕ) → KeptElsewhere older w n → (f : ℕ) × (x : ℕ) × (base_of w ≡ OfRoot (OfVariable f x)) × (f < depth)
     kept_low w n (g, has, x, is, cell) = elim (between g has) [
       | inl first ↦ none_some x w g.views (first.2 x) is
       | inr (some, less, callee, backs, waits) ↦ (
-          let root = root_own state callee backs g waits x w is in (
-            g.stage.depth,
+          let way = way_cases callee backs g has some waits x w is in (
+            home s g.stage.depth (number_of w),
             number_of w,
-            named_base (home s g.stage.depth) w root.0 ∙ ap (λ f. OfRoot (OfVariable f (number_of w))) (ap (λ z. if z then 0 else g.stage.depth) root.1),
-            less,
+            named_base (home s g.stage.depth) w way.0,
+            low_home (is_package_object s (number_of w)) g.stage.depth less,
           ))
     ]
 
@@ -211,7 +295,7 @@ module _ (table : Table) (typed : TypedProgram) (effects : Effects)
       | inl first ↦ absurd (subst (λ z. TakenBy z w) (first.1).2 taken).1
       | inr (some, less, callee, backs, waits) ↦ (
           let base = taken_base g.stage.returns g.stage.depth
-          (taken_from s state.memory g.stage.depth (facts_of program effects g.stage) waits.point.scope backs g.stage.returns waits.taken) w taken in
+          (words_taken s state.memory g.stage.depth (facts_of program effects g.stage) waits.point.scope backs g.stage.returns waits.taken) w taken in
           (g.stage.depth, base.0, base.1, less))
     ]
     gone_low w (g, has, inl (u, moved, leads)) = elim (between g has) [
@@ -227,23 +311,17 @@ module _ (table : Table) (typed : TypedProgram) (effects : Effects)
             low_home (is_package_object s (number_of w)) g.stage.depth less,
           ))
     ]
-      where
-        low_home : (b : Bool) (d : ℕ) → d < depth → (if b then 0 else d) < depth
-        low_home true d less = omega (arith, less)
-        low_home false d less = less
 
-    -- What concerns the innermost frame of them.
-    abbrev pub around : Around (home s depth)
-    around = record { gone = GoneElsewhere program effects older; kept = KeptElsewhere older; begins = begins_elsewhere }
-
-    -- what is near and gone elsewhere is a part of a package object that a fact says was moved
+    -- what is near and gone elsewhere is a part of a package object that a fact says was moved, or
+    -- goes on from a place that was borrowed
     pub near_moved : (w : Way) → IsNear depth w → GoneElsewhere program effects older w
-        → (is_package_object s (number_of w) ≡ true) × (g : ViewStage) × Has older g × IsMoved (home s g.stage.depth) (facts_of program effects g.stage) w
+        → ((is_package_object s (number_of w) ≡ true) × (g : ViewStage) × Has older g × IsMoved (home s g.stage.depth) (facts_of program effects g.stage) w)
+        ⊎ IsLentFor Borrowed w
     near_moved w near (g, has, inr taken) = elim (between g has) [
       | inl first ↦ absurd (subst (λ z. TakenBy z w) (first.1).2 taken).1
       | inr (some, less, callee, backs, waits) ↦ absurd (
           let base = taken_base g.stage.returns g.stage.depth
-          (taken_from s state.memory g.stage.depth (facts_of program effects g.stage) waits.point.scope backs g.stage.returns waits.taken) w taken in
+          (words_taken s state.memory g.stage.depth (facts_of program effects g.stage) waits.point.scope backs g.stage.returns waits.taken) w taken in
           elim (near_base depth w g.stage.depth base.0 near base.1) [
             | inl none ↦ omega (arith, some, none)
             | inr same ↦ omega (arith, less, same)
@@ -255,15 +333,19 @@ module _ (table : Table) (typed : TypedProgram) (effects : Effects)
         | inl e ↦ (
             let here : IsMoved (home s g.stage.depth) (facts_of program effects g.stage) w =
             subst (IsMoved (home s g.stage.depth) (facts_of program effects g.stage)) (sym e ∙ leads) moved in
-            (near_package s g.stage.depth depth some less w here.0 near, g, has, here))
-        | inr l ↦ absurd (
-            let root = root_own state callee backs g waits l.object l.way l.has in
-            let number : number_of w ≡ number_of l.way = ap number_of (sym leads ∙ lifted_way g.views u l) ∙ root_on l.way l.rest in
+            inl (near_package s g.stage.depth depth some less w here.0 near, g, has, here))
+        | inr l ↦ (
+            let plain : is_observer s (number_of u) ≡ false = waits.clear.owned (name_of u) moved.1 in
+            let goes = borrower_goes (home s g.stage.depth) (is_observer s) g.views (view_here s state) (facts_of program effects g.stage) waits.views l.object l.way
+            (ap (is_observer s) (sym (lifted_root g.views u l)) ∙ plain) l.has in
+            let stands : w ≡ on l.way l.rest = sym leads ∙ lifted_way g.views u l in
             let named : Named (home s g.stage.depth) w =
             subst (Named (home s g.stage.depth)) leads
             (named_way (home s g.stage.depth) (is_observer s) (known_gone (home s g.stage.depth) (λ z. ⊥)) g.views (view_here s state) (facts_of program effects g.stage)
-            waits.views (suc (number_of u)) u (omega arith) (moved.0, waits.clear.owned (name_of u) moved.1)) in
-            not_near s g.stage.depth depth some less w named (ap (is_package_object s) number ∙ root.1) near)
+            waits.views (suc (number_of u)) u (omega arith) (moved.0, plain)) in
+            inr (lent_for g has some Borrowed goes.0 goes.1 w goes.2 goes.3
+            (subst (Under goes.1) (sym stands) (under_on goes.1 l.way (on l.way l.rest) goes.4 (on_under l.way l.rest)))
+            (near_package s g.stage.depth depth some less w named near)))
       ]
     ]
 
@@ -290,59 +372,141 @@ module _ (table : Table) (typed : TypedProgram) (effects : Effects)
 
     -- What concerns the innermost frame when it has their facts on package objects beside its own.
     abbrev pub beside_them : Around (home s depth)
-    beside_them = record { gone = IsFar depth (GoneElsewhere program effects older); kept = KeptElsewhere older; begins = begins_elsewhere }
+    beside_them = record {
+      lent = LentElsewhere older;
+      gone = IsFar depth (GoneElsewhere program effects older);
+      away = λ w. IsLentFor Borrowed w × GoneElsewhere program effects older w;
+      through = λ w away. away.0;
+      kept = KeptElsewhere older;
+      begins = begins_elsewhere;
+    }
+
+    abbrev pub moved_there : List Fact
+    moved_there = inherited program effects (stages_of older)
 
     abbrev pub handed : List Fact
-    handed = inherited program effects (stages_of older)
+    handed = moved_there ++ loans_there older
 
-    -- where no part of a package object is lent that they moved
+    -- What a fact is that they hand on.
+    abbrev pub IsMovedThere : Fact → Type 0
+    IsMovedThere f =
+        (name : Name) × (f ≡ Moved name) × (g : ViewStage) × Has older g × Has (facts_of program effects g.stage) (Moved name) × (is_package_object s name.root ≡ true)
+
+    abbrev pub IsLentThere : Fact → Type 0
+    IsLentThere f = (l : Loan) × (name : Name) × (f ≡ Lent l name.root name) × LentElsewhere older l name
+
+    pub handed_cases : (f : Fact) → Has handed f → IsMovedThere f ⊎ IsLentThere f
+    handed_cases f has = elim (Has-append_cases moved_there (loans_there older) f has) [
+      | inr there ↦ inr (loans_from older f there)
+      | inl there ↦ (
+          let found = inherited_from program effects (stages_of older) f there in
+          let view = Has-map_from (λ (z : ViewStage). z.stage) older found.0 found.1 in
+          inl (by_fact f view.0 view.1 (subst (λ z. Has (facts_of program effects z) f) (sym view.2) found.2) found.3))
+    ]
+      where
+        by_fact : (f : Fact) (g : ViewStage) → Has older g → Has (facts_of program effects g.stage) f → is_inherited s f ≡ true → IsMovedThere f
+        by_fact (Moved name) g has fact shared = (name, refl, g, has, fact, shared)
+        by_fact (Lent l h n) g has fact shared = cc
+
+    pub moved_handed : (name : Name) → Has handed (Moved name)
+        → (g : ViewStage) × Has older g × Has (facts_of program effects g.stage) (Moved name) × (is_package_object s name.root ≡ true)
+    moved_handed name has = elim (handed_cases (Moved name) has) [
+      | inl (other, same, g, there, fact, shared) ↦ (
+          let is : other ≡ name = sym (moved_same name other same) in
+          (g, there, subst (λ z. Has (facts_of program effects g.stage) (Moved z)) is fact, subst (λ (z : Name). is_package_object s z.root ≡ true) is shared))
+      | inr (l, other, same, there) ↦ (let no : Moved name ≡ Lent l other.root other = same in cc)
+    ]
+
+    pub lent_handed : (l : Loan) (h : ℕ) (name : Name) → Has handed (Lent l h name) → (h ≡ name.root) × LentElsewhere older l name
+    lent_handed l h name has = elim (handed_cases (Lent l h name) has) [
+      | inl (other, same, g, there, fact, shared) ↦ (let no : Lent l h name ≡ Moved other = same in cc)
+      | inr (k, other, same, there) ↦ (
+          let is = loan_same l k h other.root name other same in (
+            is.1 ∙ sym (ap (λ (z : Name). z.root) is.2),
+            subst (λ z. LentElsewhere older l z) (sym is.2) (subst (λ z. LentElsewhere older z other) (sym is.0) there),
+          ))
+    ]
+
+    -- Their facts on package objects don't meet, nor do those of the innermost frame meet them.
+    pub record AreApart (facts : List Fact) : Type 0 where
+      pub moved : (n : Name) → Has handed (Moved n) → (l : Loan) (m : Name) → LentElsewhere older l m → overlaps n m ≡ true → ⊥
+      pub seen : (n m : Name) → LentElsewhere older Borrowed n → LentElsewhere older Observed m → overlaps n m ≡ true → ⊥
+      pub own_lent : (n : Name) → Has handed (Moved n) → (l : Loan) (h : ℕ) (m : Name) → Has facts (Lent l h m) → n.root ≡ m.root → ⊥
+      pub own_moved : (n : Name) → Has facts (Moved n) → (l : Loan) (m : Name) → LentElsewhere older l m → n.root ≡ m.root → ⊥
+      pub own_borrowed : (b : ℕ) (n : Name) → Has facts (Lent Borrowed b n) → (l : Loan) (m : Name) → LentElsewhere older l m → n.root ≡ m.root → ⊥
+      pub own_seen : (h : ℕ) (m : Name) → Has facts (Lent Observed h m) → (n : Name) → LentElsewhere older Borrowed n → n.root ≡ m.root → ⊥
+
+    -- with them
     pub with_them : (v : Views) (view : View) (facts : List Fact) → ((x : ℕ) (w : Way) → v.way x ≡ Some w → is_package_object s x ≡ false)
-        → ((x : ℕ) → is_package_object s x ≡ true → is_observer s x ≡ false)
-        → ((name : Name) → Has handed (Moved name) → (l : Loan) (h : ℕ) (m : Name) → Has facts (Lent l h m) → name.root ≡ m.root → ⊥)
-        → Viewed (home s depth) (is_observer s) around v view facts → Viewed (home s depth) (is_observer s) beside_them v view (facts ++ handed)
-    with_them v view facts only plain unlent well = record {
+        → ((x : ℕ) → is_package_object s x ≡ true → is_observer s x ≡ false) → AreApart facts
+        → ((w : Way) (n : ℕ) → KeptElsewhere older w n → Reaches view w (OfCell n))
+        → Viewed (home s depth) (is_observer s) (known_gone (home s depth) (GoneElsewhere program effects older)) v view facts
+        → Viewed (home s depth) (is_observer s) beside_them v view (facts ++ handed)
+    with_them v view facts only plain apart reach well = record {
       owned = well.owned;
       covered = well.covered;
       known = λ w l rooted r gone. elim (well.known w l rooted r gone) [
-        | inl (u, moved, leads) ↦ inl (u, (moved.0, Has-append_left facts handed (Moved (name_of u)) moved.1), leads)
+        | inl (inr none) ↦ absurd none
+        | inl (inl (u, moved, leads)) ↦ inl (inl (u, (moved.0, Has-append_left facts handed (Moved (name_of u)) moved.1), leads))
         | inr away ↦ elim (near_or_far depth w) [
           | inr far ↦ inr (far, away)
-          | inl near ↦ inl (known_near w (near_moved w near away))
+          | inl near ↦ elim (near_moved w near away) [
+            | inl moved ↦ inl (inl (known_near w moved))
+            | inr lent ↦ inl (inr (lent, away))
+          ]
         ]
       ];
       clear = record {
-        moved = λ l h n m has lends over. elim (cases (Lent l h m) lends) [
-          | inl mine ↦ elim (cases (Moved n) has) [
-            | inl own ↦ well.clear.moved l h n m own mine over
-            | inr there ↦ unlent n there l h m mine (same_root n m over)
+        moved = λ l h n m has lends over. elim (cases (Moved n) has) [
+          | inl own ↦ elim (cases (Lent l h m) lends) [
+            | inl mine ↦ well.clear.moved l h n m own mine over
+            | inr there ↦ apart.own_moved n own l m (lent_handed l h m there).1 (same_root n m over)
           ]
-          | inr there ↦ no_loan l h m there
+          | inr away ↦ elim (cases (Lent l h m) lends) [
+            | inl mine ↦ apart.own_lent n away l h m mine (same_root n m over)
+            | inr there ↦ apart.moved n away l m (lent_handed l h m there).1 over
+          ]
         ];
-        lent = λ b h n m one two off over. well.clear.lent b h n m (own_loan_of Borrowed b n one) (own_loan_of Borrowed h m two) off over;
-        seen = λ b h n m one two over. well.clear.seen b h n m (own_loan_of Borrowed b n one) (own_loan_of Observed h m two) over;
+        lent = λ b h n m one two off over. elim (cases (Lent Borrowed b n) one) [
+          | inl own ↦ elim (cases (Lent Borrowed h m) two) [
+            | inl mine ↦ well.clear.lent b h n m own mine off over
+            | inr there ↦ apart.own_borrowed b n own Borrowed m (lent_handed Borrowed h m there).1 (same_root n m over)
+          ]
+          | inr away ↦ elim (cases (Lent Borrowed h m) two) [
+            | inl mine ↦ apart.own_borrowed h m mine Borrowed n (lent_handed Borrowed b n away).1 (sym (same_root n m over))
+            | inr there ↦ off ((lent_handed Borrowed b n away).0 ∙ same_root n m over ∙ sym (lent_handed Borrowed h m there).0)
+          ]
+        ];
+        seen = λ b h n m one two over. elim (cases (Lent Borrowed b n) one) [
+          | inl own ↦ elim (cases (Lent Observed h m) two) [
+            | inl mine ↦ well.clear.seen b h n m own mine over
+            | inr there ↦ apart.own_borrowed b n own Observed m (lent_handed Observed h m there).1 (same_root n m over)
+          ]
+          | inr away ↦ elim (cases (Lent Observed h m) two) [
+            | inl mine ↦ apart.own_seen h m mine n (lent_handed Borrowed b n away).1 (same_root n m over)
+            | inr there ↦ apart.seen n m (lent_handed Borrowed b n away).1 (lent_handed Observed h m there).1 over
+          ]
+        ];
         owned = λ n has. elim (cases (Moved n) has) [
           | inl own ↦ well.clear.owned n own
-          | inr there ↦ plain n.root (inherited_from program effects (stages_of older) (Moved n) there).3
+          | inr there ↦ plain n.root (moved_handed n there).3
         ];
       };
       views = λ x w has.
-          view_on (home s depth) (is_observer s) around v view view facts (facts ++ handed) x w (well.views x w has)
-          (λ b n loan. more_loan b x n loan) (well.views x w has).reaches;
-      far = well.far;
+          view_on (home s depth) (is_observer s) (known_gone (home s depth) (GoneElsewhere program effects older)) v view view facts (facts ++ handed) x w
+          (well.views x w has)
+          (λ b n loan. own_loan (is_observer s) facts (facts ++ handed) (λ l h m own. Has-append_left facts handed (Lent l h m) own) b x n loan)
+          (well.views x w has).reaches;
+      lends = λ l n lent. record {
+        has = Has-append_right facts handed (Lent l n.root n) (Has-append_right moved_there (loans_there older) (Lent l n.root n) (loans_has older l n lent));
+        none = none_there n.root lent.5;
+        plain = plain n.root lent.5;
+      };
+      far = reach;
     }
       where
         cases : (f : Fact) → Has (facts ++ handed) f → Has facts f ⊎ Has handed f
         cases f has = Has-append_cases facts handed f has
-
-        no_loan : {A : Type 0} (l : Loan) (h : ℕ) (m : Name) → Has handed (Lent l h m) → A
-        no_loan l h m there = (let never : false ≡ true = (inherited_from program effects (stages_of older) (Lent l h m) there).3 in cc)
-
-        own_loan_of : (l : Loan) (h : ℕ) (m : Name) → Has (facts ++ handed) (Lent l h m) → Has facts (Lent l h m)
-        own_loan_of l h m has = elim (cases (Lent l h m) has) [ inl mine ↦ mine | inr there ↦ no_loan l h m there ]
-
-        more_loan : (b : Bool) (x : ℕ) (n : Name) → HasLoan b x facts n → HasLoan b x (facts ++ handed) n
-        more_loan true x n (h, has) = (h, Has-append_left facts handed (Lent Observed h n) has)
-        more_loan false x n has = Has-append_left facts handed (Lent Borrowed x n) has
 
         same_root : (n m : Name) → overlaps n m ≡ true → n.root ≡ m.root
         same_root n m over = eqb-true n.root m.root (both_first (n.root == m.root) _ over)
@@ -362,24 +526,27 @@ module _ (table : Table) (typed : TypedProgram) (effects : Effects)
               (
                 named,
                 Has-append_right facts handed (Moved (name_of w))
-                    (inherited_has program effects (stages_of older) g.stage (Has-map (λ (k : ViewStage). k.stage) older g has) (Moved (name_of w)) moved.1 shared),
+                    (Has-append_left moved_there (loans_there older) (Moved (name_of w))
+                    (inherited_has program effects (stages_of older) g.stage (Has-map (λ (k : ViewStage). k.stage) older g has) (Moved (name_of w)) moved.1 shared)),
               ),
               stands_itself (home s depth) (is_observer s) (known_gone (home s depth) (λ z. ⊥)) v w named (none_there (number_of w) shared),
             )
 
     -- and without them
     pub without_them : (v : Views) (view : View) (all facts : List Fact) → ((x : ℕ) (w : Way) → v.way x ≡ Some w → is_package_object s x ≡ false)
+        → ((x : ℕ) → is_package_object s x ≡ true → is_observer s x ≡ false)
         → ((f : Fact) → Has facts f → Has all f) → Splits all facts handed
         → Viewed (home s depth) (is_observer s) beside_them v view all
         → Viewed (home s depth) (is_observer s) (known_gone (home s depth) (GoneElsewhere program effects older)) v view facts
-    without_them v view all facts only part from well = record {
+    without_them v view all facts only plain part from well = record {
       owned = well.owned;
       covered = well.covered;
       known = λ w l rooted r gone. elim (well.known w l rooted r gone) [
         | inr away ↦ inr away.1
-        | inl (u, moved, leads) ↦ elim (from (Moved (name_of u)) moved.1) [
-          | inl mine ↦ inl (u, (moved.0, mine), leads)
-          | inr there ↦ inr (known_there w u moved.0 leads (inherited_from program effects (stages_of older) (Moved (name_of u)) there))
+        | inl (inr away) ↦ inr away.1
+        | inl (inl (u, moved, leads)) ↦ elim (from (Moved (name_of u)) moved.1) [
+          | inl mine ↦ inl (inl (u, (moved.0, mine), leads))
+          | inr there ↦ inr (known_there w u moved.0 leads (moved_handed (name_of u) there))
         ]
       ];
       clear = record {
@@ -389,20 +556,28 @@ module _ (table : Table) (typed : TypedProgram) (effects : Effects)
         owned = λ n has. well.clear.owned n (part (Moved n) has);
       };
       views = λ x w has.
-          view_on (home s depth) (is_observer s) beside_them v view view all facts x w (well.views x w has) (λ b n loan. own_loan b x n loan)
+          view_on (home s depth) (is_observer s) beside_them v view view all facts x w (well.views x w has) (λ b n loan. loan_kept x w has b n loan)
           (well.views x w has).reaches;
+      lends = λ l n none. absurd none;
       far = λ w n none. absurd none;
     }
       where
-        mine_of : (l : Loan) (h : ℕ) (m : Name) → Has all (Lent l h m) → Has facts (Lent l h m)
-        mine_of l h m has = elim (from (Lent l h m) has) [
-          | inl mine ↦ mine
-          | inr there ↦ (let never : false ≡ true = (inherited_from program effects (stages_of older) (Lent l h m) there).3 in cc)
-        ]
+        not_both : (b : Bool) → b ≡ true → b ≡ false → ⊥
+        not_both true e h = cc
+        not_both false e h = cc
 
-        own_loan : (b : Bool) (x : ℕ) (n : Name) → HasLoan b x all n → HasLoan b x facts n
-        own_loan true x n (h, has) = (h, mine_of Observed h n has)
-        own_loan false x n has = mine_of Borrowed x n has
+        -- the frame's own loans are held by its own objects
+        loan_kept : (x : ℕ) (w : Way) → v.way x ≡ Some w → (b : Bool) (n : Name) → HasLoan (is_observer s) b x all n → HasLoan (is_observer s) b x facts n
+        loan_kept x w has true n (h, lent, sees) = elim (from (Lent Observed h n) lent) [
+          | inl mine ↦ (h, mine, sees)
+          | inr there ↦ absurd (let away = lent_handed Observed h n there in
+              not_both (is_observer s h) sees (plain h (ap (is_package_object s) away.0 ∙ (away.1).5)))
+        ]
+        loan_kept x w has false n lent = elim (from (Lent Borrowed x n) lent) [
+          | inl mine ↦ mine
+          | inr there ↦ absurd (let away = lent_handed Borrowed x n there in
+              not_both (is_package_object s x) (ap (is_package_object s) away.0 ∙ (away.1).5) (only x w has))
+        ]
 
         none_there : (x : ℕ) → is_package_object s x ≡ true → v.way x ≡ None
         none_there x shared = by_way (v.way x) refl
@@ -412,19 +587,14 @@ module _ (table : Table) (typed : TypedProgram) (effects : Effects)
             by_way (Some w) is = (let no : true ≡ false = sym shared ∙ only x w is in cc)
 
         known_there : (w u : Way) → Named (home s depth) u → expand v u ≡ w
-            → (k : Stage) × Has (stages_of older) k × Has (facts_of program effects k) (Moved (name_of u)) × (is_inherited s (Moved (name_of u)) ≡ true)
+            → (g : ViewStage) × Has older g × Has (facts_of program effects g.stage) (Moved (name_of u)) × (is_package_object s (number_of u) ≡ true)
             → GoneElsewhere program effects older w
-        known_there w u named leads (k, has, moved, shared) =
-            let found = Has-map_from (λ (z : ViewStage). z.stage) older k has in
-            let g : ViewStage = found.0 in
+        known_there w u named leads (g, has, moved, shared) =
             let itself : expand v u ≡ u = stands_itself (home s depth) (is_observer s) (known_gone (home s depth) (λ z. ⊥)) v u named (none_there (number_of u) shared) in
             let there : Named (home s g.stage.depth) u = package_named s depth g.stage.depth u shared named in
             let by_them : expand g.views u ≡ u =
-            stands_itself (home s g.stage.depth) (is_observer s) (known_gone (home s g.stage.depth) (λ z. ⊥)) g.views u there (no_view_there g found.1 (number_of u) shared) in (
-              g,
-              found.1,
-              inl (u, (there, subst (λ z. Has (facts_of program effects z) (Moved (name_of u))) (sym found.2) moved), by_them ∙ sym itself ∙ leads),
-            )
+            stands_itself (home s g.stage.depth) (is_observer s) (known_gone (home s g.stage.depth) (λ z. ⊥)) g.views u there (no_view_there g has (number_of u) shared) in
+            (g, has, inl (u, (there, moved), by_them ∙ sym itself ∙ leads))
 
   -- ---- after a step of the innermost frame
 
@@ -437,7 +607,7 @@ module _ (table : Table) (typed : TypedProgram) (effects : Effects)
         → ((x : ℕ) (w : Way) → g.views.way x ≡ Some w → Reaches (view_here s next) w (OfCell (g.views.cell x)))
         → IsWaiting table typed effects state callee backs g → IsWaiting table typed effects next callee backs g
     waits_on callee backs g some less reach waits = record {
-      procedure = waits.procedure;
+      runs = waits.runs;
       plain = waits.plain;
       path = waits.path;
       named = waits.named;
@@ -448,6 +618,7 @@ module _ (table : Table) (typed : TypedProgram) (effects : Effects)
       lends = waits.lends;
       unmoved = waits.unmoved;
       uses = waits.uses;
+      writes = waits.writes;
       clear = waits.clear;
       views = λ x w has.
           view_on (home s g.stage.depth) (is_observer s) (known_gone (home s g.stage.depth) (λ z. ⊥)) g.views (view_here s state) (view_here s next)

@@ -1,36 +1,30 @@
 -- What is asked of an accepted program with borrowers and observers so that its runs are sound: what
 -- typing, the layout and the rules see to. Nothing here speaks of a run.
-use Rattle.std.specs.Prelude.{◌≡◌, ◌⊎◌, ◌<◌, ℕ, true, false, List, [], ◌∷◌, ◌++◌, map, get_or, Option, Some}
+use Rattle.std.specs.Prelude.{◌≡◌, ◌⊎◌, ◌<◌, ℕ, true, false, List, [], ◌∷◌, ◌++◌, map, drop, Option, Some, is_some}
 use Rattle.spark_base.specs.Lists.{Has}
 use Rattle.spark_base.specs.declared.position.Pos.{Pos}
 use Rattle.place_names.specs.declared.act.Mode.{Mode}
 use Rattle.place_names.specs.declared.act.Mode.TheVariants as mode
 use Rattle.place_names.specs.declared.act.Placed.{Placed}
-use Rattle.place_names.specs.declared.fact.Fact.TheVariants.{Moved}
-use Rattle.place_names.specs.Facts.{adds}
-use Rattle.place_names.specs.Names.{Name as PlaceName}
 use Rattle.type_definitions.specs.Types.{Table, full, is_scalar, is_owning}
 use Rattle.typed_tree.specs.Trees.{TypedTree, Name, NoMore, More}
-use Rattle.typed_tree.specs.Programs.{TypedSub, TypedProgram}
+use Rattle.typed_tree.specs.Programs.{TypedProgram}
 use Rattle.flow_paths.specs.declared.report.Effects.{Effects}
 use Rattle.flow_paths.specs.Instructions.{Declare, Assign, Call, Input, EndScope, Finish}
 use Rattle.flow_paths.specs.Objects.{Typing, object_at, sub_at, is_formal, is_variable, is_anonymous, is_observer, is_package_object, view_of}
 use Rattle.flow_paths.specs.Points.{NamedPoint, FlowPoint}
-use Rattle.flow_paths.specs.Laid.{FlowSub, FlowProgram, NamedSub, number_in, typing_of, flow_typing, flow_program, flow_named}
-use Rattle.flow_paths.specs.Paths.{ControlPath, facts_before}
-use Rattle.flow_paths.specs.Effects.{path_points}
-use Rattle.flow_paths.specs.Scopes.{is_ready, is_within, is_settled}
+use Rattle.flow_paths.specs.Laid.{FlowSub, FlowProgram, NamedSub, number_in, flow_typing, flow_program, flow_named}
+use Rattle.flow_paths.specs.Scopes.{taken, is_within}
 use Rattle.flow_paths.specs.Views.{encloses, scope_of}
 use Rattle.machine.specs.States.{sub_of}
-use Rattle.machine.specs.Run.{no_point}
 use Rattle.soundness.specs.Typed.{OwnsByShape}
-use Rattle.soundness.specs.Sound.{Accepted, IsNamedSub, IsAtPoint, IsProcedure}
-use Rattle.soundness.specs.Ready.{root_of, stored_at, AreNew}
+use Rattle.soundness.specs.Sound.{Accepted, IsNamedSub, IsAtPoint, IsProcedure, IsRunnable}
+use Rattle.soundness.specs.Ready.{root_of, AreScoped, AreNew, AreElaborated, AreReturning}
 use Rattle.typed_laws.specs.Needed.{Matches, Stays, IsPlace}
 use Rattle.viewed_soundness.specs.Holds.{AllKeep}
-use Rattle.viewed_steps.specs.Sound.{IsScalarObject, IsViewClass, Lasts, LendOwn}
+use Rattle.viewed_steps.specs.Sound.{IsScalarObject, IsViewClass, Lasts}
 
--- ---- scopes, package objects and calls
+-- ---- calls
 
 -- The objects that the names are rooted in that are passed.
 unfoldable pub roots_passed : TypedTree → List ℕ
@@ -41,28 +35,14 @@ abbrev pub AreDifferent : List ℕ → Type 0
 AreDifferent [] = Unit {0}
 AreDifferent (x ∷ rest) = ((y : ℕ) → Has rest y → y ≡ x → ⊥) × AreDifferent rest
 
--- There are no temporaries, which hold the values of calls. Code is settled. At each point: the
--- object that is declared isn't in scope, and the one whose scope ends is the last one in scope
--- (`is_ready`); what is stored at is in scope or belongs to a package; the objects of packages have
--- no end of scope; and where a procedure ends its formals alone are in scope.
-pub record AreScoped (table : Table) (typed : TypedProgram) : Type 0 where
-  pub objects : (flow_program table typed).objects ≡ typed.objects
-  pub bodies : (sub : TypedSub) → Has typed.subs sub → is_settled (typing_of table typed) sub.body ≡ true
-  pub ready : (sub : NamedSub) → Has (flow_named table typed) sub → (p : NamedPoint) → Has sub.points p → is_ready p p.instr ≡ true
-  pub stored : (sub : NamedSub) → Has (flow_named table typed) sub → (p : NamedPoint) → Has sub.points p → (x : ℕ) → Has (stored_at p.instr) x
-      → (is_package_object (flow_typing (flow_program table typed)) x ≡ true) ⊎ (is_within x p.scope ≡ true)
-  pub ends : (sub : NamedSub) → Has (flow_named table typed) sub → (p : NamedPoint) → Has sub.points p → (x : ℕ) → p.instr ≡ EndScope x
-      → is_package_object (flow_typing (flow_program table typed)) x ≡ false
+-- What is passed is in scope, or belongs to a package; and where a subprogram ends, formals of its own
+-- alone are in scope.
+pub record ArePassed (table : Table) (typed : TypedProgram) : Type 0 where
   pub finishes : (sub : NamedSub) → Has (flow_named table typed) sub → (p : NamedPoint) → Has sub.points p → p.instr ≡ Finish
-      → (x : ℕ) → is_within x p.scope ≡ true → (is_formal (flow_typing (flow_program table typed)) x ≡ true) × Has sub.sub.formals x
+      → (x : ℕ) → is_within x p.scope ≡ true → Has sub.sub.formals x
   pub passed : (sub : NamedSub) → Has (flow_named table typed) sub → (p : NamedPoint) → Has sub.points p → (n : ℕ) (actuals : TypedTree) (result : Option ℕ)
       → p.instr ≡ Call n actuals result → (x : ℕ) → Has (roots_passed actuals) x
-      → (is_package_object (flow_typing (flow_program table typed)) x ≡ true) ⊎ (is_within x p.scope ≡ true)
-
--- The package objects are declared one by one, and nothing is moved for them.
-pub record AreElaborated (program : FlowProgram) : Type 0 where
-  pub declared : (p : FlowPoint) → Has (sub_of program 0).points p → (x : ℕ) × (v : TypedTree) × (p.instr ≡ Declare x v)
-  pub unmoved : (p : FlowPoint) → Has (sub_of program 0).points p → (a : Placed) → Has p.acts a → (name : PlaceName) → Has (adds a.act) (Moved name) → ⊥
+      → (is_package_object (flow_typing (flow_program table typed)) x ≡ true) ⊎ (is_within x (drop (taken p.instr) p.scope) ≡ true)
 
 -- What is passed stays within what it names. One that is copied back to is a name: of a scalar type; or,
 -- of mode `in out`, of a place of the type of the formal in an object that belongs to no package.
@@ -80,23 +60,24 @@ abbrev pub AreActualsTo : Typing → List ℕ → TypedTree → Type 0
 AreActualsTo s (x ∷ formals) (More e rest) = IsActualTo s x (object_at s x).mode e × AreActualsTo s formals rest
 AreActualsTo s formals actuals = (x : ℕ) → Has formals x → IsScalarObject s x
 
--- A subprogram that is called is a procedure. Its formals differ, belong to no package, and are in scope at
--- first if they may own. (Where none is called, nothing is asked of object 0,
--- which is Ada.Text_IO.)
-pub record IsCalled (table : Table) (typed : TypedProgram) (n : ℕ) (actuals : TypedTree) : Type 0 where
-  pub procedure : IsProcedure table typed n
+-- A subprogram that is called can run; it is a function where the call has a result. Its formals differ,
+-- belong to no package, and are in scope at first if they may own. (Where none is called, nothing is asked
+-- of object 0, which is Ada.Text_IO.)
+pub record IsCalled (table : Table) (typed : TypedProgram) (n : ℕ) (actuals : TypedTree) (result : Option ℕ) : Type 0 where
+  pub runs : IsRunnable table typed n
+  pub answers : is_some (sub_of (flow_program table typed) n).result ≡ is_some result
   pub formals : (x : ℕ) → Has (sub_of (flow_program table typed) n).formals x → is_formal (flow_typing (flow_program table typed)) x ≡ true
   pub differ : AreDifferent (sub_of (flow_program table typed) n).formals
   pub local : (x : ℕ) → Has (sub_of (flow_program table typed) n).formals x → is_package_object (flow_typing (flow_program table typed)) x ≡ false
   pub begins : (x : ℕ) → Has (sub_of (flow_program table typed) n).formals x
-      → is_owning (flow_program table typed).table (object_at (flow_typing (flow_program table typed)) x).of ≡ true → is_within x procedure.point.scope ≡ true
+      → is_owning (flow_program table typed).table (object_at (flow_typing (flow_program table typed)) x).of ≡ true → is_within x runs.point.scope ≡ true
   pub actuals_stay : AreActualsTo (flow_typing (flow_program table typed)) (sub_of (flow_program table typed) n).formals actuals
   pub text_io : is_package_object (flow_typing (flow_program table typed)) 0 ≡ false
 
 abbrev pub AreCalled : Table → TypedProgram → Type 0
 AreCalled table typed =
     (sub : FlowSub) → Has (flow_program table typed).subs sub → (p : FlowPoint) → Has sub.points p
-    → (n : ℕ) (actuals : TypedTree) (result : Option ℕ) → p.instr ≡ Call n actuals result → IsCalled table typed n actuals
+    → (n : ℕ) (actuals : TypedTree) (result : Option ℕ) → p.instr ≡ Call n actuals result → IsCalled table typed n actuals result
 
 -- ---- borrowers and observers in order
 
@@ -147,13 +128,6 @@ pub record ViewsAreOrderly (table : Table) (typed : TypedProgram) : Type 0 where
   pub kept : (sub : FlowSub) → Has (flow_program table typed).subs sub → (p : FlowPoint) → Has sub.points p
       → AllKeep (is_observer (flow_typing (flow_program table typed))) (map (λ (a : Placed). a.act) p.acts)
 
--- Where a procedure is called, what is lent is a part of an object of the caller.
-abbrev pub AreSpared : FlowProgram → Effects → Type 0
-AreSpared program effects =
-    (sub : FlowSub) → Has program.subs sub → (before : List ℕ) (last : ℕ) → ControlPath (path_points program effects sub) before last
-    → (n : ℕ) (actuals : TypedTree) (result : Option ℕ) → (get_or sub.points last no_point).instr ≡ Call n actuals result
-    → LendOwn (flow_typing program) (facts_before (path_points program effects sub) (last ∷ before))
-
 -- ---- all of it
 
 -- An accepted program of the class, of which this holds.
@@ -162,11 +136,12 @@ pub record IsReady (table : Table) (typed : TypedProgram) (effects : Effects) : 
   pub owns : OwnsByShape (flow_program table typed).table
   pub class : IsViewClass (flow_program table typed)
   pub scoped : AreScoped table typed
+  pub passing : ArePassed table typed
   pub new : AreNew (flow_program table typed) effects
   pub elaborated : AreElaborated (flow_program table typed)
   pub orderly : ViewsAreOrderly table typed
   pub called : AreCalled table typed
-  pub spared : AreSpared (flow_program table typed) effects
+  pub returning : AreReturning (flow_program table typed) effects
   pub packages : NamedSub
   pub stands : IsNamedSub (flow_named table typed) 0 packages
   pub main : ℕ

@@ -1,15 +1,15 @@
 -- What holds at each moment of a run of an accepted program with borrowers and observers.
 --
--- A frame that waits for a call to end has its views still: it lends no part of a package object
--- then, and what was called names no other object of the frame.
-use Rattle.std.specs.Prelude.{◌≡◌, ◌⊎◌, ◌<◌, ℕ, true, false, List, [], ◌∷◌, map, get_or, Option, Some, None}
+-- A frame that waits for a call to end has its views still: what was called names no object of the
+-- frame, and leaves package objects alone of which a part is lent.
+use Rattle.std.specs.Prelude.{◌≡◌, ◌⊎◌, ◌<◌, ℕ, true, List, [], ◌∷◌, map, get_or, Option, Some, None}
 use Rattle.spark_base.specs.Lists.{Has}
 use Rattle.spark_base.specs.declared.position.Pos.{Pos}
 use Rattle.place_names.specs.declared.act.Mode.TheVariants as mode
 use Rattle.place_names.specs.declared.fact.Fact.{Fact}
 use Rattle.place_names.specs.declared.fact.Fact.TheVariants.{Moved, Lent}
 use Rattle.place_names.specs.declared.rule.Loan.{Loan}
-use Rattle.place_names.specs.declared.rule.Loan.TheVariants.{Observed}
+use Rattle.place_names.specs.declared.rule.Loan.TheVariants.{Borrowed, Observed}
 use Rattle.place_names.specs.Names.{Name as PlaceName}
 use Rattle.type_definitions.specs.Types.{Table, full, is_scalar}
 use Rattle.typed_tree.specs.Trees.{TypedTree, Name, NoMore}
@@ -20,18 +20,18 @@ use Rattle.flow_paths.specs.Objects.{Typing, object_at, sub_at, is_formal, is_an
 use Rattle.flow_paths.specs.Points.{NamedPoint, FlowPoint}
 use Rattle.flow_paths.specs.Laid.{FlowSub, FlowProgram, NamedSub, flow_typing, flow_program, flow_named}
 use Rattle.flow_paths.specs.Paths.{ControlPath}
-use Rattle.flow_paths.specs.Effects.{path_points}
+use Rattle.flow_paths.specs.Effects.{written_by, path_points}
 use Rattle.flow_paths.specs.Scopes.{is_within}
 use Rattle.flow_paths.specs.Views.{encloses, scope_of}
 use Rattle.machine.specs.Words.{Cell}
 use Rattle.machine.specs.Memory.{Memory, variable_slots, no_slot}
-use Rattle.machine.specs.States.{Return, Frame, State, Outcome, Goes, Ends, sub_of}
+use Rattle.machine.specs.States.{Return, Waiting, Frame, State, Outcome, Goes, Ends, sub_of}
 use Rattle.machine.specs.Owners.{WellOwned, waiting_in}
 use Rattle.machine.specs.Run.{step}
 use Rattle.owned_ways.specs.Ways.{Step, OfVariable, OfRoot, Held, Way, name_of, number_of}
 use Rattle.soundness.specs.Seen.{content, word_in, home}
 use Rattle.soundness.specs.Typed.{Kept}
-use Rattle.soundness.specs.Sound.{calls_procedures, AreCopied, IsNamedSub, IsAtPoint, IsProcedure, Stage, facts_of, AreStages, Uses, IsPlain, InScope, IsTrap}
+use Rattle.soundness.specs.Sound.{calls_procedures, AreCopied, is_temporary_object, ArePlainResults, IsNamedSub, IsAtPoint, IsRunnable, Stage, facts_of, AreStages, AreAwaited, Uses, IsPlain, InScope, IsTrap}
 use Rattle.soundness.specs.Sound as owners
 use Rattle.owned_loans.specs.Views.{known_gone, Views, IsMovedBy, AreClear, AreViews, Viewed}
 use Rattle.viewed_soundness.specs.Holds.{IsNamed, PartsAreNamed}
@@ -46,12 +46,17 @@ IsScalarObject s x = is_scalar (full s.table (object_at s x).of) ≡ true
 abbrev pub IsKindOfFormal : Typing → ℕ → Type 0
 IsKindOfFormal s x = IsScalarObject s x ⊎ (((object_at s x).mode ≡ mode.InOut) × IsNamed s.table (object_at s x).of)
 
--- Anonymous access types are those of objects alone. Procedures are called; their formals are such, and
+-- Anonymous access types are those of objects alone. Procedures are called, or functions too, and
+-- then all have results of scalar types; formals are such, those of functions of scalar types, and
 -- actuals that are copied back to go through no access value.
 pub record IsViewClass (program : FlowProgram) : Type 0 where
   pub parts_named : PartsAreNamed program.table
-  pub calls : (sub : FlowSub) → Has program.subs sub → (p : FlowPoint) → Has sub.points p → calls_procedures p.instr ≡ true
+  pub results : ((sub : FlowSub) → Has program.subs sub → (p : FlowPoint) → Has sub.points p → calls_procedures p.instr ≡ true)
+      ⊎ ArePlainResults (flow_typing program)
+  pub temporaries : (x : ℕ) → is_temporary_object (flow_typing program) x ≡ true → is_scalar (full program.table (object_at (flow_typing program) x).of) ≡ true
   pub formals : (x : ℕ) → is_formal (flow_typing program) x ≡ true → IsKindOfFormal (flow_typing program) x
+  pub functions : (n t : ℕ) → (sub_at (flow_typing program) n).result ≡ Some t → (x : ℕ) → Has (sub_at (flow_typing program) n).formals x
+      → IsScalarObject (flow_typing program) x
   pub copied : (sub : FlowSub) → Has program.subs sub → (p : FlowPoint) → Has sub.points p → (n : ℕ) (actuals : TypedTree) (result : Option ℕ)
       → p.instr ≡ Call n actuals result → ((x : ℕ) → Has (sub_of program n).formals x → is_formal (flow_typing program) x ≡ true)
       → AreCopied (flow_typing program) (sub_of program n).formals actuals
@@ -90,7 +95,7 @@ pub record IsPlaced (program : FlowProgram) (facts : List Fact) (v : Views) (sco
   pub up : Lasts program scope (number_of (v.up x)) x
   pub root : Lasts program scope (number_of w) x
   pub holder : is_observer (flow_typing program) x ≡ true
-      → (h : ℕ) × Has facts (Lent Observed h (name_of (v.loan x))) × Lasts program scope h x
+      → (h : ℕ) × Has facts (Lent Observed h (name_of (v.loan x))) × Lasts program scope h x × (is_observer (flow_typing program) h ≡ true)
 
 abbrev pub ArePlaced : FlowProgram → List Fact → Views → List ℕ → Type 0
 ArePlaced program facts v scope = (x : ℕ) (w : Way) → v.way x ≡ Some w → IsPlaced program facts v scope x w
@@ -108,9 +113,9 @@ AreReturned s f =
     ((x : ℕ) → Has (sub_at s f.sub).formals x → IsScalarObject s x ⊎ ((r : Return) × Has f.returns r × (r.formal ≡ x)))
     × ((r : Return) → Has f.returns r → is_formal s r.formal ≡ true)
 
--- Nothing waits in a frame between two steps, and its formals that may own are copied back.
+-- Formals that may own are copied back.
 abbrev pub IsResting : Typing → Stage → Type 0
-IsResting s g = (g.frame.waits ≡ []) × AreReturned s g.frame
+IsResting s g = AreReturned s g.frame
 
 -- A frame with its executed points and the ways of its views.
 pub record ViewStage : Type 0 where
@@ -127,16 +132,19 @@ GoneElsewhere program effects older w =
     (g : ViewStage) × Has older g
     × (IsMovedBy (home (flow_typing program) g.stage.depth) g.views (facts_of program effects g.stage) w ⊎ TakenBy g.stage.returns w)
 
--- What is lent is a part of an object of the frame.
-abbrev pub LendOwn : Typing → List Fact → Type 0
-LendOwn s facts = (l : Loan) (h : ℕ) (n : PlaceName) → Has facts (Lent l h n) → is_package_object s n.root ≡ false
+-- What a callee may not do with a package object of which a part is lent: use it, where a borrower has
+-- the part, and write it, where an observer sees it.
+abbrev pub Disturbs : Effects → Loan → ℕ → ℕ → Type 0
+Disturbs effects Borrowed n x = Uses effects n x
+Disturbs effects Observed n x = Has (written_by effects n) x
 
 -- A frame that waits for a call to end. The points that it has executed form a control path to its
--- next point. What it owns is in scope there, and so are its views, which have their ways still. No
--- part of a package object is lent, and none that the callee uses is moved. What the callee uses, its
--- caller uses. What the callee copies back goes to scalar places, or to those that it took.
+-- next point. What it owns is in scope there, and so are its views, which have their ways still. The
+-- callee disturbs no package object of which a part is lent, and uses none of which a part is moved.
+-- What the callee uses or writes, its caller does. What the callee copies back goes to scalar places,
+-- or to those that it took.
 pub record IsWaiting (table : Table) (typed : TypedProgram) (effects : Effects) (state : State) (callee : ℕ) (backs : List Return) (g : ViewStage) : Type 0 where
-  pub procedure : IsProcedure table typed g.stage.frame.sub
+  pub runs : IsRunnable table typed g.stage.frame.sub
   pub plain : IsResting (flow_typing (flow_program table typed)) g.stage
   pub path : ControlPath (path_points (flow_program table typed) effects (sub_of (flow_program table typed) g.stage.frame.sub)) g.stage.before g.stage.frame.next
   pub named : NamedSub
@@ -146,10 +154,12 @@ pub record IsWaiting (table : Table) (typed : TypedProgram) (effects : Effects) 
   pub scope : (x : ℕ) (p : List Step) (n : ℕ)
       → word_in (flow_program table typed).table (content (flow_typing (flow_program table typed)) state.memory [] (OfRoot (OfVariable g.stage.depth x))) p ≡ Held n
       → is_within x point.scope ≡ true
-  pub lends : LendOwn (flow_typing (flow_program table typed)) (facts_of (flow_program table typed) effects g.stage)
+  pub lends : (l : Loan) (h : ℕ) (name : PlaceName) → Has (facts_of (flow_program table typed) effects g.stage) (Lent l h name)
+      → is_package_object (flow_typing (flow_program table typed)) name.root ≡ true → Disturbs effects l callee name.root → ⊥
   pub unmoved : (name : PlaceName) → Has (facts_of (flow_program table typed) effects g.stage) (Moved name)
       → is_package_object (flow_typing (flow_program table typed)) name.root ≡ true → Uses effects callee name.root → ⊥
   pub uses : (x : ℕ) → Uses effects callee x → Uses effects g.stage.frame.sub x
+  pub writes : (x : ℕ) → Has (written_by effects callee) x → Has (written_by effects g.stage.frame.sub) x
   pub clear : AreClear (is_observer (flow_typing (flow_program table typed))) (facts_of (flow_program table typed) effects g.stage)
   pub views : AreViews (home (flow_typing (flow_program table typed)) g.stage.depth) (is_observer (flow_typing (flow_program table typed))) g.views
       (owners.view_of (flow_typing (flow_program table typed)) state) (facts_of (flow_program table typed) effects g.stage)
@@ -160,9 +170,9 @@ pub record IsWaiting (table : Table) (typed : TypedProgram) (effects : Effects) 
 
 -- The frame of the package objects has no views, and nothing waits in it.
 abbrev pub IsFirst : ViewStage → Type 0
-IsFirst e = (e.stage.frame.sub ≡ 0) × IsPlain e.stage × ((x : ℕ) → e.views.way x ≡ None)
+IsFirst e = (e.stage.frame.sub ≡ 0) × IsPlain e.stage × ((x : ℕ) → e.views.way x ≡ None) × (e.stage.depth ≡ 0)
 
--- The frames around one that runs a procedure and copies formals back.
+-- The frames around one that runs a subprogram and copies formals back.
 abbrev pub AreWaiting : Table → TypedProgram → Effects → State → ℕ → List Return → List ViewStage → Type 0
 AreWaiting table typed effects state callee backs [] = ⊥
 AreWaiting table typed effects state callee backs (e ∷ []) = IsFirst e × (backs ≡ [])
@@ -171,11 +181,11 @@ AreWaiting table typed effects state callee backs (g ∷ (h ∷ older)) =
 
 -- ---- a state
 
--- The frame of the package objects alone; or that of a procedure with those around it.
+-- The frame of the package objects alone; or that of a subprogram with those around it.
 abbrev pub IsRunning : Table → TypedProgram → Effects → State → ViewStage → List ViewStage → Type 0
 IsRunning table typed effects state top [] = IsFirst top
 IsRunning table typed effects state top (g ∷ older) =
-    IsProcedure table typed top.stage.frame.sub × IsResting (flow_typing (flow_program table typed)) top.stage
+    IsRunnable table typed top.stage.frame.sub × IsResting (flow_typing (flow_program table typed)) top.stage
     × AreWaiting table typed effects state top.stage.frame.sub top.stage.frame.returns (g ∷ older)
 
 -- The innermost frame with its views, those around it, and what holds of them.
@@ -185,6 +195,8 @@ pub record IsSound (table : Table) (typed : TypedProgram) (effects : Effects) (s
   pub older : List ViewStage
   pub stages : AreStages (top ∷ stages_of older) state.frames
   pub running : IsRunning table typed effects state (record { stage = top; views = views }) older
+  -- what waits is what is in scope
+  pub awaited : AreAwaited table typed 0 (top ∷ stages_of older)
   pub path : ControlPath (path_points (flow_program table typed) effects (sub_of (flow_program table typed) top.frame.sub)) top.before top.frame.next
   -- the state is well owned, each view has a way to its cell, and what ways find gone is moved
   pub viewed : Viewed (home (flow_typing (flow_program table typed)) top.depth) (is_observer (flow_typing (flow_program table typed)))
@@ -221,15 +233,19 @@ abbrev pub AreScalarFormals : FlowProgram → Type 0
 AreScalarFormals program = (x : ℕ) → is_formal (flow_typing program) x ≡ true → IsScalarObject (flow_typing program) x
 
 -- How the frames after a step, with their views, come from those before it, of which `top` is the innermost one: it goes on; the
--- scope of an object ends; after the last package object the main procedure begins; a procedure is called, which has executed
--- nothing yet; or a call has ended. Where formals are of scalar types, a call, and the end of one, changes nothing that owners see
--- in the frames that are left. A call moves nothing.
+-- scope of an object ends; after the last package object the main procedure begins; a subprogram is called, which has executed
+-- nothing yet; a function gives its result to its caller; or a call has ended. Where formals are of scalar types, a call, and
+-- the end of one, changes nothing that owners see in the frames that are left. A call moves nothing.
 pub data Follows (program : FlowProgram) (effects : Effects) (i : Instruction) (m : Memory) (top : ViewStage) (older : List ViewStage) (n : Memory) (next : ViewStage) (around : List ViewStage) : Type 0 where
   steps_on : owners.IsNoCall i → (i ≡ Finish → ⊥) → ((y : ℕ) → i ≡ EndScope y → ⊥) → owners.IsOnward top.stage next.stage
       → AreTurned i top.views next.views → around ≡ older → Follows program effects i m top older n next around
   leaves_scope : (y : ℕ) → i ≡ EndScope y → owners.IsOnward top.stage next.stage → AreLeft y top.views next.views → around ≡ older
       → Follows program effects i m top older n next around
   begins_main : (below : ViewStage) → older ≡ [] → around ≡ below ∷ [] → owners.IsOnward top.stage below.stage → next.stage.before ≡ []
+      → Follows program effects i m top older n next around
+  returns_one : owners.IsNoCall i → (i ≡ Finish → ⊥) → ((y : ℕ) → i ≡ EndScope y → ⊥) → (below : ViewStage) (more : List ViewStage) (waits : List Waiting)
+      → older ≡ below ∷ more → owners.IsOnward top.stage next.stage → AreTurned i top.views next.views
+      → around ≡ record below { stage = record below.stage { frame = record below.stage.frame { waits = waits } } } ∷ more
       → Follows program effects i m top older n next around
   calls_one : (waits : Stage) → around ≡ record { stage = waits; views = top.views } ∷ older → owners.IsOnward top.stage waits → next.stage.before ≡ []
       → ((f : Fact) → Has (facts_of program effects waits) f → Has (facts_of program effects top.stage) f)

@@ -1,0 +1,581 @@
+-- What declarations of borrowers and observers and assignments to them lead to: the view gets what
+-- its source has, and its way from it.
+use Rattle.std.proofs.Common.{◌≡◌, refl, sym, ap, ◌∙◌, subst, ◌⊎◌, inl, inr, ℕ, ◌<◌, Bool, true, false, not, ◌&&◌, ◌||◌, List, [], ◌∷◌, ◌++◌, flat_map, take, drop, length, Option, Some, if◌then◌else◌, ◌==◌, eqb-true, eq-eqb, ◌+◌, append-nil, arith}
+use Rattle.spark_base.specs.declared.position.Pos.{Pos}
+use Rattle.place_names.specs.declared.act.Act.{Act}
+use Rattle.place_names.specs.declared.act.Act.TheVariants as act
+use Rattle.place_names.specs.declared.fact.Fact.{Fact}
+use Rattle.place_names.specs.Names.{Name as PlaceName}
+use Rattle.place_names.specs.Facts.{adds, removes, effect}
+use Rattle.type_definitions.specs.declared.table.Shape.TheVariants as shape
+use Rattle.type_definitions.specs.Types.{Table, shape_of, words, words_of as shape_words, full, is_scalar, view_of as view_of_shape, parts, parts_of}
+use Rattle.typed_tree.specs.Trees.{TypedTree, Name, NoMore, More}
+use Rattle.flow_paths.specs.Objects.{Typing, object_at, is_anonymous, is_borrowing, is_observing, is_borrower, is_observer, is_variable, view_of}
+use Rattle.flow_paths.specs.Names.{waiting as waits_in, name_of, written, source}
+use Rattle.flow_paths.specs.Scopes.{taken}
+use Rattle.flow_paths.specs.Acts.{acts_in, stored_acts, declared_acts, assigned_to, source_acts, index_acts, reborrow, observe, target_pos as acts_target_pos}
+use Rattle.machine.specs.Words as machine
+use Rattle.machine.specs.Memory.{Memory, cell, stored, declared, given_up, Slot, fresh, no_slot, variable_slots, undeclared, Place, slots_at}
+use Rattle.machine.specs.Evaluate.{Here, Now, AsValue, AsView, Evaluated, Done, Raises, Traps, followed_by, evaluate, checked, value, viewed, place_of, steps_of}
+use Rattle.machine.specs.Evaluate as run
+use Rattle.machine.specs.Memory as memory
+use Rattle.machine.specs.Calls.{checks_at, checked_at}
+use Rattle.machine.specs.States.{Waiting, State, Outcome}
+use Rattle.machine.specs.Step.{Turn, counted, typing, here, start, waiting, Stored, first_value, taken_by, declare, assign, goes, behind, led, successor, leaking_goes, target_pos}
+use Rattle.machine.specs.Step as steps
+use Rattle.machine.specs.Owners.{waiting_in}
+use Rattle.owned_ways.specs.Ways.{Loc, Way, All, Reaches, IsRooted, Named, Allows, after, AllowsAll, number_of, OfRoot}
+use Rattle.owned_ways.specs.Ways as ways
+use Rattle.part_offsets.specs.Parts.{IsSettled}
+use Rattle.soundness.specs.Seen.{IsNear, content, trunk, seen, home, is_view_formal}
+use Rattle.soundness.specs.Changes.{leaks_at}
+use Rattle.soundness.specs.Typed.{Matches, IsCell, OwnsByShape, Kept}
+use Rattle.typed_laws.specs.Needed.{Leads as LeadsTo}
+use Rattle.soundness.proofs.Contents.{all_checks}
+use Rattle.owned_loans.proofs.Clear.{clear_same}
+use Rattle.spark_base.specs.Lists.{Has}
+use Rattle.spark_base.proofs.Lists.{Has-append_right}
+use Rattle.std.specs.Prelude.{filter}
+use Rattle.place_names.specs.declared.fact.Fact.TheVariants.{Moved, Lent}
+use Rattle.place_names.specs.declared.rule.Loan.TheVariants.{Observed}
+use Rattle.owned_ways.proofs.Assigned.{kept_fact}
+use Rattle.place_names.specs.declared.selector.Sel.{Sel}
+use Rattle.soundness.proofs.Numbers.{index_law}
+use Rattle.soundness.proofs.Scalars.{acts, acts_append, after_append, allows_both}
+use Rattle.soundness.proofs.Stays.{Quiet}
+use Rattle.soundness.proofs.Taking.{Takes}
+use Rattle.owned_loans.specs.Views.{Around, Views, expand, Viewed, Becomes, Unused, with_view}
+use Rattle.owned_loans.proofs.Allowed.{Cleared, borrow_clears, observe_clears, loan_kept, reborrow_clears}
+use Rattle.owned_loans.proofs.Ways.{Lifted, next_of, lifts, lifted_root, lifted_way, root_on}
+use Rattle.owned_loans.proofs.Taken.{becomes_with}
+use Rattle.owned_loans.proofs.Taken as lent
+use Rattle.viewed_soundness.specs.Holds.{PartsAreNamed, Holds}
+use Rattle.viewed_soundness.proofs.Names.{true_false}
+use Rattle.viewed_soundness.proofs.Stays.{steps_taking}
+use Rattle.viewed_soundness.proofs.Viewing.{IsDesignated, IsOfType, way_from, number_in, borrower_declared, observer_stored, observer_again, view_emptied, borrower_stored}
+use Rattle.viewed_soundness.proofs.Sources.{Shows, source_on}
+use Rattle.viewed_soundness.proofs.Outcomes.{IsGood, IsSame, Comes, Turned, Leads_on, raises, goes_to, goes_on, live}
+
+-- ---- what matches one type
+
+scalar_on : (table : Table) (a b : ℕ) → shape_of table a ≡ shape_of table b → is_scalar (full table a) ≡ true → is_scalar (full table b) ≡ true
+scalar_on table a b e p = sym (ap (λ z. is_scalar (view_of_shape z)) e) ∙ p
+
+matches_on : (table : Table) (a b c : ℕ) → Matches table a b → Matches table a c → Matches table b c
+matches_on table a b c (inl e) (inl f) = inl (sym e ∙ f)
+matches_on table a b c (inl e) (inr g) = inr (scalar_on table a b e g.0, g.1)
+matches_on table a b c (inr e) (inl f) = inr (e.1, scalar_on table a c f e.0)
+matches_on table a b c (inr e) (inr g) = inr (e.1, g.1)
+
+-- ---- views
+
+module _ (t : Turn) (settled : IsSettled (typing t).table) (own_law : OwnsByShape (typing t).table) (other : Around (home (typing t) (length t.outer)))
+    (alone : (w : Way) → IsNear (length t.outer) w → other.gone w → ⊥) (no_formals : (x : ℕ) → is_view_formal (typing t) x ≡ false)
+    (v : Views) (parts_named : PartsAreNamed (typing t).table) (may : ℕ → ℕ → Type 0)
+    (frames : t.state.frames ≡ t.frame ∷ t.outer) (none : taken t.point.instr ≡ 0) where
+  abbrev s : Typing
+  s = typing t
+
+  abbrev depth : ℕ
+  depth = length t.outer
+
+  abbrev hands : List Waiting
+  hands = waiting_in t.state
+
+  abbrev m : Memory
+  m = t.state.memory
+
+  abbrev now : Now
+  now = record { memory = m; waits = [] }
+
+  -- with these values, which the instruction takes
+  abbrev at : List (List machine.Word) → Now
+  at ws = record { memory = m; waits = ws }
+
+  abbrev Good : Views → List Fact → State → Type 0
+  Good views facts state = IsGood t settled own_law other alone no_formals v parts_named may frames none views facts state
+
+  abbrev Turned_here : Views → List Fact → Type 0
+  Turned_here views facts = Turned t settled own_law other alone no_formals v parts_named may frames none views facts
+
+  abbrev Comes_here : Views → List Fact → ℕ → ℕ → Way → Type 0
+  Comes_here views facts x y w = Comes t settled own_law other alone no_formals v parts_named may frames none views facts x y w
+
+  abbrev Same_here : Views → ℕ → Type 0
+  Same_here views x = IsSame t settled own_law other alone no_formals v parts_named may frames none views x
+
+  abbrev Leads_here : List Fact → Outcome → Type 0
+  Leads_here facts outcome = Leads_on t settled own_law other alone no_formals v parts_named may frames none facts outcome
+
+  abbrev alive : (facts : List Fact) (good : Good v facts t.state) → (w : Way) (l : Loc) → IsRooted w → Reaches (seen s m hands t.state.leaks) w l
+      → (content s m hands (trunk l)).owns ≡ true
+  alive = live t settled own_law other alone no_formals v parts_named may frames none
+
+  -- ---- what a view may get
+
+  -- The state of the memory afterwards, with the variable of the view.
+  abbrev Got : Views → ℕ → machine.Word → List Fact → Type 0
+  Got views x z facts =
+      Viewed (home s depth) (is_observer s) other views (seen s (declared depth x (z ∷ []) m) hands t.state.leaks) facts
+      × Kept s (declared depth x (z ∷ []) m) hands × Holds s depth views (declared depth x (z ∷ []) m) × Turned_here views facts
+
+  -- the root of what a name stands for that is rooted in an object
+  abbrev Has_root : ℕ → ℕ → Way → Type 0
+  Has_root x y w = ((number_of w ≡ y) × (y ≡ x → ⊥)) ⊎ ((k : Way) × (v.way y ≡ Some k) × (number_of w ≡ number_of k))
+
+  lifted_from : (x y : ℕ) (u : Way) → number_of u ≡ y → Lifted v u → Has_root x y (expand v u)
+  lifted_from x y u root l = inr (
+    l.way,
+    subst (λ z. v.way z ≡ Some l.way) (sym (lifted_root v u l) ∙ root) l.has,
+    ap number_of (lifted_way v u l) ∙ root_on l.way l.rest,
+  )
+
+  root_from : (x y : ℕ) (u : Way) → number_of u ≡ y → (y ≡ x → ⊥) → Has_root x y (expand v u)
+  root_from x y u root apart = elim (lifts v u) [
+    | inl e ↦ inl (ap number_of e ∙ root, apart)
+    | inr l ↦ lifted_from x y u root l
+  ]
+
+  same_some : (a b : Way) → Some a ≡ Some b → a ≡ b
+  same_some a b e = cc
+
+  way_of : (z : machine.Word) (w k : Way) → way_from z w ≡ Some k → k ≡ w
+  way_of (machine.Cell n) w k e = sym (same_some w k e)
+  way_of (machine.Int n) w k e = cc
+  way_of (machine.Enumerated n) w k e = cc
+  way_of machine.Null w k e = cc
+
+  -- one view got another way
+  turned_by : (views : Views) (x y : ℕ) (way : Option Way) (loan up : Way) (cell : ℕ) (facts : List Fact) → Becomes v views x way loan up cell → may x y
+      → ((w : Way) → way ≡ Some w → Comes_here views facts x y w) → Turned_here views facts
+  turned_by views x y way loan up cell facts becomes mine comes q w e = by_object (q == x) refl
+    where
+      by_object : (b : Bool) → (q == x) ≡ b → Same_here views q ⊎ ((y : ℕ) × may q y × Comes_here views facts q y w)
+      by_object true b =
+          let same : x ≡ q = sym (eqb-true q x b) in
+          subst (λ z. Same_here views z ⊎ ((y : ℕ) × may z y × Comes_here views facts z y w)) same
+          (inr (y, mine, comes w (sym becomes.way_is ∙ ap views.way same ∙ e)))
+      by_object false b =
+          let off : q ≡ x → ⊥ = λ same. (let no = eq-eqb q x same in cc) in
+          inl (record { way = becomes.ways q off; loan = becomes.loans q off; up = becomes.ups q off })
+
+  -- it is taken from an object, or from what another view designates
+  taken_from : (views : Views) (x y : ℕ) (z : machine.Word) (u loan : Way) (facts : List Fact)
+      → Becomes v views x (way_from z (expand v (All u))) loan (All u) (number_in z) → may x y → number_of u ≡ y → (y ≡ x → ⊥)
+      → (is_observer s x ≡ true → Has facts (Lent Observed x (ways.name_of loan))) → Turned_here views facts
+  taken_from views x y z u loan facts becomes mine root apart lent =
+      turned_by views x y (way_from z (expand v (All u))) loan (All u) (number_in z) facts becomes mine (λ w e. record {
+        up = inl (ap number_of becomes.up_is ∙ root);
+        root = subst (Has_root x y) (sym (way_of z (expand v (All u)) w e)) (root_from x y (All u) root apart);
+        loan = λ sees. inl (subst (λ q. Has facts (Lent Observed x (ways.name_of q))) (sym becomes.loan_is) (lent sees));
+      })
+
+  taken_again : (views : Views) (x y : ℕ) (z : machine.Word) (u : Way) (l : Lifted v (All u)) (facts : List Fact)
+      → Becomes v views x (way_from z (expand v (All u))) (v.loan l.object) (next_of v (All u) l) (number_in z) → may x y → number_of u ≡ y
+      → (is_observer s x ≡ true → is_observer s y ≡ true) → Turned_here views facts
+  taken_again views x y z u l facts becomes mine root sees =
+      let object : l.object ≡ y = sym (lifted_root v (All u) l) ∙ root in
+      let has : v.way y ≡ Some l.way = subst (λ q. v.way q ≡ Some l.way) object l.has in
+      turned_by views x y (way_from z (expand v (All u))) (v.loan l.object) (next_of v (All u) l) (number_in z) facts becomes mine (λ w e. record {
+        up = inr (l.way, has, ap number_of becomes.up_is ∙ root_on (v.up l.object) l.rest ∙ ap (λ q. number_of (v.up q)) object);
+        root = subst (Has_root x y) (sym (way_of z (expand v (All u)) w e)) (lifted_from x y (All u) root l);
+        loan = λ observes. inr (l.way, has, sees observes, becomes.loan_is ∙ ap v.loan object);
+      })
+
+  -- it has none
+  taken_none : (views : Views) (x : ℕ) (z : machine.Word) (w loan up : Way) (facts : List Fact)
+      → Becomes v views x (way_from z w) loan up (number_in z) → ((k : ℕ) → z ≡ machine.Cell k → ⊥) → Turned_here views facts
+  taken_none views x z w loan up facts becomes null q k e = by_object (q == x) refl
+    where
+      no_way : (z : machine.Word) → way_from z w ≡ Some k → ((k : ℕ) → z ≡ machine.Cell k → ⊥) → ⊥
+      no_way (machine.Cell n) e null = null n refl
+      no_way (machine.Int n) e null = cc
+      no_way (machine.Enumerated n) e null = cc
+      no_way machine.Null e null = cc
+
+      by_object : (b : Bool) → (q == x) ≡ b → Same_here views q ⊎ ((y : ℕ) × may q y × Comes_here views facts q y k)
+      by_object true b = absurd (no_way z (sym becomes.way_is ∙ ap views.way (sym (eqb-true q x b)) ∙ e) null)
+      by_object false b =
+          let off : q ≡ x → ⊥ = λ same. (let no = eq-eqb q x same in cc) in
+          inl (record { way = becomes.ways q off; loan = becomes.loans q off; up = becomes.ups q off })
+
+  fact_added : (a : Act) (facts : List Fact) (f : Fact) → Has (adds a) f → Has (effect a facts) f
+  fact_added a facts f has = Has-append_right (filter (λ g. not (removes a g)) facts) (adds a) f has
+
+  -- What the source gives is stored in the variable of the view.
+  abbrev Gets : ℕ → ℕ → ℕ → PlaceName → List Fact → Type 0
+  Gets x y d name facts =
+      (u : Way) (z : machine.Word) → Named (home s depth) u → ways.name_of u ≡ name → IsDesignated v (seen s m hands t.state.leaks) u z
+      → ((k : ℕ) → z ≡ machine.Cell k → IsCell s m d k)
+      → (is_anonymous (view_of s y) ≡ true → (k : ℕ) → z ≡ machine.Cell k → (l : Lifted v (All u)) × (l.object ≡ y)) → (views : Views) × Got views x z facts
+
+  -- An object of an anonymous access type whose source designates what it does.
+  pub record Observes (x y u d : ℕ) (path : TypedTree) : Type 0 where
+    pub k : ℕ
+    pub c : Bool
+    pub n : Bool
+    pub e : Bool
+    pub o : Bool
+    pub lead : LeadsTo s (object_at s y).of path u
+    pub source : shape_of s.table u ≡ shape.Access d c n
+    pub view : shape_of s.table (object_at s x).of ≡ shape.Access k e o
+    pub fits : Matches s.table d k
+    pub anonymous : is_anonymous (view_of s x) ≡ true
+    pub mine : home s depth x ≡ depth
+
+  same_designated : (k d : ℕ) (e o c n : Bool) → shape.Access k e o ≡ shape.Access d c n → k ≡ d
+  same_designated k d e o c n is = cc
+
+  of_type : (x y u d : ℕ) (path : TypedTree) → Observes x y u d path → (z : machine.Word) → ((k : ℕ) → z ≡ machine.Cell k → IsCell s m d k) → IsOfType s settled m x z
+  of_type x y u d path observes z typed d' c' n' k is e =
+      let there = typed k e in
+      let same = same_designated observes.k d' observes.e observes.o c' n' (sym observes.view ∙ is) in
+      (there.0, there.1, matches_on s.table d d' (cell m k).of (subst (Matches s.table d) same observes.fits) there.2)
+
+  one_word : (x y u d : ℕ) (path : TypedTree) → Observes x y u d path → words s.table (object_at s x).of ≡ 1
+  one_word x y u d path observes = settled.word_law (object_at s x).of ∙ ap (shape_words (words s.table)) observes.view
+
+  borrow_gets : (x y u d : ℕ) (path : TypedTree) (facts : List Fact) → Observes x y u d path → Good v facts t.state → Unused other.lent v facts x
+      → is_observer s x ≡ false → is_observer s y ≡ false → y < x → may x y → Allows facts (act.Borrow x (name_of y path))
+      → Gets x y d (name_of y path) (effect (act.Borrow x (name_of y path)) facts)
+  borrow_gets x y u d path facts observes good unused borrows plain older mine allowed w z named called is typed lifted =
+      let views : Views = with_view v x (way_from z (expand v (All w))) w (All w) (number_in z) in
+      let root : number_of w ≡ y = ap (λ (n : PlaceName). n.root) called in
+      let got = borrower_declared s settled depth other v views m hands t.state.leaks facts good.viewed good.kept good.holds x z observes.mine observes.anonymous
+      (one_word x y u d path observes) (of_type x y u d path observes z typed) w
+      (becomes_with v x (way_from z (expand v (All w))) w (All w) (number_in z)) unused borrows named (ap (is_observer s) root ∙ plain)
+      (subst (λ n. n < x) (sym root) older) is (subst (λ n. Allows facts (act.Borrow x n)) (sym called) allowed) in
+      let turned : Turned_here views (effect (act.Borrow x (ways.name_of w)) facts) =
+      taken_from views x y z w w (effect (act.Borrow x (ways.name_of w)) facts) (becomes_with v x (way_from z (expand v (All w))) w (All w) (number_in z)) mine root
+      (λ same. absurd (omega (arith, older, same)))
+      (λ sees. absurd (true_false (is_observer s x) sees borrows)) in
+      (views, subst (λ n. Got views x z (effect (act.Borrow x n) facts)) called (got.sound, got.words_kept, got.views_held, turned))
+
+  observe_gets : (x y u d : ℕ) (path : TypedTree) (facts : List Fact) → Observes x y u d path → Good v facts t.state
+      → is_observer s x ≡ true → is_observer s y ≡ false → may x y → Allows facts (act.Observe x (name_of y path) false)
+      → Gets x y d (name_of y path) (effect (act.Observe x (name_of y path) false) facts)
+  observe_gets x y u d path facts observes good sees plain mine allowed w z named called is typed lifted =
+      let views : Views = with_view v x (way_from z (expand v (All w))) w (All w) (number_in z) in
+      let root : number_of w ≡ y = ap (λ (n : PlaceName). n.root) called in
+      let got = observer_stored s settled depth other v views m hands t.state.leaks facts good.viewed good.kept good.holds x z observes.mine observes.anonymous
+      (one_word x y u d path observes) (of_type x y u d path observes z typed) w
+      (becomes_with v x (way_from z (expand v (All w))) w (All w) (number_in z)) sees named (ap (is_observer s) root ∙ plain)
+      is (subst (λ n. Allows facts (act.Observe x n false)) (sym called) allowed) in
+      let turned : Turned_here views (effect (act.Observe x (ways.name_of w) false) facts) =
+      taken_from views x y z w w (effect (act.Observe x (ways.name_of w) false) facts) (becomes_with v x (way_from z (expand v (All w))) w (All w) (number_in z)) mine root
+      (λ same. absurd (true_false (is_observer s x) sees (ap (is_observer s) (sym same) ∙ plain)))
+      (λ sees. fact_added (act.Observe x (ways.name_of w) false) facts (Lent Observed x (ways.name_of w)) (inl refl)) in
+      (views, subst (λ n. Got views x z (effect (act.Observe x n false) facts)) called (got.sound, got.words_kept, got.views_held, turned))
+
+  abbrev Shown : (facts : List Fact) → Good v facts t.state → ℕ → ℕ → PlaceName → List machine.Word → Type 0
+  Shown facts good y d name ws =
+      (u : Way) × Named (home s depth) u × (ways.name_of u ≡ name)
+      × Shows (here t) settled hands t.state.leaks m [] other facts v good.kept good.viewed good.holds alone (alive facts good) index_law own_law parts_named y d u ws
+
+  then_got : (x y d : ℕ) (name : PlaceName) (facts behind : List Fact) (good : Good v facts t.state) → Gets x y d name behind → (e : Evaluated (List machine.Word))
+      → Quiet now (Shown facts good y d name) e → Leads_here behind (steps.evaluated t e (λ ws m. goes t (declared depth x ws m) 0))
+  then_got x y d name facts behind good gets (Done ws n) (same, (u, named, called, shows)) =
+      let got = gets u shows.word named called shows.designated shows.typed shows.lifted in
+      subst (λ (z : Now). Leads_here behind (goes t (declared depth x ws z.memory) 0)) (sym same)
+      (subst (λ z. Leads_here behind (goes t (declared depth x z m) 0)) (sym shows.is)
+      (goes_to t settled own_law other alone no_formals v parts_named may frames none (declared depth x (shows.word ∷ []) m) 0 got.0 behind got.1.3 got.1.0 got.1.1 got.1.2))
+  then_got x y d name facts behind good gets (Raises e n) is = (λ trap. trap, raises t settled own_law other alone no_formals v parts_named may frames none facts good n.memory)
+  then_got x y d name facts behind good gets (Traps e n) never = absurd never
+
+  -- the act of the source is allowed after those of its indexes, which change nothing
+  last_allowed : (ws : List (List machine.Word)) (x y u d : ℕ) (r : Pos) (path : TypedTree) (a : PlaceName → Act) → Observes x y u d path → Takes (waits_in path) ws []
+      → (facts : List Fact) (good : Good v facts t.state) → AllowsAll facts (acts (acts_in s path ++ record { pos = r; act = a (name_of y path) } ∷ []))
+      → Allows facts (a (name_of y path)) × AllowsAll facts (acts (acts_in s path))
+      × (after (acts (acts_in s path ++ record { pos = r; act = a (name_of y path) } ∷ [])) facts ≡ effect (a (name_of y path)) facts)
+  last_allowed ws x y u d r path a observes takes facts good allowed =
+      let b : List Act = acts (acts_in s path) in
+      let whole_acts : acts (acts_in s path ++ record { pos = r; act = a (name_of y path) } ∷ []) ≡ b ++ (a (name_of y path) ∷ []) =
+      acts_append (acts_in s path) (record { pos = r; act = a (name_of y path) } ∷ []) in
+      let each = allows_both facts b (a (name_of y path) ∷ []) (subst (AllowsAll facts) whole_acts allowed) in
+      let inner = steps_taking (here t) settled hands t.state.leaks m [] other facts v good.kept good.viewed good.holds alone (alive facts good)
+      index_law own_law parts_named (object_at s y).of u path observes.lead ws [] takes each.0 in (
+        subst (λ z. Allows z (a (name_of y path))) inner.1 each.1.0,
+        each.0,
+        ap (λ z. after z facts) whole_acts ∙ after_append b (a (name_of y path) ∷ []) facts ∙ ap (effect (a (name_of y path))) inner.1,
+      )
+
+  -- what the source has is shown
+  shown_on : (ws : List (List machine.Word)) (x y u d : ℕ) (p : Pos) (path : TypedTree) → Observes x y u d path → Takes (waits_in path) ws []
+      → (facts : List Fact) (good : Good v facts t.state) → AllowsAll facts (acts (acts_in s path))
+      → ((w : Way) → ways.name_of w ≡ name_of y path → is_observer s y ≡ false → Cleared facts w)
+      → Quiet now (Shown facts good y d (name_of y path)) (evaluate (here t) AsView (Name p y path u) (at ws))
+  shown_on ws x y u d p path observes takes facts good allowed clears =
+      source_on (here t) settled hands t.state.leaks m [] other facts v good.kept good.viewed good.holds alone (alive facts good)
+      index_law own_law parts_named ws [] p y u d observes.c observes.n path observes.lead observes.source takes allowed clears
+
+  -- an object gets its first value
+  abbrev pub Declares : (ws : List (List machine.Word)) (x : ℕ) (e : TypedTree) → Outcome
+  Declares ws x e = steps.evaluated t (first_value t (object_at s x).of e (at ws)) (λ ws m. goes t (declared depth x ws m) 0)
+
+  -- the view gets what its source has, under the act of the source
+  view_on : (ws : List (List machine.Word)) (x y u d : ℕ) (p : Pos) (path rest : TypedTree) (a : PlaceName → Act) → Observes x y u d path → Takes (waits_in path) ws []
+      → (facts : List Fact) (good : Good v facts t.state) → AllowsAll facts (acts (source_acts s (Name p y path u) a))
+      → ((w : Way) → ways.name_of w ≡ name_of y path → is_observer s y ≡ false → Cleared facts w)
+      → (Allows facts (a (name_of y path)) → Gets x y d (name_of y path) (effect (a (name_of y path)) facts))
+      → Leads_here (after (acts (source_acts s (Name p y path u) a)) facts) (Declares ws x (More (Name p y path u) rest))
+  view_on ws x y u d p path rest a observes takes facts good allowed clears gets =
+      let last = last_allowed ws x y u d p path a observes takes facts good allowed in
+      subst (λ z. Leads_here z (Declares ws x (More (Name p y path u) rest))) (sym last.2)
+      (subst (λ c. Leads_here (effect (a (name_of y path)) facts)
+      (steps.evaluated t (if c then viewed (here t) (Name p y path u) (at ws) else followed_by (value (here t) (Name p y path u) (at ws)) (checked (here t) (object_at s x).of))
+      (λ ws m. goes t (declared depth x ws m) 0))) (sym observes.anonymous)
+      (then_got x y d (name_of y path) facts (effect (a (name_of y path)) facts) good (gets last.0) (evaluate (here t) AsView (Name p y path u) (at ws))
+      (shown_on ws x y u d p path observes takes facts good last.1 clears)))
+
+  -- ---- declarations of borrowers and observers
+
+  -- A borrower is declared. Its source is an older object, or is rooted in one.
+  pub borrower_on : (ws : List (List machine.Word)) (x y u d : ℕ) (p : Pos) (path rest : TypedTree) → Observes x y u d path → is_borrower s x ≡ true → is_observer s x ≡ false
+      → is_observer s y ≡ false → y < x → may x y → Takes (waits_in path) ws [] → (facts : List Fact) (good : Good v facts t.state) → Unused other.lent v facts x
+      → AllowsAll facts (acts (declared_acts s x (More (Name p y path u) rest)))
+      → Leads_here (after (acts (declared_acts s x (More (Name p y path u) rest))) facts) (Declares ws x (More (Name p y path u) rest))
+  borrower_on ws x y u d p path rest observes is borrows plain older from takes facts good unused allowed =
+      let e : TypedTree = Name p y path u in
+      let same : declared_acts s x (More e rest) ≡ source_acts s e (act.Borrow x) =
+      ap (λ b. if b then source_acts s e (act.Borrow x) else (if is_observer s x then source_acts s e (observe s x) else acts_in s (More e rest))) is in
+      let goes_by : AllowsAll facts (acts (source_acts s e (act.Borrow x))) = subst (λ z. AllowsAll facts (acts z)) same allowed in
+      subst (λ z. Leads_here (after (acts z) facts) (Declares ws x (More e rest))) (sym same)
+      (view_on ws x y u d p path rest (act.Borrow x) observes takes facts good goes_by
+      (λ w called plain. borrow_clears facts x w (subst (λ n. Allows facts (act.Borrow x n)) (sym called) (last_allowed ws x y u d p path (act.Borrow x) observes takes facts good goes_by).0))
+      (λ mine. borrow_gets x y u d path facts observes good unused borrows plain older from mine))
+
+  -- An observer is declared, of what an owner has, or what a borrower leads to.
+  pub observer_on : (ws : List (List machine.Word)) (x y u d : ℕ) (p : Pos) (path rest : TypedTree) → Observes x y u d path → is_borrower s x ≡ false → is_observer s x ≡ true
+      → is_observer s y ≡ false → may x y → Takes (waits_in path) ws [] → (facts : List Fact) (good : Good v facts t.state)
+      → AllowsAll facts (acts (declared_acts s x (More (Name p y path u) rest)))
+      → Leads_here (after (acts (declared_acts s x (More (Name p y path u) rest))) facts) (Declares ws x (More (Name p y path u) rest))
+  observer_on ws x y u d p path rest observes is_not sees plain from takes facts good allowed =
+      let e : TypedTree = Name p y path u in
+      let a : PlaceName → Act = (λ n. act.Observe x n false) in
+      let same : declared_acts s x (More e rest) ≡ source_acts s e a =
+      ap (λ b. if b then source_acts s e (act.Borrow x) else (if is_observer s x then source_acts s e (observe s x) else acts_in s (More e rest))) is_not
+      ∙ ap (λ b. if b then source_acts s e (observe s x) else acts_in s (More e rest)) sees
+      ∙ ap (λ b. index_acts s e ++ (record { pos = p; act = act.Observe x (name_of y path) b } ∷ [])) plain in
+      let goes_by : AllowsAll facts (acts (source_acts s e a)) = subst (λ z. AllowsAll facts (acts z)) same allowed in
+      subst (λ z. Leads_here (after (acts z) facts) (Declares ws x (More e rest))) (sym same)
+      (view_on ws x y u d p path rest a observes takes facts good goes_by
+      (λ w called plain. observe_clears facts x false w (subst (λ n. Allows facts (act.Observe x n false)) (sym called) (last_allowed ws x y u d p path a observes takes facts good goes_by).0))
+      (λ mine. observe_gets x y u d path facts observes good sees plain from mine))
+
+  -- ---- an observer of what another observer sees
+
+  again_gets : (x y u d : ℕ) (path : TypedTree) (facts : List Fact) → Observes x y u d path → Good v facts t.state
+      → is_observer s x ≡ true → is_observer s y ≡ true → may x y
+      → Gets x y d (name_of y path) (effect (act.Observe x (name_of y path) true) facts)
+  again_gets x y u d path facts observes good sees from mine w z named called is typed lifted = by_word z is typed lifted
+    where
+      anonymous : (a b c : Bool) → a && c ≡ true → b || c ≡ true
+      anonymous true true c e = refl
+      anonymous true false c e = e
+      anonymous false b c e = cc
+
+      view_y : is_anonymous (view_of s y) ≡ true
+      view_y = anonymous (is_variable (object_at s y).kind) (is_borrowing (view_of s y)) (is_observing (view_of s y)) from
+
+      nothing : (z : machine.Word) → ((k : ℕ) → z ≡ machine.Cell k → ⊥) → IsDesignated v (seen s m hands t.state.leaks) w z
+          → ((k : ℕ) → z ≡ machine.Cell k → IsCell s m d k) → (views : Views) × Got views x z (effect (act.Observe x (name_of y path) true) facts)
+      nothing z null is typed =
+          let views : Views = with_view v x (way_from z w) w w (number_in z) in
+          let a : Act = act.Observe x (name_of y path) true in
+          let got = view_emptied s settled depth other v views m hands t.state.leaks facts good.viewed good.kept good.holds x z observes.mine observes.anonymous
+          (one_word x y u d path observes) (of_type x y u d path observes z typed) (effect a facts) w w w (becomes_with v x (way_from z w) w w (number_in z)) null
+          (lent.observer_unused (home s depth) (is_observer s) other v views (seen s m hands t.state.leaks) facts good.viewed x sees)
+          (λ n has. kept_fact a facts (Moved n) has refl) (loan_kept a facts (λ l h k. refl))
+          (clear_same (is_observer s) facts good.viewed.clear a refl) in
+          (views, (got.sound, got.words_kept, got.views_held, taken_none views x z w w w (effect a facts) (becomes_with v x (way_from z w) w w (number_in z)) null))
+
+      by_word : (z : machine.Word) → IsDesignated v (seen s m hands t.state.leaks) w z → ((k : ℕ) → z ≡ machine.Cell k → IsCell s m d k)
+          → (is_anonymous (view_of s y) ≡ true → (k : ℕ) → z ≡ machine.Cell k → (l : Lifted v (All w)) × (l.object ≡ y))
+          → (views : Views) × Got views x z (effect (act.Observe x (name_of y path) true) facts)
+      by_word (machine.Cell k) is typed lifted =
+          let z : machine.Word = machine.Cell k in
+          let l = lifted view_y k refl in
+          let views : Views = with_view v x (way_from z (expand v (All w))) (v.loan l.0.object) (next_of v (All w) l.0) (number_in z) in
+          let got = observer_again s settled depth other v views m hands t.state.leaks facts good.viewed good.kept good.holds x z observes.mine observes.anonymous
+          (one_word x y u d path observes) (of_type x y u d path observes z typed) w l.0 (ap (is_observer s) l.1 ∙ from)
+          (becomes_with v x (way_from z (expand v (All w))) (v.loan l.0.object) (next_of v (All w) l.0) (number_in z)) sees named is in
+          let turned : Turned_here views (effect (act.Observe x (ways.name_of w) true) facts) =
+          taken_again views x y z w l.0 (effect (act.Observe x (ways.name_of w) true) facts)
+          (becomes_with v x (way_from z (expand v (All w))) (v.loan l.0.object) (next_of v (All w) l.0) (number_in z)) mine
+          (ap (λ (n : PlaceName). n.root) called) (λ observes. from) in
+          (views, subst (λ n. Got views x z (effect (act.Observe x n true) facts)) called (got.sound, got.words_kept, got.views_held, turned))
+      by_word (machine.Int k) is typed lifted = nothing (machine.Int k) (λ q e. cc) is typed
+      by_word (machine.Enumerated k) is typed lifted = nothing (machine.Enumerated k) (λ q e. cc) is typed
+      by_word machine.Null is typed lifted = nothing machine.Null (λ q e. cc) is typed
+
+  -- An observer is declared that sees what another one does.
+  pub observer_again_on : (ws : List (List machine.Word)) (x y u d : ℕ) (p : Pos) (path rest : TypedTree) → Observes x y u d path → is_borrower s x ≡ false → is_observer s x ≡ true
+      → is_observer s y ≡ true → may x y → Takes (waits_in path) ws [] → (facts : List Fact) (good : Good v facts t.state)
+      → AllowsAll facts (acts (declared_acts s x (More (Name p y path u) rest)))
+      → Leads_here (after (acts (declared_acts s x (More (Name p y path u) rest))) facts) (Declares ws x (More (Name p y path u) rest))
+  observer_again_on ws x y u d p path rest observes is_not sees from by takes facts good allowed =
+      let e : TypedTree = Name p y path u in
+      let a : PlaceName → Act = (λ n. act.Observe x n true) in
+      let same : declared_acts s x (More e rest) ≡ source_acts s e a =
+      ap (λ b. if b then source_acts s e (act.Borrow x) else (if is_observer s x then source_acts s e (observe s x) else acts_in s (More e rest))) is_not
+      ∙ ap (λ b. if b then source_acts s e (observe s x) else acts_in s (More e rest)) sees
+      ∙ ap (λ b. index_acts s e ++ (record { pos = p; act = act.Observe x (name_of y path) b } ∷ [])) from in
+      let goes_by : AllowsAll facts (acts (source_acts s e a)) = subst (λ z. AllowsAll facts (acts z)) same allowed in
+      subst (λ z. Leads_here (after (acts z) facts) (Declares ws x (More e rest))) (sym same)
+      (view_on ws x y u d p path rest a observes takes facts good goes_by
+      (λ w called plain. absurd (true_false (is_observer s y) from plain))
+      (λ mine. again_gets x y u d path facts observes good sees from by))
+
+  -- ---- assignments to borrowers and observers
+
+  replaced : (all : List Slot) (z : machine.Word) → length all ≡ 1 → take 0 all ++ fresh (z ∷ []) ++ drop (0 + length (fresh (z ∷ []))) all ≡ fresh (z ∷ [])
+  replaced [] z one = absurd (omega (arith, one))
+  replaced (a ∷ []) z one = refl
+  replaced (a ∷ b ∷ all) z one = absurd (omega (arith, one))
+
+  pub no_parts : (k : ℕ) (e o : Bool) → is_anonymous (view_of_shape (shape.Access k e o)) ≡ true → (f : ℕ → List (List Sel)) → parts_of f (shape.Access k e o) ≡ []
+  no_parts k true true any f = cc
+  no_parts k false true any f = cc
+  no_parts k e false any f = refl
+
+  -- the variable of a view has no leak checks, and its word is the whole of it
+  unchecked : (x y u d : ℕ) (path : TypedTree) → Observes x y u d path → (pos : Pos) → leaks_at s pos m (run.variable_place (here t) x) ≡ []
+  unchecked x y u d path observes pos =
+      let empty : parts s.table (object_at s x).of ≡ [] =
+      settled.part_law (object_at s x).of ∙ ap (parts_of (parts s.table)) observes.view
+      ∙ no_parts observes.k observes.e observes.o (sym (ap (λ z. is_anonymous (view_of_shape z)) observes.view) ∙ observes.anonymous) (parts s.table) in
+      ap (λ z. checked_at pos 0 (slots_at s m (run.variable_place (here t) x).base) (flat_map (machine.offsets s.table (object_at s x).of) z)) empty
+
+  pub stored_is : (x y u d : ℕ) (path : TypedTree) (facts : List Fact) → Observes x y u d path → Good v facts t.state → (z : machine.Word)
+      → stored s (run.variable_place (here t) x) (z ∷ []) m ≡ declared depth x (z ∷ []) m
+  stored_is x y u d path facts observes good z =
+      ap (λ q. memory.put (memory.OfVariable (home s depth x) x) q m)
+      (replaced (variable_slots s (home s depth x) x m.variables) z (good.kept.variables (home s depth x) x ∙ one_word x y u d path observes))
+      ∙ ap (λ f. declared f x (z ∷ []) m) observes.mine
+
+  abbrev pub Puts : Pos → Pos → ℕ → ℕ → Evaluated (List machine.Word) → Outcome
+  Puts pos q x u e =
+      steps.evaluated t (followed_by e (λ ws now. followed_by (place_of (here t) (Name q x NoMore u) now) (λ k now. Done (record { words = ws; place = k }) now)))
+      (λ (st : Stored) m. leaking_goes (checks_at s pos m st.place) (goes t (stored s st.place st.words m) 0))
+
+  pub put_at : (pos q : Pos) (x u : ℕ) (ws : List machine.Word) (n : Now)
+      → Puts pos q x u (Done ws n) ≡ leaking_goes (checks_at s pos n.memory (run.variable_place (here t) x)) (goes t (stored s (run.variable_place (here t) x) ws n.memory) 0)
+  unfolding steps_of
+  put_at pos q x u ws n = refl
+
+  then_put : (pos q : Pos) (x y u w d : ℕ) (path : TypedTree) (name : PlaceName) (facts behind : List Fact) (good : Good v facts t.state) → Observes x y u d path
+      → Gets x y d name behind → (e : Evaluated (List machine.Word)) → Quiet now (Shown facts good y d name) e → Leads_here behind (Puts pos q x w e)
+  then_put pos q x y u w d path name facts behind good observes gets (Done ws n) (same, (r, named, called, shows)) =
+      let got = gets r shows.word named called shows.designated shows.typed shows.lifted in
+      let k : Place = run.variable_place (here t) x in
+      let is = stored_is x y u d path facts observes good shows.word in
+      subst (Leads_here behind) (sym (put_at pos q x w ws n))
+      (subst (λ (z : Now). Leads_here behind (leaking_goes (checks_at s pos z.memory k) (goes t (stored s k ws z.memory) 0))) (sym same)
+      (subst (λ z. Leads_here behind (leaking_goes (checks_at s pos m k) (goes t (stored s k z m) 0))) (sym shows.is)
+      (subst (λ z. Leads_here behind (leaking_goes (checks_at s pos m k) (goes t z 0))) (sym is)
+      (goes_on t settled own_law other alone no_formals v parts_named may frames none (declared depth x (shows.word ∷ []) m) (checks_at s pos m k) [] (all_checks s pos m k ∙ unchecked x y u d path observes pos) got.0 behind got.1.3
+      (subst (λ z. Viewed (home s depth) (is_observer s) other got.0 (seen s (declared depth x (shows.word ∷ []) m) hands z) behind) (sym (append-nil t.state.leaks)) got.1.0)
+      got.1.1 got.1.2))))
+  then_put pos q x y u w d path name facts behind good observes gets (Raises e n) is = (λ trap. trap, raises t settled own_law other alone no_formals v parts_named may frames none facts good n.memory)
+  then_put pos q x y u w d path name facts behind good observes gets (Traps e n) never = absurd never
+
+  -- the view gets what its source has
+  put_on : (ws : List (List machine.Word)) (pos q p r : Pos) (x y u d : ℕ) (path : TypedTree) (a : PlaceName → Act) → Observes x y u d path → Takes (waits_in path) ws []
+      → (facts : List Fact) (good : Good v facts t.state)
+      → AllowsAll facts (acts (acts_in s path ++ record { pos = r; act = a (name_of y path) } ∷ []))
+      → ((w : Way) → ways.name_of w ≡ name_of y path → is_observer s y ≡ false → Allows facts (a (name_of y path)) → Cleared facts w)
+      → (Allows facts (a (name_of y path)) → Gets x y d (name_of y path) (effect (a (name_of y path)) facts))
+      → Leads_here (after (acts (acts_in s path ++ record { pos = r; act = a (name_of y path) } ∷ [])) facts)
+      (Puts pos q x (object_at s x).of (taken_by t (object_at s x).of (Name p y path u) (at ws)))
+  put_on ws pos q p r x y u d path a observes takes facts good allowed clears gets =
+      let last = last_allowed ws x y u d r path a observes takes facts good allowed in
+      let of : ℕ = (object_at s x).of in
+      subst (λ z. Leads_here z (Puts pos q x of (taken_by t of (Name p y path u) (at ws)))) (sym last.2)
+      (subst (λ c. Leads_here (effect (a (name_of y path)) facts)
+      (Puts pos q x of (if c then viewed (here t) (Name p y path u) (at ws) else followed_by (value (here t) (Name p y path u) (at ws)) (checked (here t) of)))) (sym observes.anonymous)
+      (then_put pos q x y u of d path (name_of y path) facts (effect (a (name_of y path)) facts) good observes (gets last.0) (evaluate (here t) AsView (Name p y path u) (at ws))
+      (shown_on ws x y u d p path observes takes facts good last.1 (λ w called plain. clears w called plain last.0))))
+
+  -- A borrower goes on from where it is.
+  reborrow_gets : (x u d : ℕ) (path : TypedTree) (facts : List Fact) → Observes x x u d path → Good v facts t.state
+      → is_observer s x ≡ false → may x x → Allows facts (act.Reborrow x (name_of x path))
+      → Gets x x d (name_of x path) (effect (act.Reborrow x (name_of x path)) facts)
+  reborrow_gets x u d path facts observes good borrows mine allowed w z named called is typed lifted = by_word z is typed lifted
+    where
+      nothing : (z : machine.Word) → ((k : ℕ) → z ≡ machine.Cell k → ⊥) → ((k : ℕ) → z ≡ machine.Cell k → IsCell s m d k)
+          → (views : Views) × Got views x z (effect (act.Reborrow x (name_of x path)) facts)
+      nothing z null typed =
+          let views : Views = with_view v x (way_from z w) w w (number_in z) in
+          let a : Act = act.Reborrow x (name_of x path) in
+          let got = view_emptied s settled depth other v views m hands t.state.leaks facts good.viewed good.kept good.holds x z observes.mine observes.anonymous
+          (one_word x x u d path observes) (of_type x x u d path observes z typed) (effect a facts) w w w (becomes_with v x (way_from z w) w w (number_in z)) null
+          (lent.reborrow_unused (home s depth) (is_observer s) other v views (seen s m hands t.state.leaks) facts good.viewed x (name_of x path) allowed)
+          (λ n has. kept_fact a facts (Moved n) has refl) (loan_kept a facts (λ l h k. refl))
+          (clear_same (is_observer s) facts good.viewed.clear a refl) in
+          (views, (got.sound, got.words_kept, got.views_held, taken_none views x z w w w (effect a facts) (becomes_with v x (way_from z w) w w (number_in z)) null))
+
+      by_word : (z : machine.Word) → IsDesignated v (seen s m hands t.state.leaks) w z → ((k : ℕ) → z ≡ machine.Cell k → IsCell s m d k)
+          → (is_anonymous (view_of s x) ≡ true → (k : ℕ) → z ≡ machine.Cell k → (l : Lifted v (All w)) × (l.object ≡ x))
+          → (views : Views) × Got views x z (effect (act.Reborrow x (name_of x path)) facts)
+      by_word (machine.Cell k) is typed lifted =
+          let z : machine.Word = machine.Cell k in
+          let l = lifted observes.anonymous k refl in
+          let views : Views = with_view v x (way_from z (expand v (All w))) (v.loan l.0.object) (next_of v (All w) l.0) (number_in z) in
+          let got = borrower_stored s settled depth other v views m hands t.state.leaks facts good.viewed good.kept good.holds x z observes.mine observes.anonymous
+          (one_word x x u d path observes) (of_type x x u d path observes z typed) w l.0 l.1
+          (becomes_with v x (way_from z (expand v (All w))) (v.loan l.0.object) (next_of v (All w) l.0) (number_in z)) borrows named is
+          (subst (λ n. Allows facts (act.Reborrow x n)) (sym called) allowed) in
+          let turned : Turned_here views (effect (act.Reborrow x (ways.name_of w)) facts) =
+          taken_again views x x z w l.0 (effect (act.Reborrow x (ways.name_of w)) facts)
+          (becomes_with v x (way_from z (expand v (All w))) (v.loan l.0.object) (next_of v (All w) l.0) (number_in z)) mine
+          (ap (λ (n : PlaceName). n.root) called) (λ observes. observes) in
+          (views, subst (λ n. Got views x z (effect (act.Reborrow x n) facts)) called (got.sound, got.words_kept, got.views_held, turned))
+      by_word (machine.Int k) is typed lifted = nothing (machine.Int k) (λ q e. cc) typed
+      by_word (machine.Enumerated k) is typed lifted = nothing (machine.Enumerated k) (λ q e. cc) typed
+      by_word machine.Null is typed lifted = nothing machine.Null (λ q e. cc) typed
+
+  pub assign_borrower_on : (ws : List (List machine.Word)) (pos q p : Pos) (x u d : ℕ) (path : TypedTree) → Observes x x u d path → is_borrower s x ≡ true → is_observer s x ≡ false
+      → may x x → Takes (waits_in path) ws [] → (facts : List Fact) (good : Good v facts t.state)
+      → AllowsAll facts (acts (assigned_to s pos (Some x) (Name q x NoMore (object_at s x).of) (Name p x path u)))
+      → Leads_here (after (acts (assigned_to s pos (Some x) (Name q x NoMore (object_at s x).of) (Name p x path u))) facts)
+      (Puts (target_pos t (Name q x NoMore (object_at s x).of)) q x (object_at s x).of (taken_by t (object_at s x).of (Name p x path u) (at ws)))
+  assign_borrower_on ws pos q p x u d path observes is borrows from takes facts good allowed =
+      let e : TypedTree = Name p x path u in
+      let target : TypedTree = Name q x NoMore (object_at s x).of in
+      let same : assigned_to s pos (Some x) target e ≡ acts_in s path ++ record { pos = q; act = act.Reborrow x (name_of x path) } ∷ [] =
+      ap (λ b. if b then index_acts s e ++ reborrow (acts_target_pos pos (written target)) x (source e)
+      else (if is_observer s x then source_acts s e (observe s x) else stored_acts s target e)) is in
+      subst (λ z. Leads_here (after (acts z) facts) (Puts (target_pos t target) q x (object_at s x).of (taken_by t (object_at s x).of e (at ws)))) (sym same)
+      (put_on ws (target_pos t target) q p q x x u d path (act.Reborrow x) observes takes facts good (subst (λ z. AllowsAll facts (acts z)) same allowed)
+      (λ w called plain mine. reborrow_clears facts x w (ap (λ (n : PlaceName). n.root) called) (subst (λ n. Allows facts (act.Reborrow x n)) (sym called) mine))
+      (λ mine. reborrow_gets x u d path facts observes good borrows from mine))
+
+  -- An observer gets another value, of what an owner has, or what a borrower or an observer leads to.
+  pub assign_observer_on : (ws : List (List machine.Word)) (pos q p : Pos) (x y u d : ℕ) (path : TypedTree) → Observes x y u d path → is_borrower s x ≡ false → is_observer s x ≡ true
+      → may x y → Takes (waits_in path) ws [] → (facts : List Fact) (good : Good v facts t.state)
+      → AllowsAll facts (acts (assigned_to s pos (Some x) (Name q x NoMore (object_at s x).of) (Name p y path u)))
+      → Leads_here (after (acts (assigned_to s pos (Some x) (Name q x NoMore (object_at s x).of) (Name p y path u))) facts)
+      (Puts (target_pos t (Name q x NoMore (object_at s x).of)) q x (object_at s x).of (taken_by t (object_at s x).of (Name p y path u) (at ws)))
+  assign_observer_on ws pos q p x y u d path observes is_not sees from takes facts good allowed =
+      let e : TypedTree = Name p y path u in
+      let target : TypedTree = Name q x NoMore (object_at s x).of in
+      let same : assigned_to s pos (Some x) target e ≡ acts_in s path ++ record { pos = p; act = act.Observe x (name_of y path) (is_observer s y) } ∷ [] =
+      ap (λ b. if b then index_acts s e ++ reborrow (acts_target_pos pos (written target)) x (source e)
+      else (if is_observer s x then source_acts s e (observe s x) else stored_acts s target e)) is_not
+      ∙ ap (λ b. if b then source_acts s e (observe s x) else stored_acts s target e) sees in
+      subst (λ z. Leads_here (after (acts z) facts) (Puts (target_pos t target) q x (object_at s x).of (taken_by t (object_at s x).of e (at ws)))) (sym same)
+      (by_kind (is_observer s y) refl (subst (λ z. AllowsAll facts (acts z)) same allowed))
+    where
+      by_kind : (b : Bool) → is_observer s y ≡ b
+          → AllowsAll facts (acts (acts_in s path ++ record { pos = p; act = act.Observe x (name_of y path) b } ∷ []))
+          → Leads_here (after (acts (acts_in s path ++ record { pos = p; act = act.Observe x (name_of y path) b } ∷ [])) facts)
+          (Puts (target_pos t (Name q x NoMore (object_at s x).of)) q x (object_at s x).of (taken_by t (object_at s x).of (Name p y path u) (at ws)))
+      by_kind b kind goes_by =
+          put_on ws (target_pos t (Name q x NoMore (object_at s x).of)) q p p x y u d path (λ n. act.Observe x n b) observes takes facts good goes_by
+          (λ w called plain mine. observe_clears facts x b w (subst (λ n. Allows facts (act.Observe x n b)) (sym called) mine))
+          (λ mine. gets b kind mine)
+        where
+          gets : (b : Bool) → is_observer s y ≡ b → Allows facts (act.Observe x (name_of y path) b)
+              → Gets x y d (name_of y path) (effect (act.Observe x (name_of y path) b) facts)
+          gets true kind mine = again_gets x y u d path facts observes good sees kind from
+          gets false kind mine = observe_gets x y u d path facts observes good sees kind from mine

@@ -1,0 +1,678 @@
+-- An operand of a short circuit, whose value waits, and a return with a value, which waits in the frame
+-- of the caller, lead on.
+use Rattle.std.proofs.Common.{◌≡◌, refl, sym, ap, ◌∙◌, subst, ◌⊎◌, inl, inr, ℕ, suc, ◌+◌, ◌<◌, Bool, true, false, not, ◌||◌, ◌==◌, List, [], ◌∷◌, ◌++◌, map, drop, length, get_or, arith, append-nil, Option, Some, None, ◌&&◌, if◌then◌else◌}
+use Rattle.spark_base.specs.Lists.{Has}
+use Rattle.place_names.specs.declared.act.Act.{Act}
+use Rattle.place_names.specs.declared.act.Act.TheVariants as act
+use Rattle.place_names.specs.declared.fact.Fact.{Fact}
+use Rattle.place_names.specs.declared.fact.Fact.TheVariants.{Moved, Lent}
+use Rattle.place_names.specs.declared.rule.Loan.TheVariants.{Observed}
+use Rattle.place_names.specs.Names.{Name as PlaceName}
+use Rattle.type_definitions.specs.Types.{Table, is_scalar, full}
+use Rattle.typed_tree.specs.Trees.{TypedTree, NoMore, More}
+use Rattle.typed_tree.specs.Programs.{TypedProgram}
+use Rattle.flow_paths.specs.declared.report.Effects.{Effects}
+use Rattle.flow_paths.specs.Instructions.{Instruction, Call, Evaluate, Hold, EndScope, Finish}
+use Rattle.flow_paths.specs.Objects.{Typing, is_anonymous, is_package_object, is_observer, view_of}
+use Rattle.flow_paths.specs.Names.{has_call, waiting as waits_in}
+use Rattle.flow_paths.specs.Acts as flow
+use Rattle.flow_paths.specs.Acts.{acts_in}
+use Rattle.flow_paths.specs.Points.{NamedPoint}
+use Rattle.flow_paths.specs.Laid.{FlowProgram, NamedSub, number_in, typing_of, flow_typing, flow_program, flow_named}
+use Rattle.flow_paths.specs.Paths.{ControlPath}
+use Rattle.flow_paths.specs.Effects.{path_points}
+use Rattle.flow_paths.specs.Scopes.{taken, brought, scope_behind, is_within}
+use Rattle.machine.specs.Words.{fits_type}
+use Rattle.machine.specs.Words as machine
+use Rattle.machine.specs.Memory.{Memory, given_up}
+use Rattle.machine.specs.Evaluate.{Exception, ConstraintError, ProgramError, Evaluated, Done, followed_by, value, place_of, text_of}
+use Rattle.machine.specs.Evaluate as run
+use Rattle.machine.specs.States.{Waiting, Frame, State, Outcome, Goes, sub_of}
+use Rattle.machine.specs.Step.{Turn, turn, start, successor}
+use Rattle.machine.specs.Step as steps
+use Rattle.machine.specs.Typed.{successors}
+use Rattle.machine.specs.Owners.{WellOwned, waiting_in}
+use Rattle.owned_ways.specs.Ways.{Step, OfVariable, OfRoot, Way, Held, after, AllowsAll, along, number_of}
+use Rattle.owned_ways.specs.Ways as ways
+use Rattle.soundness.specs.Seen.{IsNear, is_view_formal, content, word_in, home}
+use Rattle.soundness.specs.Typed.{Kept}
+use Rattle.typed_laws.specs.Needed.{IsFine, Stays, Source, Returns}
+use Rattle.soundness.specs.Sound.{IsNoCall, calls_procedures, Stage, facts_of, AreStages, IsRunnable, AreAwaited, AreWaiting as AreWaitingValues, returns_value, awaited, InScope, IsNamedSub, IsAtPoint, view_of as view_here}
+use Rattle.soundness.proofs.Scalars.{acts}
+use Rattle.soundness.proofs.Scoped.{MayHold, Inside}
+use Rattle.soundness.proofs.Inherited.{Splits}
+use Rattle.soundness.proofs.Around.{IsFar}
+use Rattle.soundness.proofs.Waits.{drop_none}
+use Rattle.soundness.proofs.Taking.{Takes, takes_as, TakesPlainly, nothing_more}
+use Rattle.soundness.proofs.Waited.{FillsNone}
+use Rattle.soundness.proofs.Eased.{eased, waits_same}
+use Rattle.soundness.proofs.Successors.{not_true, below_one}
+use Rattle.owned_loans.specs.Views.{Around, known_gone, Views, Viewed}
+use Rattle.viewed_soundness.specs.Holds.{IsNamed, AllKeep}
+use Rattle.viewed_soundness.proofs.Outcomes.{named_plain, IsGood, Leads_on}
+use Rattle.viewed_steps.specs.Sound.{IsResting, Lasts, HoldsAt, ArePlaced, NoneAbove, ViewStage, stages_of, GoneElsewhere, AreWaiting, IsStoredAt, returns_one, LeadsAlong}
+use Rattle.viewed_steps.specs.Taken.{TakenBy}
+use Rattle.viewed_steps.specs.Ready.{AreOrderly, IsReady}
+use Rattle.viewed_steps.proofs.Lent.{Spare, loans_stay}
+use Rattle.viewed_steps.proofs.Placed.{scope_on, placed_on, MayBe, turned_placed}
+use Rattle.viewed_steps.proofs.Beside.{OthersKept}
+use Rattle.viewed_steps.proofs.Waiting.{StandsBetween, KeptElsewhere, beside_them, handed}
+use Rattle.viewed_steps.proofs.Standing.{or_right}
+use Rattle.viewed_steps.proofs.Standing as standing
+use Rattle.viewed_steps.proofs.Packages as packages
+use Rattle.viewed_steps.proofs.Innermost as innermost
+use Rattle.std.specs.Prelude.{is_some, flat_map}
+use Rattle.std.specs.List.{AllByRecursion}
+use Rattle.type_definitions.specs.Entries.{boolean}
+use Rattle.type_definitions.specs.Types.{words}
+use Rattle.typed_tree.specs.declared.node.ShortCircuit.{ShortCircuit}
+use Rattle.flow_paths.specs.Laid.{FlowSub, flow_sub}
+use Rattle.flow_paths.specs.Paths.{PathPoint, path_point, goes_on, facts_before}
+use Rattle.machine.specs.Step.{led}
+use Rattle.machine.specs.Evaluate.{Raises, Traps}
+use Rattle.machine.specs.Run.{no_point}
+use Rattle.soundness.specs.Seen.{seen}
+use Rattle.soundness.specs.Sound.{IsPlainValue, is_temporary_object, temporaries_in, has_returned}
+use Rattle.soundness.specs.Ready.{IsSupplied, Fills}
+use Rattle.soundness.proofs.Onward.{Gets, value_inside, source_inside}
+use Rattle.soundness.proofs.Operands.{handed_over, hold_is}
+use Rattle.soundness.proofs.Points.{path_there}
+use Rattle.soundness.proofs.Stays.{Quiet, One}
+use Rattle.soundness.proofs.Standing.{head_of, last_of}
+use Rattle.soundness.proofs.Waited.{Shares, counts, temporary_more}
+use Rattle.soundness.proofs.Waits.{take_none, or_both, waits_of}
+use Rattle.soundness.proofs.Numbers.{index_law}
+use Rattle.soundness.proofs.Lasting.{keeps}
+use Rattle.soundness.proofs.Fixed.{plain_word}
+use Rattle.owned_loans.specs.Views.{IsMovedBy}
+use Rattle.viewed_soundness.specs.Holds.{Holds}
+use Rattle.viewed_soundness.proofs.Evaluated.{Given}
+use Rattle.viewed_soundness.proofs.Outcomes.{unturned, scalar_taken}
+use Rattle.viewed_steps.proofs.Declared.{source_given}
+use Rattle.viewed_steps.proofs.Read.{scalar_named}
+use Rattle.viewed_steps.proofs.Beside.{value_stays, source_stays}
+use Rattle.viewed_steps.proofs.Operands.{left_operand_on, right_operand_on}
+use Rattle.viewed_steps.proofs.EachInstruction as each
+
+module _ (table : Table) (typed : TypedProgram) (effects : Effects) (input : List ℕ) (ready : IsReady table typed effects) where
+  abbrev program : FlowProgram
+  program = flow_program table typed
+
+  abbrev s : Typing
+  s = flow_typing program
+
+  abbrev own : Typing
+  own = typing_of table typed
+
+  abbrev no_in_formals : (x : ℕ) → is_view_formal s x ≡ false
+  no_in_formals = standing.no_in_formals table typed effects input ready
+
+  abbrev local : (x : ℕ) → is_anonymous (view_of s x) ≡ true → is_package_object s x ≡ false
+  local = standing.local table typed effects input ready
+
+  abbrev unmoved_stage : (e : Stage) → e.frame.sub ≡ 0 → (name : PlaceName) → Has (facts_of program effects e) (Moved name) → ⊥
+  unmoved_stage = packages.unmoved_stage table typed effects input ready
+
+  module _ (state : State) (top : Stage) (below : ViewStage) (more_frames : List ViewStage) (rest : List Frame) (named : NamedSub) (p : NamedPoint)
+      (frames : state.frames ≡ top.frame ∷ (below.stage.frame ∷ rest)) (deep : top.depth ≡ suc (length rest))
+      (stages : AreStages (stages_of (below ∷ more_frames)) (below.stage.frame ∷ rest))
+      (running : IsRunnable table typed top.frame.sub × IsResting s top × AreWaiting table typed effects state top.frame.sub top.frame.returns (below ∷ more_frames))
+      (awaiting : AreAwaited table typed 0 (top ∷ stages_of (below ∷ more_frames)))
+      (of_sub : IsNamedSub (flow_named table typed) top.frame.sub named) (at_point : IsAtPoint named.points top.frame.next p)
+      (path : ControlPath (path_points program effects (sub_of program top.frame.sub)) top.before top.frame.next) (views : Views)
+      (viewed_before : Viewed (home s (suc (length rest))) (is_observer s) (known_gone (home s (suc (length rest))) (GoneElsewhere program effects (below ∷ more_frames))) views
+      (view_here s state) (facts_of program effects top))
+      (kept : Kept s state.memory (waiting_in state)) (scope : InScope s state.memory (suc (length rest)) p.scope) (holds : HoldsAt s (suc (length rest)) views state.memory p)
+      (placed_before : ArePlaced program (facts_of program effects top) views p.scope) (above : NoneAbove s (suc (length rest)) state.memory) where
+    abbrev outer : List Frame
+    outer = below.stage.frame ∷ rest
+
+    abbrev older : List ViewStage
+    older = below ∷ more_frames
+
+    abbrev depth : ℕ
+    depth = suc (length rest)
+
+    abbrev between : (g : ViewStage) → Has (below ∷ more_frames) g → StandsBetween table typed effects unmoved_stage local state (suc (length rest)) g
+    between = innermost.between table typed effects input ready state top below more_frames rest named p frames deep stages running awaiting of_sub at_point path views viewed_before kept scope holds placed_before above
+
+    abbrev other : Around (home s (suc (length rest)))
+    other = beside_them table typed effects unmoved_stage local state (suc (length rest)) (below ∷ more_frames) between
+
+    abbrev alone : (w : Way) → IsNear (suc (length rest)) w → IsFar (suc (length rest)) (GoneElsewhere program effects (below ∷ more_frames)) w → ⊥
+    alone = innermost.alone table typed effects input ready state top below more_frames rest named p frames deep stages running awaiting of_sub at_point path views viewed_before kept scope holds placed_before above
+
+    abbrev main_turn : Turn
+    main_turn = standing.t table typed effects input ready state top older outer named p frames of_sub at_point
+
+    abbrev own_facts : List Fact
+    own_facts = standing.facts table typed effects input ready state top older outer named p frames of_sub at_point path
+
+    abbrev handed_on : List Fact
+    handed_on = handed table typed effects unmoved_stage local state (suc (length rest)) (below ∷ more_frames) between
+
+    abbrev facts_now : List Fact
+    facts_now = own_facts ++ handed_on
+
+    abbrev from_both : Splits facts_now own_facts handed_on
+    from_both = innermost.from_both table typed effects input ready state top below more_frames rest named p frames deep stages running awaiting of_sub at_point path views viewed_before kept scope holds placed_before above
+
+    abbrev acts_of_main : Instruction → List Act
+    acts_of_main i = standing.acts_here table typed effects input ready state top older outer named p frames of_sub at_point i
+
+    abbrev allowed_now : Spare s (standing.acts_by table typed effects input ready state top older outer named p frames of_sub at_point s p.instr) → AllowsAll own_facts (acts_of_main p.instr)
+        → AllowsAll facts_now (acts_of_main p.instr)
+    allowed_now = innermost.allowed_now table typed effects input ready state top below more_frames rest named p frames deep stages running awaiting of_sub at_point path views viewed_before kept scope holds placed_before above
+
+    abbrev viewed : Viewed (home s depth) (is_observer s) other views (view_here s state) facts_now
+    viewed = innermost.viewed table typed effects input ready state top below more_frames rest named p frames deep stages running awaiting of_sub at_point path views viewed_before kept scope holds placed_before above
+
+    abbrev apart_from_them : (done : List Act) (v : Views) (view : ways.View) → ((x : ℕ) (w : Way) → v.way x ≡ Some w → is_anonymous (view_of s x) ≡ true)
+        → Viewed (home s depth) (is_observer s) other v view (after done facts_now)
+        → Viewed (home s depth) (is_observer s) (known_gone (home s depth) (GoneElsewhere program effects older)) v view (after done own_facts)
+    apart_from_them = innermost.apart_from_them table typed effects input ready state top below more_frames rest named p frames deep stages running awaiting of_sub at_point path views viewed_before kept scope holds placed_before above
+
+    abbrev placed_by : (some all : List Fact) (v : Views) (scope_there : List ℕ) → ((h : ℕ) (m : PlaceName) → is_observer s h ≡ true → Has some (Lent Observed h m) → Has all (Lent Observed h m))
+        → ArePlaced program some v scope_there → ArePlaced program all v scope_there
+    placed_by = innermost.placed_by table typed effects input ready state top below more_frames rest named p frames deep stages running awaiting of_sub at_point path views viewed_before kept scope holds placed_before above
+
+    abbrev placed : ArePlaced program facts_now views p.scope
+    placed = innermost.placed table typed effects input ready state top below more_frames rest named p frames deep stages running awaiting of_sub at_point path views viewed_before kept scope holds placed_before above
+
+    abbrev own_loans : (done : List Act) (h : ℕ) (m : PlaceName) → is_observer s h ≡ true → Has (after done facts_now) (Lent Observed h m)
+        → Has (after done own_facts) (Lent Observed h m)
+    own_loans = innermost.own_loans table typed effects input ready state top below more_frames rest named p frames deep stages running awaiting of_sub at_point path views viewed_before kept scope holds placed_before above
+
+    abbrev not_handed : (name : PlaceName) → Has handed_on (Moved name) → is_package_object s name.root ≡ false → ⊥
+    not_handed = innermost.not_handed table typed effects input ready state top below more_frames rest named p frames deep stages running awaiting of_sub at_point path views viewed_before kept scope holds placed_before above
+
+    abbrev not_at_home : (x : ℕ) (name : PlaceName) → Has handed_on (Moved name) → name.root ≡ x → depth ≡ home s depth x → ⊥
+    not_at_home = innermost.not_at_home table typed effects input ready state top below more_frames rest named p frames deep stages running awaiting of_sub at_point path views viewed_before kept scope holds placed_before above
+
+    abbrev none_takes : (i : Instruction) → p.instr ≡ i → taken i ≡ 0 → taken main_turn.point.instr ≡ 0
+    none_takes = innermost.none_takes table typed effects input ready state top below more_frames rest named p frames deep stages running awaiting of_sub at_point path views viewed_before kept scope holds placed_before above
+
+    abbrev left_scope : List ℕ
+    left_scope = drop (taken p.instr) p.scope
+
+    abbrev given_words : List (List machine.Word)
+    given_words = (start main_turn).waits
+
+    abbrev takes_of : (i : Instruction) → p.instr ≡ i → Takes (taken i) given_words []
+    takes_of = innermost.takes_of table typed effects input ready state top below more_frames rest named p frames deep stages running awaiting of_sub at_point path views viewed_before kept scope holds placed_before above
+
+    abbrev easy : Turn
+    easy = eased main_turn
+
+    abbrev viewed_easy : Viewed (home s depth) (is_observer s) other views (view_here s easy.state) facts_now × Kept s state.memory (waiting_in easy.state)
+    viewed_easy = innermost.viewed_easy table typed effects input ready state top below more_frames rest named p frames deep stages running awaiting of_sub at_point path views viewed_before kept scope holds placed_before above
+
+    abbrev plainly : (i : Instruction) → p.instr ≡ i → (calls : Bool) → (calls_procedures i ≡ true → calls ≡ false) → TakesPlainly s calls
+    plainly = innermost.plainly table typed effects input ready state top below more_frames rest named p frames deep stages running awaiting of_sub at_point path views viewed_before kept scope holds placed_before above
+
+    abbrev lasts_left : (r x : ℕ) → Lasts program p.scope r x → Lasts program left_scope r x
+    lasts_left = innermost.lasts_left table typed effects input ready state top below more_frames rest named p frames deep stages running awaiting of_sub at_point path views viewed_before kept scope holds placed_before above
+
+    abbrev placed_left : (facts : List Fact) → ArePlaced program facts views p.scope → ArePlaced program facts views left_scope
+    placed_left = innermost.placed_left table typed effects input ready state top below more_frames rest named p frames deep stages running awaiting of_sub at_point path views viewed_before kept scope holds placed_before above
+
+    abbrev Left : List Waiting → Type 0
+    Left waits = AreWaitingValues s waits (scope_behind p)
+
+    abbrev left_after : FillsNone s p.instr → Left (steps.waiting main_turn)
+    left_after = innermost.left_after table typed effects input ready state top below more_frames rest named p frames deep stages running awaiting of_sub at_point path views viewed_before kept scope holds placed_before above
+
+    abbrev others_await : returns_value p.instr ≡ false → AreAwaited table typed (awaited (sub_of program top.frame.sub) (top.frame.next ∷ top.before)) (stages_of older)
+    others_await = innermost.others_await table typed effects input ready state top below more_frames rest named p frames deep stages running awaiting of_sub at_point path views viewed_before kept scope holds placed_before above
+
+    abbrev raised_well : (m : Memory) → WellOwned s (steps.counted (record state { memory = given_up state.memory m }))
+    raised_well = innermost.raised_well table typed effects input ready state top below more_frames rest named p frames deep stages running awaiting of_sub at_point path views viewed_before kept scope holds placed_before above
+
+    abbrev successors_there : length main_turn.point.next ≡ successors p.instr
+    successors_there = innermost.successors_there table typed effects input ready state top below more_frames rest named p frames deep stages running awaiting of_sub at_point path views viewed_before kept scope holds placed_before above
+
+    abbrev orderly : AreOrderly program p (λ q. (n : ℕ) × Has (map (number_in named.points) p.next) n × IsAtPoint named.points n q)
+    orderly = innermost.orderly table typed effects input ready state top below more_frames rest named p frames deep stages running awaiting of_sub at_point path views viewed_before kept scope holds placed_before above
+
+    abbrev IsOld : ℕ → ℕ → Type 0
+    IsOld f x =
+        (f < suc (length rest)) × ((f ≡ 0)
+        ⊎ ((q : List Step) × (k : ℕ) × (word_in s.table (content s state.memory [] (OfRoot (OfVariable f x))) q ≡ Held k)))
+
+    abbrev inside_left : Inside s IsOld state.memory depth left_scope
+    inside_left = innermost.inside_left table typed effects input ready state top below more_frames rest named p frames deep stages running awaiting of_sub at_point path views viewed_before kept scope holds placed_before above
+
+    abbrev in_scope : (m : Memory) (after_scope : List ℕ) → Inside s IsOld m depth after_scope → InScope s m depth after_scope
+    in_scope = innermost.in_scope table typed effects input ready state top below more_frames rest named p frames deep stages running awaiting of_sub at_point path views viewed_before kept scope holds placed_before above
+
+    abbrev home_frame : (x : ℕ) → is_package_object s x ≡ false → home s depth x ≡ depth
+    home_frame = innermost.home_frame table typed effects input ready state top below more_frames rest named p frames deep stages running awaiting of_sub at_point path views viewed_before kept scope holds placed_before above
+
+    abbrev may_hold : (x : ℕ) (in_there : List ℕ) → (is_package_object s x ≡ true) ⊎ (is_within x in_there ≡ true) → MayHold s IsOld depth in_there (home s depth x) x
+    may_hold = innermost.may_hold table typed effects input ready state top below more_frames rest named p frames deep stages running awaiting of_sub at_point path views viewed_before kept scope holds placed_before above
+
+    abbrev still_above : (m : Memory) → OthersKept s depth state.memory m → NoneAbove s depth m
+    still_above = innermost.still_above table typed effects input ready state top below more_frames rest named p frames deep stages running awaiting of_sub at_point path views viewed_before kept scope holds placed_before above
+
+    abbrev wait_still : (next : State) (after_scope : List ℕ) → Inside s IsOld next.memory depth after_scope → OthersKept s depth state.memory next.memory
+        → ((w : Way) (n : ℕ) → KeptElsewhere table typed effects unmoved_stage local older w n → ways.Reaches (view_here s next) w (ways.OfCell n))
+        → AreWaiting table typed effects next top.frame.sub top.frame.returns older
+    wait_still = innermost.wait_still table typed effects input ready state top below more_frames rest named p frames deep stages running awaiting of_sub at_point path views viewed_before kept scope holds placed_before above
+
+    abbrev sub_here : FlowSub
+    sub_here = sub_of program top.frame.sub
+
+    abbrev instr_there : (get_or sub_here.points top.frame.next no_point).instr ≡ p.instr
+    instr_there = innermost.instr_there table typed effects input ready state top below more_frames rest named p frames deep stages running awaiting of_sub at_point path views viewed_before kept scope holds placed_before above
+
+    abbrev supplied_here : IsSupplied s p
+    supplied_here = innermost.supplied_here table typed effects input ready state top below more_frames rest named p frames deep stages running awaiting of_sub at_point path views viewed_before kept scope holds placed_before above
+
+    abbrev shared : Shares s (taken p.instr) top.frame.waits p.scope
+    shared = innermost.shared table typed effects input ready state top below more_frames rest named p frames deep stages running awaiting of_sub at_point path views viewed_before kept scope holds placed_before above
+
+    -- where it leads, and how the frames come from those before
+    abbrev Along : Outcome → Type 0
+    Along outcome = LeadsAlong table typed effects p.instr state.memory (record { stage = top; views = views }) (below ∷ more_frames) outcome
+
+    abbrev may : ℕ → ℕ → Type 0
+    may x y = MayBe program (scope_behind p) x y × IsStoredAt p.instr x
+
+    abbrev LeadsFrom : Instruction → Outcome → Type 0
+    LeadsFrom i outcome = Leads_on easy ready.accepted.settled ready.owns other alone no_in_formals views ready.class.parts_named may refl refl (after (acts_of_main i) facts_now) outcome
+
+    abbrev AnyLeft : List Waiting → Type 0
+    AnyLeft waits = Unit {0}
+
+    -- ---- an operand
+
+    module _ (temporary : ℕ) (e : TypedTree) (op : Option ShortCircuit) (is : p.instr ≡ Evaluate temporary e op) where
+      truth_there : is_scalar (full s.table boolean) ≡ true
+      truth_there = elim ready.class.results [
+        | inr plain ↦ plain.1
+        | inl procedures ↦ (
+            let calls = procedures (flow_sub own named) (standing.in_program table typed effects input ready state top older outer named p frames of_sub at_point) main_turn.point
+            (standing.in_sub table typed effects input ready state top older outer named p frames of_sub at_point) in
+            let no_truth : false ≡ true = sym (ap calls_procedures is) ∙ calls in cc)
+      ]
+
+      evaluates : Stays s e
+      evaluates = subst (IsFine s named.sub.result) is (standing.fine table typed effects input ready state top older outer named p frames of_sub at_point)
+
+      going_here : (x : ℕ) → p.instr ≡ EndScope x → ⊥
+      going_here x same = (let never : Evaluate temporary e op ≡ EndScope x = sym is ∙ same in cc)
+
+      no_call_here : IsNoCall p.instr
+      no_call_here n actuals result same = (let never : Evaluate temporary e op ≡ Call n actuals result = sym is ∙ same in cc)
+
+      no_finish : p.instr ≡ Finish → ⊥
+      no_finish same = (let never : Evaluate temporary e op ≡ Finish = sym is ∙ same in cc)
+
+      abbrev good_there : IsGood easy ready.accepted.settled ready.owns other alone no_in_formals views ready.class.parts_named may refl refl views facts_now easy.state
+      good_there = each.good table typed effects input ready state top below more_frames rest named p frames deep stages running awaiting of_sub at_point path views viewed_before kept scope holds placed_before above going_here no_call_here
+
+      allowed_operand : AllowsAll facts_now (acts (acts_in s e))
+      allowed_operand =
+          subst (λ i. AllowsAll facts_now (acts_of_main i)) is
+          (allowed_now (each.spares table typed effects input ready state top below more_frames rest named p frames deep stages running awaiting of_sub at_point path views viewed_before kept scope holds placed_before above going_here no_call_here no_finish) (standing.allowed table typed effects input ready state top older outer named p frames of_sub at_point path no_call_here))
+
+      one_there : Quiet (record { memory = state.memory; waits = [] }) One (value (steps.here main_turn) e (start main_turn))
+      one_there =
+          (scalar_taken easy ready.accepted.settled ready.owns other alone no_in_formals views ready.class.parts_named may refl refl given_words e evaluates
+          (takes_of (Evaluate temporary e op) is) facts_now good_there allowed_operand).0
+
+      -- its value waits
+      operand_on : (waits : List machine.Word → List Waiting) (k : List machine.Word → ℕ) → ((ws : List machine.Word) → k ws < successors p.instr)
+          → ((ws : List machine.Word) → length ws ≡ 1 → Left (waits ws)) → (y : Evaluated (List machine.Word))
+          → Quiet (record { memory = state.memory; waits = [] }) One y → Gets (λ ws m. Inside s IsOld m depth (scope_behind p)) y
+          → Gets (λ ws m. OthersKept s depth state.memory m) y
+          → LeadsFrom p.instr (steps.evaluated main_turn y (λ ws m. Goes (steps.behind main_turn (waits ws) m (k ws))))
+          → Along (steps.evaluated main_turn y (λ ws m. Goes (steps.behind main_turn (waits ws) m (k ws))))
+      operand_on waits k less are (Done ws n) (same, one) inside_then stay leads =
+          each.goes_there table typed effects input ready state top below more_frames rest named p frames deep stages running awaiting of_sub at_point path views viewed_before kept scope holds placed_before above going_here no_call_here
+          (each.spares table typed effects input ready state top below more_frames rest named p frames deep stages running awaiting of_sub at_point path views viewed_before kept scope holds placed_before above going_here no_call_here no_finish) no_finish (ap returns_value is)
+          (steps.behind main_turn (waits ws) n.memory (k ws)) (waits ws) top.frame.loops (k ws) (less ws)
+          (λ m next. ap (led main_turn (record top.frame { waits = waits ws })) next) (are ws one) inside_then leads stay
+      operand_on waits k less are (Raises x n) one inside_then stay leads = leads
+      operand_on waits k less are (Traps x n) never inside_then stay leads = absurd never
+
+      more_there : (x : ℕ) → is_within x left_scope ≡ true → is_within x (scope_behind p) ≡ true
+      more_there x within = subst (λ i. is_within x (brought i left_scope) ≡ true) (sym is) (by_operand op)
+        where
+          by_operand : (op : Option ShortCircuit) → is_within x (brought (Evaluate temporary e op) left_scope) ≡ true
+          by_operand None = within
+          by_operand (Some o) = or_right (x == temporary) (is_within x left_scope) within
+
+      inside_operand : Gets (λ ws m. Inside s IsOld m depth (scope_behind p)) (value (steps.here main_turn) e (start main_turn))
+      inside_operand = value_inside main_turn AnyLeft tt IsOld left_scope (scope_behind p) inside_left more_there e
+
+      fills_here : Fills s (Evaluate temporary e op) left_scope
+      fills_here = subst (λ i. Fills s i left_scope) is supplied_here.1
+
+      leads_here : (waits : List machine.Word → List Waiting) (easy_waits : List machine.Word → List Waiting) (k : List machine.Word → ℕ)
+          → ((ws : List machine.Word) → easy_waits ws ≡ waits ws)
+          → Leads_on easy ready.accepted.settled ready.owns other alone no_in_formals views ready.class.parts_named may refl refl (after (acts (acts_in s e)) facts_now)
+          (steps.evaluated easy (value (steps.here easy) e (start main_turn)) (λ ws m. Goes (steps.behind easy (easy_waits ws) m (k ws))))
+          → LeadsFrom p.instr (steps.evaluated main_turn (value (steps.here main_turn) e (start main_turn)) (λ ws m. Goes (steps.behind main_turn (waits ws) m (k ws))))
+      leads_here waits easy_waits k same leads =
+          each.from_easy table typed effects input ready state top below more_frames rest named p frames deep stages running awaiting of_sub at_point path views viewed_before kept scope holds placed_before above going_here no_call_here
+          p.instr (value (steps.here main_turn) e (start main_turn)) (λ ws m. Goes (steps.behind easy (easy_waits ws) m (k ws)))
+          (λ ws m. Goes (steps.behind main_turn (waits ws) m (k ws)))
+          (λ ws m on. subst (λ z. LeadsFrom p.instr (Goes (steps.behind main_turn z m (k ws)))) (same ws) on)
+          (subst (λ i. Leads_on easy ready.accepted.settled ready.owns other alone no_in_formals views ready.class.parts_named may refl refl (after (acts_of_main i) facts_now)
+          (steps.evaluated easy (value (steps.here easy) e (start main_turn)) (λ ws m. Goes (steps.behind easy (easy_waits ws) m (k ws))))) (sym is) leads)
+
+    left_step : (temporary : ℕ) (e : TypedTree) (o : ShortCircuit) → p.instr ≡ Evaluate temporary e (Some o) → Along (steps.operand main_turn e (Some o))
+    left_step temporary e o is =
+        operand_on temporary e (Some o) is (λ ws. steps.truth_waiting ws ∷ steps.waiting main_turn) (λ ws. if run.decides o ws then 1 else 0)
+        (λ ws. subst (λ i. (if run.decides o ws then 1 else 0) < successors i) (sym is) (first_two (run.decides o ws)))
+        (λ ws one. (
+          ((truth_there temporary e (Some o) is, one), (shared.left).0),
+          ap suc (shared.left).1 ∙ sym (ap (λ i. temporaries_in s (brought i left_scope)) is
+              ∙ temporary_more s temporary left_scope (fills_here temporary e (Some o) is)),
+        ))
+        (value (steps.here main_turn) e (start main_turn)) (one_there temporary e (Some o) is) (inside_operand temporary e (Some o) is) (value_stays main_turn e)
+        (leads_here temporary e (Some o) is (λ ws. steps.truth_waiting ws ∷ steps.waiting main_turn) (λ ws. steps.truth_waiting ws ∷ steps.waiting easy)
+        (λ ws. if run.decides o ws then 1 else 0)
+        (λ ws. ap (λ z. steps.truth_waiting ws ∷ z) (waits_same main_turn))
+        (left_operand_on easy ready.accepted.settled ready.owns other alone no_in_formals views ready.class.parts_named may refl refl (truth_there temporary e (Some o) is)
+        given_words e o (evaluates temporary e (Some o) is) (takes_of (Evaluate temporary e (Some o)) is) facts_now (good_there temporary e (Some o) is)
+        (allowed_operand temporary e (Some o) is)))
+      where
+        first_two : (b : Bool) → (if b then 1 else 0) < 2
+        first_two true = omega arith
+        first_two false = omega arith
+
+    right_step : (temporary : ℕ) (e : TypedTree) → p.instr ≡ Evaluate temporary e None → Along (steps.operand main_turn e None)
+    right_step temporary e is = by_waits (steps.waiting main_turn) refl
+      where
+        fills : (x : ℕ) × (rest_scope : List ℕ) × (left_scope ≡ x ∷ rest_scope) × (is_temporary_object s x ≡ true)
+        fills = fills_here temporary e None is
+
+        some_left : temporaries_in s left_scope ≡ suc (temporaries_in s fills.1)
+        some_left = ap (temporaries_in s) fills.2 ∙ temporary_more s fills.0 fills.1 fills.3
+
+        by_waits : (vs : List Waiting) → steps.waiting main_turn ≡ vs → Along (steps.operand main_turn e None)
+        by_waits [] none =
+            (let long = sym (shared.left).1 ∙ ap (λ (z : List Waiting). length z) none in absurd (omega (arith, long, some_left)))
+        by_waits (v ∷ vs) some =
+            operand_on temporary e None is (λ ws. steps.truth_waiting ws ∷ drop 1 (steps.waiting main_turn)) (λ ws. 0)
+            (λ ws. subst (λ i. 0 < successors i) (sym is) below_one)
+            (λ ws one. (
+              (
+                (truth_there temporary e None is, one),
+                subst (λ z. AllByRecursion (IsPlainValue s) (drop 1 z)) (sym some)
+                    (subst (AllByRecursion (IsPlainValue s)) (sym (drop_none vs)) (subst (AllByRecursion (IsPlainValue s)) some (shared.left).0).1),
+              ),
+              ap (λ (z : List Waiting). suc (length (drop 1 z))) some ∙ ap (λ (z : List Waiting). suc (length z)) (drop_none vs)
+                  ∙ sym (ap (λ (z : List Waiting). length z) some) ∙ (shared.left).1 ∙ sym (ap (λ i. temporaries_in s (brought i left_scope)) is),
+            ))
+            (value (steps.here main_turn) e (start main_turn)) (one_there temporary e None is) (inside_operand temporary e None is) (value_stays main_turn e)
+            (leads_here temporary e None is (λ ws. steps.truth_waiting ws ∷ drop 1 (steps.waiting main_turn)) (λ ws. steps.truth_waiting ws ∷ drop 1 (steps.waiting easy)) (λ ws. 0)
+            (λ ws. ap (λ z. steps.truth_waiting ws ∷ drop 1 z) (waits_same main_turn))
+            (right_operand_on easy ready.accepted.settled ready.owns other alone no_in_formals views ready.class.parts_named may refl refl (truth_there temporary e None is)
+            given_words e v vs some ((subst (AllByRecursion (IsPlainValue s)) some (shared.left).0).0).0 (evaluates temporary e None is)
+            (takes_of (Evaluate temporary e None) is) facts_now (good_there temporary e None is) (allowed_operand temporary e None is)))
+
+    pub operand_step : (temporary : ℕ) (e : TypedTree) (op : Option ShortCircuit) → p.instr ≡ Evaluate temporary e op
+        → Along (turn main_turn (Evaluate temporary e op))
+    operand_step temporary e (Some o) is = left_step temporary e o is
+    operand_step temporary e None is = right_step temporary e is
+
+    -- ---- a return with a value
+
+    module _ (e last : TypedTree) (is : p.instr ≡ Hold (More e last)) (of : ℕ) (result : named.sub.result ≡ Some of) (source : Source s of e) (alone_there : last ≡ NoMore) where
+      sub_result : sub_here.result ≡ Some of
+      sub_result = ap (λ (z : FlowSub). z.result) (standing.sub_is table typed effects input ready state top older outer named p frames of_sub at_point) ∙ result
+
+      going_then : (x : ℕ) → p.instr ≡ EndScope x → ⊥
+      going_then x same = (let never : Hold (More e last) ≡ EndScope x = sym is ∙ same in cc)
+
+      no_call_then : IsNoCall p.instr
+      no_call_then n actuals temporary same = (let never : Hold (More e last) ≡ Call n actuals temporary = sym is ∙ same in cc)
+
+      no_finish_then : p.instr ≡ Finish → ⊥
+      no_finish_then same = (let never : Hold (More e last) ≡ Finish = sym is ∙ same in cc)
+
+      plain_result : is_scalar (full s.table of) ≡ true
+      plain_result = innermost.plain_result table typed effects input ready state top below more_frames rest named p frames deep stages running awaiting of_sub at_point path views viewed_before kept scope holds placed_before above of result
+
+      named_result : IsNamed s.table of
+      named_result = scalar_named s.table of plain_result
+
+      acts_then : acts_of_main p.instr ≡ acts (acts_in s e)
+      unfolding acts_in
+      acts_then =
+          ap acts_of_main is ∙ ap (λ r. acts (flow.returned_acts s r (More e last))) result
+          ∙ ap (λ b. acts (if b then flow.source_acts s e (λ m. act.Give m (flow.gives_variable s (Some of))) else acts_in s e ++ acts_in s last)) (named_plain s.table of named_result)
+          ∙ ap acts (ap (λ z. acts_in s e ++ acts_in s z) alone_there ∙ append-nil (acts_in s e))
+
+      takes_value : Takes (waits_in e) given_words []
+      unfolding waits_in
+      takes_value =
+          takes_as (taken (Hold (More e last))) (waits_in e) given_words []
+          (ap (λ z. waits_in e + waits_in z) alone_there ∙ nothing_more (waits_in e)) (takes_of (Hold (More e last)) is)
+
+      plainly_value : TakesPlainly s (has_call e)
+      unfolding has_call
+      plainly_value = plainly (Hold (More e last)) is (has_call e) (λ calls. (or_both (has_call e) (has_call last) (not_true (has_call e || has_call last) calls)).0)
+
+      abbrev good_value : IsGood easy ready.accepted.settled ready.owns other alone no_in_formals views ready.class.parts_named may refl refl views facts_now easy.state
+      good_value = each.good table typed effects input ready state top below more_frames rest named p frames deep stages running awaiting of_sub at_point path views viewed_before kept scope holds placed_before above going_then no_call_then
+
+      abbrev spare_value : Spare s (standing.acts_by table typed effects input ready state top older outer named p frames of_sub at_point s p.instr)
+      spare_value = each.spares table typed effects input ready state top below more_frames rest named p frames deep stages running awaiting of_sub at_point path views viewed_before kept scope holds placed_before above going_then no_call_then no_finish_then
+
+      allowed_value : AllowsAll facts_now (acts (acts_in s e))
+      allowed_value = subst (AllowsAll facts_now) acts_then (allowed_now spare_value (standing.allowed table typed effects input ready state top older outer named p frames of_sub at_point path no_call_then))
+
+      keeps_value : AllKeep (is_observer s) (acts (acts_in s e))
+      keeps_value = subst (AllKeep (is_observer s)) acts_then (standing.keeps_there table typed effects input ready state top older outer named p frames of_sub at_point)
+
+      left_values : Left (steps.waiting main_turn)
+      left_values = left_after (subst (FillsNone s) (sym is) tt)
+
+      no_value_left : steps.waiting main_turn ≡ []
+      no_value_left = no_values (steps.waiting main_turn) ((shared.left).1 ∙ subst (λ i. Fills s i left_scope) is supplied_here.1)
+        where
+          no_values : (waits : List Waiting) → length waits ≡ 0 → waits ≡ []
+          no_values [] none = refl
+          no_values (v ∷ waits) none = absurd (omega (arith, none))
+
+      some_result : is_some sub_here.result ≡ true
+      some_result = ap is_some sub_result
+
+      returns_here : returns_value (get_or sub_here.points top.frame.next no_point).instr ≡ true
+      returns_here = ap returns_value (instr_there ∙ is)
+
+      -- it hasn't returned before, and it has then
+      awaited_before : awaited sub_here top.before ≡ 1
+      awaited_before =
+          let not_yet = (ready.returning top.frame.sub (running.0).entered some_result top.before top.frame.next path).0 returns_here in
+          (λ j. if some_result j && not (not_yet j) then 1 else 0)
+
+      awaited_then : awaited sub_here (top.frame.next ∷ top.before) ≡ 0
+      awaited_then = (λ j. if some_result j && not (returns_here j || has_returned sub_here top.before) then 1 else 0)
+
+      one_awaited : AreAwaited table typed 1 (stages_of (below ∷ more_frames))
+      one_awaited = subst (λ n. AreAwaited table typed n (stages_of (below ∷ more_frames))) awaited_before awaiting.1
+
+      abbrev value_of : List machine.Word → Waiting
+      value_of ws = record { of = of; words = ws }
+
+      abbrev below_with : Waiting → ViewStage
+      below_with v = record below { stage = record below.stage { frame = record below.stage.frame { waits = v ∷ below.stage.frame.waits } } }
+
+      await_with : (v : Waiting) → IsPlainValue s v → (others : List ViewStage) → AreAwaited table typed 1 (stages_of (below ∷ others))
+          → AreAwaited table typed 0 (stages_of (below_with v ∷ others))
+      await_with v plain [] await = (let never = await.0 in absurd (omega (arith, never)))
+      await_with v plain (h ∷ others) await = (
+        λ other_named other_stands q at_q. (
+            let was = await.0 other_named other_stands q at_q in
+            let all = counts s 1 q.scope in
+            let long = was.0.1 in
+            let first = was.1 in
+            let whole : suc (length below.stage.frame.waits) ≡ temporaries_in s q.scope = omega (arith, all, long, first) in (
+              ((plain, was.0.0), whole ∙ ap (temporaries_in s) (sym (drop_none q.scope))),
+              ap (temporaries_in s) (take_none q.scope),
+            )),
+        await.1,
+      )
+
+      wait_with : (v : Waiting) (st : State) (others : List ViewStage) → AreAwaited table typed 1 (stages_of (below ∷ others))
+          → AreWaiting table typed effects st top.frame.sub top.frame.returns (below ∷ others) → AreWaiting table typed effects st top.frame.sub top.frame.returns (below_with v ∷ others)
+      wait_with v st [] await waits = (let never = await.0 in absurd (omega (arith, never)))
+      wait_with v st (h ∷ others) await waits =
+          let was = waits.0 in (
+            record {
+              runs = was.runs;
+              plain = was.plain;
+              path = was.path;
+              named = was.named;
+              of_sub = was.of_sub;
+              point = was.point;
+              at_point = was.at_point;
+              scope = was.scope;
+              lends = was.lends;
+              writes = was.writes;
+              unmoved = was.unmoved;
+              uses = was.uses;
+              clear = was.clear;
+              views = was.views;
+              holds = was.holds;
+              placed = was.placed;
+              taken = was.taken;
+            },
+            waits.1,
+          )
+
+      elsewhere_with : (v : Waiting) (w : Way) → GoneElsewhere program effects (below ∷ more_frames) w → GoneElsewhere program effects (below_with v ∷ more_frames) w
+      elsewhere_with v w (g, inr has, what) = (g, inr has, what)
+      elsewhere_with v w (g, inl same, what) =
+          (below_with v, inl refl, subst (λ (z : ViewStage). IsMovedBy (home s z.stage.depth) z.views (facts_of program effects z.stage) w ⊎ TakenBy z.stage.returns w) (sym same) what)
+
+      -- the successor
+      abbrev next_number : ℕ
+      next_number = get_or main_turn.point.next 0 0
+
+      next_has : Has main_turn.point.next next_number
+      next_has = first_has main_turn.point.next (subst (λ z. 0 < z) (sym (successors_there ∙ ap successors is)) below_one)
+        where
+          first_has : (xs : List ℕ) → 0 < length xs → Has xs (get_or xs 0 0)
+          first_has [] less = absurd (omega (arith, less))
+          first_has (x ∷ xs) less = inl refl
+
+      abbrev top_then : Stage
+      top_then = standing.at_next table typed effects input ready state top older outer named p frames of_sub at_point path (steps.waiting main_turn) top.frame.loops next_number
+
+      abbrev state_then : List machine.Word → Memory → State
+      state_then ws m = handed_over program input main_turn.point state top.frame below.stage.frame rest of ws m
+
+      hands_then : (ws : List machine.Word) (m : Memory) → waiting_in (state_then ws m) ≡ value_of ws ∷ waiting_in easy.state
+      hands_then ws m =
+          ap (λ z. z ++ (value_of ws ∷ (below.stage.frame.waits ++ flat_map waits_of rest))) no_value_left
+          ∙ ap (λ z. value_of ws ∷ (z ++ (below.stage.frame.waits ++ flat_map waits_of rest))) (sym no_value_left)
+
+      abbrev facts_then : List Fact
+      facts_then = after (acts_of_main p.instr) own_facts
+
+      returned_to : (ws : List machine.Word) (m : Memory)
+          → Viewed (home s depth) (is_observer s) other views (seen s m (value_of ws ∷ waiting_in easy.state) state.leaks) (after (acts (acts_in s e)) facts_now)
+          → Kept s m (value_of ws ∷ waiting_in easy.state) → Holds s depth views m → length ws ≡ words s.table of → Inside s IsOld m depth left_scope
+          → OthersKept s depth state.memory m → Along (Goes (state_then ws m))
+      returned_to ws m viewed_then kept_then holds_then long inside_then stay =
+          let v : Waiting = value_of ws in
+          let plain_value : IsPlainValue s v = (plain_result, long ∙ plain_word s ready.accepted.settled of plain_result) in
+          let view = seen s m (v ∷ waiting_in easy.state) state.leaks in
+          let view_same : view ≡ view_here s (state_then ws m) = ap (λ z. seen s m z state.leaks) (sym (hands_then ws m)) in
+          let well_all : Viewed (home s depth) (is_observer s) other views view (after (acts_of_main p.instr) facts_now) =
+          subst (λ z. Viewed (home s depth) (is_observer s) other views view (after z facts_now)) (sym acts_then) viewed_then in
+          let well = apart_from_them (acts_of_main p.instr) views view holds.only well_all in
+          let found = standing.next_at table typed effects input ready state top older outer named p frames of_sub at_point path next_number next_has in
+          let step_on : Has (path_point (standing.points table typed effects input ready state top older outer named p frames of_sub at_point) top.frame.next).next next_number =
+          subst (λ (z : PathPoint). Has z.next next_number) (sym (path_there own named top.frame.next p at_point program effects)) next_has in
+          let facts_there : facts_of program effects top_then ≡ facts_then =
+          ap (λ (z : FlowSub). facts_before (path_points program effects z) (top.frame.next ∷ top.before)) (standing.sub_is table typed effects input ready state top older outer named p frames of_sub at_point)
+          ∙ standing.facts_on table typed effects input ready state top older outer named p frames of_sub at_point path no_call_then in
+          let inside_behind : Inside s IsOld m depth (scope_behind p) = subst (λ i. Inside s IsOld m depth (brought i left_scope)) (sym is) inside_then in
+          let more_behind : (x : ℕ) → is_within x left_scope ≡ true → is_within x (scope_behind p) ≡ true =
+          (λ x within. subst (λ i. is_within x (brought i left_scope) ≡ true) (sym is) within) in
+          let there = turned_placed easy ready.accepted.settled ready.owns other alone no_in_formals views ready.class.parts_named left_scope (scope_behind p) refl refl
+          ready.orderly.transitive ready.orderly.itself local holds.only more_behind views facts_now (after (acts_of_main p.instr) facts_now)
+          (λ h n has. loans_stay s (standing.acts_by table typed effects input ready state top older outer named p frames of_sub at_point s p.instr) spare_value facts_now Observed h n has)
+          (placed_left facts_now placed) (unturned easy ready.accepted.settled ready.owns other alone no_in_formals views ready.class.parts_named (λ x y. MayBe program (scope_behind p) x y) refl refl (after (acts_of_main p.instr) facts_now)) in
+          let placed_next = placed_on program (after (acts_of_main p.instr) facts_now) views (scope_behind p) (found.0).scope holds.only found.2 there in (
+            record {
+              top = top_then;
+              views = views;
+              older = below_with v ∷ more_frames;
+              stages = (refl, deep, (refl, stages.1, stages.2));
+              running = (
+                running.0,
+                running.1,
+                wait_with v (state_then ws m) more_frames one_awaited
+                    (wait_still (state_then ws m) (scope_behind p) inside_behind stay
+                    (λ w n keeps. subst (λ z. ways.Reaches z w (ways.OfCell n)) view_same (well_all.far w n keeps))),
+              );
+              awaited = (
+                standing.waits_next table typed effects input ready state top older outer named p frames of_sub at_point path (steps.waiting main_turn) top.frame.loops next_number next_has left_values,
+                subst (λ n. AreAwaited table typed n (stages_of (below_with v ∷ more_frames))) (sym awaited_then) (await_with v plain_value more_frames one_awaited),
+              );
+              path = subst (λ (z : FlowSub). ControlPath (path_points program effects z) (top.frame.next ∷ top.before) next_number)
+                  (sym (standing.sub_is table typed effects input ready state top older outer named p frames of_sub at_point))
+                  (goes_on top.before top.frame.next next_number (standing.path_here table typed effects input ready state top older outer named p frames of_sub at_point path) step_on);
+              viewed = subst (λ z. Viewed (home s top.depth) (is_observer s) (known_gone (home s top.depth) (GoneElsewhere program effects (below_with v ∷ more_frames))) views z (facts_of program effects top_then)) view_same
+                  (subst (λ d. Viewed (home s d) (is_observer s) (known_gone (home s d) (GoneElsewhere program effects (below_with v ∷ more_frames))) views view (facts_of program effects top_then)) (sym deep)
+                  (subst (Viewed (home s depth) (is_observer s) (known_gone (home s depth) (GoneElsewhere program effects (below_with v ∷ more_frames))) views view) (sym facts_there)
+                  (record {
+                    owned = well.owned;
+                    covered = well.covered;
+                    known = λ w l rooted r gone. elim (well.known w l rooted r gone) [ inl moved ↦ inl moved | inr elsewhere ↦ inr (elsewhere_with v w elsewhere) ];
+                    clear = well.clear;
+                    views = well.views;
+                    lends = well.lends;
+                    far = λ w n none. absurd none;
+                  })));
+              kept = subst (Kept s m) (sym (hands_then ws m)) kept_then;
+              named = named;
+              of_sub = of_sub;
+              point = found.0;
+              at_point = found.1;
+              scope = subst (λ d. InScope s m d (found.0).scope) (sym deep)
+                  (scope_on s ready.owns m depth (scope_behind p) (found.0).scope (in_scope m (scope_behind p) inside_behind) found.2);
+              holds = subst (λ d. HoldsAt s d views m found.0) (sym deep) (record {
+                held = λ x n lasts view_is at. holds_then.held x n view_is at;
+                within = λ x n view_is at. (let own_way = holds_then.held x n view_is at in (placed_next x own_way.0 own_way.1).within);
+                only = holds_then.only;
+              });
+              placed = subst (λ z. ArePlaced program z views (found.0).scope) (sym facts_there)
+                  (placed_by (after (acts_of_main p.instr) facts_now) facts_then views (found.0).scope (own_loans (acts_of_main p.instr)) placed_next);
+              none_above = subst (λ d. NoneAbove s d m) (sym deep) (still_above m stay);
+            },
+            returns_one no_call_then no_finish_then going_then below more_frames (v ∷ below.stage.frame.waits) refl (refl, refl, refl) (λ x w has. inl has) refl,
+          )
+
+      then_returned : (y : Evaluated (List machine.Word))
+          → Given (steps.here main_turn) ready.accepted.settled state.leaks [] other alone (keeps s ready.accepted.settled ready.owns) no_in_formals index_law ready.owns views
+          ready.class.parts_named of (waiting_in easy.state) (after (acts (acts_in s e)) facts_now) y
+          → Gets (λ ws m. Inside s IsOld m depth left_scope) y → Gets (λ ws m. OthersKept s depth state.memory m) y
+          → Along (steps.evaluated main_turn y (λ ws m. Goes (state_then ws m)))
+      then_returned (Done ws n) (good, long, same) inside_then stay = returned_to ws n.memory good.viewed good.kept good.holds long inside_then stay
+      then_returned (Raises x n) given inside_then stay = ((λ trap. trap), raised_well n.memory)
+      then_returned (Traps x n) never inside_then stay = absurd never
+
+      value_step : Along (steps.hold main_turn (More e last))
+      value_step =
+          subst (Along) (sym (hold_is program input main_turn.point state top.frame below.stage.frame rest e last of sub_result))
+          (then_returned (steps.taken_by main_turn of e (start main_turn))
+          (source_given easy ready.accepted.settled ready.owns other alone no_in_formals views ready.class.parts_named may refl refl given_words of e named_result source plainly_value takes_value facts_now good_value allowed_value keeps_value)
+          (source_inside main_turn AnyLeft tt IsOld left_scope left_scope inside_left (λ x within. within) of e)
+          (source_stays main_turn of e))
+
+    pub return_step : (e last : TypedTree) → p.instr ≡ Hold (More e last) → Along (turn main_turn (Hold (More e last)))
+    return_step e last is = by_result named.sub.result refl (subst (IsFine s named.sub.result) is (standing.fine table typed effects input ready state top older outer named p frames of_sub at_point))
+      where
+        by_result : (r : Option ℕ) → named.sub.result ≡ r → Returns s r (More e last) → Along (steps.hold main_turn (More e last))
+        by_result None none never = cc
+        by_result (Some of) result (value_there, same, source) =
+            value_step e last is of result (subst (Source s of) (sym (ap head_of same)) source) (ap last_of same)
