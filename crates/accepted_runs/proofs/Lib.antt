@@ -7,4 +7,5 @@ pub mod Functions
 pub mod Main
 -- with borrowers and observers
 pub mod Views
+pub mod ViewFacts
 pub mod ViewNulls
