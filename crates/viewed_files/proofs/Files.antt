@@ -1,6 +1,6 @@
 -- Borrowers and observers of files that break no rule are in order, and the runs of their program are sound where
--- nothing is reported: without formals and calls, or where procedures are called.
-use Rattle.std.proofs.Common.{◌≡◌, refl, sym, ap, ◌∙◌, subst, inl, inr, ℕ, Bool, true, false, List, [], ◌∷◌, Option, Some, None}
+-- nothing is reported and procedures are called.
+use Rattle.std.proofs.Common.{◌≡◌, refl, sym, ap, ◌∙◌, subst, inl, inr, ℕ, Bool, true, false, List, [], ◌∷◌, Some, None}
 use Rattle.spark_base.specs.Lists.{Has}
 use Rattle.ada_lexer.specs.Tokens.{Cut}
 use Rattle.ada_tree.specs.declared.unit.SourceUnit.{SourceUnit}
@@ -20,14 +20,11 @@ use Rattle.type_definitions.specs.Entries.{integer, boolean, marked}
 use Rattle.type_definitions.specs.Expressions.{is_anonymous}
 use Rattle.type_definitions.specs.Whole.{outside, known_of, type_fault}
 use Rattle.type_rules.proofs.Formed.{files_formed}
-use Rattle.typed_tree.specs.Trees.{TypedTree}
 use Rattle.typed_tree.specs.Programs.{TypedSub, site_of, elaboration, typed_program}
 use Rattle.flow_paths.specs.declared.report.Effects.{Effects}
 use Rattle.flow_paths.specs.Effects.{AreEffects}
 use Rattle.flow_paths.specs.Objects as flow
-use Rattle.flow_paths.specs.Instructions.{Call}
-use Rattle.flow_paths.specs.Points.{FlowPoint}
-use Rattle.flow_paths.specs.Laid.{FlowSub, FlowProgram, flow_typing, flow_program}
+use Rattle.flow_paths.specs.Laid.{FlowProgram, flow_typing, flow_program}
 use Rattle.flow_paths.specs.Reports.{AreReports}
 use Rattle.settled_types.specs.Orderly.{at_start, IsOrderly as IsInOrderText}
 use Rattle.orderly_files.specs.Apart.{AreApart}
@@ -47,13 +44,12 @@ use Rattle.typed_laws.specs.Fine.{Laws, counts, lists}
 use Rattle.typed_steps.specs.Steps.{AreTyped as AreStepsTyped}
 use Rattle.typed_points.specs.Meant.{AreMeantUnits, typing_meant}
 use Rattle.soundness.specs.Typed.{OwnsByShape}
-use Rattle.soundness.specs.Sound.{Accepted, calls_nothing, RunIsSound}
+use Rattle.soundness.specs.Sound.{Accepted, RunIsSound}
 use Rattle.soundness.proofs.Points.{flow_table, typing_same}
-use Rattle.soundness.proofs.Successors.{nothing_procedures}
 use Rattle.viewed_soundness.specs.Holds.{PartsAreNamed}
 use Rattle.ready_laws.specs.InOrder.{IsInOrder, AreCallees, ArePassed}
 use Rattle.ready_laws.proofs.Temporaries.{few_temporaries}
-use Rattle.ready_laws.proofs.Actuals.{scalar_passed, formless_passed}
+use Rattle.ready_laws.proofs.Actuals.{scalar_passed}
 use Rattle.order_laws.specs.Orderly.{typed_of, typing_in, bodies_of, IsOrderly}
 use Rattle.order_laws.proofs.Faults.{units_faultless}
 use Rattle.order_laws.proofs.Unmoved.{package_values}
@@ -66,18 +62,19 @@ use Rattle.meant_files.specs.Typed.{AreTyped}
 use Rattle.meant_files.proofs.Main.{files_denote}
 use Rattle.meant_files.proofs.Main as meant
 use Rattle.meant_files.proofs.Codes as codes
-use Rattle.sound_files.specs.Class.{CallsNothing, CallsProcedures, HasNoFunction, HasScalarFormals, CopiesToVariables}
-use Rattle.sound_files.proofs.Formals.{no_formals}
-use Rattle.sound_files.proofs.Fine.{table_laws, files_declared, procedures_fine}
-use Rattle.sound_files.proofs.Procedures.{callees, files_bodies}
+use Rattle.sound_files.specs.Class.{CallsProcedures, HasScalarFormals, CopiesToVariables}
+use Rattle.sound_files.proofs.Laws.{table_laws, files_declared}
+use Rattle.sound_files.proofs.Called.{files_bodies}
+use Rattle.sound_files.proofs.Classes.{are_callees}
+use Rattle.typed_files.proofs.Main.{files_fine, files_steps}
 use Rattle.sound_files.proofs.Main.{files_orderly}
+use Rattle.viewed_steps.specs.Ready.{IsReady}
+use Rattle.viewed_steps.proofs.Main.{ready_sound}
 use Rattle.view_laws.specs.InOrder.{AreViewsInOrder}
 use Rattle.view_laws.specs.Program.{IsViewProgram}
 use Rattle.view_laws.proofs.Spared.{owners_spared}
-use Rattle.viewed_steps.specs.Ready.{IsReady}
-use Rattle.viewed_steps.proofs.Main.{ready_sound}
-use Rattle.view_laws.proofs.Ready.{uncalled_spared, views_ready}
-use Rattle.viewed_files.specs.Class.{IsFormlessText, SparePackages}
+use Rattle.view_laws.proofs.Ready.{views_ready}
+use Rattle.viewed_files.specs.Class.{SparePackages}
 use Rattle.viewed_files.proofs.Sources.{scalar_plain}
 use Rattle.viewed_files.proofs.Main.{IsGiven, views_in_order}
 
@@ -198,7 +195,7 @@ module _ (files : List (List SourceUnit)) where
         no_reports = none;
         effects_are = are;
         settled = files_settled files apart ended no_fault (typed_of p);
-        fine = procedures_fine files apart ended up named no_fault files_views calls;
+        fine = files_fine files apart ended up named no_fault;
       }
 
       text_orderly : IsOrderly p
@@ -242,61 +239,29 @@ module _ (files : List (List SourceUnit)) where
           }
 
       -- Where procedures are called that have bodies, and no package object owns, or no part of one is lent then, the
-      -- program is ready: each moment of each run is well owned, and none is a trap.
-      pub files_called_ready : HasNoFunction p → AreStepsTyped flow_of_files → CopiesToVariables flow_of_files → SparePackages flow_of_files effects
-          → IsReady table (typed_of p) effects
-      files_called_ready procedures typed copied =
+      -- program is ready,
+      pub files_called_ready : CopiesToVariables flow_of_files → SparePackages flow_of_files effects → IsReady table (typed_of p) effects
+      files_called_ready copied =
           let same : table ≡ flow_of_files.table = sym (flow_table table (typed_of p)) in
-          called_ready (callees p (files_bodies files up named) procedures) copied
+          let typed : AreStepsTyped flow_of_files = files_steps files apart ended up named no_fault in
+          called_ready (are_callees p (files_bodies files up named) typed calls) copied
           (scalar_passed flow_of_files formals (subst (λ (rows : Table). counts (shape_of rows integer) ≡ true) same laws.whole)
           (subst (λ (rows : Table). lists (shape_of rows boolean) ≡ true) same laws.listed)
           (subst (λ (rows : Table). (t : ℕ) → words rows t ≡ words_of (words rows) (shape_of rows t)) same laws.word_law) typed)
 
-      pub files_called_sound : HasNoFunction p → AreStepsTyped flow_of_files → CopiesToVariables flow_of_files → SparePackages flow_of_files effects
-          → (input : List ℕ) → RunIsSound table (typed_of p) input
-      files_called_sound procedures typed copied spare input = ready_sound table (typed_of p) effects input (files_called_ready procedures typed copied spare)
-
-    -- So it is where there are no formals and nothing is called.
-    module _ (text : IsFormlessText p) (effects : Effects) (are : AreEffects flow_of_files effects) (none : AreReports flow_of_files effects []) (calls : CallsNothing flow_of_files) where
-      calls_procedures : CallsProcedures flow_of_files
-      calls_procedures sub has q there = nothing_procedures q.instr (calls sub has q there)
-
-      unformed : (x : ℕ) → flow.is_formal (flow_typing flow_of_files) x ≡ false
-      unformed x = ap (λ z. flow.is_formal z x) (typing_same table (typed_of p) (few_temporaries table (typed_of p) calls_procedures)) ∙ no_formals p text.formless x
-
-      no_call : (sub : FlowSub) → Has flow_of_files.subs sub → (q : FlowPoint) → Has sub.points q → (n : ℕ) (actuals : TypedTree) (result : Option ℕ) → q.instr ≡ Call n actuals result → ⊥
-      no_call sub has q there n actuals result is = (let never : false ≡ true = sym (ap calls_nothing is) ∙ calls sub has q there in cc)
-
-      pub files_views_ready : IsReady table (typed_of p) effects
-      files_views_ready =
-          called_ready text.main text.is_main effects are none calls_procedures (λ x is. (let no : true ≡ false = sym is ∙ unformed x in cc))
-          (λ sub has q there n actuals result is. absurd (no_call sub has q there n actuals result is))
-          (λ sub has q there n actuals result is. absurd (no_call sub has q there n actuals result is))
-          (formless_passed flow_of_files unformed) (inr (uncalled_spared flow_of_files effects calls))
-
-      pub files_views_sound : (input : List ℕ) → RunIsSound table (typed_of p) input
-      files_views_sound input = ready_sound table (typed_of p) effects input files_views_ready
+      -- so each moment of each run is well owned, and none is a trap.
+      pub files_called_sound : CopiesToVariables flow_of_files → SparePackages flow_of_files effects → (input : List ℕ) → RunIsSound table (typed_of p) input
+      files_called_sound copied spare input = ready_sound table (typed_of p) effects input (files_called_ready copied spare)
 
   -- So it is if the files are parsed from texts: then their positions are as in a text.
-  pub parsed_views_ready : (texts : List (List Cut)) → AreParsed 0 texts files → name_fault files ≡ None → type_fault p ≡ None → IsFormlessText p
-      → (effects : Effects) → AreEffects flow_of_files effects → AreReports flow_of_files effects [] → CallsNothing flow_of_files → IsReady table (typed_of p) effects
-  parsed_views_ready texts parsed named no_fault =
-      files_views_ready (files_apart texts files parsed) (files_ended (identified files) texts files parsed) (events_ascend texts files parsed) named no_fault
-
-  pub parsed_views_sound : (texts : List (List Cut)) → AreParsed 0 texts files → name_fault files ≡ None → type_fault p ≡ None → IsFormlessText p
-      → (effects : Effects) → AreEffects flow_of_files effects → AreReports flow_of_files effects [] → CallsNothing flow_of_files
-      → (input : List ℕ) → RunIsSound table (typed_of p) input
-  parsed_views_sound texts parsed named no_fault =
-      files_views_sound (files_apart texts files parsed) (files_ended (identified files) texts files parsed) (events_ascend texts files parsed) named no_fault
-
   pub parsed_called_ready : (texts : List (List Cut)) → AreParsed 0 texts files → name_fault files ≡ None → type_fault p ≡ None → (main : ℕ) → (typed_of p).main ≡ Some main
       → (effects : Effects) → AreEffects flow_of_files effects → AreReports flow_of_files effects [] → CallsProcedures flow_of_files → HasScalarFormals flow_of_files
-      → HasNoFunction p → AreStepsTyped flow_of_files → CopiesToVariables flow_of_files → SparePackages flow_of_files effects → IsReady table (typed_of p) effects
+      → CopiesToVariables flow_of_files → SparePackages flow_of_files effects → IsReady table (typed_of p) effects
   parsed_called_ready texts parsed named no_fault =
       files_called_ready (files_apart texts files parsed) (files_ended (identified files) texts files parsed) (events_ascend texts files parsed) named no_fault
 
   pub parsed_called_sound : (texts : List (List Cut)) → AreParsed 0 texts files → name_fault files ≡ None → type_fault p ≡ None → (main : ℕ) → (typed_of p).main ≡ Some main
       → (effects : Effects) → AreEffects flow_of_files effects → AreReports flow_of_files effects [] → CallsProcedures flow_of_files → HasScalarFormals flow_of_files
-      → HasNoFunction p → AreStepsTyped flow_of_files → CopiesToVariables flow_of_files → SparePackages flow_of_files effects → (input : List ℕ) → RunIsSound table (typed_of p) input
+      → CopiesToVariables flow_of_files → SparePackages flow_of_files effects → (input : List ℕ) → RunIsSound table (typed_of p) input
   parsed_called_sound texts parsed named no_fault =
       files_called_sound (files_apart texts files parsed) (files_ended (identified files) texts files parsed) (events_ascend texts files parsed) named no_fault
