@@ -6,6 +6,7 @@ pub mod Same
 pub mod Calls
 pub mod Packages
 pub mod Facts
+pub mod Formals
 pub mod Scoped
 pub mod Points
 pub mod Ready
