@@ -25,7 +25,7 @@ use Rattle.soundness.proofs.Points.{flow_at, sub_there, point_there, point_in}
 use Rattle.soundness.proofs.Successors.{call_or, finish_or}
 use Rattle.soundness.proofs.Passing.{signature_is}
 use Rattle.owned_loans.specs.Views.{known_gone, Views, Viewed}
-use Rattle.viewed_steps.specs.Sound.{AreScalarFormals, IsResting, HoldsAt, ArePlaced, NoneAbove, ViewStage, stages_of, GoneElsewhere, AreWaiting, IsRunning}
+use Rattle.viewed_steps.specs.Sound.{IsResting, HoldsAt, ArePlaced, NoneAbove, ViewStage, stages_of, GoneElsewhere, AreWaiting, IsRunning}
 use Rattle.viewed_steps.specs.Ready.{IsReady}
 use Rattle.viewed_steps.proofs.Standing as standing
 use Rattle.viewed_steps.proofs.Calling as calling
@@ -39,7 +39,7 @@ pub end_or : (i : Instruction) → ((x : ℕ) × (i ≡ EndScope x)) ⊎ ((x : �
 end_or (EndScope x) = inl (x, refl)
 end_or i = inr (λ x e. cc)
 
-module _ (table : Table) (typed : TypedProgram) (effects : Effects) (input : List ℕ) (ready : IsReady table typed effects) (scalars : AreScalarFormals (flow_program table typed)) where
+module _ (table : Table) (typed : TypedProgram) (effects : Effects) (input : List ℕ) (ready : IsReady table typed effects) where
   abbrev program : FlowProgram
   program = flow_program table typed
 
