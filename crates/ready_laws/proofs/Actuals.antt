@@ -74,7 +74,7 @@ module _ (program : FlowProgram) where
   pub scalar_passed : ((x : ℕ) → is_formal s x ≡ true → is_scalar (full program.table (object_at s x).of) ≡ true) → counts (shape_of program.table integer) ≡ true
       → lists (shape_of program.table boolean) ≡ true → ((t : ℕ) → words program.table t ≡ words_of (words program.table) (shape_of program.table t)) → AreTyped program
       → ArePassed program
-  scalar_passed formals whole listed word_law typed sub has p there n actuals result is known =
+  scalar_passed formals whole listed word_law typed sub has p there n actuals result is known plain =
       let call = subst (λ i. IsTypedStep (flow_typing program) sub.result i) is (typed sub has p there) in
       let same : (sub_at (flow_typing program) n).formals ≡ (sub_of program n).formals = ap (λ (z : Signature). z.formals) (signature_there program.subs n) in
       subst (λ fs. AreActuals (flow_typing program) fs actuals) same
@@ -87,7 +87,7 @@ module _ (program : FlowProgram) where
 
   -- where there are no formals
   pub formless_passed : ((x : ℕ) → is_formal (flow_typing program) x ≡ false) → ArePassed program
-  formless_passed none sub has p there n actuals result is known = by_formals (sub_of program n).formals known
+  formless_passed none sub has p there n actuals result is known plain = by_formals (sub_of program n).formals known
     where
       by_formals : (formals : List ℕ) → ((x : ℕ) → Has formals x → is_formal (flow_typing program) x ≡ true) → AreActuals (flow_typing program) formals actuals
       by_formals [] known = tt
