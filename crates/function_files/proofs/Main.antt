@@ -33,7 +33,7 @@ use Rattle.soundness.specs.Ready.{IsReady}
 use Rattle.soundness.proofs.Points.{flow_table}
 use Rattle.soundness.proofs.Main.{ready_sound}
 use Rattle.ready_laws.specs.InOrder.{ArePassed}
-use Rattle.ready_laws.proofs.Actuals.{scalar_passed}
+use Rattle.ready_laws.proofs.Actuals.{typed_passed}
 use Rattle.order_laws.specs.Orderly.{typed_of, typing_in, IsOrderly}
 use Rattle.order_laws.proofs.Accepted.{is_in_order, third_ready}
 use Rattle.package_values.proofs.Main.{packages_still}
@@ -104,7 +104,7 @@ module _ (files : List (List SourceUnit)) where
     passed : ArePassed flow
     passed =
         let laws = table_laws files apart ended up named no_fault views in
-        scalar_passed flow (scalar_formals p calls.formals) (subst (λ (rows : Table). counts (shape_of rows integer) ≡ true) same_table laws.whole)
+        typed_passed flow (subst (λ (rows : Table). counts (shape_of rows integer) ≡ true) same_table laws.whole)
         (subst (λ (rows : Table). lists (shape_of rows boolean) ≡ true) same_table laws.listed)
         (subst (λ (rows : Table). (t : ℕ) → words rows t ≡ words_of (words rows) (shape_of rows t)) same_table laws.word_law)
         (files_steps files apart ended up named no_fault)
