@@ -148,14 +148,16 @@ module _ (p : Program) where
   signature_in [] rest sub d = refl
   signature_in (x ∷ front) rest sub d = signature_in front rest sub d
 
-  result_there : (k : ℕ) (callee : TypedSub) → IsSub (bodies_of p) k callee → (sub_at (flow_typing flow) (suc k)).result ≡ callee.result
+  pub signature_there : (k : ℕ) (callee : TypedSub) → IsSub (bodies_of p) k callee → sub_at (flow_typing flow) (suc k) ≡ signature callee
   unfolding typed_program
-  result_there k callee (front, rest, is, long) =
-      ap (λ (z : Signature). z.result) (signature_same (suc k))
-      ∙ ap (λ (z : Signature). z.result)
-      (ap (λ n. get_or (map signature (bodies_of p)) n (record { formals = []; result = None })) (sym long)
+  signature_there k callee (front, rest, is, long) =
+      signature_same (suc k)
+      ∙ ap (λ n. get_or (map signature (bodies_of p)) n (record { formals = []; result = None })) (sym long)
       ∙ ap (λ xs. get_or (map signature xs) (length front) (record { formals = []; result = None })) is
-      ∙ signature_in front rest callee (record { formals = []; result = None }))
+      ∙ signature_in front rest callee (record { formals = []; result = None })
+
+  result_there : (k : ℕ) (callee : TypedSub) → IsSub (bodies_of p) k callee → (sub_at (flow_typing flow) (suc k)).result ≡ callee.result
+  result_there k callee is = ap (λ (z : Signature). z.result) (signature_there k callee is)
 
   -- Where steps are typed, it has a body, and is a function where the call has a result.
   pub are_answered : HaveBodies p → AreTyped flow → AreAnswered table (typed_of p) (bodies_of p)
