@@ -94,8 +94,8 @@ module _ (files : List (List SourceUnit)) where
     class = record {
       all_named = λ t d constant named is.
           access_named p text.named t d constant named (subst (λ (rows : Table). shape_of rows t ≡ shape.Access d constant named) (flow_table table (typed_of p)) is);
-      results = plain_results p calls (truths_scalar files apart ended up named no_fault views);
-      temporaries = temporaries_plain p calls (truths_scalar files apart ended up named no_fault views) (integers_scalar files apart ended up named no_fault views) lasts;
+      results = plain_results p calls.results (truths_scalar files apart ended up named no_fault views);
+      temporaries = temporaries_plain p calls.results (truths_scalar files apart ended up named no_fault views) (integers_scalar files apart ended up named no_fault views) lasts;
       formals = scalar_formals p calls.formals;
       copied = λ sub has q there n actuals result is known. copies p calls.copied sub has q there n actuals result is;
     }

@@ -202,13 +202,13 @@ module _ (p : Program) where
 
   -- ---- results and temporaries
 
-  module _ (calls : CallsFunctions p) (truths : is_scalar (full (known_of p).table boolean) ≡ true) where
+  module _ (results : CallsProcedures (flow_program (known_of p).table (typed_of p)) ⊎ ResultsAreScalar p) (truths : is_scalar (full (known_of p).table boolean) ≡ true) where
     same_table : table ≡ flow.table
     same_table = sym (flow_table table (typed_of p))
 
     -- Functions give values of scalar types, or procedures alone are called.
     pub plain_results : CallsProcedures flow ⊎ ArePlainResults (flow_typing flow)
-    plain_results = elim calls.results [
+    plain_results = elim results [
       | inl procedures ↦ inl procedures
       | inr scalar ↦ inr (
         λ n t is.
@@ -221,7 +221,7 @@ module _ (p : Program) where
     pub temporaries_plain : is_scalar (full (known_of p).table integer) ≡ true → ((x : ℕ) → is_temporary (object_at (typing_in p) x).kind ≡ false) → (x : ℕ)
         → is_temporary_object (flow_typing (flow_program (known_of p).table (typed_of p))) x ≡ true
         → is_scalar (full (flow_program (known_of p).table (typed_of p)).table (object_at (flow_typing (flow_program (known_of p).table (typed_of p))) x).of) ≡ true
-    temporaries_plain integers lasts x is = elim calls.results [
+    temporaries_plain integers lasts x is = elim results [
       | inl procedures ↦ absurd (
           let none : false ≡ true =
           sym (lasts x) ∙ sym (ap (λ (z : Typing). is_temporary_object z x) (typing_same table (typed_of p) (few_temporaries table (typed_of p) procedures))) ∙ is in cc)

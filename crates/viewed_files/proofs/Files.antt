@@ -1,6 +1,6 @@
 -- Borrowers and observers of files that break no rule are in order, and the runs of their program are sound where
 -- nothing is reported and formals and results are of scalar types.
-use Rattle.std.proofs.Common.{◌≡◌, refl, sym, ◌∙◌, subst, ◌⊎◌, ℕ, Bool, true, false, List, [], ◌∷◌, Some, None}
+use Rattle.std.proofs.Common.{◌≡◌, refl, sym, ◌∙◌, subst, ◌⊎◌, ℕ, suc, Bool, true, false, List, [], ◌∷◌, Some, None}
 use Rattle.spark_base.specs.Lists.{Has}
 use Rattle.ada_lexer.specs.Tokens.{Cut}
 use Rattle.ada_tree.specs.declared.unit.SourceUnit.{SourceUnit}
@@ -48,7 +48,8 @@ use Rattle.soundness.specs.Sound.{Accepted, ArePlainResults, RunIsSound}
 use Rattle.soundness.proofs.Points.{flow_table}
 use Rattle.viewed_soundness.specs.Holds.{PartsAreNamed}
 use Rattle.ready_laws.specs.InOrder.{IsInOrder, AreAnswered, AreStill, ArePassed}
-use Rattle.ready_laws.proofs.Actuals.{scalar_passed}
+use Rattle.soundness.proofs.Typings.{Agree, flow_agrees, formal_same, formal_object}
+use Rattle.ready_laws.proofs.Ready.{main_is}
 use Rattle.order_laws.specs.Orderly.{typed_of, typing_in, bodies_of, IsOrderly}
 use Rattle.order_laws.proofs.Accepted.{is_in_order}
 use Rattle.order_laws.proofs.Faults.{units_faultless}
@@ -61,7 +62,7 @@ use Rattle.meant_files.specs.Typed.{AreTyped}
 use Rattle.meant_files.proofs.Main.{files_denote}
 use Rattle.meant_files.proofs.Main as meant
 use Rattle.meant_files.proofs.Codes as codes
-use Rattle.sound_files.specs.Class.{CallsProcedures, CallsFunctions}
+use Rattle.sound_files.specs.Class.{CallsProcedures, ResultsAreScalar, CallsFunctions}
 use Rattle.sound_files.proofs.Laws.{table_laws, files_declared, integers_scalar, truths_scalar}
 use Rattle.sound_files.proofs.Called.{files_bodies}
 use Rattle.sound_files.proofs.Classes.{scalar_formals, copies, are_answered, plain_results, temporaries_plain}
@@ -70,9 +71,11 @@ use Rattle.sound_files.proofs.Main.{files_orderly}
 use Rattle.viewed_steps.specs.Ready.{IsReady}
 use Rattle.viewed_steps.proofs.Main.{ready_sound}
 use Rattle.view_laws.specs.InOrder.{AreViewsInOrder}
-use Rattle.view_laws.specs.Program.{IsViewProgram}
+use Rattle.view_laws.specs.Program.{PassActuals, IsViewProgram}
+use Rattle.view_laws.proofs.Passing.{weakly_passed, main_formals}
 use Rattle.view_laws.proofs.Ready.{views_ready}
-use Rattle.viewed_files.proofs.Sources.{scalar_plain}
+use Rattle.viewed_files.specs.Owners.{PassesOwners}
+use Rattle.viewed_files.proofs.Owners.{kind_plain, owners_passed, scalar_owners}
 use Rattle.viewed_files.proofs.Named.{named_sources}
 use Rattle.viewed_files.proofs.Main.{IsGiven, views_in_order}
 
@@ -174,11 +177,18 @@ module _ (files : List (List SourceUnit)) where
     unfolding typed_program
     subs_are = refl
 
-    -- Formals are of scalar types, and so are results, or procedures alone are called. Then the program is ready,
+    -- Formals are as asked, and results are of scalar types, or procedures alone are called. Then the program is
+    -- ready,
     module _ (main : ℕ) (is_main : (typed_of p).main ≡ Some main) (effects : Effects) (are : AreEffects flow_of_files effects) (none : AreReports flow_of_files effects [])
-        (calls : CallsFunctions p) where
+        (scalar : CallsProcedures flow_of_files ⊎ ResultsAreScalar p) (owners : PassesOwners flow_of_files) where
+      alike : Agree (flow_typing flow_of_files) (typing_in p)
+      alike = flow_agrees table (typed_of p)
+
       formals_plain : (x : ℕ) → flow.is_formal (typing_in p) x ≡ true → flow.is_anonymous (flow.view_of (typing_in p) x) ≡ false
-      formals_plain x is = scalar_plain (flow.view_of (typing_in p) x) (calls.formals x is)
+      formals_plain x is =
+          let formal : flow.is_formal (flow_typing flow_of_files) x ≡ true = formal_same (flow_typing flow_of_files) (typing_in p) alike x ∙ is in
+          sym (λ j. flow.is_anonymous (full (alike.table j) (formal_object (flow_typing flow_of_files) (typing_in p) alike x formal j).of))
+          ∙ kind_plain (flow_typing flow_of_files) x (owners.formals x formal)
 
       accepted : Accepted table (typed_of p) effects
       accepted = record {
@@ -221,13 +231,22 @@ module _ (files : List (List SourceUnit)) where
       integers = integers_scalar files apart ended up named no_fault files_views
 
       results : CallsProcedures flow_of_files ⊎ ArePlainResults (flow_typing flow_of_files)
-      results = plain_results p calls truths
+      results = plain_results p scalar truths
 
-      passed : ArePassed flow_of_files
-      passed =
-          scalar_passed flow_of_files (scalar_formals p calls.formals) (subst (λ (rows : Table). counts (shape_of rows integer) ≡ true) same_table laws.whole)
+      passes : PassActuals flow_of_files
+      passes =
+          owners_passed flow_of_files owners (subst (λ (rows : Table). counts (shape_of rows integer) ≡ true) same_table laws.whole)
           (subst (λ (rows : Table). lists (shape_of rows boolean) ≡ true) same_table laws.listed)
           (subst (λ (rows : Table). (t : ℕ) → words rows t ≡ words_of (words rows) (shape_of rows t)) same_table laws.word_law) typed
+
+      answered_there : AreAnswered table (typed_of p) order.rest
+      answered_there = subst (AreAnswered table (typed_of p)) rest_is (are_answered p (files_bodies files up named) typed)
+
+      still_there : AreStill table (typed_of p) order.first
+      still_there = subst (AreStill table (typed_of p)) first_is (packages_still p no_fault text_orderly.written)
+
+      passed_there : ArePassed flow_of_files
+      passed_there = weakly_passed flow_of_files passes
 
       view_program : IsViewProgram table (typed_of p) effects
       view_program = record {
@@ -235,31 +254,52 @@ module _ (files : List (List SourceUnit)) where
         owns = owns;
         parts_named = subst PartsAreNamed same_table parts_named;
         results = results;
-        temporaries = temporaries_plain p calls truths integers order.lasting;
-        formals = scalar_formals p calls.formals;
-        copied = λ sub has q there n actuals result is known. copies p calls.copied sub has q there n actuals result is;
+        temporaries = temporaries_plain p scalar truths integers order.lasting;
+        formals = owners.formals;
+        functions = owners.functions;
+        copied = λ sub has q there n actuals result is known. owners.copied sub has q there n actuals result is;
         sources = named_sources flow_of_files typed results;
         order = order;
-        answered = subst (AreAnswered table (typed_of p)) rest_is (are_answered p (files_bodies files up named) typed);
-        passed = passed;
-        still = subst (AreStill table (typed_of p)) first_is (packages_still p no_fault text_orderly.written);
+        answered = answered_there;
+        passes = passes;
+        passed = passed_there;
+        still = still_there;
+        main_plain = λ x has. owners.main (suc order.number)
+            (main_is table (typed_of p) effects accepted owns order answered_there passed_there still_there) x has
+            (main_formals table (typed_of p) effects accepted owns order answered_there passed_there still_there x has);
         views = views_here;
       }
 
-      pub files_called_ready : IsReady table (typed_of p) effects
-      files_called_ready = views_ready table (typed_of p) effects view_program
+      pub files_owners_ready : IsReady table (typed_of p) effects
+      files_owners_ready = views_ready table (typed_of p) effects view_program
 
       -- so each moment of each run is well owned, and none is a trap.
-      pub files_called_sound : (input : List ℕ) → RunIsSound table (typed_of p) input
-      files_called_sound input = ready_sound table (typed_of p) effects input files_called_ready
+      pub files_owners_sound : (input : List ℕ) → RunIsSound table (typed_of p) input
+      files_owners_sound input = ready_sound table (typed_of p) effects input files_owners_ready
 
   -- So it is if the files are parsed from texts: then their positions are as in a text.
+  pub parsed_owners_ready : (texts : List (List Cut)) → AreParsed 0 texts files → name_fault files ≡ None → type_fault p ≡ None → (main : ℕ) → (typed_of p).main ≡ Some main
+      → (effects : Effects) → AreEffects flow_of_files effects → AreReports flow_of_files effects [] → CallsProcedures flow_of_files ⊎ ResultsAreScalar p
+      → PassesOwners flow_of_files → IsReady table (typed_of p) effects
+  parsed_owners_ready texts parsed named no_fault =
+      files_owners_ready (files_apart texts files parsed) (files_ended (identified files) texts files parsed) (events_ascend texts files parsed) named no_fault
+
+  pub parsed_owners_sound : (texts : List (List Cut)) → AreParsed 0 texts files → name_fault files ≡ None → type_fault p ≡ None → (main : ℕ) → (typed_of p).main ≡ Some main
+      → (effects : Effects) → AreEffects flow_of_files effects → AreReports flow_of_files effects [] → CallsProcedures flow_of_files ⊎ ResultsAreScalar p
+      → PassesOwners flow_of_files → (input : List ℕ) → RunIsSound table (typed_of p) input
+  parsed_owners_sound texts parsed named no_fault =
+      files_owners_sound (files_apart texts files parsed) (files_ended (identified files) texts files parsed) (events_ascend texts files parsed) named no_fault
+
+  -- Formals of scalar types are as asked.
+  owners_of : CallsFunctions p → PassesOwners flow_of_files
+  owners_of calls = scalar_owners flow_of_files (scalar_formals p calls.formals) (copies p calls.copied)
+
   pub parsed_called_ready : (texts : List (List Cut)) → AreParsed 0 texts files → name_fault files ≡ None → type_fault p ≡ None → (main : ℕ) → (typed_of p).main ≡ Some main
       → (effects : Effects) → AreEffects flow_of_files effects → AreReports flow_of_files effects [] → CallsFunctions p → IsReady table (typed_of p) effects
-  parsed_called_ready texts parsed named no_fault =
-      files_called_ready (files_apart texts files parsed) (files_ended (identified files) texts files parsed) (events_ascend texts files parsed) named no_fault
+  parsed_called_ready texts parsed named no_fault main is_main effects are none calls =
+      parsed_owners_ready texts parsed named no_fault main is_main effects are none calls.results (owners_of calls)
 
   pub parsed_called_sound : (texts : List (List Cut)) → AreParsed 0 texts files → name_fault files ≡ None → type_fault p ≡ None → (main : ℕ) → (typed_of p).main ≡ Some main
       → (effects : Effects) → AreEffects flow_of_files effects → AreReports flow_of_files effects [] → CallsFunctions p → (input : List ℕ) → RunIsSound table (typed_of p) input
-  parsed_called_sound texts parsed named no_fault =
-      files_called_sound (files_apart texts files parsed) (files_ended (identified files) texts files parsed) (events_ascend texts files parsed) named no_fault
+  parsed_called_sound texts parsed named no_fault main is_main effects are none calls =
+      parsed_owners_sound texts parsed named no_fault main is_main effects are none calls.results (owners_of calls)

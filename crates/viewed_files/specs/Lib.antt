@@ -5,3 +5,4 @@ pub mod Places
 pub mod Laid
 -- a class of texts
 pub mod Class
+pub mod Owners
