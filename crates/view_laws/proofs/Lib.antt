@@ -5,6 +5,7 @@ pub mod Inner
 pub mod Calls
 pub mod Packages
 pub mod Facts
+pub mod Formals
 pub mod Scoped
 pub mod Points
 pub mod Spared

@@ -24,7 +24,7 @@ use Rattle.soundness.specs.Sound.{Stage, facts_of, AreStages, IsProcedure, InSco
 use Rattle.soundness.proofs.Points.{sub_there}
 use Rattle.soundness.proofs.Successors.{calls_cases}
 use Rattle.owned_loans.specs.Views.{known_gone, Views, Viewed}
-use Rattle.viewed_steps.specs.Sound.{IsResting, HoldsAt, ArePlaced, NoneAbove, ViewStage, stages_of, GoneElsewhere, AreWaiting, IsRunning, AreTurned, AreLeft, Follows, steps_on, leaves_scope, begins_main, calls_one, ends_one, LeadsAlong}
+use Rattle.viewed_steps.specs.Sound.{AreScalarFormals, IsResting, HoldsAt, ArePlaced, NoneAbove, ViewStage, stages_of, GoneElsewhere, AreWaiting, IsRunning, AreTurned, AreLeft, Follows, steps_on, leaves_scope, begins_main, calls_one, ends_one, LeadsAlong}
 use Rattle.viewed_steps.specs.Ready.{IsReady}
 use Rattle.viewed_steps.proofs.Waiting.{StandsBetween, all_between}
 use Rattle.viewed_steps.proofs.Standing as standing
@@ -37,7 +37,7 @@ use Rattle.viewed_facts.proofs.Steps.{named_definite}
 use Rattle.viewed_facts.proofs.Frames.{between_named, IsDefiniteHere}
 use Rattle.viewed_facts.proofs.Stepping.{told_next, told_left}
 
-module _ (table : Table) (typed : TypedProgram) (effects : Effects) (input : List ℕ) (ready : IsReady table typed effects) where
+module _ (table : Table) (typed : TypedProgram) (effects : Effects) (input : List ℕ) (ready : IsReady table typed effects) (scalars : AreScalarFormals (flow_program table typed)) where
   abbrev program : FlowProgram
   program = flow_program table typed
 
@@ -102,9 +102,9 @@ module _ (table : Table) (typed : TypedProgram) (effects : Effects) (input : Lis
       begins_there : (w : Way) → IsDefiniteOf program effects stages w → Begins (IsOn s (λ f. f ≡ depth → ⊥) m n same) w
       begins_there w (g, has, definite) = elim (between g has) [
         | inl first ↦ absurd (unmoved g first.0 w definite)
-        | inr (some, less, callee, waits) ↦ named_begins s (λ f. f ≡ depth → ⊥) m n same g.stage.depth
+        | inr (some, less, callee, backs, waits) ↦ named_begins s (λ f. f ≡ depth → ⊥) m n same g.stage.depth
             (λ e. omega (arith, less, some, e)) (λ e. omega (arith, less, e)) w
-            (between_named table typed effects unmoved_stage local state depth g (inr (some, less, callee, waits)) w definite)
+            (between_named table typed effects unmoved_stage local state depth g (inr (some, less, callee, backs, waits)) w definite)
       ]
 
   -- ---- the frames after a step
@@ -146,7 +146,7 @@ module _ (table : Table) (typed : TypedProgram) (effects : Effects) (input : Lis
           | inl is ↦ unmoved below (on.0 ∙ packages_first none) w (same_stage below g is w definite)
           | inr never ↦ never
         ]
-    follows_told (calls_one waits same on fresh fewer words) = λ w l (g, has, definite) reaches. by_frame waits same on fresh fewer words w l g has definite reaches
+    follows_told (calls_one waits same on fresh fewer words) = λ w l (g, has, definite) reaches. by_frame waits same on fresh fewer (words scalars) w l g has definite reaches
       where
         by_frame : (waits : Stage) → around ≡ record { stage = waits; views = top.views } ∷ older → IsOnward top.stage waits → next.stage.before ≡ []
             → ((f : Fact) → Has (facts_of program effects waits) f → Has (facts_of program effects top.stage) f) → AreSameWords s (λ f. Unit {0}) state.memory after_step.memory
@@ -164,7 +164,7 @@ module _ (table : Table) (typed : TypedProgram) (effects : Effects) (input : Lis
                   all w l (top, inl refl, subst (λ d. IsDefiniteBy (home s d) top.views (facts_of program effects top.stage) w) on.1 before) reaches)
             ]
     follows_told (ends_one same words) = λ w l (g, has, definite) reaches.
-        told_ended state top.stage.depth state.memory after_step.memory older between words
+        told_ended state top.stage.depth state.memory after_step.memory older between (words scalars)
         (λ v k (h, there, is) r. told v k (h, inr there, is) r) w l (g, subst (λ gs. Has gs g) (sym same) has, definite) reaches
 
   -- ---- what holds at a step
@@ -179,7 +179,7 @@ module _ (table : Table) (typed : TypedProgram) (effects : Effects) (input : Lis
   between_of state top views older [] stages running g has = absurd stages
   between_of state top views [] (f ∷ outer) stages running g has = absurd has
   between_of state top views (below ∷ more) (f ∷ outer) stages running g has =
-      all_between table typed effects unmoved_stage local state top.frame.sub top.depth (below ∷ more) outer stages.2
+      all_between table typed effects unmoved_stage local state top.frame.sub top.depth top.frame.returns (below ∷ more) outer stages.2
       (let deep = stages.1 in omega (arith, deep)) running.2 g has
 
   none_then : (top : Stage) → top.frame.sub ≡ 0 → (v : Views) (w : Way) → Here top.depth v (facts_then top) [] w → ⊥
@@ -196,7 +196,7 @@ module _ (table : Table) (typed : TypedProgram) (effects : Effects) (input : Lis
   module _ (state : State) (top : Stage) (below : ViewStage) (more_frames : List ViewStage) (rest : List Frame) (named : NamedSub) (p : NamedPoint)
       (frames : state.frames ≡ top.frame ∷ (below.stage.frame ∷ rest)) (deep : top.depth ≡ suc (length rest))
       (stages : AreStages (stages_of (below ∷ more_frames)) (below.stage.frame ∷ rest))
-      (running : IsProcedure table typed top.frame.sub × IsResting s top × AreWaiting table typed effects state top.frame.sub (below ∷ more_frames))
+      (running : IsProcedure table typed top.frame.sub × IsResting s top × AreWaiting table typed effects state top.frame.sub top.frame.returns (below ∷ more_frames))
       (of_sub : IsNamedSub (flow_named table typed) top.frame.sub named) (at_point : IsAtPoint named.points top.frame.next p)
       (path : ControlPath (path_points program effects (sub_of program top.frame.sub)) top.before top.frame.next) (views : Views)
       (viewed_before : Viewed (home s (suc (length rest))) (is_observer s) (known_gone (home s (suc (length rest))) (GoneElsewhere program effects (below ∷ more_frames))) views

@@ -24,12 +24,12 @@ use Rattle.soundness.specs.Sound.{Stage, facts_of, AreStages, IsProcedure, InSco
 use Rattle.soundness.proofs.Points.{flow_at, sub_there, point_there, point_in}
 use Rattle.soundness.proofs.Successors.{calls_cases, finish_or}
 use Rattle.owned_loans.specs.Views.{known_gone, Views, Viewed}
-use Rattle.viewed_steps.specs.Sound.{IsResting, HoldsAt, ArePlaced, NoneAbove, ViewStage, stages_of, GoneElsewhere, AreWaiting, IsRunning}
+use Rattle.viewed_steps.specs.Sound.{AreScalarFormals, IsResting, HoldsAt, ArePlaced, NoneAbove, ViewStage, stages_of, GoneElsewhere, AreWaiting, IsRunning}
 use Rattle.viewed_steps.specs.Ready.{IsReady}
 use Rattle.viewed_steps.proofs.Standing as standing
 use Rattle.viewed_steps.proofs.Calling as calling
 use Rattle.exact_facts.specs.Exact.{NoneFails, checks_of}
-use Rattle.exact_facts.proofs.Calls.{all_spots}
+use Rattle.viewed_facts.proofs.Spots.{spots_none}
 use Rattle.viewed_facts.specs.Exact.{IsDefiniteOf, ExcusedHold}
 use Rattle.viewed_facts.proofs.Stepping.{checks_hold, ended_checks_hold}
 
@@ -37,7 +37,7 @@ pub end_or : (i : Instruction) → ((x : ℕ) × (i ≡ EndScope x)) ⊎ ((x : �
 end_or (EndScope x) = inl (x, refl)
 end_or i = inr (λ x e. cc)
 
-module _ (table : Table) (typed : TypedProgram) (effects : Effects) (input : List ℕ) (ready : IsReady table typed effects) where
+module _ (table : Table) (typed : TypedProgram) (effects : Effects) (input : List ℕ) (ready : IsReady table typed effects) (scalars : AreScalarFormals (flow_program table typed)) where
   abbrev program : FlowProgram
   program = flow_program table typed
 
@@ -96,7 +96,7 @@ module _ (table : Table) (typed : TypedProgram) (effects : Effects) (input : Lis
   module _ (state : State) (top : Stage) (below : ViewStage) (more_frames : List ViewStage) (rest : List Frame) (named : NamedSub) (p : NamedPoint)
       (frames : state.frames ≡ top.frame ∷ (below.stage.frame ∷ rest)) (deep : top.depth ≡ suc (length rest))
       (stages : AreStages (stages_of (below ∷ more_frames)) (below.stage.frame ∷ rest))
-      (running : IsProcedure table typed top.frame.sub × IsResting s top × AreWaiting table typed effects state top.frame.sub (below ∷ more_frames))
+      (running : IsProcedure table typed top.frame.sub × IsResting s top × AreWaiting table typed effects state top.frame.sub top.frame.returns (below ∷ more_frames))
       (of_sub : IsNamedSub (flow_named table typed) top.frame.sub named) (at_point : IsAtPoint named.points top.frame.next p)
       (path : ControlPath (path_points program effects (sub_of program top.frame.sub)) top.before top.frame.next) (views : Views)
       (viewed_before : Viewed (home s (suc (length rest))) (is_observer s) (known_gone (home s (suc (length rest))) (GoneElsewhere program effects (below ∷ more_frames))) views
@@ -116,7 +116,7 @@ module _ (table : Table) (typed : TypedProgram) (effects : Effects) (input : Lis
     no_spots n actuals e no_call before =
         sym (ap (λ z. call_spots z (passings z (sub_at z n)) actuals before) (standing.same table typed effects input ready))
         ∙ ap (λ z. call_spots s z actuals before) (calling.ways_are table typed effects input ready state top below more_frames rest named p frames deep stages running of_sub at_point path views viewed_before kept scope holds placed_before above n actuals e no_call)
-        ∙ all_spots s ready.accepted.settled ready.owns (sub_of program n).formals actuals (calling.called table typed effects input ready state top below more_frames rest named p frames deep stages running of_sub at_point path views viewed_before kept scope holds placed_before above n actuals e no_call).actuals_stay before
+        ∙ spots_none s ready.accepted.settled ready.owns (sub_of program n).formals actuals (calling.called table typed effects input ready state top below more_frames rest named p frames deep stages running of_sub at_point path views viewed_before kept scope holds placed_before above n actuals e no_call).actuals_stay before
 
     main_holds : Holds top state
     main_holds = elim (finish_or p.instr) [

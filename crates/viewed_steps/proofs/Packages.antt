@@ -177,6 +177,9 @@ module _ (table : Table) (typed : TypedProgram) (effects : Effects) (input : Lis
   abbrev HasNone : Views → Type 0
   HasNone v = (x : ℕ) → v.way x ≡ None
 
+  abbrev blank_views : Views
+  blank_views = record { way = λ x. None; loan = λ x. ways.Lost 0; up = λ x. ways.Lost 0; cell = λ x. 0 }
+
   no_views : {A : Type 0} (v : Views) → HasNone v → (x : ℕ) (w : Way) → v.way x ≡ Some w → A
   no_views v none x w has = absurd (none_some w (sym (none x) ∙ has))
 
@@ -200,7 +203,7 @@ module _ (table : Table) (typed : TypedProgram) (effects : Effects) (input : Lis
       views = views;
       older = below ∷ [];
       stages = subst (AreStages (stage ready.main 1 ∷ (below.stage ∷ []))) (sym begins_main) (refl, refl, (refl, deep, tt));
-      running = (main_runs, ((λ r has. absurd has), refl), first);
+      running = (main_runs, ((λ x has. inl (ready.main_plain x has)), (λ r has. absurd has)), (first, refl));
       awaited = (
         first_waits 1 ready.main [] ready.main_there.named ready.main_there.stands ready.main_there.point ready.main_there.points ready.main_there.begins,
         (main_awaits, first.1.0),
