@@ -92,7 +92,7 @@ module _ (s : Typing) (f : ℕ) where
 
 module _ (s : Typing) (settled : IsSettled s.table) (own_law : OwnsByShape s.table) (hands : List Waiting) where
   -- what a scalar place in a variable has isn't gone
-  fixed_wholly : (k : Place) → IsFixed s k → (m : Memory) → Kept s m hands → IsWholly s k m
+  pub fixed_wholly : (k : Place) → IsFixed s k → (m : Memory) → Kept s m hands → IsWholly s k m
   fixed_wholly k fixed m kept only = (
     spot_whole s settled m hands only kept k (fixed_at s settled k fixed) (fixed_spot s settled k fixed m hands)
         (plain_whole s settled m hands k (fixed_at s settled k fixed) (fixed_spot s settled k fixed m hands) (λ p. no_leaf s.table settled k.of fixed.scalar p)),

@@ -123,7 +123,7 @@ module _ (h : Here) (settled : IsSettled h.typing.table) (own_law : OwnsByShape 
   not_owning t e = own_law t ∙ scalar_owns (shape_of h.typing.table t) (is_owning h.typing.table) e
 
   -- what a place of a scalar type has isn't gone
-  scalar_none : (k : Place) (l : Loc) (t : ℕ) → Spot h.typing m hands k l → k.of ≡ t → is_scalar (full h.typing.table t) ≡ true → NoneGone (slots_of h.typing m k)
+  pub scalar_none : (k : Place) (l : Loc) (t : ℕ) → Spot h.typing m hands k l → k.of ≡ t → is_scalar (full h.typing.table t) ≡ true → NoneGone (slots_of h.typing m k)
   scalar_none k l t spot of scalar =
       spot_whole h.typing settled m hands law.only law.kept k l spot
       (plain_whole h.typing settled m hands k l spot (λ p. no_leaf h.typing.table settled k.of (ap (λ z. is_scalar (full h.typing.table z)) of ∙ scalar) p))
