@@ -1,6 +1,6 @@
 -- A text with a procedure that is called and lends to an observer, of the second class of the law on runs with
 -- borrowers and observers, and that law of it.
-use Rattle.std.specs.Prelude.{codes, is_some}
+use Rattle.std.specs.Prelude.{codes}
 use Rattle.std.proofs.Common.{◌≡◌, ℕ, ◌+◌, inl, Bool, true, false, not, ◌&&◌, ◌||◌, List, [], ◌∷◌, refl, sym, ◌∙◌, Some, None, Ok, Err, true≢false}
 use Rattle.ada_lexer.specs.Tokens.{Cut, CutResult, tokens}
 use Rattle.ada_tree.specs.declared.declaration.Item.TheVariants as item
@@ -20,15 +20,15 @@ use Rattle.ada_tree.specs.declared.unit.SourceUnit.{SourceUnit}
 use Rattle.ada_tree.specs.declared.unit.SourceUnit.TheVariants as unit
 use Rattle.ada_grammar.proofs.SmallSources.{IsTextOf, computes, source_of, at, id, mark, expr_of, object, null_at, sole, formals_of, package_of, package_body_of, subprogram_of}
 use Rattle.name_events.specs.Faults.{name_fault}
-use Rattle.type_definitions.specs.Types.{full, is_scalar, is_owning}
+use Rattle.type_definitions.specs.Types.{full, is_scalar}
 use Rattle.type_definitions.specs.Whole.{type_fault}
 use Rattle.typing_steps.specs.Programs.{program_of}
 use Rattle.typed_tree.specs.Trees.{TypedTree, More}
 use Rattle.typed_tree.specs.declared.object.Object.{Object}
 use Rattle.typed_tree.specs.Programs.{text_io}
-use Rattle.flow_paths.specs.Objects.{Typing, Signature, object_at, sub_at, is_state, is_formal_kind, is_formal, is_package_object}
+use Rattle.flow_paths.specs.Objects.{Typing, Signature, object_at, sub_at, is_formal_kind, is_formal}
 use Rattle.flow_paths.specs.Points.{FlowPoint}
-use Rattle.flow_paths.specs.Laid.{FlowSub, flow_typing}
+use Rattle.flow_paths.specs.Laid.{FlowSub}
 use Rattle.flow_paths.specs.Effects.{asks_for_end, path_points}
 use Rattle.flow_paths.specs.Aliases.{alias_reports}
 use Rattle.flow_paths.specs.Views.{encloses_within}
@@ -39,7 +39,7 @@ use Rattle.file_positions.specs.Texts.{AreParsed}
 use Rattle.file_positions.proofs.Cuts.{cut_in_order}
 use Rattle.order_laws.specs.Orderly.{typed_of, typing_in}
 use Rattle.sound_files.specs.Class.{CallsProcedures, FormalsAreScalar, CopyToVariables}
-use Rattle.sound_files.proofs.Classes.{scalar_formals, copies, called_alike}
+use Rattle.sound_files.proofs.Classes.{called_alike}
 use Rattle.viewed_files.proofs.Files.{parsed_called_sound}
 use Rattle.accepted_runs.proofs.Runs.{RunsAreSound}
 use Rattle.accepted_runs.proofs.Views.{AreInSecondViewClass}
@@ -85,16 +85,9 @@ typed = refl
 
 -- ---- it is of the class
 
-abbrev s : Typing
-s = flow_typing (flow_of files)
-
 implied : (a b : Bool) → not a || b ≡ true → a ≡ true → b ≡ true
 implied true b e is = e
 implied false b e is = absurd (true≢false (sym is))
-
-isnt_true : (a : Bool) → not a ≡ true → a ≡ false
-isnt_true true e = absurd (true≢false (sym e))
-isnt_true false e = refl
 
 pub is_main : (typed_of (program_of files)).main ≡ Some 2
 unfolding computes naming typing lowering
@@ -140,18 +133,8 @@ copied = called_alike (program_of files) (λ n actuals.
     copied_in (sub_at own n).formals actuals
     (at_any (λ (z : Signature). in_alone z.formals ≡ true) own.subs (record { formals = []; result = None }) refl (each (λ (z : Signature). in_alone z.formals) own.subs ins) n))
 
-abbrev owns_if_global : Object → Bool
-owns_if_global o = not (is_some o.«package» && not (is_state o.kind)) || not (is_owning (flow_of files).table o.of)
-
-owners : all_pass owns_if_global s.objects ≡ true
-unfolding computes naming typing lowering
-owners = refl
-
-pub own_nothing : (x : ℕ) → is_package_object s x ≡ true → is_owning (flow_of files).table (object_at s x).of ≡ false
-own_nothing x is =
-    isnt_true (is_owning (flow_of files).table (object_at s x).of)
-    (implied (is_package_object s x) (not (is_owning (flow_of files).table (object_at s x).of))
-    (at_any (λ (o : Object). owns_if_global o ≡ true) s.objects text_io refl (each owns_if_global s.objects owners) x) is)
+pub class : AreInSecondViewClass files
+class = record { main = 2; is_main = is_main; calls = record { results = inl calls; formals = formals; copied = copied } }
 
 -- ---- nothing is reported of it
 
@@ -166,9 +149,6 @@ no_aliases = refl
 paths : all_pass (λ (sub : FlowSub). path_passes 9 (path_points (flow_of files) (nothing (flow_of files) passes) sub) [] 0) (flow_of files).subs ≡ true
 unfolding computes naming typing lowering
 paths = refl
-
-pub class : AreInSecondViewClass files (nothing (flow_of files) passes)
-class = record { main = 2; is_main = is_main; calls = calls; formals = formals; copied = copied; spare = inl own_nothing }
 
 -- ---- so its runs are sound
 
@@ -195,4 +175,4 @@ lent_sound input =
     parsed_called_sound files (cuts ∷ []) parsed named typed class.main class.is_main (nothing (flow_of files) passes) (no_effects (flow_of files) passes)
     (no_reports (flow_of files) passes no_aliases 9
     (each (λ (sub : FlowSub). path_passes 9 (path_points (flow_of files) (nothing (flow_of files) passes) sub) [] 0) (flow_of files).subs paths))
-    class.calls (scalar_formals (program_of files) class.formals) (copies (program_of files) class.copied) class.spare input
+    class.calls input

@@ -20,7 +20,6 @@ use Rattle.program_check.specs.Sources.{flow_of}
 use Rattle.file_positions.specs.Texts.{AreParsed}
 use Rattle.file_positions.proofs.Cuts.{cut_in_order}
 use Rattle.meant_files.specs.Formless.{IsFormless}
-use Rattle.sound_files.proofs.Classes.{scalar_formals, copies}
 use Rattle.viewed_files.proofs.Files.{parsed_called_sound}
 use Rattle.accepted_runs.proofs.Runs.{RunsAreSound}
 use Rattle.accepted_runs.proofs.Views.{AreInViewClass, AreInSecondViewClass, first_second}
@@ -105,12 +104,12 @@ parsed : AreParsed 0 (cuts ∷ []) files
 unfolding computes
 parsed = (cut_in_order 0 text 1000 cuts is_cut, spelled, tt)
 
-second : AreInSecondViewClass files (nothing (flow_of files) passes)
-second = first_second files (nothing (flow_of files) passes) class
+second : AreInSecondViewClass files
+second = first_second files class
 
 pub observed_sound : RunsAreSound files
 observed_sound input =
     parsed_called_sound files (cuts ∷ []) parsed named typed second.main second.is_main (nothing (flow_of files) passes) (no_effects (flow_of files) passes)
     (no_reports (flow_of files) passes no_aliases 9
     (each (λ (sub : FlowSub). path_passes 9 (path_points (flow_of files) (nothing (flow_of files) passes) sub) [] 0) (flow_of files).subs paths))
-    second.calls (scalar_formals (program_of files) second.formals) (copies (program_of files) second.copied) second.spare input
+    second.calls input

@@ -6,8 +6,7 @@ use Rattle.ada_tree.specs.declared.unit.SourceUnit.{SourceUnit}
 use Rattle.typing_steps.specs.Programs.{program_of}
 use Rattle.flow_paths.specs.declared.report.Effects.{Effects}
 use Rattle.file_positions.specs.Texts.{AreParsed}
-use Rattle.sound_files.specs.Class.{IsNamedText}
-use Rattle.function_files.specs.Class.{CallsFunctions}
+use Rattle.sound_files.specs.Class.{IsNamedText, CallsFunctions}
 use Rattle.function_files.proofs.Main.{parsed_functions_sound, parsed_functions_hold, parsed_functions_with_null}
 use Rattle.command_words.specs.Words.{Check}
 use Rattle.run_command.specs.Answers.{Answer}

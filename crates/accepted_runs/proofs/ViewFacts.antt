@@ -1,5 +1,5 @@
 -- In runs of programs with borrowers and observers that `check` accepts, no leak check fails that the leak plan
--- excuses: where procedures are called whose formals are of scalar types, and so without formals and calls.
+-- excuses: where formals and results are of scalar types, and so without formals and calls.
 use Rattle.std.proofs.Common.{◌≡◌, ℕ, List, Some}
 use Rattle.spark_base.specs.declared.limits.TheConstants.{SOURCE_BYTES}
 use Rattle.ada_tree.specs.declared.unit.SourceUnit.{SourceUnit}
@@ -20,7 +20,7 @@ use Rattle.accepted_runs.proofs.Views.{AreInViewClass, AreInSecondViewClass, pas
 
 -- ---- with calls
 
-pub passed_called_hold : (texts : List (List ℕ)) (trees : List (List SourceUnit)) (effects : Effects) → Passes texts trees effects → AreInSecondViewClass trees effects
+pub passed_called_hold : (texts : List (List ℕ)) (trees : List (List SourceUnit)) (effects : Effects) → Passes texts trees effects → AreInSecondViewClass trees
     → RunsHold trees effects
 passed_called_hold texts trees effects passes class input =
     run_holds (known_of (program_of trees)).table (typed_of (program_of trees)) effects (passed_called_ready texts trees effects passes class) input
@@ -29,7 +29,7 @@ passed_called_hold texts trees effects passes class input =
 -- excused.
 pub accepted_called_hold : (stored : List (List ℕ × List ℕ)) (input : List ℕ) (words names : List (List ℕ)) (answer : Answer)
     → command_of words ≡ Some (Check names) → Product stored input words answer → answer.status ≡ 0
-    → (is : Passed (sources stored 0 SOURCE_BYTES names)) × (AreInSecondViewClass is.trees is.effects → RunsHold is.trees is.effects)
+    → (is : Passed (sources stored 0 SOURCE_BYTES names)) × (AreInSecondViewClass is.trees → RunsHold is.trees is.effects)
 accepted_called_hold stored input words names answer command product zero =
     let is : Passed (sources stored 0 SOURCE_BYTES names) = product_passed stored input words names answer command product zero in
     (is, passed_called_hold is.texts is.trees is.effects is.passes)
@@ -41,4 +41,4 @@ pub accepted_views_hold : (stored : List (List ℕ × List ℕ)) (input : List �
     → (is : Passed (sources stored 0 SOURCE_BYTES names)) × (AreInViewClass is.trees → RunsHold is.trees is.effects)
 accepted_views_hold stored input words names answer command product zero =
     let found = accepted_called_hold stored input words names answer command product zero in
-    (found.0, λ class. found.1 (first_second found.0.trees found.0.effects class))
+    (found.0, λ class. found.1 (first_second found.0.trees class))

@@ -22,7 +22,7 @@ use Rattle.accepted_runs.proofs.Parsed.{are_parsed}
 use Rattle.accepted_runs.proofs.Runs.{RunsAreWithNull}
 use Rattle.accepted_runs.proofs.Views.{AreInSecondViewClass, AreInViewClass, passed_called_ready, first_second}
 
-pub passed_called_with_null : (texts : List (List ℕ)) (trees : List (List SourceUnit)) (effects : Effects) → Passes texts trees effects → AreInSecondViewClass trees effects
+pub passed_called_with_null : (texts : List (List ℕ)) (trees : List (List SourceUnit)) (effects : Effects) → Passes texts trees effects → AreInSecondViewClass trees
     → RunsAreWithNull trees
 passed_called_with_null texts trees effects passes class input =
     viewed_runs (known_of (program_of trees)).table (typed_of (program_of trees)) effects input (passed_called_ready texts trees effects passes class)
@@ -33,7 +33,7 @@ passed_called_with_null texts trees effects passes class input =
 -- with null in moved places.
 pub accepted_called_with_null : (stored : List (List ℕ × List ℕ)) (input : List ℕ) (words names : List (List ℕ)) (answer : Answer)
     → command_of words ≡ Some (Check names) → Product stored input words answer → answer.status ≡ 0
-    → (is : Passed (sources stored 0 SOURCE_BYTES names)) × (AreInSecondViewClass is.trees is.effects → RunsAreWithNull is.trees)
+    → (is : Passed (sources stored 0 SOURCE_BYTES names)) × (AreInSecondViewClass is.trees → RunsAreWithNull is.trees)
 accepted_called_with_null stored input words names answer command product zero =
     let is : Passed (sources stored 0 SOURCE_BYTES names) = product_passed stored input words names answer command product zero in
     (is, passed_called_with_null is.texts is.trees is.effects is.passes)
@@ -44,4 +44,4 @@ pub accepted_views_with_null : (stored : List (List ℕ × List ℕ)) (input : L
     → (is : Passed (sources stored 0 SOURCE_BYTES names)) × (AreInViewClass is.trees → RunsAreWithNull is.trees)
 accepted_views_with_null stored input words names answer command product zero =
     let found = accepted_called_with_null stored input words names answer command product zero in
-    (found.0, λ class. found.1 (first_second found.0.trees found.0.effects class))
+    (found.0, λ class. found.1 (first_second found.0.trees class))

@@ -1,6 +1,6 @@
 -- Parsed files that call functions with scalar results are ready where they have no reports. So their runs are
 -- sound, no leak check fails in them that is excused, and with null in moved places they give the same.
-use Rattle.std.proofs.Common.{◌≡◌, sym, ap, ◌∙◌, subst, inl, inr, ℕ, true, false, List, [], None}
+use Rattle.std.proofs.Common.{◌≡◌, sym, subst, ℕ, true, false, List, [], None}
 use Rattle.ada_lexer.specs.Tokens.{Cut}
 use Rattle.ada_tree.specs.declared.unit.SourceUnit.{SourceUnit}
 use Rattle.name_events.specs.Outline.{source_events}
@@ -8,14 +8,13 @@ use Rattle.name_events.specs.Identified.{identified}
 use Rattle.name_events.specs.Faults.{name_fault}
 use Rattle.resolved_tree.specs.Trees.{Program}
 use Rattle.typing_steps.specs.Programs.{program_of}
-use Rattle.type_definitions.specs.Types.{Table, shape_of, full, is_scalar, words, words_of}
+use Rattle.type_definitions.specs.Types.{Table, shape_of, words, words_of}
 use Rattle.type_definitions.specs.declared.table.Shape.TheVariants as shape
 use Rattle.type_definitions.specs.Entries.{integer, boolean}
 use Rattle.type_definitions.specs.Whole.{known_of, type_fault}
-use Rattle.typed_tree.specs.Programs.{site_of}
 use Rattle.flow_paths.specs.declared.report.Effects.{Effects}
-use Rattle.flow_paths.specs.Objects.{Typing, Signature, object_at}
-use Rattle.flow_paths.specs.Laid.{FlowProgram, flow_typing, flow_program}
+use Rattle.flow_paths.specs.Objects.{object_at}
+use Rattle.flow_paths.specs.Laid.{FlowProgram, flow_program}
 use Rattle.flow_paths.specs.Scopes.{is_temporary}
 use Rattle.flow_paths.specs.Effects.{AreEffects}
 use Rattle.flow_paths.specs.Reports.{AreReports}
@@ -28,33 +27,30 @@ use Rattle.file_positions.proofs.Ascending.{events_ascend}
 use Rattle.file_positions.proofs.Main.{files_apart, files_ended}
 use Rattle.ready_types.proofs.Files.{files_settled, files_own}
 use Rattle.typed_laws.specs.Fine.{counts, lists}
-use Rattle.typed_points.proofs.Values.{truth, numbers}
 use Rattle.soundness.specs.Typed.{OwnsByShape}
-use Rattle.soundness.specs.Sound.{Accepted, IsFunctionClass, is_temporary_object, RunIsSound}
+use Rattle.soundness.specs.Sound.{Accepted, IsFunctionClass, RunIsSound}
 use Rattle.soundness.specs.Ready.{IsReady}
-use Rattle.soundness.proofs.Points.{flow_table, typing_same}
-use Rattle.soundness.proofs.Temporaries.{few_temporaries}
+use Rattle.soundness.proofs.Points.{flow_table}
 use Rattle.soundness.proofs.Main.{ready_sound}
 use Rattle.ready_laws.specs.InOrder.{ArePassed}
 use Rattle.ready_laws.proofs.Actuals.{scalar_passed}
 use Rattle.order_laws.specs.Orderly.{typed_of, typing_in, IsOrderly}
 use Rattle.order_laws.proofs.Accepted.{is_in_order, third_ready}
 use Rattle.package_values.proofs.Main.{packages_still}
-use Rattle.sound_files.specs.Class.{IsNamedText}
+use Rattle.gathered_laws.specs.Views.{AreViews}
+use Rattle.sound_files.specs.Class.{IsNamedText, CallsFunctions}
 use Rattle.sound_files.proofs.Access.{access_named}
 use Rattle.sound_files.proofs.First.{text_views}
-use Rattle.sound_files.proofs.Laws.{table_laws}
+use Rattle.sound_files.proofs.Laws.{table_laws, integers_scalar, truths_scalar}
 use Rattle.sound_files.proofs.Main.{files_orderly}
 use Rattle.sound_files.proofs.Called.{files_bodies}
-use Rattle.sound_files.proofs.Classes.{scalar_formals, signature_same, scalar_results, copies, are_answered}
+use Rattle.sound_files.proofs.Classes.{scalar_formals, copies, are_answered, plain_results, temporaries_plain}
 use Rattle.typed_files.proofs.Main.{files_fine, files_steps}
 use Rattle.exact_facts.specs.Exact.{RunHolds}
 use Rattle.exact_facts.proofs.Runs.{run_holds}
 use Rattle.null_places.specs.Cleared.{RunsWithNull}
 use Rattle.null_places.proofs.Typed.{typed_compared}
 use Rattle.null_places.proofs.Runs.{ready_runs}
-use Rattle.function_files.specs.Class.{CallsFunctions}
-use Rattle.function_files.proofs.Temporaries.{plain_temporaries}
 
 -- ---- files
 
@@ -82,26 +78,14 @@ module _ (files : List (List SourceUnit)) where
     owns : OwnsByShape table
     owns = subst OwnsByShape (flow_table table (typed_of p)) (files_own files apart ended no_fault (typed_of p))
 
+    views : AreViews p.units table
+    views = text_views p text.named
+
     orderly : IsOrderly p
-    orderly = files_orderly files apart ended up named no_fault (text_views p text.named) text.main text.is_main
-
-    numbers_there : is_scalar (full table integer) ≡ true
-    numbers_there =
-        numbers (site_of (known_of p) p.units) [] [] _ (table_laws files apart ended up named no_fault (text_views p text.named))
-
-    truths_there : is_scalar (full table boolean) ≡ true
-    truths_there =
-        truth (site_of (known_of p) p.units) [] [] _ (table_laws files apart ended up named no_fault (text_views p text.named))
+    orderly = files_orderly files apart ended up named no_fault views text.main text.is_main
 
     lasts : (x : ℕ) → is_temporary (object_at (typing_in p) x).kind ≡ false
     lasts = (is_in_order p effects no_fault accepted owns orderly).lasting
-
-    -- Nothing is a temporary where no function is called.
-    temporaries_plain : (x : ℕ) → is_temporary_object (flow_typing flow) x ≡ true → is_scalar (full flow.table (object_at (flow_typing flow) x).of) ≡ true
-    temporaries_plain x is = elim calls.results [
-      | inl procedures ↦ absurd (let none : false ≡ true = sym (lasts x) ∙ sym (ap (λ (z : Typing). is_temporary_object z x) (typing_same table (typed_of p) (few_temporaries table (typed_of p) procedures))) ∙ is in cc)
-      | inr scalar ↦ plain_temporaries table (typed_of p) numbers_there truths_there (scalar_results p scalar) lasts x is
-    ]
 
     same_table : table ≡ flow.table
     same_table = sym (flow_table table (typed_of p))
@@ -110,16 +94,8 @@ module _ (files : List (List SourceUnit)) where
     class = record {
       all_named = λ t d constant named is.
           access_named p text.named t d constant named (subst (λ (rows : Table). shape_of rows t ≡ shape.Access d constant named) (flow_table table (typed_of p)) is);
-      results = elim calls.results [
-        | inl procedures ↦ inl procedures
-        | inr scalar ↦ inr (
-          λ n t is.
-              subst (λ (rows : Table). is_scalar (full rows t) ≡ true) same_table
-              (scalar_results p scalar n t (sym (ap (λ (z : Signature). z.result) (signature_same p n)) ∙ is)),
-          subst (λ (rows : Table). is_scalar (full rows boolean) ≡ true) same_table truths_there,
-        )
-      ];
-      temporaries = temporaries_plain;
+      results = plain_results p calls (truths_scalar files apart ended up named no_fault views);
+      temporaries = temporaries_plain p calls (truths_scalar files apart ended up named no_fault views) (integers_scalar files apart ended up named no_fault views) lasts;
       formals = scalar_formals p calls.formals;
       copied = λ sub has q there n actuals result is known. copies p calls.copied sub has q there n actuals result is;
     }
@@ -127,7 +103,7 @@ module _ (files : List (List SourceUnit)) where
     -- Actuals stay within what they name, since calls are typed.
     passed : ArePassed flow
     passed =
-        let laws = table_laws files apart ended up named no_fault (text_views p text.named) in
+        let laws = table_laws files apart ended up named no_fault views in
         scalar_passed flow (scalar_formals p calls.formals) (subst (λ (rows : Table). counts (shape_of rows integer) ≡ true) same_table laws.whole)
         (subst (λ (rows : Table). lists (shape_of rows boolean) ≡ true) same_table laws.listed)
         (subst (λ (rows : Table). (t : ℕ) → words rows t ≡ words_of (words rows) (shape_of rows t)) same_table laws.word_law)

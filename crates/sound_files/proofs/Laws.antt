@@ -1,15 +1,19 @@
 -- The table of types of files without a fault of typing, and the types of what they declare.
-use Rattle.std.proofs.Common.{◌≡◌, ◌≤◌, inr, false, List, length, IsTrue, None}
+use Rattle.std.proofs.Common.{◌≡◌, ◌≤◌, inr, false, List, length, IsTrue, None, true, []}
 use Rattle.ada_tree.specs.declared.unit.SourceUnit.{SourceUnit}
 use Rattle.name_events.specs.Outline.{source_events}
 use Rattle.name_events.specs.Identified.{identified}
 use Rattle.name_events.specs.Faults.{name_fault}
 use Rattle.resolved_tree.specs.Trees.{Code, Program}
 use Rattle.type_definitions.specs.Whole.{at_first, outside, known_of, type_fault}
+use Rattle.type_definitions.specs.Types.{full, is_scalar}
+use Rattle.type_definitions.specs.Entries.{integer, boolean}
 use Rattle.typing_steps.specs.Programs.{program_of}
+use Rattle.typed_tree.specs.Programs.{site_of}
 use Rattle.type_sizes.specs.Formed.{all_formed}
 use Rattle.type_rules.proofs.Formed.{files_formed}
 use Rattle.typed_laws.specs.Fine.{Laws}
+use Rattle.typed_points.proofs.Values.{truth, numbers}
 use Rattle.settled_types.specs.Orderly.{at_start, IsOrderly as IsInOrder}
 use Rattle.orderly_files.specs.Apart.{AreApart}
 use Rattle.orderly_files.specs.Ended.{AllEnded}
@@ -60,6 +64,13 @@ module _ (files : List (List SourceUnit)) where
     -- The table of types is as typed expressions ask.
     pub table_laws : Laws (known_of p) (IsMade p.units)
     table_laws = program_laws p formed orderly none views (components_left p (records_apart (identified files) files named))
+
+    -- Integer and Boolean are scalar.
+    pub integers_scalar : is_scalar (full (known_of p).table integer) ≡ true
+    integers_scalar = numbers (site_of (known_of p) p.units) [] [] (IsMade p.units) table_laws
+
+    pub truths_scalar : is_scalar (full (known_of p).table boolean) ≡ true
+    truths_scalar = truth (site_of (known_of p) p.units) [] [] (IsMade p.units) table_laws
 
     flat : (u : Code) → Has p.units u → IsFlatUnit u
     flat u has = unit_flat u (files_written (identified files) (outside (known_of p)) files (procedures files named) u has (units_faultless p none u has))

@@ -1,7 +1,7 @@
 -- Programs with a main procedure and without anonymous access types, by their text: those without formals and
 -- calls, those that call procedures alone, whose formals are of scalar types, and those that call functions, too,
 -- whose results are.
-use Rattle.std.specs.Prelude.{◌≡◌, ℕ, true, Option, Some, None}
+use Rattle.std.specs.Prelude.{◌≡◌, ◌⊎◌, ℕ, true, Option, Some, None}
 use Rattle.spark_base.specs.Lists.{Has}
 use Rattle.resolved_tree.specs.Trees.{Code, Program}
 use Rattle.type_definitions.specs.Types.{full, is_scalar}
@@ -11,7 +11,7 @@ use Rattle.typed_tree.specs.Programs.{TypedSub}
 use Rattle.flow_paths.specs.Instructions.{Call}
 use Rattle.flow_paths.specs.Objects.{object_at, sub_at, is_formal}
 use Rattle.flow_paths.specs.Points.{FlowPoint}
-use Rattle.flow_paths.specs.Laid.{FlowSub, FlowProgram, flow_typing}
+use Rattle.flow_paths.specs.Laid.{FlowSub, FlowProgram, flow_typing, flow_program}
 use Rattle.machine.specs.States.{sub_of}
 use Rattle.soundness.specs.Sound.{calls_nothing, calls_procedures, AreCopied}
 use Rattle.gathered_laws.specs.Named.{IsNamed}
@@ -71,3 +71,10 @@ ResultsAreScalar p = (sub : TypedSub) → Has (bodies_of p) sub → (t : ℕ) �
 abbrev pub CopyToVariables : Program → Type 0
 CopyToVariables p =
     (sub : TypedSub) → Has (typed_of p).subs sub → CodeCalls (λ n actuals. AreCopied (typing_in p) (sub_at (typing_in p) n).formals actuals) sub.body
+
+pub record CallsFunctions (p : Program) : Type 0 where
+  -- results are of scalar types; or procedures alone are called
+  pub results : CallsProcedures (flow_program (known_of p).table (typed_of p)) ⊎ ResultsAreScalar p
+  -- formals, too, and actuals of modes `out` and `in out` go through no access value
+  pub formals : FormalsAreScalar p
+  pub copied : CopyToVariables p

@@ -67,7 +67,7 @@ use Rattle.viewed_soundness.proofs.Outcomes.{named_plain}
 use Rattle.viewed_steps.proofs.Read.{scalar_named}
 use Rattle.soundness.specs.Ready.{IsSupplied, Fills}
 use Rattle.viewed_steps.specs.Sound.{IsResting, HoldsAt, ArePlaced, NoneAbove, ViewStage, stages_of, GoneElsewhere, Disturbs, IsWaiting, AreWaiting, IsKindOfFormal, IsScalarObject, AreReturned, calls_one, LeadsAlong}
-use Rattle.viewed_steps.specs.Taken.{TakenBy, AreTaken}
+use Rattle.viewed_steps.specs.Taken.{AreCarried, TakenBy, AreTaken}
 use Rattle.viewed_steps.specs.Ready.{roots_passed, IsCalled, IsReady}
 use Rattle.viewed_steps.proofs.Lent.{Spare, spare_both, loans_stay}
 use Rattle.viewed_steps.proofs.Placed.{within_on, lasts_more, scope_on, placed_on}
@@ -750,7 +750,7 @@ module _ (table : Table) (typed : TypedProgram) (effects : Effects) (input : Lis
             placed = λ x w has. absurd (none_some w has);
             none_above = λ f x k less view at. above f x k (omega (arith, less)) view (sym (declared_there.views f x view) ∙ at);
           },
-          calls_one waits_stage refl (refl, refl, refl) refl none_new (λ scalars. declared_there.words (λ x has. scalars x (called.formals x has))),
+          calls_one waits_stage refl (refl, refl, refl) refl none_new (subst (λ d. AreCarried s (λ f. f ≡ suc d → ⊥) [] state.memory with_all) (sym deep) declared_there.carried),
         )
           where
             -- what has a number owns

@@ -392,7 +392,7 @@ module _ (table : Table) (typed : TypedProgram) (effects : Effects) (input : Lis
           by_package true shared = (let first : home s depth x ≡ 0 = ap (λ b. if b then 0 else depth) shared in omega (arith, first, at_home))
           by_package false mine = unrooted x v e (number_of w) y mine (placed y w has).root root
 
-      free : (x : ℕ) (v : TypedTree) → p.instr ≡ Declare x v
+      pub free : (x : ℕ) (v : TypedTree) → p.instr ≡ Declare x v
           → ((y : ℕ) (w : Way) → views.way y ≡ Some w → IsElsewhere (home s depth) depth x w)
           × ((l : Loan) (name : PlaceName) → other.lent l name → name.root ≡ x → depth ≡ home s depth x → ⊥)
       free x v e = (λ y w has. free_views x v e y w has, not_lent_home x)

@@ -220,7 +220,7 @@ module _ (table : Table) (typed : TypedProgram) (effects : Effects)
     IsLentFor l w = IsThrough (home s depth) (LentElsewhere older) l w
 
     -- the innermost frame has the same names for what belongs to packages
-    lent_for : (g : ViewStage) → Has older g → 0 < g.stage.depth → (l : Loan) (h : ℕ) (k w : Way) → Has (facts_of program effects g.stage) (Lent l h (name_of k))
+    pub lent_for : (g : ViewStage) → Has older g → 0 < g.stage.depth → (l : Loan) (h : ℕ) (k w : Way) → Has (facts_of program effects g.stage) (Lent l h (name_of k))
         → Named (home s g.stage.depth) k → Under k w → is_package_object s (number_of w) ≡ true → IsLentFor l w
     lent_for g has some l h k w lent named under shared =
         let root : is_package_object s (number_of k) ≡ true = ap (is_package_object s) (sym (longer k w under).root) ∙ shared in
