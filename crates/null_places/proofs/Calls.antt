@@ -227,8 +227,7 @@ module _ (t : Turn) where
       let is : IsCopied (typing t) r = copied r (inl refl) in
       let formal : Place = variable_place (here t) r.formal in
       let fixed : IsFixed (typing t) formal = formal_fixed t r.formal is.0 in
-      let to : IsFixed (typing t) r.to = is.1 in
-      (
+      let to : IsFixed (typing t) r.to = is.1 in (
         (to.frame, to.object, to.base),
         fixed_wholly (typing t) settled own_law hands formal fixed m kept,
         scalars_back settled own_law hands rest (λ q has. copied q (inr has)) (stored (typing t) r.to (words_of (typing t) m formal) (moved_out (typing t) formal m))

@@ -4,7 +4,6 @@
 use Rattle.std.proofs.Common.{◌≡◌, ℕ, Bool, true, false, ◌||◌, List, [], ◌∷◌, ◌++◌, length, if◌then◌else◌}
 use Rattle.place_names.specs.declared.act.Act.{Act}
 use Rattle.place_names.specs.declared.act.Act.TheVariants as act
-use Rattle.place_names.specs.declared.act.Mode.{Mode}
 use Rattle.place_names.specs.declared.act.Placed.{Placed}
 use Rattle.place_names.specs.declared.fact.Fact.{Fact}
 use Rattle.type_definitions.specs.declared.table.Shape.TheVariants as shape
@@ -18,19 +17,15 @@ use Rattle.machine.specs.Words as machine
 use Rattle.machine.specs.Memory.{Memory, Place, slots_of}
 use Rattle.machine.specs.Evaluate.{Here, Now, Use, AsValue, part_type, Evaluated, Done, Raises, Traps, followed_by, evaluate, steps_of, checked, variable_place, walked}
 use Rattle.machine.specs.Evaluate as run
-use Rattle.machine.specs.Calls.{passed}
 use Rattle.machine.specs.Typed.{is_record, is_array}
-use Rattle.machine.specs.Owners.{is_in}
 use Rattle.machine.specs.States.{Waiting}
 use Rattle.owned_ways.specs.Ways.{Loc, Allows, after, AllowsAll}
-use Rattle.soundness.specs.Typed.{Matches, OwnsByShape, Kept, Spot}
+use Rattle.soundness.specs.Typed.{Matches, Kept, Spot}
 use Rattle.soundness.specs.Sound.{goes_through_none}
-use Rattle.soundness.specs.Ready.{IsActualBy}
 use Rattle.typed_laws.specs.Needed.{Stays, Leads, Gives}
 use Rattle.soundness.proofs.Scalars.{acts}
 use Rattle.soundness.proofs.Taking.{Takes}
 use Rattle.soundness.proofs.Stays.{Quiet, One}
-use Rattle.soundness.proofs.Passing.{IsLaid, way_by, head_acts}
 use Rattle.null_places.proofs.Memories.{NoneGone}
 use Rattle.null_places.proofs.Only.{OnlyOwners}
 use Rattle.null_places.proofs.Walks.{SameNow, SameTo}

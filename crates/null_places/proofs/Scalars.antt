@@ -37,7 +37,7 @@ use Rattle.soundness.proofs.Steps.{no_leaf}
 use Rattle.soundness.proofs.Scalars.{after_append, allows_both, acts, acts_append}
 use Rattle.soundness.proofs.Contents.{bool_cases}
 use Rattle.soundness.proofs.Taking.{Takes, takes_as, takes_both, takes_zero}
-use Rattle.soundness.proofs.Passing.{IsLaid, AreLaid, TakesAll, way_by, way_of, head_acts, head_values, head_reads, reads_keep}
+use Rattle.soundness.proofs.Passing.{way_by, way_of, head_acts, head_values, head_reads, reads_keep}
 use Rattle.soundness.proofs.Stays.{Quiet, One, Any, quiet_then, quiet_from}
 use Rattle.null_places.specs.Compares.{Compares}
 use Rattle.null_places.proofs.Memories.{itself, NoneGone, words_agree}

@@ -1,6 +1,6 @@
 -- The actuals of a call lead to the same in memories that agree: values, scalar places in variables, and
 -- other places in variables, of which nothing is moved.
-use Rattle.std.proofs.Common.{◌≡◌, refl, sym, ap, ◌∙◌, subst, ◌⊎◌, inl, inr, ℕ, Bool, true, false, not, ◌&&◌, List, [], ◌∷◌, ◌++◌, map, arith, length, if◌then◌else◌}
+use Rattle.std.proofs.Common.{◌≡◌, refl, sym, ap, ◌∙◌, subst, inl, inr, ℕ, Bool, true, false, ◌&&◌, List, [], ◌∷◌, map, arith, length, if◌then◌else◌}
 use Rattle.spark_base.specs.Lists.{Has}
 use Rattle.place_names.specs.declared.act.Act.TheVariants as act
 use Rattle.place_names.specs.declared.act.Mode.{Mode}
@@ -13,9 +13,9 @@ use Rattle.typed_tree.specs.Trees.{TypedTree, Name, More}
 use Rattle.flow_paths.specs.Objects.{object_at, is_anonymous, is_observer, is_named_access, view_of, Passing, ByValue, passing_by}
 use Rattle.flow_paths.specs.Objects as objects
 use Rattle.flow_paths.specs.Names.{has_call, waiting, name_of}
-use Rattle.flow_paths.specs.Acts.{acts_in, actual_act, actual_acts, actual_values}
+use Rattle.flow_paths.specs.Acts.{actual_act, actual_acts, actual_values}
 use Rattle.machine.specs.Words as machine
-use Rattle.machine.specs.Memory.{Memory, Place, slots_of}
+use Rattle.machine.specs.Memory.{Memory, Place}
 use Rattle.machine.specs.Evaluate.{Here, Now, Evaluated, Done, followed_by, variable_place, walked}
 use Rattle.machine.specs.Evaluate as run
 use Rattle.machine.specs.Calls.{Passed, passed, all_passed}
@@ -28,11 +28,11 @@ use Rattle.part_offsets.specs.Parts.{IsSettled}
 use Rattle.soundness.specs.Seen.{IsNear, content, trunk, seen, home, is_view_formal}
 use Rattle.soundness.specs.Typed.{OwnsByShape, Matches}
 use Rattle.soundness.specs.Sound.{goes_through_none, AreCopied}
-use Rattle.typed_laws.specs.Needed.{IndexLaw, IsPlace}
+use Rattle.typed_laws.specs.Needed.{IndexLaw}
 use Rattle.soundness.proofs.Contents.{bool_cases}
 use Rattle.soundness.proofs.Fixed.{matches_scalar}
 use Rattle.soundness.proofs.Walks.{way_along, past_along}
-use Rattle.soundness.proofs.Scalars.{acts, acts_append, after_append, allows_both, number_along}
+use Rattle.soundness.proofs.Scalars.{acts, acts_append, allows_both, number_along}
 use Rattle.soundness.proofs.Stays.{Quiet}
 use Rattle.soundness.proofs.Taking.{Takes, takes_both, TakesPlainly}
 use Rattle.soundness.proofs.Passing.{reads_keep}
@@ -48,7 +48,6 @@ use Rattle.viewed_steps.specs.Ready.{IsActualTo, AreActualsTo}
 use Rattle.viewed_steps.proofs.Called.{way_to, in_plain, head_of, head_values_are, head_of_reads, IsGiven, one_given, head_acted}
 use Rattle.viewed_steps.proofs.Passed.{passed_unlent, passed_unmoved}
 use Rattle.null_places.specs.Compares.{Compares}
-use Rattle.null_places.proofs.Memories.{NoneGone}
 use Rattle.null_places.proofs.Only.{OnlyOwners}
 use Rattle.null_places.proofs.Direct.{has_deref, past_deref, selectors_direct}
 use Rattle.null_places.proofs.Walks.{SameNow, SameTo, then_same, simply}

@@ -1,6 +1,5 @@
 -- Of what a call passes nothing is gone, nor of the formals that it copies back.
-use Rattle.std.proofs.Common.{◌≡◌, refl, sym, ap, ◌∙◌, subst, ◌⊎◌, inl, inr, ℕ, suc, false, List, [], ◌∷◌, ◌++◌, length}
-use Rattle.spark_base.specs.Lists.{Has}
+use Rattle.std.proofs.Common.{◌≡◌, refl, sym, ◌∙◌, subst, ◌⊎◌, inl, inr, ℕ, suc, false, List, [], ◌∷◌, ◌++◌, length}
 use Rattle.place_names.specs.declared.fact.Fact.{Fact}
 use Rattle.flow_paths.specs.Objects.{Typing, is_observer}
 use Rattle.machine.specs.Words as machine
@@ -20,7 +19,7 @@ use Rattle.soundness.proofs.Fixed.{fixed_one}
 use Rattle.soundness.proofs.Returning.{formal_fixed}
 use Rattle.owned_loans.specs.Views.{Around, Views, ExcusedBy, Viewed}
 use Rattle.owned_loans.proofs.Moves.{same_viewed}
-use Rattle.viewed_steps.specs.Taken.{IsInside, IsTaken, IsApartFrom, IsAnother, AreTaken}
+use Rattle.viewed_steps.specs.Taken.{IsInside, AreTaken}
 use Rattle.viewed_steps.proofs.Between.{gone_also, more_gone}
 use Rattle.viewed_steps.proofs.Carried.{inside_at, inside_spot, inside_reached, inside_rooted, inside_owns}
 use Rattle.viewed_steps.proofs.Alike.{Enters, with_one, moved_there, stored_there, one_then}

@@ -1,6 +1,6 @@
 -- Each instruction leads on, but calls and their ends, operands that wait, returns with a value, and
 -- ends of scopes.
-use Rattle.std.proofs.Common.{◌≡◌, refl, sym, ap, ◌∙◌, subst, ◌⊎◌, inl, inr, ℕ, suc, ◌+◌, ◌<◌, Bool, true, false, not, ◌||◌, ◌==◌, List, [], ◌∷◌, ◌++◌, map, drop, length, arith, append-nil, Option, Some, None, nat_lt, int_le, ◌&&◌, if◌then◌else◌}
+use Rattle.std.proofs.Common.{◌≡◌, refl, sym, ap, ◌∙◌, subst, ◌⊎◌, inl, inr, ℕ, suc, ◌+◌, ◌<◌, Bool, true, false, not, ◌||◌, List, [], ◌∷◌, ◌++◌, map, drop, length, arith, append-nil, Option, Some, None, nat_lt, int_le, ◌&&◌, if◌then◌else◌}
 use Rattle.spark_base.specs.Lists.{Has}
 use Rattle.spark_base.specs.declared.position.Pos.{Pos}
 use Rattle.place_names.specs.declared.act.Act.{Act}
@@ -22,7 +22,7 @@ use Rattle.flow_paths.specs.Names.{has_call, waiting as waits_in, name_of}
 use Rattle.flow_paths.specs.Acts as flow
 use Rattle.flow_paths.specs.Acts.{acts_in}
 use Rattle.flow_paths.specs.Points.{NamedPoint}
-use Rattle.flow_paths.specs.Laid.{FlowProgram, NamedSub, number_in, typing_of, flow_typing, flow_program, flow_named}
+use Rattle.flow_paths.specs.Laid.{FlowProgram, NamedSub, number_in, flow_typing, flow_program, flow_named}
 use Rattle.flow_paths.specs.Paths.{ControlPath}
 use Rattle.flow_paths.specs.Effects.{path_points}
 use Rattle.flow_paths.specs.Scopes.{taken, brought, scope_behind, is_within, is_last, is_ready}
@@ -71,7 +71,7 @@ use Rattle.viewed_steps.proofs.Released.{released_on}
 use Rattle.viewed_steps.proofs.Read.{got_on}
 use Rattle.viewed_steps.proofs.Rounds.{skip_leads, line_leads, next_leads, output_on, started_on}
 use Rattle.viewed_steps.proofs.Lent.{Spare, loans_stay, spare_acts}
-use Rattle.viewed_steps.proofs.Placed.{lasts_more, scope_on, view_ends, placed_on, MayBe, turned_placed}
+use Rattle.viewed_steps.proofs.Placed.{brought_more, lasts_more, scope_on, view_ends, placed_on, MayBe, turned_placed}
 use Rattle.viewed_steps.proofs.Sources.{leads_or, view_declared, view_assigned}
 use Rattle.viewed_steps.proofs.Beside.{IsOther, OthersKept, others_keep}
 use Rattle.viewed_steps.proofs.Waiting.{StandsBetween, KeptElsewhere, beside_them, handed, apart_elsewhere}
@@ -84,37 +84,12 @@ last_within : (x : ℕ) (scope : List ℕ) → is_last x scope ≡ true → is_w
 last_within x [] last = cc
 last_within x (y ∷ scope) last = ap (λ b. b || is_within x scope) last
 
--- what is in scope stays so, but where a scope ends
-brought_more : (i : Instruction) → ((x : ℕ) → i ≡ EndScope x → ⊥) → (scope : List ℕ) (y : ℕ) → is_within y scope ≡ true → is_within y (brought i scope) ≡ true
-brought_more (Declare x v) going scope y within = or_right (y == x) (is_within y scope) within
-brought_more (Start x reversed low high) going scope y within = or_right (y == x) (is_within y scope) within
-brought_more (Call sub actuals None) going scope y within = within
-brought_more (Call sub actuals (Some x)) going scope y within = or_right (y == x) (is_within y scope) within
-brought_more (Evaluate x e None) going scope y within = within
-brought_more (Evaluate x e (Some op)) going scope y within = or_right (y == x) (is_within y scope) within
-brought_more (EndScope x) going scope y within = absurd (going x refl)
-brought_more Skip going scope y within = within
-brought_more (Assign target e) going scope y within = within
-brought_more (Output text line) going scope y within = within
-brought_more (Input target) going scope y within = within
-brought_more (Release e) going scope y within = within
-brought_more (Test e) going scope y within = within
-brought_more (Choose e choices) going scope y within = within
-brought_more (Next x reversed low high) going scope y within = within
-brought_more (LeaveLoop e) going scope y within = within
-brought_more (Hold v) going scope y within = within
-brought_more Finish going scope y within = within
-brought_more Fall going scope y within = within
-
 module _ (table : Table) (typed : TypedProgram) (effects : Effects) (input : List ℕ) (ready : IsReady table typed effects) where
   abbrev program : FlowProgram
   program = flow_program table typed
 
   abbrev s : Typing
   s = flow_typing program
-
-  abbrev own : Typing
-  own = typing_of table typed
 
   abbrev no_in_formals : (x : ℕ) → is_view_formal s x ≡ false
   no_in_formals = standing.no_in_formals table typed effects input ready

@@ -177,9 +177,6 @@ module _ (table : Table) (typed : TypedProgram) (effects : Effects) (input : Lis
   abbrev HasNone : Views → Type 0
   HasNone v = (x : ℕ) → v.way x ≡ None
 
-  abbrev blank_views : Views
-  blank_views = record { way = λ x. None; loan = λ x. ways.Lost 0; up = λ x. ways.Lost 0; cell = λ x. 0 }
-
   no_views : {A : Type 0} (v : Views) → HasNone v → (x : ℕ) (w : Way) → v.way x ≡ Some w → A
   no_views v none x w has = absurd (none_some w (sym (none x) ∙ has))
 

@@ -1,5 +1,5 @@
 -- Where views are, their roots last.
-use Rattle.std.proofs.Common.{◌≡◌, refl, sym, ap, ◌∙◌, subst, ◌⊎◌, inl, inr, ℕ, Bool, true, false, not, ◌&&◌, ◌||◌, ◌==◌, eqb-true, List, [], ◌∷◌, Some, length}
+use Rattle.std.proofs.Common.{◌≡◌, refl, sym, ap, ◌∙◌, subst, ◌⊎◌, inl, inr, ℕ, Bool, true, false, not, ◌&&◌, ◌||◌, ◌==◌, eqb-true, List, [], ◌∷◌, Some, None, length}
 use Rattle.std.specs.List.{AllByRecursion}
 use Rattle.std.proofs.lemmas.List.Folds.{list_any-append}
 use Rattle.spark_base.specs.Lists.{Has}
@@ -8,9 +8,10 @@ use Rattle.place_names.specs.declared.fact.Fact.TheVariants.{Lent}
 use Rattle.place_names.specs.declared.rule.Loan.TheVariants.{Observed}
 use Rattle.place_names.specs.Names.{Name as PlaceName}
 use Rattle.type_definitions.specs.Types.{is_owning}
+use Rattle.flow_paths.specs.Instructions.{Instruction, Skip, Declare, Assign, Call, Output, Input, Release, Test, Choose, Start, Next, Evaluate, LeaveLoop, Hold, EndScope, Finish, Fall}
 use Rattle.flow_paths.specs.Objects.{Typing, object_at, is_anonymous, is_package_object, has_scope_end, view_of}
 use Rattle.flow_paths.specs.Laid.{FlowProgram, flow_typing}
-use Rattle.flow_paths.specs.Scopes.{taken, Leads, Silent, is_within, is_temporary}
+use Rattle.flow_paths.specs.Scopes.{taken, brought, Leads, Silent, is_within, is_temporary}
 use Rattle.flow_paths.specs.Views.{encloses, scope_of}
 use Rattle.machine.specs.Memory.{Memory}
 use Rattle.machine.specs.Step.{Turn, typing}
@@ -35,6 +36,28 @@ either false b e = inr e
 or_right : (a b : Bool) → b ≡ true → a || b ≡ true
 or_right true b e = refl
 or_right false b e = e
+
+-- what is in scope stays so, but where a scope ends
+pub brought_more : (i : Instruction) → ((x : ℕ) → i ≡ EndScope x → ⊥) → (scope : List ℕ) (y : ℕ) → is_within y scope ≡ true → is_within y (brought i scope) ≡ true
+brought_more (Declare x v) going scope y within = or_right (y == x) (is_within y scope) within
+brought_more (Start x reversed low high) going scope y within = or_right (y == x) (is_within y scope) within
+brought_more (Call sub actuals None) going scope y within = within
+brought_more (Call sub actuals (Some x)) going scope y within = or_right (y == x) (is_within y scope) within
+brought_more (Evaluate x e None) going scope y within = within
+brought_more (Evaluate x e (Some op)) going scope y within = or_right (y == x) (is_within y scope) within
+brought_more (EndScope x) going scope y within = absurd (going x refl)
+brought_more Skip going scope y within = within
+brought_more (Assign target e) going scope y within = within
+brought_more (Output text line) going scope y within = within
+brought_more (Input target) going scope y within = within
+brought_more (Release e) going scope y within = within
+brought_more (Test e) going scope y within = within
+brought_more (Choose e choices) going scope y within = within
+brought_more (Next x reversed low high) going scope y within = within
+brought_more (LeaveLoop e) going scope y within = within
+brought_more (Hold v) going scope y within = within
+brought_more Finish going scope y within = within
+brought_more Fall going scope y within = within
 
 -- ---- what leaves scope silently
 

@@ -14,7 +14,7 @@ use Rattle.flow_paths.specs.declared.report.Effects.{Effects}
 use Rattle.flow_paths.specs.Instructions.{Instruction, Call, EndScope}
 use Rattle.flow_paths.specs.Objects.{Typing, is_anonymous, is_package_object, is_borrower, is_observer, view_of}
 use Rattle.flow_paths.specs.Points.{NamedPoint}
-use Rattle.flow_paths.specs.Laid.{FlowProgram, NamedSub, number_in, typing_of, flow_typing, flow_program, flow_named}
+use Rattle.flow_paths.specs.Laid.{FlowProgram, NamedSub, number_in, flow_typing, flow_program, flow_named}
 use Rattle.flow_paths.specs.Paths.{ControlPath}
 use Rattle.flow_paths.specs.Effects.{path_points}
 use Rattle.place_names.specs.Rules.{forbids}
@@ -61,9 +61,6 @@ module _ (table : Table) (typed : TypedProgram) (effects : Effects) (input : Lis
 
   abbrev s : Typing
   s = flow_typing program
-
-  abbrev own : Typing
-  own = typing_of table typed
 
   abbrev no_in_formals : (x : ℕ) → is_view_formal s x ≡ false
   no_in_formals = standing.no_in_formals table typed effects input ready
