@@ -617,7 +617,7 @@ module _ (h : Here) (settled : IsSettled h.typing.table) (hands : List Waiting) 
       (λ more are. (refl, (is, are))))
   all_given before on (x ∷ formals) actuals kinds stay copied takes allowed = ((ap at takes), refl)
 
-  laid_one : (x : ℕ) (mode_of : Mode) (e : TypedTree) (a : Passed) → IsGiven x mode_of e a → IsLaidOne h.typing h.frame x mode_of e a
+  pub laid_one : (x : ℕ) (mode_of : Mode) (e : TypedTree) (a : Passed) → IsGiven x mode_of e a → IsLaidOne h.typing h.frame x mode_of e a
   laid_one x mode.In e (Value ws) is = is
   laid_one x mode.In e (From k) is = absurd is
   laid_one x mode.In e (To k) is = absurd is

@@ -511,7 +511,7 @@ module _ (table : Table) (typed : TypedProgram) (effects : Effects) (input : Lis
             by_result : (o : Option ℕ) → (sub_of program n).result ≡ o
                 → ((r : Report) → Has (overlap_reports s (alias.passed formals actuals)) r → ⊥) ⊎ ((x : ℕ) → Has formals x → IsScalarObject s x)
             by_result (Some of) answers = inr (λ x has. ready.class.functions n of
-                (ap (λ (z : Signature). z.result) (signature_is program n) ∙ answers) x (subst (λ z. Has z x) (sym (ap (λ (z : Signature). z.formals) (signature_is program n))) has))
+                (ap (λ (z : Signature). z.result) (signature_is program n) ∙ answers) x (subst (λ z. Has z x) (sym (ap (λ (z : Signature). z.formals) (signature_is program n))) has) (called.formals x has))
             by_result None none = inl (λ r has.
                 no_call_reports program effects ready.accepted.no_reports (flow_sub own named)
                 (standing.in_program table typed effects input ready state top older outer named p frames of_sub at_point) main_turn.point
