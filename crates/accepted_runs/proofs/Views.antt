@@ -1,6 +1,6 @@
--- The runs of programs with borrowers and observers that `check` accepts are sound: where formals and results are of
--- scalar types, and so where procedures alone are called, and without formals and calls.
-use Rattle.std.proofs.Common.{◌≡◌, inl, ℕ, List, Some}
+-- The runs of programs with borrowers and observers that `check` accepts are sound: where results are of scalar types, and
+-- formals, too, or of mode `in out`; and so where procedures alone are called, and without formals and calls.
+use Rattle.std.proofs.Common.{◌≡◌, ◌⊎◌, inl, ℕ, List, Some}
 use Rattle.spark_base.specs.declared.limits.TheConstants.{TOKENS, SOURCE_BYTES}
 use Rattle.ada_tree.specs.declared.unit.SourceUnit.{SourceUnit}
 use Rattle.type_definitions.specs.Whole.{known_of}
@@ -9,12 +9,13 @@ use Rattle.flow_paths.specs.declared.report.Effects.{Effects}
 use Rattle.soundness.proofs.Successors.{nothing_procedures}
 use Rattle.program_check.specs.Sources.{flow_of}
 use Rattle.order_laws.specs.Orderly.{typed_of}
-use Rattle.sound_files.specs.Class.{CallsNothing, CallsFunctions}
+use Rattle.sound_files.specs.Class.{CallsNothing, CallsProcedures, ResultsAreScalar, CallsFunctions}
 use Rattle.sound_files.proofs.Classes.{formless_formals, formless_copied}
 use Rattle.viewed_files.specs.Class.{IsFormlessText}
 use Rattle.viewed_steps.specs.Ready.{IsReady}
 use Rattle.viewed_steps.proofs.Main.{ready_sound}
-use Rattle.viewed_files.proofs.Files.{parsed_called_ready}
+use Rattle.viewed_files.specs.Owners.{PassesOwners}
+use Rattle.viewed_files.proofs.Files.{owners_of, parsed_owners_ready}
 use Rattle.command_words.specs.Words.{Check}
 use Rattle.run_command.specs.Answers.{Answer}
 use Rattle.spark_tool.specs.Commands.{command_of}
@@ -27,20 +28,27 @@ use Rattle.accepted_runs.proofs.Runs.{RunsAreSound}
 
 -- ---- with calls
 
--- Formals are of scalar types, and so are results, or procedures alone are called. Actuals of modes `out` and `in out`
--- go through no access value.
+-- Results are of scalar types, or procedures alone are called. Formals are of scalar types, or of mode `in out` and of no
+-- anonymous access type; those of functions, and of the main procedure, are of scalar types. Actuals of modes `out` and
+-- `in out` go through no access value, and those that aren't of scalar types belong to no package.
 pub record AreInSecondViewClass (trees : List (List SourceUnit)) : Type 0 where
   -- there is a main procedure, so that there are runs
   pub main : ℕ
   pub is_main : (typed_of (program_of trees)).main ≡ Some main
-  pub calls : CallsFunctions (program_of trees)
+  pub results : CallsProcedures (flow_of trees) ⊎ ResultsAreScalar (program_of trees)
+  pub owners : PassesOwners (flow_of trees)
+
+-- So it is where formals are of scalar types.
+pub scalar_second : (trees : List (List SourceUnit)) (main : ℕ) → (typed_of (program_of trees)).main ≡ Some main → CallsFunctions (program_of trees)
+    → AreInSecondViewClass trees
+scalar_second trees main is_main calls = record { main = main; is_main = is_main; results = calls.results; owners = owners_of trees calls }
 
 -- Such a program is ready, as the laws on its steps ask.
 pub passed_called_ready : (texts : List (List ℕ)) (trees : List (List SourceUnit)) (effects : Effects) → Passes texts trees effects → AreInSecondViewClass trees
     → IsReady (known_of (program_of trees)).table (typed_of (program_of trees)) effects
 passed_called_ready texts trees effects passes class =
-    parsed_called_ready trees passes.cuts (are_parsed texts 0 TOKENS passes.cuts trees passes.cut passes.parsed) passes.named passes.typed class.main class.is_main
-    effects passes.effects_are passes.none class.calls
+    parsed_owners_ready trees passes.cuts (are_parsed texts 0 TOKENS passes.cuts trees passes.cut passes.parsed) passes.named passes.typed class.main class.is_main
+    effects passes.effects_are passes.none class.results class.owners
 
 pub passed_called_sound : (texts : List (List ℕ)) (trees : List (List SourceUnit)) (effects : Effects) → Passes texts trees effects → AreInSecondViewClass trees
     → RunsAreSound trees
@@ -63,15 +71,11 @@ pub record AreInViewClass (trees : List (List SourceUnit)) : Type 0 where
   pub calls : CallsNothing (flow_of trees)
 
 pub first_second : (trees : List (List SourceUnit)) → AreInViewClass trees → AreInSecondViewClass trees
-first_second trees class = record {
-  main = class.text.main;
-  is_main = class.text.is_main;
-  calls = record {
-    results = inl (λ sub has p there. nothing_procedures p.instr (class.calls sub has p there));
-    formals = formless_formals (program_of trees) class.text.formless;
-    copied = formless_copied (program_of trees) class.text.formless;
-  };
-}
+first_second trees class = scalar_second trees class.text.main class.text.is_main (record {
+  results = inl (λ sub has p there. nothing_procedures p.instr (class.calls sub has p there));
+  formals = formless_formals (program_of trees) class.text.formless;
+  copied = formless_copied (program_of trees) class.text.formless;
+})
 
 -- So in this class they are, too.
 pub accepted_views_sound : (stored : List (List ℕ × List ℕ)) (input : List ℕ) (words names : List (List ℕ)) (answer : Answer)

@@ -1,5 +1,5 @@
 -- Borrowers and observers of files that break no rule are in order, and the runs of their program are sound where
--- nothing is reported and formals and results are of scalar types.
+-- nothing is reported, results are of scalar types, and formals, too, or of mode `in out`.
 use Rattle.std.proofs.Common.{◌≡◌, refl, sym, ◌∙◌, subst, ◌⊎◌, ℕ, suc, Bool, true, false, List, [], ◌∷◌, Some, None}
 use Rattle.spark_base.specs.Lists.{Has}
 use Rattle.ada_lexer.specs.Tokens.{Cut}
@@ -291,7 +291,7 @@ module _ (files : List (List SourceUnit)) where
       files_owners_sound (files_apart texts files parsed) (files_ended (identified files) texts files parsed) (events_ascend texts files parsed) named no_fault
 
   -- Formals of scalar types are as asked.
-  owners_of : CallsFunctions p → PassesOwners flow_of_files
+  pub owners_of : CallsFunctions p → PassesOwners flow_of_files
   owners_of calls = scalar_owners flow_of_files (scalar_formals p calls.formals) (copies p calls.copied)
 
   pub parsed_called_ready : (texts : List (List Cut)) → AreParsed 0 texts files → name_fault files ≡ None → type_fault p ≡ None → (main : ℕ) → (typed_of p).main ≡ Some main
