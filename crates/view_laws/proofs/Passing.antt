@@ -156,10 +156,12 @@ module _ (table : Table) (typed : TypedProgram) (effects : Effects) (accepted : 
         runs.point runs.points (sym (ap (λ (z : NamedSub). z.points) same) ∙ runs.begins)) ends
         (has_within x (reverse callee.formals) (has_reversed callee.formals x has))
 
-  -- the formals of the main procedure
-  pub main_formals : (x : ℕ) → Has (sub_at s (suc order.number)).formals x → Has order.main.formals x
+  -- the formals of the main procedure are known as such
+  pub main_formals : (x : ℕ) → Has (sub_at s (suc order.number)).formals x → is_formal s x ≡ true
   main_formals x has =
-      subst (λ z. Has z x) (ap (λ (z : Signature). z.formals) (signature_is program (suc order.number)) ∙ formals_are order.number order.main order.stands) has
+      formal_same s own alike x
+      ∙ (order.local order.main (in_rest order.number order.main order.stands)).formals x
+      (subst (λ z. Has z x) (ap (λ (z : Signature). z.formals) (signature_is program (suc order.number)) ∙ formals_are order.number order.main order.stands) has)
 
   module _ (passed_to : PassActuals (flow_program table typed)) where
     -- what is called is one of the bodies

@@ -117,7 +117,7 @@ module _ (table : Table) (typed : TypedProgram) (effects : Effects) (given : IsV
     main = suc given.order.number;
     is_main = scoped.main_is table typed effects given;
     main_there = scoped.has_main table typed effects given;
-    main_plain = λ x has. given.main_plain x (passing.main_formals table typed effects given.accepted given.owns given.order given.answered given.passed given.still x has);
+    main_plain = given.main_plain;
   }
 
   -- So each moment of its run is well owned, and none is a trap.

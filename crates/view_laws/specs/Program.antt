@@ -1,5 +1,5 @@
 -- A program with borrowers and observers and what is known of it.
-use Rattle.std.specs.Prelude.{◌≡◌, ◌⊎◌, ℕ, true, Option, Some}
+use Rattle.std.specs.Prelude.{◌≡◌, ◌⊎◌, ℕ, suc, true, Option, Some}
 use Rattle.spark_base.specs.Lists.{Has}
 use Rattle.type_definitions.specs.Types.{Table, full, is_scalar}
 use Rattle.typed_tree.specs.Trees.{TypedTree}
@@ -52,6 +52,6 @@ pub record IsViewProgram (table : Table) (typed : TypedProgram) (effects : Effec
   pub answered : AreAnswered table typed order.rest
   pub passes : PassActuals (flow_program table typed)
   pub passed : ArePassed (flow_program table typed)
-  pub main_plain : (x : ℕ) → Has order.main.formals x → IsScalarObject (flow_typing (flow_program table typed)) x
+  pub main_plain : (x : ℕ) → Has (sub_at (flow_typing (flow_program table typed)) (suc order.number)).formals x → IsScalarObject (flow_typing (flow_program table typed)) x
   pub still : AreStill table typed order.first
   pub views : AreViewsInOrder table typed order.first order.rest
