@@ -6,6 +6,8 @@ pub mod Same
 pub mod Calls
 pub mod Packages
 pub mod Facts
+pub mod Formals
+pub mod Passing
 pub mod Scoped
 pub mod Points
 pub mod Ready

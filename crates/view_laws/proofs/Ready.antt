@@ -17,6 +17,7 @@ use Rattle.viewed_steps.specs.Ready.{AreOrderly, ViewsAreOrderly, IsReady}
 use Rattle.viewed_steps.proofs.Main.{ready_sound}
 use Rattle.view_laws.specs.Program.{IsViewProgram}
 use Rattle.view_laws.proofs.Enclosing.{itself, transitive}
+use Rattle.view_laws.proofs.Passing as passing
 use Rattle.view_laws.proofs.Scoped as scoped
 use Rattle.view_laws.proofs.Points as points
 
@@ -95,6 +96,7 @@ module _ (table : Table) (typed : TypedProgram) (effects : Effects) (given : IsV
     results = given.results;
     temporaries = given.temporaries;
     formals = given.formals;
+    functions = given.functions;
     copied = given.copied;
   }
 
@@ -104,16 +106,18 @@ module _ (table : Table) (typed : TypedProgram) (effects : Effects) (given : IsV
     owns = given.owns;
     class = class;
     scoped = scoped.are_scoped table typed effects given;
+    passing = passing.are_passed table typed effects given.accepted given.owns given.order given.answered given.passed given.still;
     new = scoped.are_new table typed effects given;
     elaborated = scoped.are_elaborated table typed effects given;
     orderly = views_orderly;
-    called = scoped.are_called table typed effects given;
+    called = passing.called_to table typed effects given.accepted given.owns given.order given.answered given.passed given.still given.passes;
     returning = scoped.are_returning table typed effects given;
     packages = scoped.packages table typed effects given;
     stands = scoped.packages_stand table typed effects given;
     main = suc given.order.number;
     is_main = scoped.main_is table typed effects given;
     main_there = scoped.has_main table typed effects given;
+    main_plain = given.main_plain;
   }
 
   -- So each moment of its run is well owned, and none is a trap.

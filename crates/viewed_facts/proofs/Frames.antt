@@ -17,7 +17,7 @@ use Rattle.flow_paths.specs.declared.report.Effects.{Effects}
 use Rattle.flow_paths.specs.Effects.{act_writes}
 use Rattle.flow_paths.specs.Objects.{Typing, is_anonymous, is_observer, is_package_object, view_of}
 use Rattle.flow_paths.specs.Laid.{FlowProgram, flow_typing, flow_program}
-use Rattle.machine.specs.States.{State}
+use Rattle.machine.specs.States.{Return, State}
 use Rattle.owned_ways.specs.Ways.{Way, View, Told, Named, number_of, sels_of, name_of, Under}
 use Rattle.soundness.specs.Seen.{home, IsNear}
 use Rattle.soundness.specs.Sound.{Stage, facts_of, view_of as view_here}
@@ -74,9 +74,9 @@ module _ (table : Table) (typed : TypedProgram) (effects : Effects)
   s = flow_typing (flow_program table typed)
 
   -- what a fact of a frame that waits stands for begins where the frame has a name
-  waiting_named : (state : State) (callee : ℕ) (g : ViewStage) → IsWaiting table typed effects state callee g → (w : Way)
+  waiting_named : (state : State) (callee : ℕ) (backs : List Return) (g : ViewStage) → IsWaiting table typed effects state callee backs g → (w : Way)
       → IsDefiniteBy (home s g.stage.depth) g.views (facts_of program effects g.stage) w → Named (home s g.stage.depth) w
-  waiting_named state callee g waits w (u, moved, plain, leads) =
+  waiting_named state callee backs g waits w (u, moved, plain, leads) =
       subst (Named (home s g.stage.depth)) leads
       (named_way (home s g.stage.depth) (is_observer s) (known_gone (home s g.stage.depth) (λ z. ⊥)) g.views (view_here s state) (facts_of program effects g.stage)
       waits.views (suc (number_of u)) u (omega arith) (moved.0, waits.clear.owned (name_of u) moved.1))
@@ -84,7 +84,7 @@ module _ (table : Table) (typed : TypedProgram) (effects : Effects)
   pub between_named : (state : State) (depth : ℕ) (g : ViewStage) → StandsBetween table typed effects unmoved local state depth g → (w : Way)
       → IsDefiniteBy (home s g.stage.depth) g.views (facts_of program effects g.stage) w → Named (home s g.stage.depth) w
   between_named state depth g (inl first) w d = absurd (unmoved g.stage first.0 (name_of d.0) d.1.1)
-  between_named state depth g (inr (some, less, callee, waits)) w d = waiting_named state callee g waits w d
+  between_named state depth g (inr (some, less, callee, backs, waits)) w d = waiting_named state callee backs g waits w d
 
   -- A fact without an element of the innermost frame, or of one around, calls it moved.
   abbrev pub IsDefiniteHere : ℕ → Views → List Fact → List ViewStage → Way → Type 0
@@ -152,10 +152,10 @@ module _ (table : Table) (typed : TypedProgram) (effects : Effects)
         near_by : IsNear depth w → (g : ViewStage) → Has older g → IsDefiniteBy (home s g.stage.depth) g.views (facts_of program effects g.stage) w
             → StandsBetween table typed effects unmoved local state depth g → IsDefinite (home s depth) v elsewhere all w
         near_by near g has d (inl first) = absurd (unmoved g.stage first.0 (name_of d.0) d.1.1)
-        near_by near g has d (inr (some, less, callee, waits)) = elim (lifts g.views d.0) [
+        near_by near g has d (inr (some, less, callee, backs, waits)) = elim (lifts g.views d.0) [
           | inl e ↦ (
               let u : Way = d.0 in
-              let there : Named (home s g.stage.depth) w = waiting_named state callee g waits w d in
+              let there : Named (home s g.stage.depth) w = waiting_named state callee backs g waits w d in
               let same : u ≡ w = sym e ∙ d.3 in
               let shared_there : is_package_object s (number_of w) ≡ true = near_package s g.stage.depth depth some less w there near in
               let shared : is_package_object s (number_of u) ≡ true = subst (λ z. is_package_object s (number_of z) ≡ true) (sym same) shared_there in
@@ -175,7 +175,7 @@ module _ (table : Table) (typed : TypedProgram) (effects : Effects)
               let plain : is_observer s (number_of d.0) ≡ false = waits.clear.owned (name_of d.0) d.1.1 in
               let goes = borrower_goes (home s g.stage.depth) (is_observer s) g.views (view_here s state) (facts_of program effects g.stage) waits.views l.object l.way
               (ap (is_observer s) (sym (lifted_root g.views d.0 l)) ∙ plain) l.has in
-              let named : Named (home s g.stage.depth) w = waiting_named state callee g waits w d in
+              let named : Named (home s g.stage.depth) w = waiting_named state callee backs g waits w d in
               let under : Under goes.1 w = subst (Under goes.1) (sym (lifted_way g.views d.0 l) ∙ d.3) (under_on goes.1 l.way (on l.way l.rest) goes.4 (on_under l.way l.rest)) in
               inr (
                 named_variable (home s g.stage.depth) w named,

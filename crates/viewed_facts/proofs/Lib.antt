@@ -9,6 +9,8 @@ pub mod Loops
 pub mod Viewing
 pub mod Frames
 pub mod Stepping
+pub mod Spots
+pub mod Calls
 pub mod Main
 pub mod Going
 pub mod Runs

@@ -1,5 +1,6 @@
 -- In each sound state of a program that is ready whose facts are exact, no leak check of the step fails that is excused.
-use Rattle.std.proofs.Common.{◌≡◌, refl, sym, ap, ◌∙◌, subst, ◌⊎◌, inl, inr, ℕ, suc, List, [], ◌∷◌, length, get_or, Option}
+use Rattle.std.specs.Prelude.{is_some}
+use Rattle.std.proofs.Common.{not, ◌≡◌, refl, sym, ap, ◌∙◌, subst, ◌⊎◌, inl, inr, ℕ, suc, List, [], ◌∷◌, length, get_or, Option}
 use Rattle.spark_base.specs.Lists.{Has}
 use Rattle.type_definitions.specs.Types.{Table}
 use Rattle.typed_tree.specs.Trees.{TypedTree}
@@ -19,17 +20,17 @@ use Rattle.machine.specs.Run.{no_point, step}
 use Rattle.owned_ways.specs.Ways.{Told}
 use Rattle.soundness.specs.Seen.{home, seen}
 use Rattle.soundness.specs.Typed.{Kept}
-use Rattle.soundness.specs.Sound.{Stage, facts_of, AreStages, IsRunnable, IsResting, AreAwaited, InScope, IsNamedSub, IsAtPoint, view_of as view_here}
+use Rattle.soundness.specs.Sound.{Stage, facts_of, AreStages, IsRunnable, AreAwaited, InScope, IsNamedSub, IsAtPoint, view_of as view_here}
 use Rattle.soundness.proofs.Points.{flow_at, sub_there, point_there, point_in}
 use Rattle.soundness.proofs.Successors.{call_or, finish_or}
 use Rattle.soundness.proofs.Passing.{signature_is}
 use Rattle.owned_loans.specs.Views.{known_gone, Views, Viewed}
-use Rattle.viewed_steps.specs.Sound.{HoldsAt, ArePlaced, NoneAbove, ViewStage, stages_of, GoneElsewhere, AreWaiting, IsRunning}
+use Rattle.viewed_steps.specs.Sound.{IsResting, HoldsAt, ArePlaced, NoneAbove, ViewStage, stages_of, GoneElsewhere, AreWaiting, IsRunning}
 use Rattle.viewed_steps.specs.Ready.{IsReady}
 use Rattle.viewed_steps.proofs.Standing as standing
 use Rattle.viewed_steps.proofs.Calling as calling
 use Rattle.exact_facts.specs.Exact.{NoneFails, checks_of}
-use Rattle.exact_facts.proofs.Calls.{all_spots}
+use Rattle.viewed_facts.proofs.Spots.{spots_none}
 use Rattle.exact_facts.proofs.Spots.{call_same, ways_same}
 use Rattle.viewed_facts.specs.Exact.{IsDefiniteOf, ExcusedHold}
 use Rattle.viewed_facts.proofs.Stepping.{checks_hold, ended_checks_hold}
@@ -97,7 +98,7 @@ module _ (table : Table) (typed : TypedProgram) (effects : Effects) (input : Lis
   module _ (state : State) (top : Stage) (below : ViewStage) (more_frames : List ViewStage) (rest : List Frame) (named : NamedSub) (p : NamedPoint)
       (frames : state.frames ≡ top.frame ∷ (below.stage.frame ∷ rest)) (deep : top.depth ≡ suc (length rest))
       (stages : AreStages (stages_of (below ∷ more_frames)) (below.stage.frame ∷ rest))
-      (running : IsRunnable table typed top.frame.sub × IsResting s top × AreWaiting table typed effects state top.frame.sub (below ∷ more_frames))
+      (running : IsRunnable table typed top.frame.sub × IsResting s top × AreWaiting table typed effects state top.frame.sub top.frame.returns (below ∷ more_frames))
       (awaiting : AreAwaited table typed 0 (top ∷ stages_of (below ∷ more_frames)))
       (of_sub : IsNamedSub (flow_named table typed) top.frame.sub named) (at_point : IsAtPoint named.points top.frame.next p)
       (path : ControlPath (path_points program effects (sub_of program top.frame.sub)) top.before top.frame.next) (views : Views)
@@ -122,7 +123,7 @@ module _ (table : Table) (typed : TypedProgram) (effects : Effects) (input : Lis
         sym (call_same s own agree (passings own (sub_at own n)) actuals before)
         ∙ ap (λ z. call_spots s z actuals before) (sym ways)
         ∙ ap (λ z. call_spots s z actuals before) (calling.ways_are table typed effects input ready state top below more_frames rest named p frames deep stages running awaiting of_sub at_point path views viewed_before kept scope holds placed_before above n actuals result e)
-        ∙ all_spots s ready.accepted.settled ready.owns (sub_of program n).formals actuals called.actuals_stay before
+        ∙ spots_none s ready.accepted.settled ready.owns (not (is_some (sub_of program n).result)) (sub_of program n).formals actuals called.actuals_stay before
 
     main_holds : Holds top state
     main_holds = elim (finish_or p.instr) [

@@ -37,7 +37,7 @@ use Rattle.owned_ways.specs.Ways as ways
 use Rattle.soundness.specs.Seen.{IsNear, is_view_formal, content, word_in, home}
 use Rattle.soundness.specs.Typed.{Kept}
 use Rattle.typed_laws.specs.Needed.{IsFine, Stays, Source, Returns}
-use Rattle.soundness.specs.Sound.{IsNoCall, calls_procedures, Stage, facts_of, AreStages, IsRunnable, IsResting, AreAwaited, AreWaiting as AreWaitingValues, returns_value, awaited, InScope, IsNamedSub, IsAtPoint, view_of as view_here}
+use Rattle.soundness.specs.Sound.{IsNoCall, calls_procedures, Stage, facts_of, AreStages, IsRunnable, AreAwaited, AreWaiting as AreWaitingValues, returns_value, awaited, InScope, IsNamedSub, IsAtPoint, view_of as view_here}
 use Rattle.soundness.proofs.Scalars.{acts}
 use Rattle.soundness.proofs.Scoped.{Inside}
 use Rattle.soundness.proofs.Around.{IsFar}
@@ -49,7 +49,8 @@ use Rattle.soundness.proofs.Successors.{not_true, below_one}
 use Rattle.owned_loans.specs.Views.{Around, known_gone, Views, Viewed}
 use Rattle.viewed_soundness.specs.Holds.{IsNamed, AllKeep}
 use Rattle.viewed_soundness.proofs.Outcomes.{named_plain, IsGood, Leads_on}
-use Rattle.viewed_steps.specs.Sound.{HoldsAt, ArePlaced, NoneAbove, ViewStage, stages_of, GoneElsewhere, AreWaiting, IsStoredAt, returns_one, LeadsAlong}
+use Rattle.viewed_steps.specs.Sound.{IsResting, HoldsAt, ArePlaced, NoneAbove, ViewStage, stages_of, GoneElsewhere, AreWaiting, IsStoredAt, returns_one, LeadsAlong}
+use Rattle.viewed_steps.specs.Taken.{TakenBy}
 use Rattle.viewed_steps.specs.Ready.{IsReady}
 use Rattle.viewed_steps.proofs.Lent.{Spare, loans_stay}
 use Rattle.viewed_steps.proofs.Placed.{scope_on, placed_on, MayBe, turned_placed}
@@ -114,7 +115,7 @@ module _ (table : Table) (typed : TypedProgram) (effects : Effects) (input : Lis
   module _ (state : State) (top : Stage) (below : ViewStage) (more_frames : List ViewStage) (rest : List Frame) (named : NamedSub) (p : NamedPoint)
       (frames : state.frames ≡ top.frame ∷ (below.stage.frame ∷ rest)) (deep : top.depth ≡ suc (length rest))
       (stages : AreStages (stages_of (below ∷ more_frames)) (below.stage.frame ∷ rest))
-      (running : IsRunnable table typed top.frame.sub × IsResting s top × AreWaiting table typed effects state top.frame.sub (below ∷ more_frames))
+      (running : IsRunnable table typed top.frame.sub × IsResting s top × AreWaiting table typed effects state top.frame.sub top.frame.returns (below ∷ more_frames))
       (awaiting : AreAwaited table typed 0 (top ∷ stages_of (below ∷ more_frames)))
       (of_sub : IsNamedSub (flow_named table typed) top.frame.sub named) (at_point : IsAtPoint named.points top.frame.next p)
       (path : ControlPath (path_points program effects (sub_of program top.frame.sub)) top.before top.frame.next) (views : Views)
@@ -224,7 +225,7 @@ module _ (table : Table) (typed : TypedProgram) (effects : Effects) (input : Lis
 
     abbrev wait_still : (next : State) (after_scope : List ℕ) → Inside s IsOld next.memory depth after_scope → OthersKept s depth state.memory next.memory
         → ((w : Way) (n : ℕ) → KeptElsewhere table typed effects unmoved_stage local older w n → ways.Reaches (view_here s next) w (ways.OfCell n))
-        → AreWaiting table typed effects next top.frame.sub older
+        → AreWaiting table typed effects next top.frame.sub top.frame.returns older
     wait_still = innermost.wait_still table typed effects input ready state top below more_frames rest named p frames deep stages running awaiting of_sub at_point path views viewed_before kept scope holds placed_before above
 
     abbrev sub_here : FlowSub
@@ -488,7 +489,7 @@ module _ (table : Table) (typed : TypedProgram) (effects : Effects) (input : Lis
       )
 
       wait_with : (v : Waiting) (st : State) (others : List ViewStage) → AreAwaited table typed 1 (stages_of (below ∷ others))
-          → AreWaiting table typed effects st top.frame.sub (below ∷ others) → AreWaiting table typed effects st top.frame.sub (below_with v ∷ others)
+          → AreWaiting table typed effects st top.frame.sub top.frame.returns (below ∷ others) → AreWaiting table typed effects st top.frame.sub top.frame.returns (below_with v ∷ others)
       wait_with v st [] await waits = (let never = await.0 in absurd (omega (arith, never)))
       wait_with v st (h ∷ others) await waits =
           let was = waits.0 in (
@@ -509,6 +510,7 @@ module _ (table : Table) (typed : TypedProgram) (effects : Effects) (input : Lis
               views = was.views;
               holds = was.holds;
               placed = was.placed;
+              taken = was.taken;
             },
             waits.1,
           )
@@ -516,7 +518,7 @@ module _ (table : Table) (typed : TypedProgram) (effects : Effects) (input : Lis
       elsewhere_with : (v : Waiting) (w : Way) → GoneElsewhere program effects (below ∷ more_frames) w → GoneElsewhere program effects (below_with v ∷ more_frames) w
       elsewhere_with v w (g, inr has, what) = (g, inr has, what)
       elsewhere_with v w (g, inl same, what) =
-          (below_with v, inl refl, subst (λ (z : ViewStage). IsMovedBy (home s z.stage.depth) z.views (facts_of program effects z.stage) w) (sym same) what)
+          (below_with v, inl refl, subst (λ (z : ViewStage). IsMovedBy (home s z.stage.depth) z.views (facts_of program effects z.stage) w ⊎ TakenBy z.stage.returns w) (sym same) what)
 
       -- the successor
       abbrev next_number : ℕ

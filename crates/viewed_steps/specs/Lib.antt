@@ -1,3 +1,5 @@
+-- what a call takes from places of its caller
+pub mod Taken
 -- what holds at each moment
 pub mod Sound
 -- what is asked of a program so that it does
