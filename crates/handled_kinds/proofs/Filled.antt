@@ -120,7 +120,7 @@ repeated_kinds : (n : ℕ) (l : List Sort) → map kind_of (repeated_sorts n l) 
 repeated_kinds zero l = refl
 repeated_kinds (suc n) l = map-append kind_of l (repeated_sorts n l) ∙ ap (λ ks. map kind_of l ++ ks) (repeated_kinds n l)
 
-both_some : (x y : Option Fill) (v : Fill) → both x y ≡ Some v → (a : Fill) × (b : Fill) × (x ≡ Some a) × (y ≡ Some b) × (Both a b ≡ v)
+pub both_some : (x y : Option Fill) (v : Fill) → both x y ≡ Some v → (a : Fill) × (b : Fill) × (x ≡ Some a) × (y ≡ Some b) × (Both a b ≡ v)
 both_some (Some a) (Some b) v e = (a, b, refl, refl, some_same (Both a b) v e)
 both_some (Some a) None v e = impossible v e
 both_some None y v e = impossible v e
@@ -130,7 +130,7 @@ front_take [] js is = refl
 front_take (k ∷ ks) [] is = absurd is
 front_take (k ∷ ks) (j ∷ js) is = ap (λ q. q ∷ take (length ks) js) (sym is.0) ∙ ap (λ rest. k ∷ rest) (front_take ks js is.1)
 
-abbrev taken_is : ℕ → Option ℕ → Bool
+abbrev pub taken_is : ℕ → Option ℕ → Bool
 taken_is t None = false
 taken_is t (Some u) = u == t
 
@@ -139,7 +139,7 @@ module _ (c : Site) (laws : IsTable c.typing.table) (here taken : List Kind) (ba
   table = c.typing.table
 
   -- in a memory whose frame begins there
-  abbrev Fine : Fill → List Kind → Type 0
+  abbrev pub Fine : Fill → List Kind → Type 0
   Fine v ks = (m : Flat) → m.base ≡ base → FillKept table m v → LooksFill table m here taken v ks
 
   has_at : (m : Flat) → m.base ≡ base → HasKinds c m.base here taken
@@ -155,7 +155,7 @@ module _ (c : Site) (laws : IsTable c.typing.table) (here taken : List Kind) (ba
 
   -- ---- what a place has
 
-  abbrev AtPlace : Placed → Type 0
+  abbrev pub AtPlace : Placed → Type 0
   AtPlace p = (m : Flat) → m.base ≡ base → PlaceKinds table m here taken p.place p.of
 
   moved_pointer_fine : (p : Placed) (want : ℕ) → kinds table p.of ≡ kinds table want → kinds table want ≡ sort.Access ∷ [] → AtPlace p → Fine (MovedPointer p.place) (kinds table want)
@@ -172,7 +172,7 @@ module _ (c : Site) (laws : IsTable c.typing.table) (here taken : List Kind) (ba
   unfolding LooksFill FillKept
   moved_fine p want same at m e kept = (sym same, looks_there table m here taken p.place p.of (at m e) kept)
 
-  abbrev by_shape : Placed → Shape → Bool → Option Fill
+  abbrev pub by_shape : Placed → Shape → Bool → Option Fill
   by_shape p (shape.Whole low high) true = None
   by_shape p (shape.Whole low high) false = Some (Checked (load sort.Int p.place) low high)
   by_shape p (shape.Listed literals low high) true = None
@@ -260,7 +260,7 @@ module _ (c : Site) (laws : IsTable c.typing.table) (here taken : List Kind) (ba
 
   -- ---- values that wait
 
-  abbrev waits_by : ℕ → Shape → ℕ → Fill
+  abbrev pub waits_by : ℕ → Shape → ℕ → Fill
   waits_by t (shape.Whole low high) at = Checked (Waiting at) low high
   waits_by t (shape.Listed literals low high) at = Checked (Waiting at) (pos low) (pos high)
   waits_by t (shape.Access designated constant named) at = LookedAt (Waiting at)

@@ -5,3 +5,5 @@ pub mod Places
 pub mod Lowered
 pub mod Filled
 pub mod Stacks
+pub mod Points
+pub mod Stored

@@ -66,7 +66,7 @@ module _ (c : Site) (laws : IsTable c.typing.table) (m : Flat) (here taken : Lis
             no_reads table laws m here taken,
             λ o f. (let none = zero_word o f in
                 let same : m.base + on.0 + unsigned_abs o ≡ m.base + on.0 = omega (arith, none) in
-                subst (λ i. IsFront (kinds table (object_at c.typing x).of) (drop i here)) (sym same) (has.own x on.0 on.1 own)),
+                subst (λ i. IsFront (kinds table (object_at c.typing x).of) (drop i here)) (sym same) (has.own x on.0 on.1)),
           )
 
   -- ---- one word

@@ -16,7 +16,7 @@ use Rattle.machine.specs.Typed.{sorts}
 use Rattle.run_codes.specs.Codes.{Object, Counter}
 use Rattle.run_codes.specs.Flat.{kind_of, kinds}
 use Rattle.run_codes.specs.Lowered.{Site, Kept, kept_words, loop_words, offset_from, words_before_value}
-use Rattle.run_codes.specs.Programs.{Program, objects_of, rooms, sub_rows}
+use Rattle.run_codes.specs.Programs.{Program, objects_of, is_loop, rooms, sub_rows}
 use Rattle.run_codes.specs.Points.{Held, no_sub, sub_at}
 use Rattle.run_codes.specs.Points as points
 use Rattle.run_codes.proofs.Parts.{many}
@@ -119,6 +119,53 @@ module _ (s : Typing) where
       let same : at ≡ on.0 = omega (arith, place) in
       subst (λ i. IsFront (kinds s.table (object_at s x).of) (drop i (kept_kinds all))) (sym same) on.2
 
+-- ---- loops
+
+abbrev counter : List Kind
+counter = sort.Int ∷ sort.Int ∷ sort.Int ∷ []
+
+module _ (s : Typing) where
+  loop_first : (k : Kept) (all : List Kept) → k.loops ≡ true → IsFront counter (drop (words s.table (object_at s k.object).of) (kept_kinds s (k ∷ all)))
+  loop_first k all loops =
+      let object : List Kind = kinds s.table (object_at s k.object).of in
+      let count : words s.table (object_at s k.object).of ≡ length object + 0 = (let n = kind_count s.table (object_at s k.object).of in omega (arith, n)) in
+      let whole : kept_kinds s (k ∷ all) ≡ object ++ (counter ++ kept_kinds s all)
+      = first_kept s k all ∙ (ap (λ b. object ++ loop_kinds s b ++ kept_kinds s all) loops ∙ append_assoc object counter (kept_kinds s all)) in
+      subst (λ ks. IsFront counter (drop (words s.table (object_at s k.object).of) ks)) (sym whole)
+      (subst (IsFront counter) (sym (drop_after object (counter ++ kept_kinds s all) 0 (words s.table (object_at s k.object).of) count)) (front_self counter (kept_kinds s all)))
+
+  loop_offset : (all : List Kept) (start x at : ℕ) → is_loop x all ≡ true → offset_from s start all x ≡ Some at
+      → (o : ℕ) × (at ≡ start + o) × IsFront counter (drop (o + words s.table (object_at s x).of) (kept_kinds s all))
+  loop_offset [] start x at loops e = impossible at e
+  loop_offset (k ∷ all) start x at loops e = by (k.object == x) refl loops e (λ l f. loop_offset all (start + kept_words s k) x at l f)
+    where
+      by : (b : Bool) → (k.object == x) ≡ b → (if b then k.loops else is_loop x all) ≡ true → (if b then Some start else offset_from s (start + kept_words s k) all x) ≡ Some at
+          → (is_loop x all ≡ true → offset_from s (start + kept_words s k) all x ≡ Some at
+          → (o : ℕ) × (at ≡ start + kept_words s k + o) × IsFront counter (drop (o + words s.table (object_at s x).of) (kept_kinds s all)))
+          → (o : ℕ) × (at ≡ start + o) × IsFront counter (drop (o + words s.table (object_at s x).of) (kept_kinds s (k ∷ all)))
+      by true is l f rest =
+          let here = some_same start at f in
+          let object = same_number s k.object x is in
+          let front = subst (λ y. IsFront counter (drop (words s.table (object_at s y).of) (kept_kinds s (k ∷ all)))) object (loop_first k all l) in
+          let same : words s.table (object_at s x).of ≡ 0 + words s.table (object_at s x).of = omega arith in
+          (0, omega (arith, here), subst (λ i. IsFront counter (drop i (kept_kinds s (k ∷ all)))) same front)
+      by false is l f rest =
+          let on = rest l f in
+          let count = kept_count s k in
+          let w : ℕ = words s.table (object_at s x).of in
+          let far : kept_words s k + on.0 + w ≡ length (one_kept s k) + (on.0 + w) = omega (arith, count) in
+          let same : drop (kept_words s k + on.0 + w) (kept_kinds s (k ∷ all)) ≡ drop (on.0 + w) (kept_kinds s all)
+          = ap (drop (kept_words s k + on.0 + w)) (first_kept s k all) ∙ drop_after (one_kept s k) (kept_kinds s all) (on.0 + w) (kept_words s k + on.0 + w) far in
+          let place = on.1 in
+          (kept_words s k + on.0, omega (arith, place), subst (IsFront counter) (sym same) on.2)
+
+  frame_loop : (all : List Kept) (x at : ℕ) → is_loop x all ≡ true → offset_from s 0 all x ≡ Some at → IsFront counter (drop (at + words s.table (object_at s x).of) (kept_kinds s all))
+  frame_loop all x at loops e =
+      let on = loop_offset all 0 x at loops e in
+      let place = on.1 in
+      let same : at + words s.table (object_at s x).of ≡ on.0 + words s.table (object_at s x).of = omega (arith, place) in
+      subst (λ i. IsFront counter (drop i (kept_kinds s all))) (sym same) on.2
+
 -- ---- the rooms of a subprogram
 
 rooms_row : (s : Typing) (subs : List FlowSub) (k n : ℕ) → (get_or (sub_rows s k subs) n no_sub).rooms ≡ rooms s (objects_of (get_or subs n machine.no_sub))
@@ -152,10 +199,14 @@ module _ (program : FlowProgram) (p : Program) (rows : HasRows program p) where
       → ((k t : ℕ) → slice_get takes k ≡ Some t → IsFront (kinds s.table t) (drop (words_before_value (site_of program n takes) k) taken))
       → HasKinds (site_of program n takes) (length (stack_kinds s.table p rest)) (stack_kinds s.table p (n ∷ rest)) taken
   stack_has n rest takes taken ends waits = record {
-    own = λ x at there own.
+    own = λ x at there.
         let same = drop_after (stack_kinds s.table p rest) (frame_kinds s.table (sub_at p n)) at (length (stack_kinds s.table p rest) + at) refl in
         subst (IsFront (kinds s.table (object_at s x).of)) (sym same)
         (subst (λ ks. IsFront (kinds s.table (object_at s x).of) (drop at ks)) (sym (frame_is program p rows n)) (frame_offset s (objects_of (sub_of program n)) x at there));
+    loops = λ x at loops there.
+        let o : ℕ = at + words s.table (object_at s x).of in
+        let same = drop_after (stack_kinds s.table p rest) (frame_kinds s.table (sub_at p n)) o (length (stack_kinds s.table p rest) + o) refl in
+        subst (IsFront counter) (sym same) (subst (λ ks. IsFront counter (drop o ks)) (sym (frame_is program p rows n)) (frame_loop s (objects_of (sub_of program n)) x at loops there));
     packages = λ x at there declared. packages_first (n ∷ rest) ends x at there;
     waits = waits;
   }

@@ -1,11 +1,12 @@
 -- What codes read, in two parts: that words of the stack are of their kinds, and that nothing is looked at that is gone.
-use Rattle.std.specs.Prelude.{◌≡◌, ℕ, ◌+◌, true, false, List, drop, slice_get, Some, ℤ, unsigned_abs}
+use Rattle.std.specs.Prelude.{◌≡◌, ℕ, ◌+◌, true, false, List, [], ◌∷◌, drop, slice_get, Some, ℤ, unsigned_abs}
 use Rattle.run_values.specs.declared.value.Kind.{Kind}
 use Rattle.run_values.specs.declared.value.Kind.TheVariants as sort
-use Rattle.type_definitions.specs.Types.{Table}
+use Rattle.type_definitions.specs.Types.{Table, words}
 use Rattle.flow_paths.specs.Objects.{object_at, is_package_object}
 use Rattle.run_codes.specs.Codes.{Code, Number, Local, Global, Via, Scaled, Plus, Unary, Binary, Short, IsNull, Waiting, EndOfFile, Nothing, Place, InFrame, InPackages, Behind}
 use Rattle.run_codes.specs.Flat.{Flat, Given, kinds, word, decides}
+use Rattle.run_codes.specs.Programs.{is_loop}
 use Rattle.run_codes.specs.Lowered.{Site, offset_of, package_offset, words_before_value}
 use Rattle.handled_runs.specs.Looks.{IsData, IsNumber, IsKept, IsFront}
 
@@ -61,8 +62,10 @@ PlaceKinds table m here taken (Behind p at i) of = LooksKinds m here taken i sor
 
 -- The words of objects in the stack, and those of the values that the point takes, have the kinds of their types.
 pub record HasKinds (c : Site) (base : ℕ) (here taken : List Kind) : Type 0 where
-  pub own : (x at : ℕ) → offset_of c x ≡ Some at → is_package_object c.typing x ≡ false
-      → IsFront (kinds c.typing.table (object_at c.typing x).of) (drop (base + at) here)
+  pub own : (x at : ℕ) → offset_of c x ≡ Some at → IsFront (kinds c.typing.table (object_at c.typing x).of) (drop (base + at) here)
+  -- the words of a loop lie after its parameter
+  pub loops : (x at : ℕ) → is_loop x c.own ≡ true → offset_of c x ≡ Some at
+      → IsFront (sort.Int ∷ sort.Int ∷ sort.Int ∷ []) (drop (base + (at + words c.typing.table (object_at c.typing x).of)) here)
   pub packages : (x at : ℕ) → package_offset c x ≡ Some at → is_package_object c.typing x ≡ true
       → IsFront (kinds c.typing.table (object_at c.typing x).of) (drop at here)
   pub waits : (k t : ℕ) → slice_get c.takes k ≡ Some t → IsFront (kinds c.typing.table t) (drop (words_before_value c k) taken)
