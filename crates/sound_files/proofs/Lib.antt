@@ -16,5 +16,6 @@ pub mod Called
 pub mod Temporaries
 pub mod Classes
 pub mod Mains
+pub mod Functions
 pub mod Owners
 pub mod Examples

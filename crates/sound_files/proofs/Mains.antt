@@ -69,7 +69,7 @@ each_none s known first (More group rest) none =
 each_none s known first formals none = refl
 
 -- A body without faults has formals as its declaration.
-front_agrees : (c : Context) (front items stmts : Code) (end : Pos) → code_faults c (SubBody front items stmts end) ≡ [] → agrees c.known front ≡ true
+pub front_agrees : (c : Context) (front items stmts : Code) (end : Pos) → code_faults c (SubBody front items stmts end) ≡ [] → agrees c.known front ≡ true
 unfolding code_faults
 front_agrees c front items stmts end none =
     demanded 3 (front_pos front) (agrees c.known front)
