@@ -1,25 +1,23 @@
 -- The main procedure of a program without a fault of typing has no formals.
-use Rattle.std.proofs.Common.{◌≡◌, refl, sym, ap, ◌∙◌, subst, inl, inr, ℕ, zero, suc, ◌+◌, Bool, true, false, ◌&&◌, nat_eq, List, [], ◌∷◌, ◌++◌, map, length, arith, Option, Some, None}
+use Rattle.std.proofs.Common.{◌≡◌, refl, sym, ap, ◌∙◌, subst, inl, inr, ℕ, suc, ◌+◌, Bool, true, false, ◌&&◌, nat_eq, List, [], ◌∷◌, ◌++◌, map, length, arith, Some, None}
 use Rattle.std.specs.Prelude.{flat_map}
 use Rattle.std.specs.List.{position_or_len}
 use Rattle.spark_base.specs.Lists.{Has}
 use Rattle.spark_base.specs.declared.position.Pos.{Pos}
 use Rattle.resolved_tree.specs.Trees.{Code, Front, Formals, SubBody, PackageBody, NoMore, More, code_items, Program}
-use Rattle.type_definitions.specs.declared.judgement.Fault.{Fault}
 use Rattle.type_definitions.specs.declared.table.FormalInfo.{FormalInfo}
 use Rattle.type_definitions.specs.declared.table.Known.{Known}
-use Rattle.type_definitions.specs.declared.table.Profile.{Profile}
 use Rattle.type_definitions.specs.Types.{Table}
 use Rattle.type_definitions.specs.Names.{Context}
 use Rattle.type_definitions.specs.Faults.{demand}
 use Rattle.type_definitions.specs.Entries.{entry_of}
 use Rattle.type_definitions.specs.Expressions.{profile_of}
 use Rattle.type_definitions.specs.Gathered.{front_number, in_hidden, declared_number, formal_infos, formal_groups, anonymous_result}
-use Rattle.type_definitions.specs.Declarations.{code_faults, body_faults, front_faults, front_pos, agrees, in_body, same_formals, same_result, has_none}
-use Rattle.type_definitions.specs.Whole.{outside, known_of, main_faults, is_formless, type_fault}
+use Rattle.type_definitions.specs.Declarations.{code_faults, body_faults, front_faults, front_pos, agrees, in_body, same_formals, same_result}
+use Rattle.type_definitions.specs.Whole.{outside, known_of, is_formless, type_fault}
 use Rattle.typed_tree.specs.Expressions.{Site, object_number}
 use Rattle.typed_tree.specs.Statements.{scope_count}
-use Rattle.typed_tree.specs.Programs.{TypedSub, subs_in, placed, bodies_in, over_units, main_of, site_of, formal_numbers, front_formals, typed_program}
+use Rattle.typed_tree.specs.Programs.{TypedSub, subs_in, placed, bodies_in, over_units, site_of, formal_numbers, front_formals, typed_program}
 use Rattle.scope_laws.proofs.Lists.{and_first}
 use Rattle.ready_laws.specs.InOrder.{IsSub}
 use Rattle.order_laws.specs.Written.{is_procedure, is_unit, are_declarations, are_statements}
