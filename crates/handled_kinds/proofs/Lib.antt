@@ -7,3 +7,4 @@ pub mod Filled
 pub mod Stacks
 pub mod Points
 pub mod Stored
+pub mod Turns
