@@ -8,3 +8,4 @@ pub mod Stacks
 pub mod Points
 pub mod Stored
 pub mod Turns
+pub mod Runs

@@ -359,14 +359,15 @@ module _ (a : Around) (laws : IsTable a.site.typing.table) (truth : IsOneData (k
 -- A point of a program.
 pub point_looks : (a : Around) → IsTable a.site.typing.table → IsOneData (kinds a.site.typing.table boolean) → (here : List Kind)
     → (program : Program) (input : List ℕ) (s : points.State) (f : Frame) (outer : List Frame) (p : Point) (q : FlowPoint) → point a q ≡ Some p
-    → HasKinds (record a.site { takes = p.takes }) f.base here (taken_kinds (turn_of a.site.typing.table program input s f outer p))
+    → (points.are_taken (turn_of a.site.typing.table program input s f outer p) ≡ true
+    → HasKinds (record a.site { takes = p.takes }) f.base here (taken_kinds (turn_of a.site.typing.table program input s f outer p)))
     → DoesKept (turn_of a.site.typing.table program input s f outer p) here (taken_kinds (turn_of a.site.typing.table program input s f outer p)) p.does
     → LooksTurn (turn_of a.site.typing.table program input s f outer p) here
 point_looks a laws truth here program input s f outer p q is has kept taken =
     let takes : List ℕ = point_takes (typing a) q.instr in
     let as_point : Does → Point = λ d. record { takes = takes; does = d; pos = q.pos } in
     let on = map_some as_point (does (with_takes a takes) q q.instr) p is in
-    subst Looks on.2 (λ has kept. does_looks (with_takes a takes) laws truth here (taken_kinds (turn (as_point on.0))) program input s f outer (as_point on.0) has q q.instr on.0 on.1 kept) has kept
+    subst Looks on.2 (λ has kept. does_looks (with_takes a takes) laws truth here (taken_kinds (turn (as_point on.0))) program input s f outer (as_point on.0) has q q.instr on.0 on.1 kept) (has taken) kept
   where
     turn : Point → points.Turn
     turn x = turn_of a.site.typing.table program input s f outer x
