@@ -329,7 +329,7 @@ module _ (c : Site) (laws : IsTable c.typing.table) (here taken : List Kind) (ba
   unfolding LooksFill FillKept
   new_fine a t want is fine m e kept = (is, fine m e kept)
 
-  default_fine : (t : ℕ) → Fine (Default t) (kinds table t)
+  pub default_fine : (t : ℕ) → Fine (Default t) (kinds table t)
   unfolding LooksFill
   default_fine t m e kept = defaults_numbers table t
 

@@ -7,3 +7,5 @@ pub mod Filled
 pub mod Stacks
 pub mod Points
 pub mod Stored
+pub mod Turns
+pub mod Runs

@@ -20,19 +20,10 @@ use Rattle.handled_runs.specs.Alike.{StandAt}
 use Rattle.handled_runs.specs.Released.{IsOwner, LooksFor}
 use Rattle.handled_steps.specs.Looks.{LooksData, LooksPieces, LooksPlace}
 use Rattle.handled_kinds.specs.Kinds.{LooksKinds, LooksKept, KeptOnWay, PlaceKinds, HasKinds}
+use Rattle.handled_kinds.specs.Turns.{PiecesKept}
 use Rattle.handled_kinds.proofs.Looks.{looks, looks_at}
 use Rattle.handled_kinds.proofs.Places.{place_stands}
 use Rattle.handled_kinds.proofs.Lowered.{IsRead, lowered_reads}
-
--- Nothing that the codes of pieces look at is gone.
-abbrev pub PieceKept : Flat → Piece → Type 0
-PieceKept m (Bytes bytes) = Unit {0}
-PieceKept m (NumberImage c) = LooksKept m c
-PieceKept m (LiteralImage c of) = LooksKept m c
-
-abbrev pub PiecesKept : Flat → List Piece → Type 0
-PiecesKept m [] = Unit {0}
-PiecesKept m (p ∷ rest) = PieceKept m p × PiecesKept m rest
 
 first_kept : (m : Flat) (all more : List Piece) → PiecesKept m (all ++ more) → PiecesKept m all × PiecesKept m more
 first_kept m [] more kept = (tt, kept)

@@ -25,7 +25,8 @@ use Rattle.handled_runs.specs.Looks.{IsFront}
 use Rattle.handled_steps.specs.Alike.{room_kinds, frame_kinds}
 use Rattle.handled_steps.specs.Looks.{taken_kinds}
 use Rattle.handled_kinds.specs.Kinds.{HasKinds}
-use Rattle.handled_kinds.specs.Stacks.{stack_kinds, EndsWithPackages, site_of, HasRows}
+use Rattle.run_points.specs.States.{site_of}
+use Rattle.handled_kinds.specs.Stacks.{stack_kinds, EndsWithPackages, HasRows}
 
 -- ---- fronts
 

@@ -48,7 +48,7 @@ module _ (c : Site) (laws : IsTable c.typing.table) (here taken : List Kind) (ba
   abbrev table : Table
   table = c.typing.table
 
-  abbrev Checks : Fill → ℕ → Type 0
+  abbrev pub Checks : Fill → ℕ → Type 0
   Checks v want = WhereChecked v (shape_of table want)
 
   place_checks : (p : Placed) (sh : Shape) (b : Bool) (v : Fill) → by_shape c laws here taken base has p sh b ≡ Some v → WhereChecked v sh

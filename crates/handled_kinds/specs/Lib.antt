@@ -1,3 +1,4 @@
 pub mod Kinds
 pub mod Values
 pub mod Stacks
+pub mod Turns

@@ -1,12 +1,12 @@
 -- The kinds of the words of all frames, by the subprograms that run.
-use Rattle.std.specs.Prelude.{◌≡◌, ℕ, List, [], ◌∷◌, ◌++◌}
+use Rattle.std.specs.Prelude.{◌≡◌, ◌<◌, ℕ, ◌+◌, false, List, [], ◌∷◌, ◌++◌, length, nat_lt}
 use Rattle.type_definitions.specs.Types.{Table}
 use Rattle.run_values.specs.declared.value.Kind.{Kind}
 use Rattle.flow_paths.specs.Laid.{FlowProgram, flow_typing}
-use Rattle.machine.specs.States.{sub_of}
-use Rattle.run_codes.specs.Lowered.{Site}
-use Rattle.run_codes.specs.Programs.{Program, objects_of, sub_rows}
-use Rattle.run_codes.specs.Points.{sub_at}
+use Rattle.machine.specs.States.{stack_words, sub_of}
+use Rattle.run_codes.specs.Programs.{Program, sub_rows}
+use Rattle.run_codes.specs.Points.{Frame, sub_at}
+use Rattle.run_points.specs.States.{first_point}
 use Rattle.handled_steps.specs.Alike.{frame_kinds}
 
 -- By the numbers of the subprograms, the one that runs first.
@@ -20,14 +20,17 @@ EndsWithPackages [] = ⊥
 EndsWithPackages (n ∷ []) = n ≡ 0
 EndsWithPackages (n ∷ k ∷ rest) = EndsWithPackages (k ∷ rest)
 
--- What expressions of a subprogram are lowered by.
-abbrev pub site_of : FlowProgram → ℕ → List ℕ → Site
-site_of program n takes = record {
-  typing = flow_typing program;
-  own = objects_of (sub_of program n);
-  package_objects = objects_of (sub_of program 0);
-  takes = takes;
-}
-
 abbrev pub HasRows : FlowProgram → Program → Type 0
 HasRows program p = p.subs ≡ sub_rows (flow_typing program) 0 program.subs
+
+-- The frame that runs: the subprograms of it and of those below it, and its next point.
+pub record StandsOn (program : FlowProgram) (p : Program) (f : Frame) (here : List Kind) : Type 0 where
+  pub sub : ℕ
+  pub rest : List ℕ
+  pub at : ℕ
+  pub ends : EndsWithPackages (sub ∷ rest)
+  pub kinds : here ≡ stack_kinds (flow_typing program).table p (sub ∷ rest)
+  pub base : f.base ≡ length (stack_kinds (flow_typing program).table p rest)
+  pub next : f.next ≡ first_point program.subs sub + at
+  pub within : at < length (sub_of program sub).points
+  pub few : nat_lt stack_words (sub_of program sub).words ≡ false
