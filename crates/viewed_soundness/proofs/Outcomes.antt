@@ -258,11 +258,16 @@ module _ (t : Turn) (settled : IsSettled (typing t).table) (own_law : OwnsByShap
   abbrev Assigns_here : List Fact → Evaluated Stored → Type 0
   Assigns_here facts x = Assigns (here t) settled t.state.leaks [] other alone (keeps s settled own_law) no_formals index_law own_law v parts_named hands facts x
 
-  pub then_stored : Raises_well → (facts : List Fact) (pos : Pos) (y : Evaluated Stored) → Assigns_here facts y
-      → Leads_on facts (steps.evaluated t y (λ (st : Stored) m. leaking_goes (checks_at s pos m st.place) (goes t (stored s st.place st.words m) 0)))
-  then_stored well facts pos (Done st n) (viewed, kept, holds) =
+  -- what was found is stored
+  pub stored_goes : (facts : List Fact) (pos : Pos) (st : Stored) (n : Now) → Assigns_here facts (Done st n)
+      → Leads_on facts (leaking_goes (checks_at s pos n.memory st.place) (goes t (stored s st.place st.words n.memory) 0))
+  stored_goes facts pos st n (viewed, kept, holds) =
       goes_on (stored s st.place st.words n.memory) (checks_at s pos n.memory st.place) (leaks_at s pos n.memory st.place)
       (all_checks s pos n.memory st.place) v facts (unturned facts) (viewed pos) kept holds
+
+  then_stored : Raises_well → (facts : List Fact) (pos : Pos) (y : Evaluated Stored) → Assigns_here facts y
+      → Leads_on facts (steps.evaluated t y (λ (st : Stored) m. leaking_goes (checks_at s pos m st.place) (goes t (stored s st.place st.words m) 0)))
+  then_stored well facts pos (Done st n) given = stored_goes facts pos st n given
   then_stored well facts pos (Raises e n) given = (λ trap. trap, well n.memory)
   then_stored well facts pos (Traps e n) never = absurd never
 

@@ -2,7 +2,7 @@
 use Rattle.place_names.specs.Facts.{adds}
 use Rattle.spark_base.proofs.Lists.{Has-map_from}
 use Rattle.viewed_steps.proofs.Left.{cells_same}
-use Rattle.std.proofs.Common.{◌≡◌, refl, sym, ap, ◌∙◌, subst, ◌⊎◌, inl, inr, ℕ, suc, ◌<◌, true, false, ◌&&◌, ◌==◌, List, [], ◌∷◌, ◌++◌, map, take, drop, length, get_or, arith, append-nil, Option, Some, None, if◌then◌else◌}
+use Rattle.std.proofs.Common.{◌≡◌, refl, sym, ap, ◌∙◌, subst, ◌⊎◌, inl, inr, ℕ, suc, ◌<◌, true, false, ◌==◌, List, [], ◌∷◌, ◌++◌, map, take, drop, length, get_or, arith, append-nil, Option, Some, None, if◌then◌else◌, is_some}
 use Rattle.std.specs.Prelude.{is_some}
 use Rattle.spark_base.specs.Lists.{Has}
 use Rattle.place_names.specs.declared.act.Act.{Act}
@@ -14,11 +14,11 @@ use Rattle.place_names.specs.declared.rule.Loan.{Loan}
 use Rattle.place_names.specs.declared.rule.Loan.TheVariants.{Observed}
 use Rattle.place_names.specs.Names.{Name as PlaceName}
 use Rattle.type_definitions.specs.Types.{Table, is_scalar, full}
-use Rattle.typed_tree.specs.Trees.{TypedTree}
+use Rattle.typed_tree.specs.Trees.{TypedTree, Name, NoMore, More}
 use Rattle.typed_tree.specs.Programs.{TypedProgram}
 use Rattle.flow_paths.specs.declared.report.Effects.{Effects}
-use Rattle.flow_paths.specs.Instructions.{Instruction, Call, EndScope}
-use Rattle.flow_paths.specs.Objects.{Typing, Signature, object_at, sub_at, is_anonymous, is_package_object, is_observer, view_of, traverses, passings, Passing}
+use Rattle.flow_paths.specs.Instructions.{Instruction, Call, EndScope, Declare, Assign, Hold}
+use Rattle.flow_paths.specs.Objects.{Typing, object_at, sub_at, is_anonymous, is_package_object, is_observer, view_of, traverses, passings, Passing}
 use Rattle.flow_paths.specs.Acts as flow
 use Rattle.flow_paths.specs.Points.{NamedPoint}
 use Rattle.flow_paths.specs.Laid.{FlowSub, FlowProgram, NamedSub, flow_sub, typing_of, flow_typing, flow_program, flow_named}
@@ -38,19 +38,18 @@ use Rattle.owned_ways.specs.Ways.{Way, after, AllowsAll}
 use Rattle.owned_ways.specs.Ways as ways
 use Rattle.soundness.specs.Seen.{IsNear, is_view_formal, content, word_in, seen, home, trunk}
 use Rattle.soundness.specs.Typed.{Kept}
-use Rattle.soundness.specs.Sound.{calls_procedures, Stage, facts_of, AreStages, AreCopied, Uses, IsRunnable, IsResting, AreAwaited, WaitsAt, temporaries_in, returns_value, awaited, InScope, IsNamedSub, IsAtPoint, view_of as view_here, AreSameWords}
+use Rattle.soundness.specs.Sound.{Stage, facts_of, AreStages, AreCopied, Uses, IsRunnable, IsResting, returns_value, InScope, IsNamedSub, IsAtPoint, view_of as view_here, AreSameWords}
 use Rattle.soundness.proofs.Stays.{Quiet}
 use Rattle.soundness.proofs.Numbers.{index_law}
 use Rattle.soundness.proofs.Lasting.{keeps}
-use Rattle.soundness.proofs.Passing.{way_of, AreReads, reads_keep, values_read, AreLaid, returns_copied, entered, TakesAll, takes_each, call_on, signature_is, passed_by, call_adds}
+use Rattle.soundness.proofs.Passing.{way_of, AreReads, reads_keep, values_read, AreLaid, returns_copied, entered, TakesAll, takes_each, call_on, passed_by, call_adds}
 use Rattle.soundness.proofs.Scalars.{acts, acts_append, after_append, allows_both}
 use Rattle.soundness.proofs.Points.{sub_in_range, path_there}
 use Rattle.soundness.proofs.Inherited.{AreGlobal, global_after, global_allowed, global_apart}
 use Rattle.soundness.proofs.Used.{called_used, used_global, called_are, globals_are, added_after}
 use Rattle.soundness.proofs.Around.{IsFar}
-use Rattle.soundness.proofs.Waits.{take_none, drop_none, led_waits}
+use Rattle.soundness.proofs.Waits.{led_waits}
 use Rattle.soundness.proofs.Taking.{Takes}
-use Rattle.soundness.proofs.Waited.{Shares, leads_count, leads_temporary, temporary_more}
 use Rattle.soundness.proofs.Eased.{eased}
 use Rattle.soundness.proofs.Scoped.{Inside}
 use Rattle.soundness.proofs.Beginning.{one_named, one_point}
@@ -59,9 +58,9 @@ use Rattle.owned_loans.specs.Views.{Around, known_gone, Views, IsMovedBy, AreCle
 use Rattle.owned_loans.proofs.Moves.{same_viewed}
 use Rattle.viewed_soundness.specs.Holds.{Holds}
 use Rattle.viewed_soundness.proofs.Evaluated.{live_trunk}
-use Rattle.viewed_soundness.proofs.Outcomes.{named_plain}
-use Rattle.viewed_steps.proofs.Read.{scalar_named}
 use Rattle.soundness.specs.Ready.{IsCalled, IsSupplied, Fills}
+use Rattle.viewed_steps.specs.Awaited.{AreFor, AreValuesBut, temporaries_of, lasting_of, awaited, WaitsAt, AreAwaited, AreScalar, FillsTyped, TakesScalars, IsTakenBy}
+use Rattle.viewed_steps.proofs.Waited.{temporary_first, leads_temporaries, lasting_more, Shares}
 use Rattle.viewed_steps.specs.Sound.{HoldsAt, ArePlaced, NoneAbove, ViewStage, stages_of, GoneElsewhere, Disturbs, IsWaiting, AreWaiting, calls_one, LeadsAlong}
 use Rattle.viewed_steps.specs.Ready.{IsReady}
 use Rattle.viewed_steps.proofs.Lent.{Spare, spare_both, loans_stay}
@@ -105,12 +104,12 @@ module _ (table : Table) (typed : TypedProgram) (effects : Effects) (input : Lis
       (frames : state.frames ≡ top.frame ∷ (below.stage.frame ∷ rest)) (deep : top.depth ≡ suc (length rest))
       (stages : AreStages (stages_of (below ∷ more_frames)) (below.stage.frame ∷ rest))
       (running : IsRunnable table typed top.frame.sub × IsResting s top × AreWaiting table typed effects state top.frame.sub (below ∷ more_frames))
-      (awaiting : AreAwaited table typed 0 (top ∷ stages_of (below ∷ more_frames)))
+      (awaiting : AreAwaited table typed None (top ∷ stages_of (below ∷ more_frames)))
       (of_sub : IsNamedSub (flow_named table typed) top.frame.sub named) (at_point : IsAtPoint named.points top.frame.next p)
       (path : ControlPath (path_points program effects (sub_of program top.frame.sub)) top.before top.frame.next) (views : Views)
       (viewed_before : Viewed (home s (suc (length rest))) (is_observer s) (known_gone (home s (suc (length rest))) (GoneElsewhere program effects (below ∷ more_frames))) views
       (view_here s state) (facts_of program effects top))
-      (kept : Kept s state.memory (waiting_in state)) (scope : InScope s state.memory (suc (length rest)) p.scope) (holds : HoldsAt s (suc (length rest)) views state.memory p)
+      (kept : Kept s state.memory (waiting_in state)) (scope : InScope s state.memory (suc (length rest)) (lasting_of s p.scope)) (holds : HoldsAt s (suc (length rest)) views state.memory p)
       (placed_before : ArePlaced program (facts_of program effects top) views p.scope) (above : NoneAbove s (suc (length rest)) state.memory) where
     abbrev outer : List Frame
     outer = below.stage.frame ∷ rest
@@ -178,13 +177,25 @@ module _ (table : Table) (typed : TypedProgram) (effects : Effects) (input : Lis
     abbrev given_words : List (List machine.Word)
     given_words = (start main_turn).waits
 
-    abbrev takes_of : (i : Instruction) → p.instr ≡ i → Takes (taken i) given_words []
+    abbrev Plain : Type 0
+    Plain = AreScalar s (temporaries_of s (take (taken p.instr) p.scope))
+
+    abbrev plain_here : ((call : TypedTree) → IsTakenBy p.instr call → ⊥) → Plain × TakesScalars s p.instr
+    plain_here = innermost.plain_here table typed effects input ready state top below more_frames rest named p frames deep stages running awaiting of_sub at_point path views viewed_before kept scope holds placed_before above
+
+    abbrev named_there : Has (flow_named table typed) named
+    named_there = innermost.named_there table typed effects input ready state top below more_frames rest named p frames deep stages running awaiting of_sub at_point path views viewed_before kept scope holds placed_before above
+
+    abbrev point_there_now : Has named.points p
+    point_there_now = innermost.point_there_now table typed effects input ready state top below more_frames rest named p frames deep stages running awaiting of_sub at_point path views viewed_before kept scope holds placed_before above
+
+    abbrev takes_of : Plain → (i : Instruction) → p.instr ≡ i → Takes (taken i) given_words []
     takes_of = innermost.takes_of table typed effects input ready state top below more_frames rest named p frames deep stages running awaiting of_sub at_point path views viewed_before kept scope holds placed_before above
 
     abbrev easy : Turn
     easy = eased main_turn
 
-    abbrev viewed_easy : Viewed (home s depth) (is_observer s) other views (view_here s easy.state) facts_now × Kept s state.memory (waiting_in easy.state)
+    abbrev viewed_easy : Plain → Viewed (home s depth) (is_observer s) other views (view_here s easy.state) facts_now × Kept s state.memory (waiting_in easy.state)
     viewed_easy = innermost.viewed_easy table typed effects input ready state top below more_frames rest named p frames deep stages running awaiting of_sub at_point path views viewed_before kept scope holds placed_before above
 
     abbrev placed_left : (facts : List Fact) → ArePlaced program facts views p.scope → ArePlaced program facts views left_scope
@@ -195,7 +206,7 @@ module _ (table : Table) (typed : TypedProgram) (effects : Effects) (input : Lis
         (f < suc (length rest)) × ((f ≡ 0)
         ⊎ ((q : List ways.Step) × (k : ℕ) × (word_in s.table (content s state.memory [] (ways.OfRoot (ways.OfVariable f x))) q ≡ ways.Held k)))
 
-    abbrev inside_left : Inside s IsOld state.memory depth left_scope
+    abbrev inside_left : Inside s IsOld state.memory depth (lasting_of s left_scope)
     inside_left = innermost.inside_left table typed effects input ready state top below more_frames rest named p frames deep stages running awaiting of_sub at_point path views viewed_before kept scope holds placed_before above
 
     abbrev others_await : returns_value p.instr ≡ false → AreAwaited table typed (awaited (sub_of program top.frame.sub) (top.frame.next ∷ top.before)) (stages_of older)
@@ -230,26 +241,23 @@ module _ (table : Table) (typed : TypedProgram) (effects : Effects) (input : Lis
           ready.class.copied (flow_sub own named) (standing.in_program table typed effects input ready state top older outer named p frames of_sub at_point) main_turn.point
           (standing.in_sub table typed effects input ready state top older outer named p frames of_sub at_point) n actuals result e called.formals
 
-      -- results are of scalar types
+      -- results are of no anonymous types
       no_traversal : traverses s.table (sub_of program n).result ≡ false
       no_traversal = by_result (sub_of program n).result refl
         where
-          plain_result : (of : ℕ) → (sub_of program n).result ≡ Some of → is_scalar (full s.table of) ≡ true
-          plain_result of is = elim ready.class.results [
-            | inr plain ↦ plain.0 n of (ap (λ (z : Signature). z.result) (signature_is program n) ∙ is)
-            | inl procedures ↦ absurd (not_called result
-                (sym (ap calls_procedures e)
-                ∙ procedures (flow_sub own named) (standing.in_program table typed effects input ready state top older outer named p frames of_sub at_point) main_turn.point
-                (standing.in_sub table typed effects input ready state top older outer named p frames of_sub at_point)) (sym called.answers ∙ ap is_some is))
-          ]
-            where
-              not_called : (r : Option ℕ) → calls_procedures (Call n actuals r) ≡ true → is_some r ≡ true → ⊥
-              not_called None calls some = cc
-              not_called (Some t) calls some = cc
-
           by_result : (r : Option ℕ) → (sub_of program n).result ≡ r → traverses s.table r ≡ false
           by_result None is = refl
-          by_result (Some of) is = named_plain s.table of (scalar_named s.table of (plain_result of is))
+          by_result (Some of) is =
+              ready.class.results (flow_sub own named) (standing.in_program table typed effects input ready state top older outer named p frames of_sub at_point) main_turn.point
+              (standing.in_sub table typed effects input ready state top older outer named p frames of_sub at_point) n actuals result e of is
+
+      -- what a call takes is of scalar types
+      pub plain_there : Plain × TakesScalars s p.instr
+      plain_there = plain_here (λ call by. elim by [
+        | inl (x, is) ↦ (let never : Call n actuals result ≡ Declare x (More call NoMore) = sym e ∙ is in cc)
+        | inr (inl (q, x, steps, u, is, calls)) ↦ (let never : Call n actuals result ≡ Assign (Name q x steps u) call = sym e ∙ is in cc)
+        | inr (inr is) ↦ (let never : Call n actuals result ≡ Hold (More call NoMore) = sym e ∙ is in cc)
+      ])
 
       abbrev ways_there : List Passing
       ways_there = map (way_of s ready.owns) formals
@@ -313,28 +321,28 @@ module _ (table : Table) (typed : TypedProgram) (effects : Effects) (input : Lis
           → (content s state.memory (waiting_in easy.state) (trunk l)).owns ≡ true
       live_now =
           live_trunk (steps.here main_turn) ready.accepted.settled state.leaks [] other alone (keeps s ready.accepted.settled ready.owns) no_in_formals index_law
-          ready.owns views ready.class.parts_named state.memory (waiting_in easy.state) (viewed_easy.0).owned
+          ready.owns views ready.class.parts_named state.memory (waiting_in easy.state) ((viewed_easy plain_there.0).0).owned
 
       abbrev pub Given : List Passed → Type 0
       Given passed =
-          AreGiven (steps.here main_turn) ready.accepted.settled (waiting_in easy.state) state.leaks state.memory [] other facts_now views viewed_easy.1 viewed_easy.0 holds_now alone live_now
+          AreGiven (steps.here main_turn) ready.accepted.settled (waiting_in easy.state) state.leaks state.memory [] other facts_now views (viewed_easy plain_there.0).1 (viewed_easy plain_there.0).0 holds_now alone live_now
           index_law ready.owns ready.class.parts_named formals actuals passed
 
       -- the values that the actuals take
       pub taken_there : (on : List (List machine.Word)) × TakesAll formals actuals given_words on
-      taken_there = takes_each formals actuals given_words [] (takes_of (Call n actuals result) e)
+      taken_there = takes_each formals actuals given_words [] (takes_of plain_there.0 (Call n actuals result) e)
 
       abbrev pub then_now : Now
       then_now = record { memory = state.memory; waits = taken_there.0 }
 
       pub passed_quiet : Quiet then_now Given (all_passed (steps.here main_turn) ways_there formals actuals (start main_turn))
       passed_quiet =
-          all_given (steps.here main_turn) ready.accepted.settled (waiting_in easy.state) state.leaks state.memory [] other facts_now views viewed_easy.1 viewed_easy.0 holds_now alone live_now
+          all_given (steps.here main_turn) ready.accepted.settled (waiting_in easy.state) state.leaks state.memory [] other facts_now views (viewed_easy plain_there.0).1 (viewed_easy plain_there.0).0 holds_now alone live_now
           index_law ready.owns ready.class.parts_named given_words taken_there.0 formals actuals called.actuals_stay copied_there taken_there.1 values_allowed
 
       given_laid : (passed : List Passed) → Given passed → AreLaid s passed
       given_laid passed given =
-          all_laid_out (steps.here main_turn) ready.accepted.settled (waiting_in easy.state) state.leaks state.memory [] other facts_now views viewed_easy.1 viewed_easy.0 holds_now alone live_now
+          all_laid_out (steps.here main_turn) ready.accepted.settled (waiting_in easy.state) state.leaks state.memory [] other facts_now views (viewed_easy plain_there.0).1 (viewed_easy plain_there.0).0 holds_now alone live_now
           index_law ready.owns ready.class.parts_named formals actuals passed given
 
       -- the state is sound with views under the facts after the acts
@@ -343,8 +351,8 @@ module _ (table : Table) (typed : TypedProgram) (effects : Effects) (input : Lis
           subst (Viewed (home s depth) (is_observer s) other views (view_here s easy.state))
           (sym (ap (λ z. after z facts_now) (acts_append values copies) ∙ after_append (acts values) (acts copies) facts_now
           ∙ ap (after (acts copies)) (reads_keep values reads_there facts_now)))
-          (all_acted (steps.here main_turn) ready.accepted.settled (waiting_in easy.state) state.leaks state.memory [] other facts_now views viewed_easy.1 viewed_easy.0 holds_now alone live_now
-          index_law ready.owns ready.class.parts_named formals actuals passed facts_now given viewed_easy.0)
+          (all_acted (steps.here main_turn) ready.accepted.settled (waiting_in easy.state) state.leaks state.memory [] other facts_now views (viewed_easy plain_there.0).1 (viewed_easy plain_there.0).0 holds_now alone live_now
+          index_law ready.owns ready.class.parts_named formals actuals passed facts_now given (viewed_easy plain_there.0).0)
 
       -- loans stay
       loans_called : (h : ℕ) (m : PlaceName) → Has own_facts (Lent Observed h m) → Has facts_called (Lent Observed h m)
@@ -413,10 +421,10 @@ module _ (table : Table) (typed : TypedProgram) (effects : Effects) (input : Lis
       more : (x : ℕ) → is_within x left_scope ≡ true → is_within x (scope_behind p) ≡ true
       more x within = subst (λ i. is_within x (brought i left_scope) ≡ true) (sym e) (brought_more result x within)
 
-      behind_scope : InScope s state.memory depth (scope_behind p)
-      behind_scope f x q k held = elim (inside_left f x q k held) [ inl old ↦ inl old.0 | inr mine ↦ inr (mine.0, more x mine.1) ]
+      behind_scope : InScope s state.memory depth (lasting_of s (scope_behind p))
+      behind_scope f x q k held = elim (inside_left f x q k held) [ inl old ↦ inl old.0 | inr mine ↦ inr (mine.0, lasting_more s left_scope (scope_behind p) more x mine.1) ]
 
-      next_scope : InScope s state.memory depth (at_successor.0).scope
+      next_scope : InScope s state.memory depth (lasting_of s (at_successor.0).scope)
       next_scope = scope_on s ready.owns state.memory depth (scope_behind p) (at_successor.0).scope behind_scope at_successor.2
 
       next_placed : ArePlaced program facts_called views (at_successor.0).scope
@@ -432,45 +440,28 @@ module _ (table : Table) (typed : TypedProgram) (effects : Effects) (input : Lis
 
       -- ---- what waits, before the callee has returned
 
-      late_scope : (r : Option ℕ) → Fills s (Call n actuals r) left_scope → (empty : ℕ) → (is_some r ≡ false → empty ≡ 0) → (is_some r ≡ true → empty ≡ 1)
-          → (b : List ℕ) → Leads s (brought (Call n actuals r) left_scope) b
-          → (temporaries_in s (drop empty b) ≡ temporaries_in s left_scope) × (temporaries_in s (take empty b) ≡ empty)
-      late_scope None fills empty none some b leads = (
-        ap (λ k. temporaries_in s (drop k b)) (none refl) ∙ ap (temporaries_in s) (drop_none b) ∙ sym (leads_count s left_scope b leads),
-        ap (λ k. temporaries_in s (take k b)) (none refl) ∙ ap (temporaries_in s) (take_none b) ∙ sym (none refl),
-      )
-      late_scope (Some t) fills empty none some b leads = (
-        ap (λ k. temporaries_in s (drop k b)) (some refl) ∙ ap (λ z. temporaries_in s (drop 1 z)) (leads_temporary s t left_scope b fills leads)
-            ∙ ap (temporaries_in s) (drop_none left_scope),
-        ap (λ k. temporaries_in s (take k b)) (some refl) ∙ ap (λ z. temporaries_in s (take 1 z)) (leads_temporary s t left_scope b fills leads)
-            ∙ temporary_more s t (take 0 left_scope) fills ∙ ap (λ z. suc (temporaries_in s z)) (take_none left_scope) ∙ sym (some refl),
-      )
+      late_scope : (r : Option ℕ) → Fills s (Call n actuals r) left_scope → FillsTyped program (Call n actuals r) left_scope → (empty : Option ℕ)
+          → (sub_of program n).result ≡ empty → is_some empty ≡ is_some r → (b : List ℕ) → Leads s (brought (Call n actuals r) left_scope) b
+          → AreValuesBut s empty (steps.waiting main_turn) (temporaries_of s b)
+      late_scope None fills fits None is answers b leads = subst (AreFor s (steps.waiting main_turn)) (leads_temporaries s left_scope b leads) shared.left
+      late_scope None fills fits (Some of) is answers b leads = cc
+      late_scope (Some t) fills fits None is answers b leads = cc
+      late_scope (Some t) fills fits (Some of) is answers b leads =
+          subst (AreValuesBut s (Some of) (steps.waiting main_turn)) (sym (temporary_first s t left_scope fills) ∙ leads_temporaries s (t ∷ left_scope) b leads)
+          (fits of is, shared.left)
 
-      abbrev late : ℕ
+      abbrev late : Option ℕ
       late = awaited (sub_of program n) []
-
-      late_none : is_some result ≡ false → late ≡ 0
-      late_none none = ap (λ b. if b && true then 1 else 0) (called.answers ∙ none)
-
-      late_some : is_some result ≡ true → late ≡ 1
-      late_some some = ap (λ b. if b && true then 1 else 0) (called.answers ∙ some)
-
-      late_there : (temporaries_in s (drop late (at_successor.0).scope) ≡ temporaries_in s left_scope) × (temporaries_in s (take late (at_successor.0).scope) ≡ late)
-      late_there =
-          late_scope result (subst (λ i. Fills s i left_scope) e supplied_here.1) late late_none late_some (at_successor.0).scope
-          (subst (λ i. Leads s (brought i left_scope) (at_successor.0).scope) e at_successor.2)
 
       waits_late : WaitsAt table typed late waits_stage
       waits_late other_named other_stands q at_q =
           let same_sub : other_named ≡ named = one_named (flow_named table typed) top.frame.sub other_named named other_stands of_sub in
           let same_point : at_successor.0 ≡ q =
-          one_point named.points call_point.0 (at_successor.0) q at_successor.1 (subst (λ (z : NamedSub). IsAtPoint z.points call_point.0 q) same_sub at_q) in (
-            (
-              (shared.left).0,
-              (shared.left).1 ∙ sym (subst (λ (z : NamedPoint). temporaries_in s (drop late z.scope) ≡ temporaries_in s left_scope) same_point late_there.0),
-            ),
-            subst (λ (z : NamedPoint). temporaries_in s (take late z.scope) ≡ late) same_point late_there.1,
-          )
+          one_point named.points call_point.0 (at_successor.0) q at_successor.1 (subst (λ (z : NamedSub). IsAtPoint z.points call_point.0 q) same_sub at_q) in
+          subst (λ (z : NamedPoint). AreValuesBut s late (steps.waiting main_turn) (temporaries_of s z.scope)) same_point
+          (late_scope result (subst (λ i. Fills s i left_scope) e supplied_here.1)
+          (subst (λ i. FillsTyped program i left_scope) e (ready.taken.fills named named_there p point_there_now)) late refl called.answers (at_successor.0).scope
+          (subst (λ i. Leads s (brought i left_scope) (at_successor.0).scope) e at_successor.2))
 
       -- ---- what is passed
 
@@ -485,7 +476,7 @@ module _ (table : Table) (typed : TypedProgram) (effects : Effects) (input : Lis
         called_stage = record { frame = frame_at_start n (returns_of formals passed); depth = suc depth; before = []; returns = [] }
 
         enters : Enters s ready.accepted.settled ready.owns (waiting_in easy.state) state.leaks state.memory with_all
-        enters = all_entered s ready.accepted.settled ready.owns (waiting_in easy.state) state.leaks (suc depth) formals passed state.memory scalar_formals (given_laid passed given) viewed_easy.1
+        enters = all_entered s ready.accepted.settled ready.owns (waiting_in easy.state) state.leaks (suc depth) formals passed state.memory scalar_formals (given_laid passed given) (viewed_easy plain_there.0).1
 
         frames_there : after_call.frames ≡ frame_at_start n (returns_of formals passed) ∷ (waits_stage.frame ∷ outer)
         frames_there =

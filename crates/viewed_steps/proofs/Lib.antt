@@ -15,12 +15,14 @@ pub mod Waiting
 pub mod Apart
 pub mod Left
 pub mod Called
+pub mod Waited
 pub mod Eased
 pub mod Standing
 pub mod Packages
 pub mod Innermost
 pub mod EachInstruction
 pub mod Operands
+pub mod Alone
 pub mod Results
 pub mod ScopeEnds
 pub mod CallEnds

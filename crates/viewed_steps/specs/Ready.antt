@@ -19,6 +19,7 @@ use Rattle.soundness.specs.Typed.{OwnsByShape}
 use Rattle.soundness.specs.Sound.{Accepted, IsNamedSub, IsAtPoint, IsProcedure}
 use Rattle.soundness.specs.Ready.{AreScoped, AreNew, AreElaborated, AreCalled, AreReturning}
 use Rattle.viewed_soundness.specs.Holds.{AllKeep}
+use Rattle.viewed_steps.specs.Awaited.{AreTaken}
 use Rattle.viewed_steps.specs.Sound.{IsViewClass, Lasts}
 
 -- ---- borrowers and observers in order
@@ -83,6 +84,7 @@ pub record IsReady (table : Table) (typed : TypedProgram) (effects : Effects) : 
   pub orderly : ViewsAreOrderly table typed
   pub called : AreCalled table typed
   pub returning : AreReturning (flow_program table typed) effects
+  pub taken : AreTaken table typed
   pub packages : NamedSub
   pub stands : IsNamedSub (flow_named table typed) 0 packages
   pub main : ℕ
