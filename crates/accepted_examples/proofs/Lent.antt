@@ -1,7 +1,7 @@
 -- A text with a procedure that is called and lends to an observer, of the second class of the law on runs with
 -- borrowers and observers, and that law of it.
-use Rattle.std.specs.Prelude.{codes, is_none, is_some}
-use Rattle.std.proofs.Common.{◌≡◌, ℕ, ◌+◌, inl, Bool, true, false, not, ◌&&◌, ◌||◌, List, [], ◌∷◌, refl, sym, ◌∙◌, Option, Some, None, Ok, Err, true≢false}
+use Rattle.std.specs.Prelude.{codes}
+use Rattle.std.proofs.Common.{◌≡◌, ℕ, ◌+◌, inl, Bool, true, false, not, ◌&&◌, ◌||◌, List, [], ◌∷◌, refl, sym, ◌∙◌, Some, None, Ok, Err, true≢false}
 use Rattle.ada_lexer.specs.Tokens.{Cut, CutResult, tokens}
 use Rattle.ada_tree.specs.declared.declaration.Item.TheVariants as item
 use Rattle.ada_tree.specs.declared.declaration.Indication.TheVariants as indication
@@ -20,29 +20,29 @@ use Rattle.ada_tree.specs.declared.unit.SourceUnit.{SourceUnit}
 use Rattle.ada_tree.specs.declared.unit.SourceUnit.TheVariants as unit
 use Rattle.ada_grammar.proofs.SmallSources.{IsTextOf, computes, source_of, at, id, mark, expr_of, object, null_at, sole, formals_of, package_of, package_body_of, subprogram_of}
 use Rattle.name_events.specs.Faults.{name_fault}
-use Rattle.type_definitions.specs.Types.{full, is_scalar, is_owning}
+use Rattle.type_definitions.specs.Types.{full, is_scalar}
 use Rattle.type_definitions.specs.Whole.{type_fault}
 use Rattle.typing_steps.specs.Programs.{program_of}
 use Rattle.typed_tree.specs.Trees.{TypedTree, More}
 use Rattle.typed_tree.specs.declared.object.Object.{Object}
-use Rattle.typed_tree.specs.Programs.{TypedSub, text_io}
-use Rattle.flow_paths.specs.Objects.{Typing, object_at, is_state, is_formal_kind, is_formal, is_package_object}
+use Rattle.typed_tree.specs.Programs.{text_io}
+use Rattle.flow_paths.specs.Objects.{Typing, Signature, object_at, sub_at, is_formal_kind, is_formal}
 use Rattle.flow_paths.specs.Points.{FlowPoint}
-use Rattle.flow_paths.specs.Laid.{FlowSub, flow_typing}
+use Rattle.flow_paths.specs.Laid.{FlowSub}
 use Rattle.flow_paths.specs.Effects.{asks_for_end, path_points}
 use Rattle.flow_paths.specs.Aliases.{alias_reports}
 use Rattle.flow_paths.specs.Views.{encloses_within}
 use Rattle.machine.specs.Owners.{is_in}
-use Rattle.machine.specs.States.{no_sub, sub_of}
 use Rattle.soundness.specs.Sound.{calls_procedures, AreCopied}
 use Rattle.program_check.specs.Sources.{flow_of}
 use Rattle.file_positions.specs.Texts.{AreParsed}
 use Rattle.file_positions.proofs.Cuts.{cut_in_order}
-use Rattle.null_runs.proofs.Files.{parsed_typed}
-use Rattle.order_laws.specs.Orderly.{typed_of, bodies_of}
-use Rattle.sound_files.specs.Class.{CallsProcedures, HasNoFunction, HasScalarFormals, CopiesToVariables}
+use Rattle.order_laws.specs.Orderly.{typed_of, typing_in}
+use Rattle.sound_files.specs.Class.{CallsProcedures, FormalsAreScalar, CopyToVariables}
+use Rattle.sound_files.proofs.Classes.{called_alike}
 use Rattle.viewed_files.proofs.Files.{parsed_called_sound}
-use Rattle.accepted_runs.proofs.Main.{RunsAreSound}
+use Rattle.accepted_runs.proofs.Runs.{RunsAreSound}
+use Rattle.accepted_runs.proofs.Views.{AreInSecondViewClass}
 use Rattle.accepted_examples.proofs.Naming.{naming}
 use Rattle.accepted_examples.proofs.Typing.{typing}
 use Rattle.accepted_examples.proofs.Lowering.{lowering}
@@ -85,28 +85,13 @@ typed = refl
 
 -- ---- it is of the class
 
-abbrev s : Typing
-s = flow_typing (flow_of files)
-
-none_is : {A : Type 0} (o : Option A) → is_none o ≡ true → o ≡ None
-none_is None e = refl
-none_is (Some x) e = absurd (true≢false (sym e))
-
 implied : (a b : Bool) → not a || b ≡ true → a ≡ true → b ≡ true
 implied true b e is = e
 implied false b e is = absurd (true≢false (sym is))
 
-isnt_true : (a : Bool) → not a ≡ true → a ≡ false
-isnt_true true e = absurd (true≢false (sym e))
-isnt_true false e = refl
-
 pub is_main : (typed_of (program_of files)).main ≡ Some 2
 unfolding computes naming typing lowering
 is_main = refl
-
-pub procedures : HasNoFunction (program_of files)
-unfolding computes naming typing lowering
-procedures = λ sub has. none_is sub.result (each (λ (sub : TypedSub). is_none sub.result) (bodies_of (program_of files)) refl sub has)
 
 pub calls : CallsProcedures (flow_of files)
 unfolding computes naming typing lowering
@@ -114,52 +99,46 @@ calls = λ sub has p there.
     each (λ (p : FlowPoint). calls_procedures p.instr) sub.points
     (each (λ (s : FlowSub). all_pass (λ (p : FlowPoint). calls_procedures p.instr) s.points) (flow_of files).subs refl sub has) p there
 
-abbrev scalar_if_formal : Object → Bool
-scalar_if_formal o = not (is_formal_kind o.kind) || is_scalar (full (flow_of files).table o.of)
+abbrev own : Typing
+own = typing_in (program_of files)
 
-scalars : all_pass scalar_if_formal s.objects ≡ true
+abbrev scalar_if_formal : Object → Bool
+scalar_if_formal o = not (is_formal_kind o.kind) || is_scalar (full own.table o.of)
+
+scalars : all_pass scalar_if_formal own.objects ≡ true
 unfolding computes naming typing lowering
 scalars = refl
 
-pub formals : HasScalarFormals (flow_of files)
+pub formals : FormalsAreScalar (program_of files)
 formals x is =
-    implied (is_formal s x) (is_scalar (full (flow_of files).table (object_at s x).of))
-    (at_any (λ (o : Object). scalar_if_formal o ≡ true) s.objects text_io refl (each scalar_if_formal s.objects scalars) x) is
+    implied (is_formal own x) (is_scalar (full own.table (object_at own x).of))
+    (at_any (λ (o : Object). scalar_if_formal o ≡ true) own.objects text_io refl (each scalar_if_formal own.objects scalars) x) is
 
 abbrev in_alone : List ℕ → Bool
-in_alone xs = all_pass (λ x. is_in (object_at s x).mode) xs
+in_alone xs = all_pass (λ x. is_in (object_at own x).mode) xs
 
-ins : all_pass (λ (sub : FlowSub). in_alone sub.formals) (flow_of files).subs ≡ true
+ins : all_pass (λ (z : Signature). in_alone z.formals) own.subs ≡ true
 unfolding computes naming typing lowering
 ins = refl
 
-copied_in : (xs : List ℕ) (actuals : TypedTree) → in_alone xs ≡ true → AreCopied s xs actuals
+copied_in : (xs : List ℕ) (actuals : TypedTree) → in_alone xs ≡ true → AreCopied own xs actuals
 copied_in [] actuals e = tt
 copied_in (x ∷ xs) (More a rest) e =
-    (λ out. absurd (true≢false (sym (left_of (is_in (object_at s x).mode) (in_alone xs) e) ∙ out)), copied_in xs rest (right_of (is_in (object_at s x).mode) (in_alone xs) e))
+    (λ out. absurd (true≢false (sym (left_of (is_in (object_at own x).mode) (in_alone xs) e) ∙ out)), copied_in xs rest (right_of (is_in (object_at own x).mode) (in_alone xs) e))
 copied_in (x ∷ xs) actuals e = tt
 
-pub copied : CopiesToVariables (flow_of files)
-copied sub has p there n actuals result is =
-    copied_in (sub_of (flow_of files) n).formals actuals
-    (at_any (λ (sub : FlowSub). in_alone sub.formals ≡ true) (flow_of files).subs no_sub refl (each (λ (sub : FlowSub). in_alone sub.formals) (flow_of files).subs ins) n)
+-- No formal is copied back to.
+pub copied : CopyToVariables (program_of files)
+copied = called_alike (program_of files) (λ n actuals.
+    copied_in (sub_at own n).formals actuals
+    (at_any (λ (z : Signature). in_alone z.formals ≡ true) own.subs (record { formals = []; result = None }) refl (each (λ (z : Signature). in_alone z.formals) own.subs ins) n))
 
-abbrev owns_if_global : Object → Bool
-owns_if_global o = not (is_some o.«package» && not (is_state o.kind)) || not (is_owning (flow_of files).table o.of)
-
-owners : all_pass owns_if_global s.objects ≡ true
-unfolding computes naming typing lowering
-owners = refl
-
-pub own_nothing : (x : ℕ) → is_package_object s x ≡ true → is_owning (flow_of files).table (object_at s x).of ≡ false
-own_nothing x is =
-    isnt_true (is_owning (flow_of files).table (object_at s x).of)
-    (implied (is_package_object s x) (not (is_owning (flow_of files).table (object_at s x).of))
-    (at_any (λ (o : Object). owns_if_global o ≡ true) s.objects text_io refl (each owns_if_global s.objects owners) x) is)
+pub class : AreInSecondViewClass files
+class = record { main = 2; is_main = is_main; calls = record { results = inl calls; formals = formals; copied = copied } }
 
 -- ---- nothing is reported of it
 
-passes : all_pass (sub_passes (flow_of files)) (flow_of files).subs ≡ true
+pub passes : all_pass (sub_passes (flow_of files)) (flow_of files).subs ≡ true
 unfolding computes naming typing lowering asks_for_end encloses_within
 passes = refl
 
@@ -193,7 +172,7 @@ parsed = (cut_in_order 0 text 1000 cuts is_cut, spelled, tt)
 
 pub lent_sound : RunsAreSound files
 lent_sound input =
-    parsed_called_sound files (cuts ∷ []) parsed named typed 2 is_main (nothing (flow_of files) passes) (no_effects (flow_of files) passes)
+    parsed_called_sound files (cuts ∷ []) parsed named typed class.main class.is_main (nothing (flow_of files) passes) (no_effects (flow_of files) passes)
     (no_reports (flow_of files) passes no_aliases 9
     (each (λ (sub : FlowSub). path_passes 9 (path_points (flow_of files) (nothing (flow_of files) passes) sub) [] 0) (flow_of files).subs paths))
-    calls formals procedures (parsed_typed files (cuts ∷ []) parsed named typed) copied (inl own_nothing) input
+    class.calls input

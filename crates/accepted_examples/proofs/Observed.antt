@@ -20,9 +20,9 @@ use Rattle.program_check.specs.Sources.{flow_of}
 use Rattle.file_positions.specs.Texts.{AreParsed}
 use Rattle.file_positions.proofs.Cuts.{cut_in_order}
 use Rattle.meant_files.specs.Formless.{IsFormless}
-use Rattle.viewed_files.proofs.Files.{parsed_views_sound}
-use Rattle.accepted_runs.proofs.Main.{RunsAreSound}
-use Rattle.accepted_runs.proofs.Views.{AreInViewClass}
+use Rattle.viewed_files.proofs.Files.{parsed_called_sound}
+use Rattle.accepted_runs.proofs.Runs.{RunsAreSound}
+use Rattle.accepted_runs.proofs.Views.{AreInViewClass, AreInSecondViewClass, first_second}
 use Rattle.accepted_examples.proofs.Naming.{naming}
 use Rattle.accepted_examples.proofs.Typing.{typing}
 use Rattle.accepted_examples.proofs.Lowering.{lowering}
@@ -104,9 +104,12 @@ parsed : AreParsed 0 (cuts ∷ []) files
 unfolding computes
 parsed = (cut_in_order 0 text 1000 cuts is_cut, spelled, tt)
 
+second : AreInSecondViewClass files
+second = first_second files class
+
 pub observed_sound : RunsAreSound files
 observed_sound input =
-    parsed_views_sound files (cuts ∷ []) parsed named typed class.text (nothing (flow_of files) passes) (no_effects (flow_of files) passes)
+    parsed_called_sound files (cuts ∷ []) parsed named typed second.main second.is_main (nothing (flow_of files) passes) (no_effects (flow_of files) passes)
     (no_reports (flow_of files) passes no_aliases 9
     (each (λ (sub : FlowSub). path_passes 9 (path_points (flow_of files) (nothing (flow_of files) passes) sub) [] 0) (flow_of files).subs paths))
-    class.calls input
+    second.calls input

@@ -5,10 +5,8 @@ use Rattle.spark_base.specs.declared.limits.TheConstants.{TOKENS, SOURCE_BYTES}
 use Rattle.ada_tree.specs.declared.unit.SourceUnit.{SourceUnit}
 use Rattle.typing_steps.specs.Programs.{program_of}
 use Rattle.flow_paths.specs.declared.report.Effects.{Effects}
-use Rattle.program_check.specs.Sources.{flow_of}
 use Rattle.file_positions.specs.Texts.{AreParsed}
-use Rattle.sound_files.specs.Class.{IsNamedText}
-use Rattle.function_files.specs.Class.{CallsFunctions}
+use Rattle.sound_files.specs.Class.{IsNamedText, CallsFunctions}
 use Rattle.function_files.proofs.Main.{parsed_functions_sound, parsed_functions_hold, parsed_functions_with_null}
 use Rattle.command_words.specs.Words.{Check}
 use Rattle.run_command.specs.Answers.{Answer}
@@ -18,13 +16,13 @@ use Rattle.spark_tool.specs.Product.{Product}
 use Rattle.accepted_runs.specs.Passed.{Passes}
 use Rattle.accepted_runs.proofs.Passing.{Passed, product_passed}
 use Rattle.accepted_runs.proofs.Parsed.{are_parsed}
-use Rattle.accepted_runs.proofs.Main.{RunsAreSound, RunsHold, RunsAreWithNull}
+use Rattle.accepted_runs.proofs.Runs.{RunsAreSound, RunsHold, RunsAreWithNull}
 
 -- The third class of programs: formals and results are of scalar types, and actuals of modes `out` and `in out` go
 -- through no access value.
 pub record AreInThirdClass (trees : List (List SourceUnit)) : Type 0 where
   pub text : IsNamedText (program_of trees)
-  pub calls : CallsFunctions (flow_of trees)
+  pub calls : CallsFunctions (program_of trees)
 
 module _ (texts : List (List ℕ)) (trees : List (List SourceUnit)) (effects : Effects) (passes : Passes texts trees effects) (class : AreInThirdClass trees) where
   parsed : AreParsed 0 passes.cuts trees

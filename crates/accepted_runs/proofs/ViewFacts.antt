@@ -1,18 +1,13 @@
--- In runs of programs with borrowers and observers that `check` accepts, no leak check fails that the leak plan excuses: without
--- formals and calls, and where procedures are called whose formals are of scalar types.
+-- In runs of programs with borrowers and observers that `check` accepts, no leak check fails that the leak plan
+-- excuses: where formals and results are of scalar types, and so without formals and calls.
 use Rattle.std.proofs.Common.{◌≡◌, ℕ, List, Some}
-use Rattle.spark_base.specs.declared.limits.TheConstants.{TOKENS, SOURCE_BYTES}
+use Rattle.spark_base.specs.declared.limits.TheConstants.{SOURCE_BYTES}
 use Rattle.ada_tree.specs.declared.unit.SourceUnit.{SourceUnit}
 use Rattle.type_definitions.specs.Whole.{known_of}
 use Rattle.typing_steps.specs.Programs.{program_of}
 use Rattle.flow_paths.specs.declared.report.Effects.{Effects}
-use Rattle.program_check.specs.Sources.{flow_of}
 use Rattle.order_laws.specs.Orderly.{typed_of}
-use Rattle.file_positions.specs.Texts.{AreParsed}
-use Rattle.typed_steps.specs.Steps.{AreTyped}
-use Rattle.null_runs.proofs.Files.{parsed_typed}
 use Rattle.viewed_facts.proofs.Runs.{run_holds}
-use Rattle.viewed_files.proofs.Files.{parsed_views_ready, parsed_called_ready}
 use Rattle.command_words.specs.Words.{Check}
 use Rattle.run_command.specs.Answers.{Answer}
 use Rattle.spark_tool.specs.Commands.{command_of}
@@ -20,39 +15,30 @@ use Rattle.spark_tool.specs.Reading.{sources}
 use Rattle.spark_tool.specs.Product.{Product}
 use Rattle.accepted_runs.specs.Passed.{Passes}
 use Rattle.accepted_runs.proofs.Passing.{Passed, product_passed}
-use Rattle.accepted_runs.proofs.Parsed.{are_parsed}
-use Rattle.accepted_runs.proofs.Main.{RunsHold}
-use Rattle.accepted_runs.proofs.Views.{AreInViewClass, AreInSecondViewClass}
+use Rattle.accepted_runs.proofs.Runs.{RunsHold}
+use Rattle.accepted_runs.proofs.Views.{AreInViewClass, AreInSecondViewClass, passed_called_ready, first_second}
 
-pub passed_views_hold : (texts : List (List ℕ)) (trees : List (List SourceUnit)) (effects : Effects) → Passes texts trees effects → AreInViewClass trees
+-- ---- with calls
+
+pub passed_called_hold : (texts : List (List ℕ)) (trees : List (List SourceUnit)) (effects : Effects) → Passes texts trees effects → AreInSecondViewClass trees
     → RunsHold trees effects
-passed_views_hold texts trees effects passes class input =
-    run_holds (known_of (program_of trees)).table (typed_of (program_of trees)) effects
-    (parsed_views_ready trees passes.cuts (are_parsed texts 0 TOKENS passes.cuts trees passes.cut passes.parsed) passes.named passes.typed class.text
-    effects passes.effects_are passes.none class.calls) input
+passed_called_hold texts trees effects passes class input =
+    run_holds (known_of (program_of trees)).table (typed_of (program_of trees)) effects (passed_called_ready texts trees effects passes class) input
 
--- If the tool answers a check with status 0, and the program is in this class, no leak check fails in its runs that is excused.
+-- If the tool answers a check with status 0, and the program is in this class, no leak check fails in its runs that is
+-- excused.
+pub accepted_called_hold : (stored : List (List ℕ × List ℕ)) (input : List ℕ) (words names : List (List ℕ)) (answer : Answer)
+    → command_of words ≡ Some (Check names) → Product stored input words answer → answer.status ≡ 0
+    → (is : Passed (sources stored 0 SOURCE_BYTES names)) × (AreInSecondViewClass is.trees → RunsHold is.trees is.effects)
+accepted_called_hold stored input words names answer command product zero =
+    let is : Passed (sources stored 0 SOURCE_BYTES names) = product_passed stored input words names answer command product zero in
+    (is, passed_called_hold is.texts is.trees is.effects is.passes)
+
+-- ---- without calls
+
 pub accepted_views_hold : (stored : List (List ℕ × List ℕ)) (input : List ℕ) (words names : List (List ℕ)) (answer : Answer)
     → command_of words ≡ Some (Check names) → Product stored input words answer → answer.status ≡ 0
     → (is : Passed (sources stored 0 SOURCE_BYTES names)) × (AreInViewClass is.trees → RunsHold is.trees is.effects)
 accepted_views_hold stored input words names answer command product zero =
-    let is : Passed (sources stored 0 SOURCE_BYTES names) = product_passed stored input words names answer command product zero in
-    (is, passed_views_hold is.texts is.trees is.effects is.passes)
-
--- ---- with calls
-
-pub passed_called_hold : (texts : List (List ℕ)) (trees : List (List SourceUnit)) (effects : Effects) → Passes texts trees effects → AreInSecondViewClass trees effects
-    → RunsHold trees effects
-passed_called_hold texts trees effects passes class input =
-    let parsed : AreParsed 0 passes.cuts trees = are_parsed texts 0 TOKENS passes.cuts trees passes.cut passes.parsed in
-    let typed : AreTyped (flow_of trees) = parsed_typed trees passes.cuts parsed passes.named passes.typed in
-    run_holds (known_of (program_of trees)).table (typed_of (program_of trees)) effects
-    (parsed_called_ready trees passes.cuts parsed passes.named passes.typed class.main class.is_main effects passes.effects_are passes.none class.calls class.formals
-    class.procedures typed class.copied class.spare) input
-
-pub accepted_called_hold : (stored : List (List ℕ × List ℕ)) (input : List ℕ) (words names : List (List ℕ)) (answer : Answer)
-    → command_of words ≡ Some (Check names) → Product stored input words answer → answer.status ≡ 0
-    → (is : Passed (sources stored 0 SOURCE_BYTES names)) × (AreInSecondViewClass is.trees is.effects → RunsHold is.trees is.effects)
-accepted_called_hold stored input words names answer command product zero =
-    let is : Passed (sources stored 0 SOURCE_BYTES names) = product_passed stored input words names answer command product zero in
-    (is, passed_called_hold is.texts is.trees is.effects is.passes)
+    let found = accepted_called_hold stored input words names answer command product zero in
+    (found.0, λ class. found.1 (first_second found.0.trees class))

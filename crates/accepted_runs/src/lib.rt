@@ -5,7 +5,7 @@
 //! file is there, that its tokens spell a source, that the program breaks no rule of names and of
 //! types and no limit, and that there are no reports (`specs/Passed.antt`, `proofs/Passing.antt`).
 //! The files are parsed then, as `file_positions` has it (`proofs/Parsed.antt`). So the laws of
-//! `sound_files`, of `excused_runs` and of `null_runs` speak of what `check` accepts
-//! (`proofs/Main.antt`), and so do those of `viewed_files` (`proofs/Views.antt`) and of `viewed_facts`
-//! (`proofs/ViewFacts.antt`). Nothing here runs.
+//! `function_files` speak of what `check` accepts (`proofs/Functions.antt`), of smaller classes of
+//! programs, too (`proofs/Main.antt`); and so do those of `viewed_files` (`proofs/Views.antt`) and of
+//! `viewed_facts` (`proofs/ViewFacts.antt`). Nothing here runs.
 #![tactic(auto)]

@@ -30,7 +30,7 @@ use Rattle.called_subs.proofs.Entries.{known_declared}
 
 -- ---- the points of all subprograms
 
-module _ (asked : ℕ → Type 0) where
+module _ (asked : ℕ → TypedTree → Type 0) where
   body_asked : (s : Setting) (sub : TypedSub) (end : List NamedPoint) → CodeCalls asked sub.body → Asked asked end → Asked asked (body_points s sub end)
   body_asked s sub end calls ends =
       all_both (IsAsked asked) (laid s sub.body (0 ∷ []) (around_body s sub) (entry end [])) end
@@ -65,6 +65,13 @@ module _ (asked : ℕ → Type 0) where
   sub_at s [] n k all = tt
   sub_at s (m ∷ ms) zero k all = point_at _ _ m.points k all.0
   sub_at s (m ∷ ms) (suc n) k all = sub_at s ms n k all.1
+
+-- What each call in typed code is, each call at a point is.
+pub points_asked_at : (asked : ℕ → TypedTree → Type 0) (table : Table) (typed : TypedProgram) → AllByRecursion (IsFineSub asked) typed.subs → (n k : ℕ)
+    → PointCalls asked (get_or (sub_of (flow_program table typed) n).points k no_point).instr
+unfolding flow_program
+points_asked_at asked table typed all n k =
+    sub_at asked (typing_of table typed) (all_named (typing_of table typed) typed.subs) n k (all_asked asked (typing_of table typed) typed.subs all)
 
 -- ---- how many subprograms have a body
 
@@ -132,16 +139,15 @@ module _ (p : Program) (bodies : HaveBodies p) where
   flow = flow_program table typed
 
   -- It is the number of a declaration that is known as a subprogram.
-  abbrev IsSub : ℕ → Type 0
-  IsSub sub = (d : ℕ) × (sub ≡ sub_number site d) × (is_subprogram_entry (entry_of (known_of p) d) ≡ true)
+  abbrev IsSub : ℕ → TypedTree → Type 0
+  IsSub sub actuals = (d : ℕ) × (sub ≡ sub_number site d) × (is_subprogram_entry (entry_of (known_of p) d) ≡ true)
 
   subs_are : AllByRecursion (IsFineSub IsSub) typed.subs
   unfolding typed_program
-  subs_are = all_subs_fine IsSub site (λ d is. (d, refl, is)) p.units
+  subs_are = all_subs_fine IsSub site (λ d is actuals. (d, refl, is)) p.units
 
   called : (n k : ℕ) → PointCalls IsSub (get_or (sub_of flow n).points k no_point).instr
-  unfolding flow_program
-  called n k = sub_at IsSub (typing_of table typed) (all_named (typing_of table typed) typed.subs) n k (all_asked IsSub (typing_of table typed) typed.subs subs_are)
+  called n k = points_asked_at IsSub table typed subs_are n k
 
   typed_long : length typed.subs ≡ suc (length (flat_map bodies_in p.units))
   unfolding typed_program
@@ -156,7 +162,7 @@ module _ (p : Program) (bodies : HaveBodies p) where
       → (0 < sub) × (sub < length flow.subs)
   calls_within n k sub e result is = by (subst (PointCalls IsSub) is (called n k))
     where
-      by : IsSub sub → (0 < sub) × (sub < length flow.subs)
+      by : IsSub sub e → (0 < sub) × (sub < length flow.subs)
       by found =
           let low = place_below (flat_map bodies_in p.units) found.0 (bodies found.0 (known_declared p found.0 found.2)) in
           let at : sub ≡ position_or_len (nat_eq found.0) (flat_map bodies_in p.units) + 1 = found.1 in

@@ -14,7 +14,7 @@ use Rattle.flow_paths.specs.Layout.{Around, within_loop, within_block, with_scop
 use Rattle.scope_laws.proofs.Lists.{all_both, all_one}
 use Rattle.called_subs.specs.Called.{Calls, CodeCalls, PointCalls}
 
-module _ (asked : ℕ → Type 0) where
+module _ (asked : ℕ → TypedTree → Type 0) where
   abbrev pub IsAsked : NamedPoint → Type 0
   IsAsked p = PointCalls asked p.instr
 

@@ -18,7 +18,7 @@ use Rattle.type_definitions.specs.Gathered.{indicated, declared_number, in_subpr
 use Rattle.type_definitions.specs.Declarations.{first_number}
 use Rattle.typed_tree.specs.Trees.{TypedTree, TypedCode, typed_code_list}
 use Rattle.typed_tree.specs.Trees as typed
-use Rattle.typed_tree.specs.Expressions.{Site, sub_number, typed_expression, typed_first, typed_optional}
+use Rattle.typed_tree.specs.Expressions.{Site, sub_number, typed_expression, typed_actuals, typed_first, typed_optional}
 use Rattle.typed_tree.specs.Statements.{scope_count, typed_object, type_read, predefined_call, call_of, typed_call, returned_type, bounds_seen, array_seen, range_of, typed_range, plain_statements, statements, typed_body}
 use Rattle.typed_tree.specs.Programs.{TypedSub, placed, subs_in, over_units}
 use Rattle.typed_tree.specs.Programs as programs
@@ -26,10 +26,10 @@ use Rattle.scope_laws.proofs.Lists.{all_both}
 use Rattle.called_subs.specs.Called.{Calls, CodeCalls, is_subprogram_entry}
 use Rattle.called_subs.proofs.Trees.{expression_fine, actuals_fine, first_fine, optional_fine}
 
-abbrev pub IsKnown : (ℕ → Type 0) → Site → Type 0
-IsKnown asked s = (d : ℕ) → is_subprogram_entry (entry_of s.context.known d) ≡ true → asked (sub_number s d)
+abbrev pub IsKnown : (ℕ → TypedTree → Type 0) → Site → Type 0
+IsKnown asked s = (d : ℕ) → is_subprogram_entry (entry_of s.context.known d) ≡ true → (actuals : TypedTree) → asked (sub_number s d) actuals
 
-module _ (asked : ℕ → Type 0) where
+module _ (asked : ℕ → TypedTree → Type 0) where
   abbrev Fine : TypedCode → Type 0
   Fine c = CodeCalls asked c
 
@@ -68,9 +68,9 @@ module _ (asked : ℕ → Type 0) where
     predefined_fine p predefined.EndOfFile args = tt
     predefined_fine p predefined.Deallocation args = tt
 
-    call_fine : (p : Pos) (d : ℕ) (e : Entry) (rest : Tree) → (is_subprogram_entry e ≡ true → asked (sub_number s d)) → Fine (call_of s p d e rest)
+    call_fine : (p : Pos) (d : ℕ) (e : Entry) (rest : Tree) → (is_subprogram_entry e ≡ true → (actuals : TypedTree) → asked (sub_number s d) actuals) → Fine (call_of s p d e rest)
     unfolding CodeCalls
-    call_fine p d (entry.Subprogram profile) rest is = (is refl, actuals_fine s asked known d rest)
+    call_fine p d (entry.Subprogram profile) rest is = (is refl (typed_actuals s d rest), actuals_fine s asked known d rest)
     call_fine p d (entry.Instance t) rest is = first t (call_arguments rest)
     call_fine p d (entry.Predefined which) rest is = predefined_fine p which (call_arguments rest)
     call_fine p d _ rest is = tt

@@ -22,7 +22,12 @@ use Rattle.typed_tree.specs.Expressions.{Site, sub_number, number, value_of_type
 use Rattle.called_subs.specs.Called.{Calls, is_subprogram_entry}
 use Rattle.called_subs.proofs.Readings.{Says, reading_says}
 
-module _ (s : Site) (asked : ℕ → Type 0) (known : (d : ℕ) → is_subprogram_entry (entry_of s.context.known d) ≡ true → asked (sub_number s d)) where
+module _ (s : Site) (asked : ℕ → TypedTree → Type 0)
+    (known : (d : ℕ) → is_subprogram_entry (entry_of s.context.known d) ≡ true → (actuals : TypedTree) → asked (sub_number s d) actuals) where
+  -- A declaration whose calls are as asked, with all actuals.
+  abbrev IsAsked : ℕ → Type 0
+  IsAsked d = (actuals : TypedTree) → asked (sub_number s d) actuals
+
   abbrev Fine : TypedTree → Type 0
   Fine e = Calls asked e
 
@@ -67,13 +72,13 @@ module _ (s : Site) (asked : ℕ → Type 0) (known : (d : ℕ) → is_subprogra
       by true = tt
       by false = tt
 
-  name_fine : (p : Pos) (d : ℕ) (r : Reading) (steps actuals imaged : TypedTree) → Says (λ f. asked (sub_number s f)) r → Fine steps → Fine actuals → Fine imaged
+  name_fine : (p : Pos) (d : ℕ) (r : Reading) (steps actuals imaged : TypedTree) → Says IsAsked r → Fine steps → Fine actuals → Fine imaged
       → Fine (typed_name s p d r steps actuals imaged)
   unfolding Calls
   name_fine p d reading.Off steps actuals imaged says a b c = tt
   name_fine p d (reading.Place t) steps actuals imaged says a b c = a
   name_fine p d (reading.Value t v) steps actuals imaged says a b c = of_type_fine t v
-  name_fine p d (reading.Call f) steps actuals imaged says a b c = (says, b)
+  name_fine p d (reading.Call f) steps actuals imaged says a b c = (says actuals, b)
   name_fine p d (reading.Image t) steps actuals imaged says a b c = c
   name_fine p d reading.EndOfFile steps actuals imaged says a b c = tt
 
@@ -110,7 +115,7 @@ module _ (s : Site) (asked : ℕ → Type 0) (known : (d : ℕ) → is_subprogra
     expression_fine (Named p d rest) want =
         let r : Reading = reading_of s.context d rest in
         name_fine p d r (typed_steps s (object_type (entry_of s.context.known d)) rest) (typed_actuals s (called_function r) rest) (typed_imaged s rest)
-        (reading_says (λ f. asked (sub_number s f)) s.context d rest (known d)) (steps_fine (object_type (entry_of s.context.known d)) rest)
+        (reading_says IsAsked s.context d rest (known d)) (steps_fine (object_type (entry_of s.context.known d)) rest)
         (actuals_fine (called_function r) rest) (imaged_fine rest)
     expression_fine (Parens p e) want = expression_fine e want
     expression_fine (Unary p op e) want = by (is_alone op e) (expression_fine e (unary_type op))

@@ -13,9 +13,9 @@ use Rattle.meant_files.proofs.Puts.{sub_numbers}
 
 -- ---- typed code
 
--- Each call in an expression goes to a subprogram that is as asked.
-unfoldable pub Calls : (ℕ → Type 0) → TypedTree → Type 0
-Calls asked (typed.Call p sub actuals) = asked sub × Calls asked actuals
+-- Each call in an expression has a subprogram and actuals that are as asked.
+unfoldable pub Calls : (ℕ → TypedTree → Type 0) → TypedTree → Type 0
+Calls asked (typed.Call p sub actuals) = asked sub actuals × Calls asked actuals
 Calls asked (typed.Name p x steps t) = Calls asked steps
 Calls asked (typed.Component i rest) = Calls asked rest
 Calls asked (typed.Designated rest) = Calls asked rest
@@ -32,11 +32,11 @@ Calls asked (typed.New t v) = Calls asked v
 Calls asked (typed.More e rest) = Calls asked e × Calls asked rest
 Calls asked _ = Unit {0}
 
--- So does each call in code.
-unfoldable pub CodeCalls : (ℕ → Type 0) → TypedCode → Type 0
+-- So has each call in code.
+unfoldable pub CodeCalls : (ℕ → TypedTree → Type 0) → TypedCode → Type 0
 CodeCalls asked (typed.Declare p x v) = Calls asked v
 CodeCalls asked (typed.Assign p target e) = Calls asked target × Calls asked e
-CodeCalls asked (typed.Call p sub actuals) = asked sub × Calls asked actuals
+CodeCalls asked (typed.Call p sub actuals) = asked sub actuals × Calls asked actuals
 CodeCalls asked (typed.Output p text line) = Calls asked text
 CodeCalls asked (typed.Input p target) = Calls asked target
 CodeCalls asked (typed.Release p m) = Calls asked m
@@ -53,8 +53,8 @@ CodeCalls asked (typed.Block n stmts end) = CodeCalls asked stmts
 CodeCalls asked (typed.More a rest) = CodeCalls asked a × CodeCalls asked rest
 CodeCalls asked _ = Unit {0}
 
-abbrev pub PointCalls : (ℕ → Type 0) → Instruction → Type 0
-PointCalls asked (instruction.Call sub actuals result) = asked sub
+abbrev pub PointCalls : (ℕ → TypedTree → Type 0) → Instruction → Type 0
+PointCalls asked (instruction.Call sub actuals result) = asked sub actuals
 PointCalls asked _ = Unit {0}
 
 -- ---- resolved code

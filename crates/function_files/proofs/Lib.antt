@@ -1,2 +1,1 @@
-pub mod Temporaries
 pub mod Main

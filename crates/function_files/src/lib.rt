@@ -1,7 +1,7 @@
-//! Runs of parsed files that call functions with scalar results: definitions and laws, for readers.
+//! Runs of parsed files without anonymous access types: definitions and laws, for readers.
 //!
-//! `specs/Class.antt` says which these are. Their temporaries are of scalar types
-//! (`proofs/Temporaries.antt`), and they are ready, as `soundness` asks; so their runs are sound, no
-//! leak check fails in them that is excused, and with null in moved places they give the same
+//! `specs/Class.antt` says which these are: formals and results are of scalar types. Then temporaries
+//! are, too (`proofs/Temporaries.antt`), and programs are ready, as `soundness` asks; so their runs are
+//! sound, no leak check fails in them that is excused, and with null in moved places they give the same
 //! (`proofs/Main.antt`). Nothing here runs.
 #![tactic(auto)]

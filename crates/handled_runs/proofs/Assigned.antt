@@ -14,7 +14,7 @@ use Rattle.run_codes.specs.Points.{Turn, Outcome, on_made, on_got, leaking_goes}
 use Rattle.run_codes.specs.Codes.{Fill}
 use Rattle.handled_runs.specs.Slots.{Slots}
 use Rattle.handled_runs.specs.Changes.{stored}
-use Rattle.handled_runs.specs.Leaks.{leaks_at, Numbers, AreLeaked}
+use Rattle.handled_runs.specs.Leaks.{leaks_at, AreLeaked}
 use Rattle.handled_runs.specs.Assigned.{Left, flat_assigned, assigned, checked_at, LooksTo, LeftAlike}
 use Rattle.handled_runs.specs.Beside.{all_renamed, spot_renamed, mapped, NameWords, Beside}
 use Rattle.handled_runs.specs.Alike.{StandAt}
@@ -36,18 +36,18 @@ stored_goes m here (InCell n o) ks zs t stand e =
     by true f = cc
     by false f = cc
 
-module _ (number : ℕ → ℕ) (handles : List ℕ) (here taken : List Kind) (m : Flat) (s : Slots) (beside : Beside handles here taken m s) (numbers : Numbers number handles m.cells) where
+module _ (handles : List ℕ) (here taken : List Kind) (m : Flat) (s : Slots) (beside : Beside handles here taken m s) where
   -- the leak checks of a spot, where there are some
   pub checks_alike : (table : Table) (q : Spot) (of : ℕ) (checks : Option Pos) (leaks : List Leak) → StandAt m here q (kinds table of) → are_pointers (kinds table of) (access_offsets table of) ≡ true
       → ((zs : List ℤ) → flat.words_at m q (kinds table of) ≡ Given zs → AreLeaked m.cells zs (access_offsets table of))
-      → points.checked_at table m q of checks ≡ Given leaks → checked_at number table s (spot_renamed handles q) of checks ≡ Given leaks
+      → points.checked_at table m q of checks ≡ Given leaks → checked_at table s (spot_renamed handles q) of checks ≡ Given leaks
   checks_alike table q of None leaks stand are leaked e = e
   checks_alike table q of (Some p) leaks stand are leaked e = by (flat.words_at m q (kinds table of)) refl e
     where
       by : (g : Got (List ℤ)) → flat.words_at m q (kinds table of) ≡ g → and_then g (λ zs. Given (points.leaks_in p zs (access_offsets table of))) ≡ Given leaks
-          → leaks_at number table s (spot_renamed handles q) of p ≡ Given leaks
+          → leaks_at table s (spot_renamed handles q) of p ≡ Given leaks
       by (Given zs) found f =
-          leaks_alike number handles here taken m s beside numbers table q of p zs stand found are (leaked zs found)
+          leaks_alike handles here taken m s beside table q of p zs stand found are (leaked zs found)
           ∙ (ap (λ g. and_then g (λ us. Given (points.leaks_in p us (access_offsets table of)))) found ∙ f)
       by (Stops t) found f = cc
       by Broken found f = cc
@@ -63,11 +63,11 @@ module _ (number : ℕ → ℕ) (handles : List ℕ) (here taken : List Kind) (m
       by Broken go f found = cc
 
   abbrev goes_to : Table → ℕ → Option Pos → List ℤ → Spot → Got (Left Slots)
-  goes_to table of checks us q = and_then (checked_at number table s q of checks) (λ leaks. and_then (stored s q (kinds table of) us) (λ t. Given (record { leaks = leaks; memory = t })))
+  goes_to table of checks us q = and_then (checked_at table s q of checks) (λ leaks. and_then (stored s q (kinds table of) us) (λ t. Given (record { leaks = leaks; memory = t })))
 
   pub assigned_alike : (table : Table) (p : Place) (of : ℕ) (checks : Option Pos) (zs : List ℤ) → LooksTo table m here taken p of → are_pointers (kinds table of) (access_offsets table of) ≡ true
       → length (kinds table of) ≡ length zs → NameWords (length handles) (kinds table of) zs
-      → LeftAlike handles here taken (flat_assigned table p of checks zs m) (assigned number table p of checks (all_renamed handles (kinds table of) zs) s)
+      → LeftAlike handles here taken (flat_assigned table p of checks zs m) (assigned table p of checks (all_renamed handles (kinds table of) zs) s)
   assigned_alike table p of checks zs looks are long names =
       subst (λ g. LeftAlike handles here taken (flat_assigned table p of checks zs m) (and_then g (goes_to table of checks (all_renamed handles (kinds table of) zs)))) (sym (spot_same handles here taken m s beside p looks.0)) (by (flat.spot m p) looks.1)
     where

@@ -15,11 +15,12 @@ use Rattle.run_codes.specs.Flat as flat
 use Rattle.numbered_cells.specs.Follows.{handled, IsThere, Names, AllName, Follows}
 use Rattle.numbered_cells.proofs.Numbering.{follows-freed, follows-allocated, follows-written}
 use Rattle.handled_runs.specs.Slots.{Slots}
-use Rattle.handled_runs.specs.Changes.{slot_value, slot_values, written_all, cell_stored, stored, with_heap}
+use Rattle.handled_runs.specs.Changes.{slot_value, slot_values, written_all, cell_stored, stored, row_with, with_heap}
 use Rattle.handled_runs.specs.Changes as changes
-use Rattle.handled_runs.specs.Beside.{renamed, all_renamed, NamesWord, NameWords, Beside}
+use Rattle.handled_runs.specs.Beside.{renamed, all_renamed, NamesWord, NameWords, Numbers, Beside}
 use Rattle.handled_runs.proofs.Named.{long_renamed}
 use Rattle.handled_runs.proofs.Lists.{replaced, spliced_is}
+use Rattle.handled_runs.proofs.Rows.{numbers_kept, changed_were, freed_were, row_kept}
 
 -- ---- values
 
@@ -162,6 +163,15 @@ drop_long zero ws less = omega arith
 drop_long (suc o) [] less = absurd (omega (arith, less))
 drop_long (suc o) (w ∷ ws) less = let same = drop_long o ws (omega (arith, less)) in omega (arith, same)
 
+pub long_changed : (f : Cell → Cell) (cells : List Cell) (n : ℕ) → length (numbered.changed f cells n) ≡ length cells
+long_changed f [] n = refl
+long_changed f (c ∷ cells) zero = refl
+long_changed f (c ∷ cells) (suc n) = ap suc (long_changed f cells n)
+
+one_longer : {A : Type 0} (xs : List A) (x : A) → length (xs ++ x ∷ []) ≡ suc (length xs)
+one_longer [] x = refl
+one_longer (y ∷ xs) x = ap suc (one_longer xs x)
+
 -- ---- the laws
 
 module _ (handles : List ℕ) (kinds taken : List Kind) (m : Flat) (s : Slots) (beside : Beside handles kinds taken m s) where
@@ -173,8 +183,11 @@ module _ (handles : List ℕ) (kinds taken : List Kind) (m : Flat) (s : Slots) (
     waits = beside.waits;
     base = beside.base;
     live = ap (λ l. l - size) beside.live;
+    made = beside.made ∙ sym (long_changed (λ (c : Cell). record c { freed = true }) m.cells n);
+    freed = ap suc beside.freed;
     rest = beside.rest;
     cells = follows-freed handles m.cells s.heap n ws there beside.cells;
+    numbered = numbers_kept s.numbers handles m.cells (numbered.released m.cells n) (freed_were m.cells n) beside.numbered;
     names = beside.names;
     waiting_names = beside.waiting_names;
   }
@@ -189,9 +202,13 @@ module _ (handles : List ℕ) (kinds taken : List Kind) (m : Flat) (s : Slots) (
         waits = beside.waits ∙ words_on handles (h ∷ []) taken m.waits beside.waiting_names;
         base = beside.base;
         live = ap (λ l. l + length (all_renamed handles ks zs)) beside.live ∙ ap (λ l. m.live + l) (long_renamed handles ks zs long ∙ sym (values_long ks zs long));
+        made = ap suc beside.made ∙ sym (one_longer m.cells (record { words = values ks zs; freed = false }));
+        freed = beside.freed;
         rest = beside.rest;
         cells = subst (λ vs. Follows (handles ++ h ∷ []) (numbered.allocated m.cells (values ks zs)) (allocated s.heap h vs)) (sym (values_handled handles ks zs are))
             (follows-allocated handles m.cells s.heap h (values ks zs) new (values_name (length handles) ks zs names) beside.cells);
+        numbered = subst (λ n. Numbers (row_with s.numbers h (suc n)) (handles ++ h ∷ []) (numbered.allocated m.cells (values ks zs))) (sym beside.made)
+            (row_kept s.numbers handles m.cells s.heap h (values ks zs) beside.cells new beside.numbered);
         names = names_on handles (h ∷ []) kinds m.stack beside.names;
         waiting_names = names_on handles (h ∷ []) taken m.waits beside.waiting_names;
       }
@@ -252,9 +269,13 @@ module _ (handles : List ℕ) (kinds taken : List Kind) (m : Flat) (s : Slots) (
               waits = beside.waits;
               base = beside.base;
               live = beside.live;
+              made = beside.made ∙ sym (long_changed (λ (d : Cell). record d { words = spliced o (values ks zs) d.words }) m.cells n);
+              freed = beside.freed;
               rest = beside.rest;
               cells = subst (λ x. Follows handles x (written_all s.heap h o (map (handled handles) (values ks zs)))) (sym cells)
                   (all_follow handles n o (values ks zs) ws m.cells s.heap there (values_name (length handles) ks zs names) beside.cells);
+              numbered = numbers_kept s.numbers handles m.cells (numbered.changed (λ (d : Cell). record d { words = spliced o (values ks zs) d.words }) m.cells n)
+                  (changed_were (spliced o (values ks zs)) m.cells n) beside.numbered;
               names = beside.names;
               waiting_names = beside.waiting_names;
             }),

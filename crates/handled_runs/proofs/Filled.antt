@@ -33,19 +33,19 @@ number_renamed handles sort.Int z is = refl
 number_renamed handles sort.Enum z is = refl
 number_renamed handles sort.Access z is = subst (λ x. x ≡ renamed handles sort.Access x) (sym is) refl
 
-numbers_renamed : (handles : List ℕ) (ks : List Kind) (zs : List ℤ) → AreNumbers ks zs → zs ≡ all_renamed handles ks zs
+pub numbers_renamed : (handles : List ℕ) (ks : List Kind) (zs : List ℤ) → AreNumbers ks zs → zs ≡ all_renamed handles ks zs
 numbers_renamed handles [] [] are = refl
 numbers_renamed handles [] (z ∷ zs) are = absurd are
 numbers_renamed handles (k ∷ ks) [] are = absurd are
 numbers_renamed handles (k ∷ ks) (z ∷ zs) are = ap (λ x. x ∷ zs) (number_renamed handles k z are.0) ∙ ap (λ rest. renamed handles k z ∷ rest) (numbers_renamed handles ks zs are.1)
 
-numbers_long : (ks : List Kind) (zs : List ℤ) → AreNumbers ks zs → length ks ≡ length zs
+pub numbers_long : (ks : List Kind) (zs : List ℤ) → AreNumbers ks zs → length ks ≡ length zs
 numbers_long [] [] are = refl
 numbers_long [] (z ∷ zs) are = absurd are
 numbers_long (k ∷ ks) [] are = absurd are
 numbers_long (k ∷ ks) (z ∷ zs) are = ap suc (numbers_long ks zs are.1)
 
-numbers_named : (bound : ℕ) (ks : List Kind) (zs : List ℤ) → AreNumbers ks zs → NameWords bound ks zs
+pub numbers_named : (bound : ℕ) (ks : List Kind) (zs : List ℤ) → AreNumbers ks zs → NameWords bound ks zs
 numbers_named bound [] [] are = tt
 numbers_named bound [] (z ∷ zs) are = absurd are
 numbers_named bound (k ∷ ks) [] are = absurd are
@@ -53,13 +53,13 @@ numbers_named bound (k ∷ ks) (z ∷ zs) are = (number_named bound k z are.0, n
 
 -- ---- the first ones
 
-take_renamed : (handles : List ℕ) (n : ℕ) (ks : List Kind) (zs : List ℤ) → take n (all_renamed handles ks zs) ≡ all_renamed handles (take n ks) (take n zs)
+pub take_renamed : (handles : List ℕ) (n : ℕ) (ks : List Kind) (zs : List ℤ) → take n (all_renamed handles ks zs) ≡ all_renamed handles (take n ks) (take n zs)
 take_renamed handles zero ks zs = refl
 take_renamed handles (suc n) [] zs = refl
 take_renamed handles (suc n) (k ∷ ks) [] = refl
 take_renamed handles (suc n) (k ∷ ks) (z ∷ zs) = ap (λ rest. renamed handles k z ∷ rest) (take_renamed handles n ks zs)
 
-take_named : (bound n : ℕ) (ks : List Kind) (zs : List ℤ) → NameWords bound ks zs → NameWords bound (take n ks) (take n zs)
+pub take_named : (bound n : ℕ) (ks : List Kind) (zs : List ℤ) → NameWords bound ks zs → NameWords bound (take n ks) (take n zs)
 take_named bound zero ks zs names = tt
 take_named bound (suc n) [] zs names = tt
 take_named bound (suc n) (k ∷ ks) [] names = tt

@@ -9,7 +9,8 @@ pub mod Standing
 pub mod Lists
 -- what changes in the stack
 pub mod Stacks
--- what changes in cells
+-- what changes in cells, and the row of their numbers
+pub mod Rows
 pub mod Cells
 pub mod Moves
 -- what is read names cells that were made

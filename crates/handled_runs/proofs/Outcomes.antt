@@ -16,19 +16,19 @@ use Rattle.handled_runs.proofs.There.{stops_alike}
 
 -- ---- words one after the other
 
-renamed_append : (hs : List ℕ) (is js : List Kind) (xs ys : List ℤ) → length is ≡ length xs → all_renamed hs (is ++ js) (xs ++ ys) ≡ all_renamed hs is xs ++ all_renamed hs js ys
+pub renamed_append : (hs : List ℕ) (is js : List Kind) (xs ys : List ℤ) → length is ≡ length xs → all_renamed hs (is ++ js) (xs ++ ys) ≡ all_renamed hs is xs ++ all_renamed hs js ys
 renamed_append hs [] js [] ys long = refl
 renamed_append hs [] js (x ∷ xs) ys long = cc
 renamed_append hs (i ∷ is) js [] ys long = cc
 renamed_append hs (i ∷ is) js (x ∷ xs) ys long = ap (λ rest. renamed hs i x ∷ rest) (renamed_append hs is js xs ys (let same : length is ≡ length xs = cc in same))
 
-names_append : (bound : ℕ) (is js : List Kind) (xs ys : List ℤ) → length is ≡ length xs → NameWords bound is xs → NameWords bound js ys → NameWords bound (is ++ js) (xs ++ ys)
+pub names_append : (bound : ℕ) (is js : List Kind) (xs ys : List ℤ) → length is ≡ length xs → NameWords bound is xs → NameWords bound js ys → NameWords bound (is ++ js) (xs ++ ys)
 names_append bound [] js [] ys long first second = second
 names_append bound [] js (x ∷ xs) ys long first second = cc
 names_append bound (i ∷ is) js [] ys long first second = cc
 names_append bound (i ∷ is) js (x ∷ xs) ys long first second = (first.0, names_append bound is js xs ys (let same : length is ≡ length xs = cc in same) first.1 second)
 
-long_append : (is js : List Kind) (xs ys : List ℤ) → length is ≡ length xs → length js ≡ length ys → length (is ++ js) ≡ length (xs ++ ys)
+pub long_append : (is js : List Kind) (xs ys : List ℤ) → length is ≡ length xs → length js ≡ length ys → length (is ++ js) ≡ length (xs ++ ys)
 long_append is js xs ys first second = length-append is js ∙ (ap (λ n. n + length js) first ∙ (ap (λ n. length xs + n) second ∙ sym (length-append xs ys)))
 
 renamed_repeated : (hs : List ℕ) (n : ℕ) (ks : List Kind) (zs : List ℤ) → length ks ≡ length zs → repeated n (all_renamed hs ks zs) ≡ all_renamed hs (kinds_repeated n ks) (repeated n zs)

@@ -37,8 +37,11 @@ module _ (handles : List ℕ) (kinds taken : List Kind) (m : Flat) (s : Slots) (
         waits = beside.waits;
         base = beside.base;
         live = beside.live;
+        made = beside.made;
+        freed = beside.freed;
         rest = beside.rest;
         cells = beside.cells;
+        numbered = beside.numbered;
         names = subst (NameWords (length handles) kinds) (sym there) (replaced_names (length handles) n ks kinds zs m.stack is long names beside.names);
         waiting_names = beside.waiting_names;
       }

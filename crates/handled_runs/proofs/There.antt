@@ -41,7 +41,7 @@ words_go m here (InCell n o) ks t stand e =
     by true f = front_goes ks (drop o (words_in stand.0)) t f
     by false f = cc
 
-moved_goes : (m : Flat) (here : List Kind) (p : Spot) (ks : List Kind) (gone : List ℕ) (t : Stop) → StandAt m here p ks → flat.moved_out m p ks gone ≡ Stops t → ⊥
+pub moved_goes : (m : Flat) (here : List Kind) (p : Spot) (ks : List Kind) (gone : List ℕ) (t : Stop) → StandAt m here p ks → flat.moved_out m p ks gone ≡ Stops t → ⊥
 moved_goes m here (InStack n) ks gone t stand e = by (are_pointers ks gone) (flat.front ks (drop n m.stack)) refl e
   where
     by : (b : Bool) (g : Got (List ℤ)) → flat.front ks (drop n m.stack) ≡ g
@@ -79,7 +79,7 @@ module _ (handles : List ℕ) (here taken : List Kind) (m : Flat) (s : Slots) (b
   pub stops_alike : (x : Stop) → StopsAlike handles here taken x m (Ends x s)
   stops_alike x = inr (inr (refl, ([], subst (λ hs. Beside hs here taken m s) (sym (append-nil handles)) beside)))
 
-  there_held : (p : Spot) (ks : List Kind) (zs : List ℤ) → StandAt m here p ks → flat.words_at m p ks ≡ Given zs → AreKept ks zs
+  pub there_held : (p : Spot) (ks : List Kind) (zs : List ℤ) → StandAt m here p ks → flat.words_at m p ks ≡ Given zs → AreKept ks zs
       → ((flat.held m p ks ≡ Given zs) × (slots.held s (spot_renamed handles p) ks ≡ Given (all_renamed handles ks zs))) × NameWords (length handles) ks zs
   there_held (InStack n) ks zs stand e kept = (
     stack_held handles here taken m s beside n ks zs stand.0 e kept,
@@ -88,7 +88,7 @@ module _ (handles : List ℕ) (here taken : List Kind) (m : Flat) (s : Slots) (b
   there_held (InCell n o) ks zs stand e kept =
       (cell_held handles here taken m s beside n o stand.0 ks zs stand.1 e kept, cell_named handles here taken m s beside n o stand.0 ks zs stand.1 e)
 
-  there_long : (p : Spot) (ks : List Kind) (zs : List ℤ) → StandAt m here p ks → flat.words_at m p ks ≡ Given zs → length ks ≡ length zs
+  pub there_long : (p : Spot) (ks : List Kind) (zs : List ℤ) → StandAt m here p ks → flat.words_at m p ks ≡ Given zs → length ks ≡ length zs
   there_long (InStack n) ks zs stand e = front_long ks (drop n m.stack) zs e
   there_long (InCell n o) ks zs stand e =
       by (nat_lt (o + length ks) most_offsets && have_kinds ks (drop o stand.0)) (sym (ap (λ x. touched x (front_of_cell o ks)) stand.1) ∙ e)
@@ -97,7 +97,7 @@ module _ (handles : List ℕ) (here taken : List Kind) (m : Flat) (s : Slots) (b
       by true f = front_long ks (drop o (words_in stand.0)) zs f
       by false f = cc
 
-  there_emptied : (p : Spot) (ks : List Kind) (gone : List ℕ) (n : Flat) → StandAt m here p ks → flat.moved_out m p ks gone ≡ Given n
+  pub there_emptied : (p : Spot) (ks : List Kind) (gone : List ℕ) (n : Flat) → StandAt m here p ks → flat.moved_out m p ks gone ≡ Given n
       → (t : Slots) × (emptied s (spot_renamed handles p) ks gone ≡ Given t) × Beside handles here taken n t
   there_emptied (InStack i) ks gone n stand e = stack_emptied handles here taken m s beside i ks gone n stand.0 stand.1 e
   there_emptied (InCell i o) ks gone n stand e = cell_emptied handles here taken m s beside i o stand.0 ks gone n stand.1 stand.2 e

@@ -28,13 +28,13 @@ flat_assigned table p of checks zs m =
     and_then (flat.spot m p) (λ q. and_then (points.checked_at table m q of checks)
     (λ leaks. and_then (flat.stored m q (kinds table of) zs) (λ n. Given (record { leaks = leaks; memory = n }))))
 
-abbrev pub checked_at : (ℕ → ℕ) → Table → Slots → Spot → ℕ → Option Pos → Got (List Leak)
-checked_at number table s q of None = Given []
-checked_at number table s q of (Some p) = leaks_at number table s q of p
+abbrev pub checked_at : Table → Slots → Spot → ℕ → Option Pos → Got (List Leak)
+checked_at table s q of None = Given []
+checked_at table s q of (Some p) = leaks_at table s q of p
 
-abbrev pub assigned : (ℕ → ℕ) → Table → Place → ℕ → Option Pos → List ℤ → Slots → Got (Left Slots)
-assigned number table p of checks zs s =
-    and_then (spot s p) (λ q. and_then (checked_at number table s q of checks)
+abbrev pub assigned : Table → Place → ℕ → Option Pos → List ℤ → Slots → Got (Left Slots)
+assigned table p of checks zs s =
+    and_then (spot s p) (λ q. and_then (checked_at table s q of checks)
     (λ leaks. and_then (stored s q (kinds table of) zs) (λ t. Given (record { leaks = leaks; memory = t }))))
 
 -- What is asked of the place: words of the type stand there, and what isn't gone of them names a cell that is there.

@@ -1,9 +1,11 @@
 -- How words over a heap that uses its slots again follow those over numbers that are never used again.
 use Rattle.std.specs.Prelude.{◌≡◌, ◌<◌, ℕ, zero, suc, List, [], ◌∷◌, length, get_or, ℤ, pos, negsuc}
+use Rattle.run_values.specs.declared.value.Value.{Value}
 use Rattle.run_values.specs.declared.value.Kind.{Kind}
 use Rattle.run_values.specs.declared.value.Kind.TheVariants as sort
 use Rattle.run_codes.specs.Flat.{Flat, Got, Given, Stops, Broken, Spot, InStack, InCell}
-use Rattle.numbered_cells.specs.Follows.{Follows}
+use Rattle.reuse_heap.specs.Cells.{Cell}
+use Rattle.numbered_cells.specs.Follows.{IsThere, Follows}
 use Rattle.handled_runs.specs.Slots.{Slots}
 
 -- An access value with the handle of its number, and null where it is gone.
@@ -44,6 +46,10 @@ mapped f (Given a) = Given (f a)
 mapped f (Stops s) = Stops s
 mapped f Broken = Broken
 
+-- A row has the numbers of the cells that are there, from 1.
+abbrev pub Numbers : (ℕ → ℕ) → List ℕ → List Cell → Type 0
+Numbers numbers handles cells = (n : ℕ) (ws : List Value) → IsThere cells n ws → numbers (get_or handles n 0) ≡ suc n
+
 -- Words of the stack and of what waits are of these kinds, which no run keeps.
 pub record Beside (handles : List ℕ) (kinds taken : List Kind) (m : Flat) (s : Slots) : Type 0 where
   pub stack : s.stack ≡ all_renamed handles kinds m.stack
@@ -51,8 +57,11 @@ pub record Beside (handles : List ℕ) (kinds taken : List Kind) (m : Flat) (s :
   pub waits : s.waits ≡ all_renamed handles taken m.waits
   pub base : s.base ≡ m.base
   pub live : s.live ≡ m.live
+  pub made : s.made ≡ length m.cells
+  pub freed : s.freed ≡ m.freed
   pub rest : s.rest ≡ m.rest
   pub cells : Follows handles m.cells s.heap
+  pub numbered : Numbers s.numbers handles m.cells
   -- access values name cells that were made
   pub names : NameWords (length handles) kinds m.stack
   pub waiting_names : NameWords (length handles) taken m.waits

@@ -1,11 +1,11 @@
 -- What changes in words over a heap that uses its slots again.
-use Rattle.std.specs.Prelude.{ℕ, zero, suc, ◌+◌, ◌-◌, List, [], ◌∷◌, drop, length, nat_le, Option, Some, None, ℤ, pos, unsigned_abs, if◌then◌else◌}
+use Rattle.std.specs.Prelude.{ℕ, zero, suc, ◌+◌, ◌-◌, ◌==◌, List, [], ◌∷◌, drop, length, nat_le, Option, Some, None, ℤ, pos, unsigned_abs, if◌then◌else◌}
 use Rattle.run_values.specs.declared.value.Value.{Value}
 use Rattle.run_values.specs.declared.value.Value.TheVariants as value
 use Rattle.run_values.specs.declared.value.Kind.{Kind}
 use Rattle.run_values.specs.declared.value.Kind.TheVariants as sort
-use Rattle.machine.specs.Memory.{at_number}
-use Rattle.slot_heap.specs.Heaps.{Heap, words_at, allocated, written, released}
+use Rattle.machine.specs.Memory.{Peak, at_number, greatest}
+use Rattle.slot_heap.specs.Heaps.{Heap, words_at, live_count, allocated, written, released}
 use Rattle.run_codes.specs.Flat.{Got, Given, Broken, and_then, spliced, Spot, InStack, InCell}
 use Rattle.handled_runs.specs.Slots.{Slots, front}
 
@@ -63,15 +63,29 @@ emptied s (InCell h o) ks gone = Given (with_heap s (nulled s.heap h o gone))
 
 -- ---- cells that are made and freed
 
--- The new cell has a handle that no cell has.
+-- A row of numbers in which one handle has another number.
+abbrev pub row_with : (ℕ → ℕ) → ℕ → ℕ → ℕ → ℕ
+row_with numbers h i x = if x == h then i else numbers x
+
+-- How many cells are there that have as many words as a new one, and the greatest such counts.
+abbrev pub with_peak : Heap → List Value → List Peak → List Peak
+with_peak heap ws peaks = greatest (length ws) (live_count (length ws) heap.cells) peaks
+
+-- The new cell has a handle that no cell has, and the next number.
 abbrev pub made : Slots → ℕ → List Kind → List ℤ → Slots
-made s h ks zs = record s {
-  heap = allocated s.heap h (slot_values ks zs);
-  live = s.live + length zs;
-}
+made s h ks zs =
+    let heap : Heap = allocated s.heap h (slot_values ks zs) in
+    record s {
+      heap = heap;
+      numbers = row_with s.numbers h (suc s.made);
+      live = s.live + length zs;
+      made = suc s.made;
+      peaks = with_peak heap (slot_values ks zs) s.peaks;
+    }
 
 abbrev pub without_cell : Slots → ℕ → ℕ → Slots
 without_cell s h size = record s {
   heap = released s.heap h;
   live = s.live - size;
+  freed = suc s.freed;
 }

@@ -1,5 +1,5 @@
--- Leak checks over a heap that uses its slots again. A row has the number of each handle.
-use Rattle.std.specs.Prelude.{◌≡◌, ℕ, zero, suc, List, [], ◌∷◌, flat_map, get_or, ℤ, pos, negsuc}
+-- Leak checks over a heap that uses its slots again. They tell the number of a handle.
+use Rattle.std.specs.Prelude.{ℕ, zero, suc, List, [], ◌∷◌, flat_map, get_or, ℤ, pos, negsuc}
 use Rattle.spark_base.specs.declared.position.Pos.{Pos}
 use Rattle.type_definitions.specs.Types.{Table}
 use Rattle.run_values.specs.declared.value.Value.{Value}
@@ -11,19 +11,15 @@ use Rattle.numbered_cells.specs.Follows.{IsThere}
 use Rattle.handled_runs.specs.Slots.{Slots, held}
 
 abbrev pub leak : (ℕ → ℕ) → Pos → ℤ → List Leak
-leak number p (pos (suc h)) = record { number = number h; pos = p } ∷ []
-leak number p _ = []
+leak numbers p (pos (suc h)) = record { number = numbers h; pos = p } ∷ []
+leak numbers p _ = []
 
 abbrev pub leaks_in : (ℕ → ℕ) → Pos → List ℤ → List ℕ → List Leak
-leaks_in number p zs offsets = flat_map (λ o. leak number p (get_or zs o (pos 0))) offsets
+leaks_in numbers p zs offsets = flat_map (λ o. leak numbers p (get_or zs o (pos 0))) offsets
 
 -- The checks of a spot with words of a type.
-abbrev pub leaks_at : (ℕ → ℕ) → Table → Slots → Spot → ℕ → Pos → Got (List Leak)
-leaks_at number table s q of p = and_then (held s q (kinds table of)) (λ zs. Given (leaks_in number p zs (access_offsets table of)))
-
--- The row has the numbers of the cells that are there, from 1.
-abbrev pub Numbers : (ℕ → ℕ) → List ℕ → List Cell → Type 0
-Numbers number handles cells = (n : ℕ) (ws : List Value) → IsThere cells n ws → number (get_or handles n 0) ≡ suc n
+abbrev pub leaks_at : Table → Slots → Spot → ℕ → Pos → Got (List Leak)
+leaks_at table s q of p = and_then (held s q (kinds table of)) (λ zs. Given (leaks_in s.numbers p zs (access_offsets table of)))
 
 -- What is looked at and isn't gone names a cell that is there.
 abbrev pub IsLeaked : List Cell → ℤ → Type 0

@@ -46,22 +46,22 @@ flat_released table p of at m = and_then (flat.spot m p) (λ q. and_then (flat.w
 
 -- ---- over slots
 
-abbrev pub cell_at : (ℕ → ℕ) → Table → ℕ → Pos → Spot → Slots → ℕ → Option (List Value) → Got (Left Slots)
-cell_at number table of at q s h None = Broken
-cell_at number table of at q s h (Some ws) =
-    and_then (leaks_at number table s (InCell h 0) of at)
+abbrev pub cell_at : Table → ℕ → Pos → Spot → Slots → ℕ → Option (List Value) → Got (Left Slots)
+cell_at table of at q s h None = Broken
+cell_at table of at q s h (Some ws) =
+    and_then (leaks_at table s (InCell h 0) of at)
     (λ leaks. and_then (stored s q (sort.Access ∷ []) (pos 0 ∷ [])) (λ t. Given (record { leaks = leaks; memory = without_cell t h (length ws) })))
 
-abbrev pub named : (ℕ → ℕ) → Table → ℕ → Pos → Spot → Slots → ℕ → Got (Left Slots)
-named number table of at q s zero = Given (record { leaks = []; memory = s })
-named number table of at q s (suc h) = cell_at number table of at q s h (words_at s.heap.cells h)
+abbrev pub named : Table → ℕ → Pos → Spot → Slots → ℕ → Got (Left Slots)
+named table of at q s zero = Given (record { leaks = []; memory = s })
+named table of at q s (suc h) = cell_at table of at q s h (words_at s.heap.cells h)
 
-abbrev pub released_at : (ℕ → ℕ) → Table → ℕ → Pos → Spot → Slots → List ℤ → Got (Left Slots)
-released_at number table of at q s (w ∷ []) = named number table of at q s (unsigned_abs w)
-released_at number table of at q s _ = Broken
+abbrev pub released_at : Table → ℕ → Pos → Spot → Slots → List ℤ → Got (Left Slots)
+released_at table of at q s (w ∷ []) = named table of at q s (unsigned_abs w)
+released_at table of at q s _ = Broken
 
-abbrev pub released : (ℕ → ℕ) → Table → Place → ℕ → Pos → Slots → Got (Left Slots)
-released number table p of at s = and_then (spot s p) (λ q. and_then (held s q (sort.Access ∷ [])) (released_at number table of at q s))
+abbrev pub released : Table → Place → ℕ → Pos → Slots → Got (Left Slots)
+released table p of at s = and_then (spot s p) (λ q. and_then (held s q (sort.Access ∷ [])) (released_at table of at q s))
 
 -- ---- what is asked
 

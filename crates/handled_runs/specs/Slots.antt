@@ -8,17 +8,23 @@ use Rattle.run_values.specs.declared.value.Value.TheVariants as value
 use Rattle.run_values.specs.declared.value.Kind.{Kind}
 use Rattle.run_values.specs.Values.{kind}
 use Rattle.run_values.specs.Items.{at_end}
+use Rattle.machine.specs.Memory.{Peak}
 use Rattle.slot_heap.specs.Heaps.{Heap, word_at, words_at}
 use Rattle.run_codes.specs.Codes.{Code, Number, Local, Global, Via, Scaled, Plus, Unary, Binary, Short, IsNull, Waiting, EndOfFile, Nothing, Place, InFrame, InPackages, Behind}
 use Rattle.run_codes.specs.Flat.{Got, Given, Stops, Broken, and_then, found, same_kind, have_kinds, constraint, truth, is_zero, operated, operated_alone, decides, offset, scaled, Spot, InStack, InCell}
 
--- The words of all frames, and where the one that runs begins; the heap, and how many words its cells have; the words
--- of the values that the point takes; and the rest of the input.
+-- The words of all frames, and where the one that runs begins; the heap, which number the cell of a handle has, and how
+-- many words all cells have; how many were made and freed, and the greatest counts by size; the words of the values
+-- that the point takes; and the rest of the input.
 pub record Slots : Type 0 where
   pub stack : List ℤ
   pub base : ℕ
   pub heap : Heap
+  pub numbers : ℕ → ℕ
   pub live : ℕ
+  pub made : ℕ
+  pub freed : ℕ
+  pub peaks : List Peak
   pub waits : List ℤ
   pub rest : List ℕ
 

@@ -5,7 +5,6 @@ pub mod Uses
 pub mod Rooms
 pub mod Apart
 -- the package objects
-pub mod Declared
 pub mod Packages
 -- the law
 pub mod Placed

@@ -25,6 +25,7 @@ use Rattle.scope_laws.proofs.Lists.{and_first, and_second, all_has, has_reverse,
 use Rattle.scope_laws.proofs.Ordered.{declared_within_has}
 use Rattle.ready_laws.specs.InOrder.{declares_only}
 use Rattle.order_laws.specs.Placed.{is_placed, parameters}
+use Rattle.package_values.proofs.Declared.{Declares as IsDeclared, package_declares}
 use Rattle.laid_program.proofs.Successors.{all_numbers}
 use Rattle.run_codes.specs.Lowered.{Kept, Site, max_position}
 use Rattle.run_codes.specs.Programs.{kept, has_room, rooms_of, is_loop}
@@ -37,7 +38,6 @@ use Rattle.lowered_files.proofs.Opened.{Stands, stands}
 use Rattle.lowered_files.proofs.Uses.{Every, declared_plain, Asked, asks, suited_uses}
 use Rattle.lowered_files.proofs.Rooms.{rooms_kept, opened, formal_room, Turns, rooms_loop, formals_loop, loop_is}
 use Rattle.lowered_files.proofs.Apart.{plain_within, parameters_within, apart}
-use Rattle.lowered_files.proofs.Declared.{package_declares}
 
 -- ---- objects
 
@@ -186,7 +186,7 @@ module _ (table : Table) (program : TypedProgram) (arranged : IsArranged table p
   first_placed p has =
       let from = Has-map_from (numbered s first) first.points p has in
       let asked = all_has (λ (q : NamedPoint). FirstAsked q.instr) first.points from.0 first_points from.1 in
-      let declares = all_has (λ (q : NamedPoint). IsDeclaration q.instr) first.points from.0 (package_declares (unnumbered s) arranged.first arranged.declares arranged.no_calls) from.1 in
+      let declares = all_has IsDeclared first.points from.0 (package_declares (unnumbered s) arranged.first arranged.declares arranged.no_calls) from.1 in
       let i = ap (λ (z : FlowPoint). z.instr) from.2 in (
         record {
           named = subst (λ i. Every (HasRoom first_site) (named_in i)) i asked.0;
@@ -194,7 +194,7 @@ module _ (table : Table) (program : TypedProgram) (arranged : IsArranged table p
           declares = subst (Declares first_site true) i (first_declares from.0.instr asked);
           within = λ n next. all_numbers s program.subs (flow_sub s first) (subst (λ subs. Has (map (flow_sub s) (all_named s subs)) (flow_sub s first)) (sym arranged.subs) (inl refl)) p n has next;
         },
-        subst IsDeclaration i declares,
+        subst IsDeclaration (sym declares.2 ∙ i) tt,
       )
 
   -- ---- another one

@@ -28,7 +28,8 @@ use Rattle.run_codes.specs.Lowered.{max_position}
 use Rattle.run_codes.specs.Programs.{lowered_program}
 use Rattle.lowered_laws.specs.Lowers.{AreDefined}
 use Rattle.lowered_laws.proofs.Programs.{is_lowered}
-use Rattle.lowered_files.specs.Code.{code_literals, calls_nothing}
+use Rattle.package_values.specs.Calls.{calls_nothing}
+use Rattle.lowered_files.specs.Code.{code_literals}
 use Rattle.lowered_files.specs.Arranged.{IsArrangedSub, IsArranged}
 use Rattle.lowered_files.proofs.Packages.{is_packaged, units_split, declared_package, package_declared}
 use Rattle.lowered_files.proofs.Placed.{are_placed}

@@ -9,7 +9,8 @@ use Rattle.scope_laws.specs.Code.{Once, objects_of, body_seen}
 use Rattle.ready_laws.specs.InOrder.{declares_only}
 use Rattle.order_laws.specs.Placed.{is_placed}
 use Rattle.run_codes.specs.Lowered.{max_position}
-use Rattle.lowered_files.specs.Code.{code_literals, calls_nothing}
+use Rattle.package_values.specs.Calls.{calls_nothing}
+use Rattle.lowered_files.specs.Code.{code_literals}
 
 -- Of each subprogram: declarations stand where they may, its names are in scope or are objects of
 -- packages, and its literals are words. Objects have numbers of their own.

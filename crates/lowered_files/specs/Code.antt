@@ -1,9 +1,8 @@
 -- The literals in typed code, and the objects that its declarations declare, without the parameters
 -- of its loops.
-use Rattle.std.specs.Prelude.{ℕ, Bool, true, not, ◌&&◌, List, [], ◌∷◌, ◌++◌}
+use Rattle.std.specs.Prelude.{ℕ, List, [], ◌∷◌, ◌++◌}
 use Rattle.typed_tree.specs.Trees.{TypedCode, Declare, Assign, Output, Input, Release, If, Branch, Case, When, Loop, While, For, Exit, Return, Block, More}
 use Rattle.typed_tree.specs.Trees as typed
-use Rattle.flow_paths.specs.Names.{has_call}
 use Rattle.lowered_laws.specs.Lowers.{literals}
 
 unfoldable pub code_literals : TypedCode → List ℕ
@@ -38,9 +37,3 @@ plain_objects (For p x reversed low high stmts) = plain_objects stmts
 plain_objects (Block n stmts end) = plain_objects stmts
 plain_objects (More a rest) = plain_objects a ++ plain_objects rest
 plain_objects _ = []
-
--- No initial value calls a function of the program.
-unfoldable pub calls_nothing : TypedCode → Bool
-calls_nothing (Declare p x v) = not (has_call v)
-calls_nothing (More a rest) = calls_nothing a && calls_nothing rest
-calls_nothing _ = true

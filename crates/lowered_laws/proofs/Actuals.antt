@@ -142,9 +142,9 @@ module _ (c : Site) (owns : Owns c.typing.table) (whole : counts (shape_of c.typ
   through_found p procedure [] NoMore k plain taken fits at = tt
   through_found p procedure formals e k plain taken fits at = absurd taken
 
-  pub actuals_found : (p : Pos) (sub : ℕ) (e : TypedTree) → IsCall s sub e → Fits c e → IsAt c.takes 0 (taken_types s e)
+  pub actuals_found : (p : Pos) (given : Bool) (sub : ℕ) (e : TypedTree) → IsCall s given sub e → Fits c e → IsAt c.takes 0 (taken_types s e)
       → Found Any (actuals c p 0 (passings s (sub_at s sub)) (sub_at s sub).formals e)
-  actuals_found p sub e is fits at = by (traverses table (sub_at s sub).result) refl
+  actuals_found p given sub e is fits at = by (traverses table (sub_at s sub).result) refl
     where
       procedure : Bool
       procedure = not (is_some (sub_at s sub).result)

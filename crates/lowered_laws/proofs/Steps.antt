@@ -1,6 +1,6 @@
 -- The step of a point is lowered.
 use Rattle.std.proofs.Common.{◌≡◌, refl, sym, ap, ◌∙◌, subst, inl, inr, ℕ, zero, suc, ◌+◌, ◌<◌, Bool, true, false, not, List, [], ◌∷◌, ◌++◌, length, lt-ltb, arith, Option, Some, None, if◌then◌else◌}
-use Rattle.std.specs.Prelude.{option_and_then, slice_get, nat_lt, ℤ}
+use Rattle.std.specs.Prelude.{option_and_then, slice_get, nat_lt, is_some, ℤ}
 use Rattle.spark_base.specs.Lists.{Has}
 use Rattle.spark_base.proofs.Lists.{Has-append_left, Has-append_right}
 use Rattle.typed_tree.specs.declared.node.ShortCircuit.{ShortCircuit}
@@ -185,10 +185,10 @@ module _ (a : Around) (owns : Owns a.site.typing.table) (whole : counts (shape_o
       let n = there Any (going a p 0) goes in
       rw q.1 (rw v.1 (rw n.1 tt))
 
-  call_found : (p : FlowPoint) (sub : ℕ) (e : TypedTree) → IsCall s sub e → Fits c e → IsAt c.takes 0 (taken_types s e) → Found IsGoing (going a p 0) → Found Any (called a p sub e)
-  call_found p sub e is fits at goes =
+  call_found : (p : FlowPoint) (given : Bool) (sub : ℕ) (e : TypedTree) → IsCall s given sub e → Fits c e → IsAt c.takes 0 (taken_types s e) → Found IsGoing (going a p 0) → Found Any (called a p sub e)
+  call_found p given sub e is fits at goes =
       then_found Any Any (λ all. on_next a p (λ n. Some (codes.Call sub all n))) (actuals c p.pos 0 (passings s (sub_at s sub)) (sub_at s sub).formals e)
-      (actuals_found c owns whole listed law p.pos sub e is fits at) (λ all h. next_found a p (λ n. Some (codes.Call sub all n)) goes (λ n. tt))
+      (actuals_found c owns whole listed law p.pos given sub e is fits at) (λ all h. next_found a p (λ n. Some (codes.Call sub all n)) goes (λ n. tt))
 
   text_found : (t : TypedTree) → FirstText s t → Fits c t → IsAt c.takes 0 (taken_types s t) → Found Any (text_pieces c t)
   unfolding Fits taken_types
@@ -330,7 +330,7 @@ module _ (a : Around) (owns : Owns a.site.typing.table) (whole : counts (shape_o
       (fits c e (λ x has. room x (Has-append_left (roots e) (roots target) x has)) (λ n has. words n (Has-append_left (literals e) (literals target) n has)))
       (fits c target (λ x has. room x (Has-append_right (roots e) (roots target) x has)) (λ n has. words n (Has-append_right (literals e) (literals target) n has))) at
       (goes_any p 0 1 same (omega arith) within)
-  step_found p (instruction.Call sub e result) is room words own at same within = call_found p sub e is (fits c e room words) at (goes p 0 1 same (omega arith) within)
+  step_found p (instruction.Call sub e result) is room words own at same within = call_found p (is_some result) sub e is (fits c e room words) at (goes p 0 1 same (omega arith) within)
   step_found p (Output t line) is room words own at same within = output_found p t line is (fits c t room words) at (goes_any p 0 1 same (omega arith) within)
   step_found p (Input e) is room words own at same within = input_found p e is.0 is.1 is.2 (fits c e room words) at (goes_any p 0 1 same (omega arith) within)
   step_found p (Release e) is room words own at same within = release_found p e is.0 is.1 is.2 is.3 (fits c e room words) at (goes_any p 0 1 same (omega arith) within)

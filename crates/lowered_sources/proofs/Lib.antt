@@ -1,6 +1,3 @@
--- no calls in initial values of package objects
-pub mod Still
-pub mod Packages
 -- literals are words
 pub mod Readings
 pub mod Trees

@@ -41,7 +41,7 @@ use Rattle.lowered_files.specs.Code.{code_literals}
 use Rattle.lowered_texts.proofs.Main.{text_lowered}
 use Rattle.lowered_sources.specs.Words.{IsWord}
 use Rattle.lowered_sources.specs.Tokens.{token_count}
-use Rattle.lowered_sources.proofs.Packages.{package_values}
+use Rattle.package_values.proofs.Packages.{package_values}
 use Rattle.lowered_sources.proofs.Readings.{HasWords, IsWordEntry, HasWordsAll}
 use Rattle.lowered_sources.proofs.Statements.{IsWordedSub, all_worded}
 use Rattle.lowered_sources.proofs.Few.{literals_few}

@@ -1,5 +1,5 @@
 -- The law: a text that has no fault of typing and is meant is lowered.
-use Rattle.std.proofs.Common.{◌≡◌, ℕ, ◌≤◌, true, List, map, None}
+use Rattle.std.proofs.Common.{◌≡◌, ℕ, ◌≤◌, true, map, None}
 use Rattle.spark_base.specs.Lists.{Has}
 use Rattle.resolved_tree.specs.Trees.{Program}
 use Rattle.type_definitions.specs.Whole.{known_of, type_fault}
@@ -16,7 +16,8 @@ use Rattle.typed_texts.specs.Meant.{IsMeant}
 use Rattle.typed_texts.proofs.Main.{types_sorted, text_typed, text_counted}
 use Rattle.run_codes.specs.Lowered.{max_position}
 use Rattle.run_codes.specs.Programs.{lowered_program}
-use Rattle.lowered_files.specs.Code.{code_literals, calls_nothing}
+use Rattle.package_values.specs.Calls.{calls_nothing}
+use Rattle.lowered_files.specs.Code.{code_literals}
 use Rattle.lowered_files.proofs.Programs.{code_lowered}
 
 module _ (p : Program) (none : type_fault p ≡ None) (text : IsMeant p) where

@@ -1,11 +1,11 @@
 -- Expressions without calls give the same in memories that agree, and what they move is gone in
 -- both.
-use Rattle.std.proofs.Common.{◌≡◌, refl, sym, ap, ◌∙◌, subst, inl, inr, ℕ, suc, ◌+◌, Bool, true, false, List, [], ◌∷◌, ◌++◌, drop, get_or, length, append-nil, if◌then◌else◌}
+use Rattle.std.proofs.Common.{◌≡◌, refl, sym, ap, ◌∙◌, subst, ℕ, suc, ◌+◌, ◌||◌, Bool, true, false, List, [], ◌∷◌, ◌++◌, drop, get_or, length, append-nil, if◌then◌else◌}
 use Rattle.std.specs.Prelude.{nat_le}
 use Rattle.place_names.specs.declared.act.Act.TheVariants as act
+use Rattle.place_names.specs.declared.act.Placed.{Placed}
 use Rattle.place_names.specs.declared.fact.Fact.{Fact}
 use Rattle.place_names.specs.Names.{Name as PlaceName}
-use Rattle.type_definitions.specs.declared.table.Shape.TheVariants as shape
 use Rattle.type_definitions.specs.Types.{shape_of, is_owning, parts}
 use Rattle.typed_tree.specs.Trees.{TypedTree, Number, Literal, Name, Call, EndOfFile, Parens, Unary, Binary, Short, IsNull, Aggregate, Alike, New, NoMore, More}
 use Rattle.typed_tree.specs.Trees as typed
@@ -17,38 +17,26 @@ use Rattle.machine.specs.Words as machine
 use Rattle.machine.specs.Memory.{Memory, Place, slots_of, moved_out, with_new_cell, live_words}
 use Rattle.machine.specs.Evaluate.{Here, Now, AsValue, part_type, parts_of, Evaluated, Done, Raises, Traps, followed_by, evaluate, steps_of, initial, checked, allocated, variable_place, walked, held_or_taken, taken, heap_words, StorageError}
 use Rattle.machine.specs.Evaluate as run
-use Rattle.machine.specs.States.{Waiting, Leak}
-use Rattle.owned_ways.specs.Ways.{OfVariable, Loc, Way, Object, Reaches, Named, Excused, Allows, after, AllowsAll, along}
-use Rattle.owned_ways.specs.Ways as ways
-use Rattle.owned_ways.proofs.Assigned.{move_way, move_clean, named_rooted}
-use Rattle.owned_ways.proofs.Locations.{under_along, under_itself}
+use Rattle.machine.specs.Typed.{is_record, is_array}
+use Rattle.machine.specs.States.{Waiting}
+use Rattle.owned_ways.specs.Ways.{Allows, after, AllowsAll}
 use Rattle.part_offsets.specs.Parts.{IsSettled}
-use Rattle.soundness.specs.Seen.{home, IsNear, is_view_formal}
 use Rattle.soundness.specs.Typed.{OwnsByShape}
-use Rattle.typed_laws.specs.Needed.{Stays, Leads, Gives, GivesParts, GivesFirst, IndexLaw}
-use Rattle.soundness.proofs.Near.{named_near, near_along}
-use Rattle.soundness.proofs.Walks.{way_along, Walked}
-use Rattle.soundness.proofs.Scalars.{allows_both, acts, acts_append, read_way, number_along, named_along}
-use Rattle.soundness.proofs.Taking.{Takes, takes_as, takes_both, TakesPlainly, both_plainly, nothing_more}
-use Rattle.soundness.proofs.Stays.{Goes, steps_taking}
-use Rattle.soundness.proofs.Evaluated.{Keeps, Ready, GivenOn, regrouped, live_trunk, checked_on, evaluated_on}
+use Rattle.typed_laws.specs.Needed.{Stays, Leads, Gives, GivesParts, GivesFirst}
+use Rattle.soundness.proofs.Scalars.{allows_both, acts, acts_append}
+use Rattle.soundness.proofs.Taking.{Takes, takes_as, takes_both, nothing_more}
+use Rattle.soundness.proofs.Evaluated.{regrouped}
+use Rattle.soundness.proofs.Lasting.{keeps}
 use Rattle.null_places.specs.Compares.{Compares}
 use Rattle.null_places.proofs.Memories.{NoneGone, words_agree, moved_agree, made_agree, room_agree, count_agree}
 use Rattle.null_places.proofs.Only.{OnlyOwners, made_only}
-use Rattle.null_places.proofs.Places.{spot_whole, plain_whole, unmoved_whole, moved_only}
+use Rattle.null_places.proofs.Places.{spot_whole, plain_whole, moved_only}
 use Rattle.null_places.proofs.Walks.{SameNow, SameTo, then_same, simply}
+use Rattle.null_places.proofs.Laws.{Premises, Behaves, Values, GivenBy, IsAt, IsWholeAt, checked_by}
 use Rattle.null_places.proofs.Scalars.{copy_same, place_then, scalar_on, steps_on}
 
-module _ (h : Here) (settled : IsSettled h.typing.table) (leaks : List Leak) (waits : List (List machine.Word)) (other : Way → Type 0)
-    (alone : (w : Way) → IsNear h.frame w → other w → ⊥) (keeps : Keeps h.typing)
-    (no_formals : (x : ℕ) → is_view_formal h.typing x ≡ false) (index_law : IndexLaw) (own_law : OwnsByShape h.typing.table)
-    (all_named : (t d : ℕ) (c n : Bool) → shape_of h.typing.table t ≡ shape.Access d c n → n ≡ true) where
-  abbrev ReadyIn : Memory → List Waiting → List Fact → Type 0
-  ReadyIn m hands facts = Ready h settled leaks waits other alone keeps no_formals index_law own_law all_named m hands facts
-
-  abbrev GivenIn : List (List machine.Word) → ℕ → List Waiting → List Fact → Evaluated (List machine.Word) → Type 0
-  GivenIn on want hands facts x = GivenOn h settled leaks waits other alone keeps no_formals index_law own_law all_named on want hands facts x
-
+module _ (h : Here) (settled : IsSettled h.typing.table) (own_law : OwnsByShape h.typing.table) (asks : Premises h)
+    (ready : Memory → List Waiting → List Fact → Type 0) (values : Values h own_law asks ready) where
   abbrev Same : {A : Type 0} → Evaluated A → Evaluated A → Type 0
   Same x y = SameTo h.typing x y
 
@@ -79,189 +67,160 @@ module _ (h : Here) (settled : IsSettled h.typing.table) (leaks : List Leak) (wa
 
   -- ---- names
 
-  module _ (m : Memory) (hands : List Waiting) (facts : List Fact) (ready : ReadyIn m hands facts) (only : OnlyOwners h.typing m) (x : ℕ) (steps : TypedTree) (t : ℕ) where
+  module _ (m : Memory) (hands : List Waiting) (facts : List Fact) (law : Behaves h asks m hands facts own_law) (x : ℕ) (steps : TypedTree) (t : ℕ) where
     abbrev at : List (List machine.Word) → Now
     at ws = record { memory = m; waits = ws }
 
-    abbrev first_way : Way
-    first_way = Object (OfVariable (home h.typing h.frame x) x)
+    abbrev IsThere : List (List machine.Word) → Place → Now → Type 0
+    IsThere on k n = IsAt h asks m hands facts on t k n
 
-    abbrev WalkedTo : List (List machine.Word) → List run.Step → Evaluated Place → Type 0
-    WalkedTo on way y = Walked h.typing settled hands leaks m on (way_along way first_way) t y
+    abbrev IsWhole : List (List machine.Word) → Place → Now → Type 0
+    IsWhole on k n = IsWholeAt h asks m hands facts on t k n
 
     -- what a place has is taken, where its type owns
-    owner_same : (on : List (List machine.Word)) → is_owning h.typing.table t ≡ true → Allows facts (act.Move (name_of x steps) (parts h.typing.table t))
-        → (way : List run.Step) → Goes h.typing.table (object_at h.typing x).of t steps way → (k : Place) (n n' : Now) → WalkedTo on way (Done k n) → SameNow h.typing n n'
+    owner_same : (on : List (List machine.Word)) → is_owning h.typing.table t ≡ true → (k : Place) (n n' : Now) → IsWhole on k n → SameNow h.typing n n'
         → Same (held_or_taken h AsValue k n) (held_or_taken h AsValue k n')
-    owner_same on owns allowed way goes k n n' (l, is, spot, reaches, of) same =
+    owner_same on owns k n n' (is, l, spot, of, none) same =
         subst (λ z. SameNow h.typing z n' → SameTo h.typing (taken h k z) (taken h k n')) (sym is) (λ now. (
           words_agree h.typing m n'.memory now.0 k none,
           subst (λ b. SameNow h.typing (if b then record (at on) { memory = moved_out h.typing k m } else (at on)) (if b then record n' { memory = moved_out h.typing k n'.memory } else n'))
               (sym (ap (is_owning h.typing.table) of ∙ owns))
-              (moved_agree h.typing k m n'.memory now.0, now.1, moved_only h.typing settled m hands only ready.kept k l spot),
+              (moved_agree h.typing k m n'.memory now.0, now.1, moved_only h.typing settled m hands law.only law.kept k l spot),
         )) same
-      where
-        w : Way
-        w = way_along way first_way
-
-        named : Named (home h.typing h.frame) (way_along way first_way)
-        named = named_along (home h.typing h.frame) way first_way refl
-
-        called_so : ways.name_of (way_along way first_way) ≡ name_of x steps
-        called_so = (λ j. record { root = number_along way first_way j; sels = goes.sels first_way j })
-
-        moves : Allows facts (act.Move (ways.name_of (way_along way first_way)) (parts h.typing.table t))
-        moves = subst (λ z. Allows facts (act.Move z (parts h.typing.table t))) (sym called_so) allowed
-
-        clean : (p : List ways.Step) → Excused (home h.typing h.frame) other facts (along (way_along way first_way) p) → ⊥
-        clean p (inl moved) =
-            move_clean (home h.typing h.frame) facts w (parts h.typing.table t) moves (along w p) (under_along w w p (under_itself w)) moved
-        clean p (inr o) = alone (along w p) (near_along h.frame w p (named_near h.typing h.frame w named)) o
-
-        none : NoneGone (slots_of h.typing m k)
-        none =
-            spot_whole h.typing settled m hands only ready.kept k l spot
-            (unmoved_whole h.typing settled m hands leaks (Excused (home h.typing h.frame) other facts) ready.sound.known w l (named_rooted (home h.typing h.frame) w named) reaches
-            (live_trunk h settled leaks waits other alone keeps no_formals index_law own_law all_named m hands ready.sound.owned w l
-            (named_rooted (home h.typing h.frame) w named) reaches) clean)
 
     -- a copy of what doesn't own
-    plain_same : (on : List (List machine.Word)) → is_owning h.typing.table t ≡ false → (way : List run.Step) → (k : Place) (n n' : Now) → WalkedTo on way (Done k n) → SameNow h.typing n n'
+    plain_same : (on : List (List machine.Word)) → is_owning h.typing.table t ≡ false → (k : Place) (n n' : Now) → IsThere on k n → SameNow h.typing n n'
         → Same (held_or_taken h AsValue k n) (held_or_taken h AsValue k n')
-    plain_same on plain way k n n' (l, is, spot, reaches, of) same =
+    plain_same on plain k n n' (is, l, spot, of) same =
         let own : is_owning h.typing.table k.of ≡ false = ap (is_owning h.typing.table) of ∙ plain in
         copy_same h k n n' (subst (λ (z : Now). NoneGone (slots_of h.typing z.memory k)) (sym is)
-        (spot_whole h.typing settled m hands only ready.kept k l spot (plain_whole h.typing settled m hands k l spot (keeps.ownerless k.of own)))) own same
+        (spot_whole h.typing settled m hands law.only law.kept k l spot (plain_whole h.typing settled m hands k l spot ((keeps h.typing settled own_law).ownerless k.of own)))) own same
 
     -- a name that is moved, or read
-    name_by : (before on : List (List machine.Word)) (lead : Leads h.typing (object_at h.typing x).of steps t) → Takes (waiting steps) before on → Compares h.typing steps
-        → AllowsAll facts (acts (acts_in h.typing steps)) → Allows facts (used h.typing (name_of x steps) t) → (b : Bool) → is_owning h.typing.table t ≡ b
+    name_by : (before on : List (List machine.Word)) (lead : Leads h.typing (object_at h.typing x).of steps t) → Takes (waiting steps) before on
+        → asks.calls (has_call steps) → Compares h.typing steps
+        → AllowsAll facts (acts (acts_in h.typing steps)) → Allows facts (used h.typing (name_of x steps) t) → asks.keeps (used h.typing (name_of x steps) t ∷ [])
+        → (b : Bool) → is_owning h.typing.table t ≡ b
         → (n' : Now) → SameNow h.typing (at before) n'
         → Same (followed_by (steps_of h steps (at before)) (λ way now. followed_by (walked h.typing way (variable_place h x) now) (held_or_taken h AsValue)))
         (followed_by (steps_of h steps n') (λ way now. followed_by (walked h.typing way (variable_place h x) now) (held_or_taken h AsValue)))
-    name_by before on lead takes compares allowed mine true owns n' same =
+    name_by before on lead takes calls compares allowed mine kept true owns n' same =
         let is : used h.typing (name_of x steps) t ≡ act.Move (name_of x steps) (parts h.typing.table t) =
         ap (λ b. if b then act.Move (name_of x steps) (parts h.typing.table t) else act.Read (name_of x steps)) owns in
-        let moves : Allows facts (act.Move (name_of x steps) (parts h.typing.table t)) = subst (Allows facts) is mine in
-        let live = live_trunk h settled leaks waits other alone keeps no_formals index_law own_law all_named m hands ready.sound.owned in
-        place_then h settled hands leaks m waits other facts ready.kept ready.sound alone live index_law own_law all_named only before on x t steps
-        (held_or_taken h AsValue) (held_or_taken h AsValue)
-        (λ w named same_name v past moved. move_way (home h.typing h.frame) facts w (parts h.typing.table t)
-        (subst (λ z. Allows facts (act.Move z (parts h.typing.table t))) (sym same_name) moves) v past moved)
-        (steps_taking h settled hands leaks m waits other facts ready.kept ready.sound alone live index_law own_law all_named (object_at h.typing x).of t steps lead before on takes allowed).0
-        n' (steps_on h settled hands leaks m waits other facts ready.kept ready.sound alone live index_law own_law all_named only
-        (object_at h.typing x).of t steps lead before on takes compares allowed n' same)
-        (owner_same on owns moves)
-    name_by before on lead takes compares allowed mine false owns n' same =
+        place_then h settled own_law asks m hands facts law before on x t steps (held_or_taken h AsValue) (held_or_taken h AsValue) (IsWhole on)
+        (λ way goes. law.move on x t steps way goes owns (subst (Allows facts) is mine) (subst (λ z. asks.keeps (z ∷ [])) is kept))
+        (law.steps (object_at h.typing x).of t steps lead before on takes calls allowed).0
+        n' (steps_on h settled own_law asks m hands facts law (object_at h.typing x).of t steps lead before on takes calls compares allowed n' same)
+        (owner_same on owns)
+    name_by before on lead takes calls compares allowed mine kept false owns n' same =
         let is : used h.typing (name_of x steps) t ≡ act.Read (name_of x steps) =
         ap (λ b. if b then act.Move (name_of x steps) (parts h.typing.table t) else act.Read (name_of x steps)) owns in
-        let reads : Allows facts (act.Read (name_of x steps)) = subst (Allows facts) is mine in
-        let live = live_trunk h settled leaks waits other alone keeps no_formals index_law own_law all_named m hands ready.sound.owned in
-        place_then h settled hands leaks m waits other facts ready.kept ready.sound alone live index_law own_law all_named only before on x t steps
-        (held_or_taken h AsValue) (held_or_taken h AsValue)
-        (λ w named same_name v past moved. read_way (home h.typing h.frame) facts w (subst (λ z. Allows facts (act.Read z)) (sym same_name) reads) v past moved)
-        (steps_taking h settled hands leaks m waits other facts ready.kept ready.sound alone live index_law own_law all_named (object_at h.typing x).of t steps lead before on takes allowed).0
-        n' (steps_on h settled hands leaks m waits other facts ready.kept ready.sound alone live index_law own_law all_named only
-        (object_at h.typing x).of t steps lead before on takes compares allowed n' same)
-        (λ way goes. plain_same on owns way)
+        place_then h settled own_law asks m hands facts law before on x t steps (held_or_taken h AsValue) (held_or_taken h AsValue) (IsThere on)
+        (λ way goes. law.read on x t steps way goes (subst (Allows facts) is mine))
+        (law.steps (object_at h.typing x).of t steps lead before on takes calls allowed).0
+        n' (steps_on h settled own_law asks m hands facts law (object_at h.typing x).of t steps lead before on takes calls compares allowed n' same)
+        (plain_same on owns)
 
   -- ---- all together
 
-  scalar_value : (e : TypedTree) → Stays h.typing e → (before on : List (List machine.Word)) → Takes (waiting e) before on → Compares h.typing e
+  scalar_value : (e : TypedTree) → Stays h.typing e → (before on : List (List machine.Word)) → Takes (waiting e) before on → asks.calls (has_call e) → Compares h.typing e
       → (m : Memory) (hands : List Waiting) (facts : List Fact)
-      → ReadyIn m hands facts → AllowsAll facts (acts (acts_in h.typing e)) → OnlyOwners h.typing m → (n' : Now) → SameNow h.typing (record { memory = m; waits = before }) n'
+      → ready m hands facts → AllowsAll facts (acts (acts_in h.typing e)) → OnlyOwners h.typing m → (n' : Now) → SameNow h.typing (record { memory = m; waits = before }) n'
       → Same (evaluate h AsValue e (record { memory = m; waits = before })) (evaluate h AsValue e n')
-  scalar_value e stays before on takes compares m hands facts ready allowed only n' same =
-      let live = live_trunk h settled leaks waits other alone keeps no_formals index_law own_law all_named m hands ready.sound.owned in
-      scalar_on h settled hands leaks m waits other facts ready.kept ready.sound alone live index_law own_law all_named only AsValue e stays before on takes compares allowed n' same
+  scalar_value e stays before on takes calls compares m hands facts so allowed only n' same =
+      scalar_on h settled own_law asks m hands facts (values.behaves m hands facts so only) AsValue e stays before on takes calls compares allowed n' same
 
   mutual
     unfolding Gives GivesParts GivesFirst Stays Compares evaluate initial parts_of acts_in has_call waiting
 
-    pub value_on : (e : TypedTree) (want : ℕ) → Gives h.typing want e → TakesPlainly h.typing (has_call e) → (before on : List (List machine.Word))
+    pub value_on : (e : TypedTree) (want : ℕ) → Gives h.typing want e → asks.calls (has_call e) → (before on : List (List machine.Word))
         → Takes (waiting e) before on → Compares h.typing e
-        → (m : Memory) (hands : List Waiting) (facts : List Fact) → ReadyIn m hands facts → AllowsAll facts (acts (acts_in h.typing e)) → OnlyOwners h.typing m
-        → (n' : Now) → SameNow h.typing (record { memory = m; waits = before }) n'
+        → (m : Memory) (hands : List Waiting) (facts : List Fact) → ready m hands facts → AllowsAll facts (acts (acts_in h.typing e)) → OnlyOwners h.typing m
+        → asks.takes want → asks.keeps (acts (acts_in h.typing e)) → (n' : Now) → SameNow h.typing (record { memory = m; waits = before }) n'
         → Same (evaluate h AsValue e (record { memory = m; waits = before })) (evaluate h AsValue e n')
-    value_on (Number v) want scalar calls before on takes compares m hands facts ready allowed only n' same = (refl, same)
-    value_on (Literal v) want scalar calls before on takes compares m hands facts ready allowed only n' same = (refl, same)
-    value_on EndOfFile want scalar calls before on takes compares m hands facts ready allowed only n' same = (refl, same)
-    value_on typed.Null want one calls before on takes compares m hands facts ready allowed only n' same = (refl, same)
-    value_on (Parens e) want gives calls before on takes compares m hands facts ready allowed only n' same =
-        value_on e want gives calls before on takes compares m hands facts ready allowed only n' same
-    value_on (Unary op e) want (scalar, stays) calls before on takes compares m hands facts ready allowed only n' same =
-        scalar_value (Unary op e) stays before on takes compares m hands facts ready allowed only n' same
-    value_on (Binary op a b) want (scalar, stays, stays') calls before on takes compares m hands facts ready allowed only n' same =
-        scalar_value (Binary op a b) (stays, stays') before on takes compares m hands facts ready allowed only n' same
-    value_on (Short op p a q b) want (scalar, stays, stays') calls before on takes compares m hands facts ready allowed only n' same =
-        scalar_value (Short op p a q b) (stays, stays') before on takes compares m hands facts ready allowed only n' same
-    value_on (IsNull equal e) want (scalar, stays) calls before on takes compares m hands facts ready allowed only n' same =
-        scalar_value (IsNull equal e) stays before on takes compares m hands facts ready allowed only n' same
-    value_on (Name p x steps t) want (lead, fits) calls before on takes compares m hands facts ready allowed only n' same =
+    value_on (Number v) want scalar calls before on takes compares m hands facts so allowed only own keep n' same = (refl, same)
+    value_on (Literal v) want scalar calls before on takes compares m hands facts so allowed only own keep n' same = (refl, same)
+    value_on EndOfFile want scalar calls before on takes compares m hands facts so allowed only own keep n' same = (refl, same)
+    value_on typed.Null want one calls before on takes compares m hands facts so allowed only own keep n' same = (refl, same)
+    value_on (Parens e) want gives calls before on takes compares m hands facts so allowed only own keep n' same =
+        value_on e want gives calls before on takes compares m hands facts so allowed only own keep n' same
+    value_on (Unary op e) want (scalar, stays) calls before on takes compares m hands facts so allowed only own keep n' same =
+        scalar_value (Unary op e) stays before on takes calls compares m hands facts so allowed only n' same
+    value_on (Binary op a b) want (scalar, stays, stays') calls before on takes compares m hands facts so allowed only own keep n' same =
+        scalar_value (Binary op a b) (stays, stays') before on takes calls compares m hands facts so allowed only n' same
+    value_on (Short op p a q b) want (scalar, stays, stays') calls before on takes compares m hands facts so allowed only own keep n' same =
+        scalar_value (Short op p a q b) (stays, stays') before on takes calls compares m hands facts so allowed only n' same
+    value_on (IsNull equal e) want (scalar, stays) calls before on takes compares m hands facts so allowed only own keep n' same =
+        scalar_value (IsNull equal e) stays before on takes calls compares m hands facts so allowed only n' same
+    value_on (Name p x steps t) want (lead, fits) calls before on takes compares m hands facts so allowed only own keep n' same =
         let name : PlaceName = name_of x steps in
-        let live = live_trunk h settled leaks waits other alone keeps no_formals index_law own_law all_named m hands ready.sound.owned in
-        let each = allows_both facts (acts (acts_in h.typing steps)) (used h.typing name t ∷ [])
-        (subst (AllowsAll facts) (acts_append (acts_in h.typing steps) (record { pos = p; act = used h.typing name t } ∷ [])) allowed) in
-        let inner = steps_taking h settled hands leaks m waits other facts ready.kept ready.sound alone live index_law own_law all_named
-        (object_at h.typing x).of t steps lead before on takes each.0 in
-        name_by m hands facts ready only x steps t before on lead takes compares each.0
-        (subst (λ z. Allows z (used h.typing name t)) inner.1 each.1.0) (is_owning h.typing.table t) refl n' same
-    value_on (New t (More e rest)) want (d, c, n, is, fits, (none, gives)) calls before on takes compares m hands facts ready allowed only n' same =
+        let law = values.behaves m hands facts so only in
+        let last : List Placed = record { pos = p; act = used h.typing name t } ∷ [] in
+        let each = allows_both facts (acts (acts_in h.typing steps)) (used h.typing name t ∷ []) (subst (AllowsAll facts) (acts_append (acts_in h.typing steps) last) allowed) in
+        let inner = law.steps (object_at h.typing x).of t steps lead before on takes calls each.0 in
+        name_by m hands facts law x steps t before on lead takes calls compares each.0
+        (subst (λ z. Allows z (used h.typing name t)) inner.1 each.1.0)
+        (asks.both_keep (acts (acts_in h.typing steps)) (used h.typing name t ∷ []) (subst asks.keeps (acts_append (acts_in h.typing steps) last) keep)).1
+        (is_owning h.typing.table t) refl n' same
+    value_on (New t (More e rest)) want (d, c, n, is, fits, (none, gives)) calls before on takes compares m hands facts so allowed only own keep n' same =
         let acts_same : acts_in h.typing e ++ acts_in h.typing rest ≡ acts_in h.typing e = ap (λ z. acts_in h.typing e ++ acts_in h.typing z) none ∙ append-nil (acts_in h.typing e) in
         let alone_there : waiting e + waiting rest ≡ waiting e = ap (λ z. waiting e + waiting z) none ∙ nothing_more (waiting e) in
         let now : Now = record { memory = m; waits = before } in
         allocated_same t (followed_by (evaluate h AsValue e now) (checked h t)) (followed_by (evaluate h AsValue e n') (checked h t))
         (checked_same t (evaluate h AsValue e now) (evaluate h AsValue e n')
-        (value_on e t gives (both_plainly h.typing (has_call e) (has_call rest) calls).0 before on (takes_as (waiting e + waiting rest) (waiting e) before on alone_there takes)
-        compares.0 m hands facts ready (subst (λ z. AllowsAll facts (acts z)) acts_same allowed) only n' same))
-    value_on (New t NoMore) want (d, c, n, is, fits, none) calls before on takes compares m hands facts ready allowed only n' same =
+        (value_on e t gives (asks.both_calls (has_call e) (has_call rest) calls).0 before on (takes_as (waiting e + waiting rest) (waiting e) before on alone_there takes)
+        compares.0 m hands facts so (subst (λ z. AllowsAll facts (acts z)) acts_same allowed) only (asks.new want t d c n is fits)
+        (subst (λ z. asks.keeps (acts z)) acts_same keep) n' same))
+    value_on (New t NoMore) want (d, c, n, is, fits, none) calls before on takes compares m hands facts so allowed only own keep n' same =
         allocated_same t (Done (default h.typing.table t) (record { memory = m; waits = before })) (Done (default h.typing.table t) n') (refl, same)
-    value_on (New t v) want (d, c, n, is, fits, none) calls before on takes compares m hands facts ready allowed only n' same = absurd none
-    value_on (Aggregate t es) want (fits, made, count, gives) calls before on takes compares m hands facts ready allowed only n' same =
-        parts_same es t 0 gives calls before on takes compares m hands facts ready allowed only n' same
-    value_on (Alike t e) want (fits, array, plain, gives) calls before on takes compares m hands facts ready allowed only n' same =
+    value_on (New t v) want (d, c, n, is, fits, none) calls before on takes compares m hands facts so allowed only own keep n' same = absurd none
+    value_on (Aggregate t es) want (fits, made, count, gives) calls before on takes compares m hands facts so allowed only own keep n' same =
+        parts_same es t 0 gives calls before on takes compares m hands facts so allowed only made keep n' same
+    value_on (Alike t e) want (fits, array, plain, gives) calls before on takes compares m hands facts so allowed only own keep n' same =
         let now : Now = record { memory = m; waits = before } in
         let el : ℕ = machine.element_type h.typing.table t in
         let repeats : List machine.Word → Now → Evaluated (List machine.Word) = (λ ws n. Done (machine.repeated (machine.element_count h.typing.table t) ws) n) in
         subst (λ z. SameTo h.typing z (evaluate h AsValue (Alike t e) n')) (regrouped (evaluate h AsValue e now) (checked h el) repeats)
         (subst (SameTo h.typing (followed_by (followed_by (evaluate h AsValue e now) (checked h el)) repeats)) (regrouped (evaluate h AsValue e n') (checked h el) repeats)
         (simply h.typing (followed_by (evaluate h AsValue e now) (checked h el)) (followed_by (evaluate h AsValue e n') (checked h el)) repeats repeats
-        (checked_same el (evaluate h AsValue e now) (evaluate h AsValue e n') (value_on e el gives calls before on takes compares m hands facts ready allowed only n' same))
+        (checked_same el (evaluate h AsValue e now) (evaluate h AsValue e n') (value_on e el gives calls before on takes compares m hands facts so allowed only (asks.element t) keep n' same))
         (λ ws n n'' last. (refl, last))))
     -- the result of a function waits
-    value_on (Call p sub actuals) want gives calls before on takes compares m hands facts ready allowed only n' same = (
+    value_on (Call p sub actuals) want gives calls before on takes compares m hands facts so allowed only own keep n' same = (
       ap (λ ws. get_or ws 0 []) same.1,
       (same.0, ap (drop 1) same.1, same.2),
     )
-    value_on e want gives calls before on takes compares m hands facts ready allowed only n' same = absurd gives
+    value_on e want gives calls before on takes compares m hands facts so allowed only own keep n' same = absurd gives
 
     -- the parts of an aggregate from the i-th on
-    parts_same : (es : TypedTree) (t i : ℕ) → GivesParts h.typing t i es → TakesPlainly h.typing (has_call es) → (before on : List (List machine.Word))
+    parts_same : (es : TypedTree) (t i : ℕ) → GivesParts h.typing t i es → asks.calls (has_call es) → (before on : List (List machine.Word))
         → Takes (waiting es) before on → Compares h.typing es
-        → (m : Memory) (hands : List Waiting) (facts : List Fact) → ReadyIn m hands facts → AllowsAll facts (acts (acts_in h.typing es)) → OnlyOwners h.typing m
-        → (n' : Now) → SameNow h.typing (record { memory = m; waits = before }) n'
+        → (m : Memory) (hands : List Waiting) (facts : List Fact) → ready m hands facts → AllowsAll facts (acts (acts_in h.typing es)) → OnlyOwners h.typing m
+        → is_record (shape_of h.typing.table t) || is_array (shape_of h.typing.table t) ≡ true → asks.keeps (acts (acts_in h.typing es)) → (n' : Now) → SameNow h.typing (record { memory = m; waits = before }) n'
         → Same (parts_of h t i es (record { memory = m; waits = before })) (parts_of h t i es n')
-    parts_same (More e rest) t i gives calls before on takes compares m hands facts ready allowed only n' same =
+    parts_same (More e rest) t i gives calls before on takes compares m hands facts so allowed only made keep n' same =
         let now : Now = record { memory = m; waits = before } in
         let u : ℕ = part_type (shape_of h.typing.table t) i in
-        let both = both_plainly h.typing (has_call e) (has_call rest) calls in
+        let both = asks.both_calls (has_call e) (has_call rest) calls in
+        let names = asks.both_keep (acts (acts_in h.typing e)) (acts (acts_in h.typing rest)) (subst asks.keeps (acts_append (acts_in h.typing e) (acts_in h.typing rest)) keep) in
+        let part = asks.part t i made in
         let two = takes_both (waiting e) (waiting rest) before on takes in
         let each = allows_both facts (acts (acts_in h.typing e)) (acts (acts_in h.typing rest))
         (subst (AllowsAll facts) (acts_append (acts_in h.typing e) (acts_in h.typing rest)) allowed) in
         let between : List Fact = after (acts (acts_in h.typing e)) facts in
         let next : List machine.Word → Now → Evaluated (List machine.Word) =
         (λ ws now. followed_by (parts_of h t (suc i) rest now) (λ more now. Done (ws ++ more) now)) in
-        let given = checked_on h settled leaks waits other alone keeps no_formals index_law own_law all_named two.0 u u hands between (evaluate h AsValue e now)
-        (evaluated_on h settled leaks waits other alone keeps no_formals index_law own_law all_named e u gives.0 both.0 before two.0 two.1 m hands facts ready each.0) in
+        let given = checked_by h ready two.0 u u hands between (evaluate h AsValue e now)
+        (values.given e u gives.0 both.0 before two.0 two.1 m hands facts so each.0 part names.0) in
         let first = checked_same u (evaluate h AsValue e now) (evaluate h AsValue e n')
-        (value_on e u gives.0 both.0 before two.0 two.1 compares.0 m hands facts ready each.0 only n' same) in
+        (value_on e u gives.0 both.0 before two.0 two.1 compares.0 m hands facts so each.0 only part names.0 n' same) in
         subst (λ z. SameTo h.typing z (parts_of h t i (More e rest) n')) (regrouped (evaluate h AsValue e now) (checked h u) next)
         (subst (SameTo h.typing (followed_by (followed_by (evaluate h AsValue e now) (checked h u)) next)) (regrouped (evaluate h AsValue e n') (checked h u) next)
-        (then_same h.typing (GivenIn two.0 u hands between) (followed_by (evaluate h AsValue e now) (checked h u)) (followed_by (evaluate h AsValue e n') (checked h u)) next next given first
+        (then_same h.typing (GivenBy h ready two.0 u hands between) (followed_by (evaluate h AsValue e now) (checked h u)) (followed_by (evaluate h AsValue e n') (checked h u)) next next given first
         (λ ws n n'' there still. simply h.typing (parts_of h t (suc i) rest n) (parts_of h t (suc i) rest n'') (λ more now. Done (ws ++ more) now) (λ more now. Done (ws ++ more) now)
         (subst (λ z. SameNow h.typing (record { memory = n.memory; waits = z }) n''
         → SameTo h.typing (parts_of h t (suc i) rest (record { memory = n.memory; waits = z })) (parts_of h t (suc i) rest n'')) (sym there.2)
-        (λ so. parts_same rest t (suc i) gives.1 both.1 two.0 on two.2 compares.1 n.memory (record { of = u; words = ws } ∷ hands) between there.0 each.1 still.2 n'' so) still)
+        (λ still_so. parts_same rest t (suc i) gives.1 both.1 two.0 on two.2 compares.1 n.memory (record { of = u; words = ws } ∷ hands) between there.0 each.1 still.2 made names.1 n'' still_so) still)
         (λ more k k' last. (ap (λ z. ws ++ z) refl, last)))))
-    parts_same NoMore t i gives calls before on takes compares m hands facts ready allowed only n' same = (refl, same)
-    parts_same es t i gives calls before on takes compares m hands facts ready allowed only n' same = absurd gives
+    parts_same NoMore t i gives calls before on takes compares m hands facts so allowed only made keep n' same = (refl, same)
+    parts_same es t i gives calls before on takes compares m hands facts so allowed only made keep n' same = absurd gives

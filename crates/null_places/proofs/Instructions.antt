@@ -13,9 +13,9 @@ use Rattle.type_definitions.specs.Types.{shape_of, full, is_scalar}
 use Rattle.typed_tree.specs.declared.node.ShortCircuit.{ShortCircuit}
 use Rattle.typed_tree.specs.Trees.{TypedTree, TypedCode, Name, NoMore, More}
 use Rattle.flow_paths.specs.Instructions.{Skip, Fall}
-use Rattle.flow_paths.specs.Objects.{Typing, object_at, designated, is_observer}
-use Rattle.flow_paths.specs.Names.{has_call, waiting as waits_in, name_of, whole, first, written, source}
-use Rattle.flow_paths.specs.Acts.{acts_in, stored_acts, declared_acts, assigned_to, source_acts, index_acts, reborrow, observe, target_pos as acts_target_pos}
+use Rattle.flow_paths.specs.Objects.{Typing, object_at, designated, is_anonymous}
+use Rattle.flow_paths.specs.Names.{has_call, waiting as waits_in, name_of}
+use Rattle.flow_paths.specs.Acts.{acts_in, stored_acts, source_acts}
 use Rattle.run_values.specs.declared.items.Item.{Item}
 use Rattle.run_values.specs.declared.items.Item.TheVariants as item
 use Rattle.run_values.specs.Items.{next_item}
@@ -29,33 +29,24 @@ use Rattle.machine.specs.States.{Waiting, Loop, Leak, State, Outcome, Goes, Ends
 use Rattle.machine.specs.Step.{Turn, typing, here, start, waiting, counted, raised, trapped, Stored, first_value, taken_by, declare, assign, end_scope, goes, behind, leaking, leaking_goes, target_pos}
 use Rattle.machine.specs.Step as steps
 use Rattle.machine.specs.Owners.{waiting_in}
-use Rattle.owned_ways.specs.Ways.{OfVariable, Loc, OfRoot, Way, Object, Reaches, IsRooted, Excused, Allows, after, AllowsAll, Sound}
-use Rattle.owned_ways.specs.Ways as ways
-use Rattle.owned_ways.proofs.Locations.{past_under, under_itself}
-use Rattle.owned_ways.proofs.Assigned.{write_clean, named_rooted}
+use Rattle.owned_ways.specs.Ways.{OfVariable, Loc, OfRoot, Allows, after, AllowsAll}
 use Rattle.part_offsets.specs.Parts.{IsSettled}
-use Rattle.soundness.specs.Seen.{content, trunk, seen, home, IsNear, is_view_formal}
-use Rattle.soundness.specs.Typed.{OwnsByShape, Kept, Spot}
-use Rattle.typed_laws.specs.Needed.{Stays, Writes, Leads, Source, FirstSource}
-use Rattle.soundness.specs.Sound.{view_of}
-use Rattle.soundness.proofs.Near.{named_near}
-use Rattle.soundness.proofs.Walks.{way_along}
+use Rattle.soundness.specs.Seen.{home}
+use Rattle.soundness.specs.Typed.{OwnsByShape, Spot}
+use Rattle.typed_laws.specs.Needed.{Stays, Writes, Leads, Gives, FirstSource}
 use Rattle.soundness.proofs.Steps.{no_leaf}
 use Rattle.soundness.proofs.Scalars.{acts, acts_append, allows_both}
-use Rattle.soundness.proofs.Taking.{Takes, takes_as, TakesPlainly, both_plainly, nothing_more}
-use Rattle.soundness.proofs.Stays.{Quiet, One, taking, steps_taking}
-use Rattle.soundness.proofs.Numbers.{index_law}
-use Rattle.soundness.proofs.Lasting.{keeps}
-use Rattle.soundness.proofs.Evaluated.{live_trunk, Ready, GivenOn, checked_on, evaluated_on}
-use Rattle.soundness.proofs.Freeing.{free_way, switched}
-use Rattle.soundness.proofs.Instructions.{not_anonymous, not_borrower, not_observer}
+use Rattle.soundness.proofs.Taking.{Takes, takes_as, nothing_more}
+use Rattle.soundness.proofs.Stays.{Quiet, One}
+use Rattle.soundness.proofs.Freeing.{switched}
 use Rattle.null_places.specs.Agrees.{Agrees, SameState}
 use Rattle.null_places.specs.Compares.{Compares}
 use Rattle.null_places.proofs.Memories.{NoneGone, words_agree, cell_agree, stored_agree, declared_agree, undeclared_agree, freed_agree, given_up_agree, checks_agree}
 use Rattle.null_places.proofs.Only.{OnlyOwners, stored_only, declared_only, undeclared_only, freed_only}
-use Rattle.null_places.proofs.Places.{spot_whole, plain_whole, access_whole}
+use Rattle.null_places.proofs.Places.{spot_whole, plain_whole}
 use Rattle.null_places.proofs.Walks.{SameNow, SameTo, then_same, simply}
-use Rattle.null_places.proofs.Scalars.{IsPlaced, place_on, scalar_on, text_on, called, named_way}
+use Rattle.null_places.proofs.Laws.{Premises, Behaves, Values, GivenBy, Found, IsAt, IsWholeAt, checked_by}
+use Rattle.null_places.proofs.Scalars.{place_on, scalar_on, text_on}
 use Rattle.null_places.proofs.Evaluated.{checked_same, value_on}
 
 -- Outcomes agree, and where the step goes on, only words that own are gone.
@@ -210,13 +201,17 @@ module _ (t : Turn) (n : Memory) (agrees : Agrees t.state.memory n) where
             declared_only (typing t) m only (length t.outer) x b.low,
           )
 
+  -- a scope ends
+  pub end_scope_same : OnlyOwners (typing t) t.state.memory → (x : ℕ) → SameStep t (end_scope t x) (end_scope (twin t n) x)
+  end_scope_same only x =
+      leaks_same t n agrees t.point.pos (variable_place (here t) x) t.state.memory n (undeclared (length t.outer) x t.state.memory) (undeclared (length t.outer) x n) agrees
+      (undeclared_agree (length t.outer) x t.state.memory n agrees) (undeclared_only (typing t) t.state.memory only (length t.outer) x)
+
 -- ---- each instruction
 
-module _ (t : Turn) (settled : IsSettled (typing t).table) (own_law : OwnsByShape (typing t).table) (other : Way → Type 0)
-    (alone : (w : Way) → IsNear (length t.outer) w → other w → ⊥) (no_formals : (x : ℕ) → is_view_formal (typing t) x ≡ false)
-    (all_named : (u d : ℕ) (c n : Bool) → shape_of (typing t).table u ≡ shape.Access d c n → n ≡ true) (facts : List Fact)
-    (sound : Sound (home (typing t) (length t.outer)) other (view_of (typing t) t.state) facts) (kept : Kept (typing t) t.state.memory (waiting_in t.state))
-    (only : OnlyOwners (typing t) t.state.memory) (n : Memory) (agrees : Agrees t.state.memory n) where
+module _ (t : Turn) (settled : IsSettled (typing t).table) (own_law : OwnsByShape (typing t).table) (asks : Premises (here t))
+    (ready : Memory → List Waiting → List Fact → Type 0) (values : Values (here t) own_law asks ready) (facts : List Fact)
+    (so : ready t.state.memory (waiting_in t.state) facts) (only : OnlyOwners (typing t) t.state.memory) (n : Memory) (agrees : Agrees t.state.memory n) where
   abbrev h : Here
   h = here t
 
@@ -225,9 +220,6 @@ module _ (t : Turn) (settled : IsSettled (typing t).table) (own_law : OwnsByShap
 
   abbrev hands : List Waiting
   hands = waiting_in t.state
-
-  abbrev waits : List (List machine.Word)
-  waits = (start t).waits
 
   abbrev at : Now
   at = record { memory = t.state.memory; waits = (start t).waits }
@@ -238,114 +230,114 @@ module _ (t : Turn) (settled : IsSettled (typing t).table) (own_law : OwnsByShap
   at_start : SameNow (typing t) at (start (twin t n))
   at_start = (agrees, refl, only)
 
-  live : (w : Way) (l : Loc) → IsRooted w → Reaches (seen (typing t) t.state.memory hands t.state.leaks) w l → (content (typing t) t.state.memory hands (trunk l)).owns ≡ true
-  live = live_trunk h settled t.state.leaks waits other alone (keeps (typing t) settled own_law) no_formals index_law own_law all_named t.state.memory hands sound.owned
+  law : Behaves h asks t.state.memory hands facts own_law
+  law = values.behaves t.state.memory hands facts so only
 
-  ready : Ready h settled t.state.leaks waits other alone (keeps (typing t) settled own_law) no_formals index_law own_law all_named t.state.memory hands facts
-  ready = record { sound = sound; kept = kept }
-
-  scalar : (before on : List (List machine.Word)) (e : TypedTree) → Stays (typing t) e → Takes (waits_in e) before on → Compares (typing t) e
+  scalar : (before on : List (List machine.Word)) (e : TypedTree) → Stays (typing t) e → Takes (waits_in e) before on → asks.calls (has_call e) → Compares (typing t) e
       → AllowsAll facts (acts (acts_in (typing t) e))
       → (n' : Now) → SameNow (typing t) (record { memory = t.state.memory; waits = before }) n'
       → SameTo (typing t) (value h e (record { memory = t.state.memory; waits = before })) (value h e n')
-  scalar before on e stays takes compares allowed n' same =
-      scalar_on h settled hands t.state.leaks t.state.memory waits other facts kept sound alone live index_law own_law all_named only AsValue e stays before on takes compares allowed n' same
-
-  -- the steps of a name change nothing, and so do their acts
-  steps_quiet_there : (i : Now) (hs : List Waiting) (fs : List Fact) (keeps_there : Kept (typing t) i.memory hs)
-      → (well : Sound (home (typing t) depth) other (seen (typing t) i.memory hs t.state.leaks) fs)
-      → ((w : Way) (l : Loc) → IsRooted w → Reaches (seen (typing t) i.memory hs t.state.leaks) w l → (content (typing t) i.memory hs (trunk l)).owns ≡ true)
-      → (u w : ℕ) (path : TypedTree) → Leads (typing t) u path w → (before on : List (List machine.Word)) → Takes (waits_in path) before on
-      → AllowsAll fs (acts (acts_in (typing t) path)) → after (acts (acts_in (typing t) path)) fs ≡ fs
-  steps_quiet_there i hs fs keeps_there well alive u w path lead before on takes allowed =
-      (steps_taking h settled hs t.state.leaks i.memory waits other fs keeps_there well alone alive index_law own_law all_named u w path lead before on takes allowed).1
+  scalar before on e stays takes calls compares allowed n' same =
+      scalar_on h settled own_law asks t.state.memory hands facts law AsValue e stays before on takes calls compares allowed n' same
 
   -- ---- values that are taken
 
-  pub source_same : (on : List (List machine.Word)) (u : ℕ) (e : TypedTree) → Source (typing t) u e → TakesPlainly (typing t) (has_call e) → Takes (waits_in e) (start t).waits on → Compares (typing t) e → AllowsAll facts (acts (acts_in (typing t) e))
-      → SameTo (typing t) (taken_by t u e at) (taken_by t u e (start (twin t n)))
-  source_same on u e (inl (view, is)) calls takes compares allowed = (let no : true ≡ false = sym view ∙ not_anonymous (typing t) all_named u in cc)
-  source_same on u e (inr gives) calls takes compares allowed =
+  pub source_same : (on : List (List machine.Word)) (u : ℕ) (e : TypedTree) → is_anonymous (full (typing t).table u) ≡ false → asks.takes u → Gives (typing t) u e
+      → asks.calls (has_call e) → Takes (waits_in e) (start t).waits on → Compares (typing t) e → AllowsAll facts (acts (acts_in (typing t) e))
+      → asks.keeps (acts (acts_in (typing t) e)) → SameTo (typing t) (taken_by t u e at) (taken_by t u e (start (twin t n)))
+  source_same on u e owner own gives calls takes compares allowed keep =
       subst (λ b. SameTo (typing t) (if b then viewed h e at else followed_by (value h e at) (checked h u))
-      (if b then viewed h e (start (twin t n)) else followed_by (value h e (start (twin t n))) (checked h u))) (sym (not_anonymous (typing t) all_named u))
-      (checked_same h settled t.state.leaks waits other alone (keeps (typing t) settled own_law) no_formals index_law own_law all_named u (value h e at) (value h e (start (twin t n)))
-      (value_on h settled t.state.leaks waits other alone (keeps (typing t) settled own_law) no_formals index_law own_law all_named e u gives calls (start t).waits on takes compares
-      t.state.memory hands facts ready allowed only (start (twin t n)) at_start))
+      (if b then viewed h e (start (twin t n)) else followed_by (value h e (start (twin t n))) (checked h u))) (sym owner)
+      (checked_same h settled own_law asks ready values u (value h e at) (value h e (start (twin t n)))
+      (value_on h settled own_law asks ready values e u gives calls (start t).waits on takes compares
+      t.state.memory hands facts so allowed only own keep (start (twin t n)) at_start))
 
-  source_given : (on : List (List machine.Word)) (u : ℕ) (e : TypedTree) → Source (typing t) u e → TakesPlainly (typing t) (has_call e) → Takes (waits_in e) (start t).waits on → AllowsAll facts (acts (acts_in (typing t) e))
-      → GivenOn h settled t.state.leaks waits other alone (keeps (typing t) settled own_law) no_formals index_law own_law all_named on u hands (after (acts (acts_in (typing t) e)) facts)
-      (taken_by t u e at)
-  source_given on u e (inl (view, is)) calls takes allowed = (let no : true ≡ false = sym view ∙ not_anonymous (typing t) all_named u in cc)
-  source_given on u e (inr gives) calls takes allowed =
-      subst (λ b. GivenOn h settled t.state.leaks waits other alone (keeps (typing t) settled own_law) no_formals index_law own_law all_named on u hands
-      (after (acts (acts_in (typing t) e)) facts) (if b then viewed h e at else followed_by (value h e at) (checked h u))) (sym (not_anonymous (typing t) all_named u))
-      (checked_on h settled t.state.leaks waits other alone (keeps (typing t) settled own_law) no_formals index_law own_law all_named on u u hands
-      (after (acts (acts_in (typing t) e)) facts) (evaluate h AsValue e at)
-      (evaluated_on h settled t.state.leaks waits other alone (keeps (typing t) settled own_law) no_formals index_law own_law all_named e u gives calls (start t).waits on takes t.state.memory hands facts ready allowed))
+  source_given : (on : List (List machine.Word)) (u : ℕ) (e : TypedTree) → is_anonymous (full (typing t).table u) ≡ false → asks.takes u → Gives (typing t) u e
+      → asks.calls (has_call e) → Takes (waits_in e) (start t).waits on → AllowsAll facts (acts (acts_in (typing t) e)) → asks.keeps (acts (acts_in (typing t) e))
+      → GivenBy h ready on u hands (after (acts (acts_in (typing t) e)) facts) (taken_by t u e at)
+  source_given on u e owner own gives calls takes allowed keep =
+      subst (λ b. GivenBy h ready on u hands (after (acts (acts_in (typing t) e)) facts) (if b then viewed h e at else followed_by (value h e at) (checked h u))) (sym owner)
+      (checked_by h ready on u u hands (after (acts (acts_in (typing t) e)) facts) (evaluate h AsValue e at)
+      (values.given e u gives calls (start t).waits on takes t.state.memory hands facts so allowed own keep))
 
-  first_same : (on : List (List machine.Word)) (u : ℕ) (v : TypedTree) → FirstSource (typing t) u v → TakesPlainly (typing t) (has_call v) → Takes (waits_in v) (start t).waits on
-      → Compares (typing t) v → AllowsAll facts (acts (acts_in (typing t) v))
+  first_same : (on : List (List machine.Word)) (u : ℕ) (v : TypedTree) → is_anonymous (full (typing t).table u) ≡ false → asks.takes u → FirstSource (typing t) u v
+      → asks.calls (has_call v) → Takes (waits_in v) (start t).waits on
+      → Compares (typing t) v → AllowsAll facts (acts (acts_in (typing t) v)) → asks.keeps (acts (acts_in (typing t) v))
       → SameTo (typing t) (first_value t u v at) (first_value t u v (start (twin t n)))
   unfolding acts_in has_call initial Compares waits_in
-  first_same on u (More e rest) (last, gives) calls takes compares allowed =
+  first_same on u (More e rest) owner own (last, source) calls takes compares allowed keep =
       let same : acts_in (typing t) e ++ acts_in (typing t) rest ≡ acts_in (typing t) e =
       ap (λ z. acts_in (typing t) e ++ acts_in (typing t) z) last ∙ append-nil (acts_in (typing t) e) in
       let alone_there : waits_in e + waits_in rest ≡ waits_in e = ap (λ z. waits_in e + waits_in z) last ∙ nothing_more (waits_in e) in
-      source_same on u e gives (both_plainly (typing t) (has_call e) (has_call rest) calls).0
-      (takes_as (waits_in e + waits_in rest) (waits_in e) (start t).waits on alone_there takes) compares.0 (subst (λ z. AllowsAll facts (acts z)) same allowed)
-  first_same on u NoMore gives calls takes compares allowed = (refl, at_start)
-  first_same on u v gives calls takes compares allowed = absurd gives
+      elim source [
+        | inl view ↦ absurd (let no : true ≡ false = sym view.0 ∙ owner in cc)
+        | inr gives ↦ source_same on u e owner own gives (asks.both_calls (has_call e) (has_call rest) calls).0
+            (takes_as (waits_in e + waits_in rest) (waits_in e) (start t).waits on alone_there takes) compares.0 (subst (λ z. AllowsAll facts (acts z)) same allowed)
+            (subst (λ z. asks.keeps (acts z)) same keep)
+      ]
+  first_same on u NoMore owner own gives calls takes compares allowed keep = (refl, at_start)
+  first_same on u v owner own gives calls takes compares allowed keep = absurd gives
 
-  pub declare_on : (on : List (List machine.Word)) (x : ℕ) (v : TypedTree) → FirstSource (typing t) (object_at (typing t) x).of v → TakesPlainly (typing t) (has_call v) → Takes (waits_in v) (start t).waits on → Compares (typing t) v
-      → AllowsAll facts (acts (declared_acts (typing t) x v)) → Step (declare t x v) (declare (twin t n) x v)
-  declare_on on x v gives calls takes compares allowed =
-      let same : declared_acts (typing t) x v ≡ acts_in (typing t) v =
-      ap (λ b. if b then source_acts (typing t) (first v) (act.Borrow x) else
-      (if is_observer (typing t) x then source_acts (typing t) (first v) (observe (typing t) x) else acts_in (typing t) v)) (not_borrower (typing t) all_named x)
-      ∙ ap (λ b. if b then source_acts (typing t) (first v) (observe (typing t) x) else acts_in (typing t) v) (not_observer (typing t) all_named x) in
+  -- a declaration, by its first value
+  pub declared_by : (x : ℕ) (v : TypedTree)
+      → SameTo (typing t) (first_value t (object_at (typing t) x).of v (record { memory = t.state.memory; waits = (start t).waits }))
+      (first_value t (object_at (typing t) x).of v (start (twin t n)))
+      → Step (declare t x v) (declare (twin t n) x v)
+  declared_by x v same =
       step_simply t n agrees (first_value t (object_at (typing t) x).of v at) (first_value t (object_at (typing t) x).of v (start (twin t n)))
-      (λ ws m. goes t (declared depth x ws m) 0) (λ ws m. goes (twin t n) (declared depth x ws m) 0)
-      (first_same on (object_at (typing t) x).of v gives calls takes compares (subst (λ z. AllowsAll facts (acts z)) same allowed))
+      (λ ws m. goes t (declared depth x ws m) 0) (λ ws m. goes (twin t n) (declared depth x ws m) 0) same
       (λ ws i j now. goes_same t n agrees (declared depth x ws i.memory) (declared depth x ws j.memory) 0
       (declared_agree depth x ws i.memory j.memory now.0) (declared_only (typing t) i.memory now.2 depth x ws))
 
+  pub declare_on : (on : List (List machine.Word)) (x : ℕ) (v : TypedTree) → is_anonymous (full (typing t).table (object_at (typing t) x).of) ≡ false
+      → asks.takes (object_at (typing t) x).of → FirstSource (typing t) (object_at (typing t) x).of v → asks.calls (has_call v)
+      → Takes (waits_in v) (start t).waits on → Compares (typing t) v → AllowsAll facts (acts (acts_in (typing t) v))
+      → asks.keeps (acts (acts_in (typing t) v)) → Step (declare t x v) (declare (twin t n) x v)
+  declare_on on x v owner own gives calls takes compares allowed keep =
+      declared_by x v (first_same on (object_at (typing t) x).of v owner own gives calls takes compares allowed keep)
+
   -- ---- assignments
 
-  assigned_acts : (p : Pos) (o : Option ℕ) (target e : TypedTree) → assigned_to (typing t) p o target e ≡ stored_acts (typing t) target e
-  assigned_acts p None target e = refl
-  assigned_acts p (Some x) target e =
-      ap (λ b. if b then index_acts (typing t) e ++ reborrow (acts_target_pos p (written target)) x (source e)
-      else (if is_observer (typing t) x then source_acts (typing t) e (observe (typing t) x) else stored_acts (typing t) target e)) (not_borrower (typing t) all_named x)
-      ∙ ap (λ b. if b then source_acts (typing t) e (observe (typing t) x) else stored_acts (typing t) target e) (not_observer (typing t) all_named x)
+  -- what is stored at a place
+  pub stored_same : (target : TypedTree) (y z : Evaluated Stored) → SameTo (typing t) y z
+      → Step (steps.evaluated t y (λ (st : Stored) m. leaking_goes (checks_at (typing t) (target_pos t target) m st.place) (goes t (stored (typing t) st.place st.words m) 0)))
+      (steps.evaluated (twin t n) z (λ (st : Stored) m. leaking_goes (checks_at (typing t) (target_pos t target) m st.place) (goes (twin t n) (stored (typing t) st.place st.words m) 0)))
+  stored_same target y z same =
+      step_simply t n agrees y z
+      (λ (st : Stored) m. leaking_goes (checks_at (typing t) (target_pos t target) m st.place) (goes t (stored (typing t) st.place st.words m) 0))
+      (λ (st : Stored) m. leaking_goes (checks_at (typing t) (target_pos t target) m st.place) (goes (twin t n) (stored (typing t) st.place st.words m) 0)) same
+      (λ st i j now. leaks_same t n agrees (target_pos t target) st.place i.memory j.memory (stored (typing t) st.place st.words i.memory)
+      (stored (typing t) st.place st.words j.memory) now.0 (stored_agree (typing t) st.place st.words i.memory j.memory now.0)
+      (stored_only (typing t) i.memory now.2 st.place st.words))
 
   -- the place is found with the value in hand
-  then_placed : (mid on : List (List machine.Word)) (p : Pos) (x u : ℕ) (path : TypedTree) → Leads (typing t) (object_at (typing t) x).of path u → Takes (waits_in path) mid on → Compares (typing t) path
+  then_placed : (mid on : List (List machine.Word)) (p : Pos) (x u : ℕ) (path : TypedTree) → Leads (typing t) (object_at (typing t) x).of path u → Takes (waits_in path) mid on
+      → asks.calls (has_call path) → Compares (typing t) path
       → (behind_facts : List Fact) → AllowsAll behind_facts (acts (acts_in (typing t) path) ++ act.Write (name_of x path) ∷ []) → (ws : List machine.Word) (i j : Now)
-      → GivenOn h settled t.state.leaks waits other alone (keeps (typing t) settled own_law) no_formals index_law own_law all_named mid u hands behind_facts (Done ws i)
+      → GivenBy h ready mid u hands behind_facts (Done ws i)
       → SameNow (typing t) i j
       → SameTo {A = Stored} (typing t) (followed_by (place_of h (Name p x path u) i) (λ k now. Done (record { words = ws; place = k }) now))
       (followed_by (place_of h (Name p x path u) j) (λ k now. Done (record { words = ws; place = k }) now))
-  then_placed mid on p x u path lead takes compares behind_facts allowed ws i j (inner, long, same) now =
+  then_placed mid on p x u path lead takes calls compares behind_facts allowed ws i j (inner, long, same) now =
       let v : Waiting = record { of = u; words = ws } in
       let each = allows_both behind_facts (acts (acts_in (typing t) path)) (act.Write (name_of x path) ∷ []) allowed in
-      let alive = live_trunk h settled t.state.leaks waits other alone (keeps (typing t) settled own_law) no_formals index_law own_law all_named i.memory (v ∷ hands) inner.sound.owned in
-      let stay = steps_quiet_there i (v ∷ hands) behind_facts inner.kept inner.sound alive (object_at (typing t) x).of u path lead mid on takes each.0 in
+      let there = values.behaves i.memory (v ∷ hands) behind_facts inner now.2 in
+      let stay = (there.steps (object_at (typing t) x).of u path lead mid on takes calls each.0).1 in
       let writes : Allows behind_facts (act.Write (name_of x path)) = subst (λ z. Allows z (act.Write (name_of x path))) stay each.1.0 in
       subst (λ z. SameNow (typing t) (record { memory = i.memory; waits = z }) j
       → SameTo {A = Stored} (typing t) (followed_by (place_of h (Name p x path u) (record { memory = i.memory; waits = z })) (λ k now. Done (record { words = ws; place = k }) now))
       (followed_by (place_of h (Name p x path u) j) (λ k now. Done (record { words = ws; place = k }) now))) (sym same)
-      (λ so. simply (typing t) (place_of h (Name p x path u) (record { memory = i.memory; waits = mid })) (place_of h (Name p x path u) j)
+      (λ still. simply (typing t) (place_of h (Name p x path u) (record { memory = i.memory; waits = mid })) (place_of h (Name p x path u) j)
       (λ k now. Done (record { words = ws; place = k }) now) (λ k now. Done (record { words = ws; place = k }) now)
-      (place_on h settled (v ∷ hands) t.state.leaks i.memory waits other behind_facts inner.kept inner.sound alone alive index_law own_law all_named now.2
-      mid on p x u path lead takes compares each.0
-      (λ w named same_name z past moved. write_clean (home (typing t) depth) behind_facts w (subst (λ y. Allows behind_facts (act.Write y)) (sym same_name) writes) z past moved)
-      j so).0 (λ k a b last. (refl, last))) now
+      (place_on h settled own_law asks i.memory (v ∷ hands) behind_facts there mid on p x u path lead takes calls compares each.0
+      (IsAt h asks i.memory (v ∷ hands) behind_facts on u) (λ way goes. there.write on x u path way goes writes) j still).0 (λ k a b last. (refl, last))) now
 
-  pub assign_on : (mid on : List (List machine.Word)) (pos p : Pos) (x u : ℕ) (path e : TypedTree) → Source (typing t) u e → Leads (typing t) (object_at (typing t) x).of path u
-      → TakesPlainly (typing t) (has_call e) → Takes (waits_in e) (start t).waits mid → Takes (waits_in path) mid on → Compares (typing t) path → Compares (typing t) e
-      → AllowsAll facts (acts (assigned_to (typing t) pos (whole (Name p x path u)) (Name p x path u) e))
+  pub assign_on : (mid on : List (List machine.Word)) (p : Pos) (x u : ℕ) (path e : TypedTree) → is_anonymous (full (typing t).table u) ≡ false → asks.takes u
+      → Gives (typing t) u e → Leads (typing t) (object_at (typing t) x).of path u → asks.calls (has_call e) → asks.calls (has_call path)
+      → Takes (waits_in e) (start t).waits mid → Takes (waits_in path) mid on → Compares (typing t) path → Compares (typing t) e
+      → AllowsAll facts (acts (stored_acts (typing t) (Name p x path u) e)) → asks.keeps (acts (acts_in (typing t) e))
       → Step (assign t (Name p x path u) e) (assign (twin t n) (Name p x path u) e)
-  assign_on mid on pos p x u path e gives lead calls takes takes' compares compares' allowed =
+  assign_on mid on p x u path e owner own gives lead calls calls' takes takes' compares compares' allowed keep =
       let target : TypedTree = Name p x path u in
       let a : List Act = acts (acts_in (typing t) e) in
       let b : List Act = acts (acts_in (typing t) path) in
@@ -353,75 +345,42 @@ module _ (t : Turn) (settled : IsSettled (typing t).table) (own_law : OwnsByShap
       acts_append (acts_in (typing t) e ++ acts_in (typing t) path) (record { pos = p; act = act.Write (name_of x path) } ∷ [])
       ∙ ap (λ z. z ++ (act.Write (name_of x path) ∷ [])) (acts_append (acts_in (typing t) e) (acts_in (typing t) path))
       ∙ append_assoc a b (act.Write (name_of x path) ∷ []) in
-      let plain : AllowsAll facts (acts (stored_acts (typing t) target e)) = subst (λ z. AllowsAll facts (acts z)) (assigned_acts pos (whole target) target e) allowed in
-      let each = allows_both facts a (b ++ act.Write (name_of x path) ∷ []) (subst (AllowsAll facts) all plain) in
+      let each = allows_both facts a (b ++ act.Write (name_of x path) ∷ []) (subst (AllowsAll facts) all allowed) in
       let placed : List machine.Word → Now → Evaluated Stored = (λ ws now. followed_by (place_of h target now) (λ k now. Done (record { words = ws; place = k }) now)) in
-      step_simply t n agrees (followed_by (taken_by t u e at) placed) (followed_by (taken_by t u e (start (twin t n))) placed)
-      (λ (st : Stored) m. leaking_goes (checks_at (typing t) (target_pos t target) m st.place) (goes t (stored (typing t) st.place st.words m) 0))
-      (λ (st : Stored) m. leaking_goes (checks_at (typing t) (target_pos t target) m st.place) (goes (twin t n) (stored (typing t) st.place st.words m) 0))
-      (then_same (typing t)
-      (GivenOn h settled t.state.leaks waits other alone (keeps (typing t) settled own_law) no_formals index_law own_law all_named mid u hands (after a facts))
-      (taken_by t u e at) (taken_by t u e (start (twin t n))) placed placed (source_given mid u e gives calls takes each.0) (source_same mid u e gives calls takes compares' each.0)
-      (λ ws i j given now. then_placed mid on p x u path lead takes' compares (after a facts) each.1 ws i j given now))
-      (λ st i j now. leaks_same t n agrees (target_pos t target) st.place i.memory j.memory (stored (typing t) st.place st.words i.memory)
-      (stored (typing t) st.place st.words j.memory) now.0 (stored_agree (typing t) st.place st.words i.memory j.memory now.0)
-      (stored_only (typing t) i.memory now.2 st.place st.words))
-
-  -- ---- scopes
-
-  pub end_scope_same : (x : ℕ) → Step (end_scope t x) (end_scope (twin t n) x)
-  end_scope_same x =
-      leaks_same t n agrees t.point.pos (variable_place h x) t.state.memory n (undeclared depth x t.state.memory) (undeclared depth x n) agrees
-      (undeclared_agree depth x t.state.memory n agrees) (undeclared_only (typing t) t.state.memory only depth x)
+      stored_same target (followed_by (taken_by t u e at) placed) (followed_by (taken_by t u e (start (twin t n))) placed)
+      (then_same (typing t) (GivenBy h ready mid u hands (after a facts))
+      (taken_by t u e at) (taken_by t u e (start (twin t n))) placed placed (source_given mid u e owner own gives calls takes each.0 keep)
+      (source_same mid u e owner own gives calls takes compares' each.0 keep)
+      (λ ws i j given now. then_placed mid on p x u path lead takes' calls' compares (after a facts) each.1 ws i j given now))
 
   -- ---- a release
 
   release_by : (on : List (List machine.Word)) (f g : Place → Memory → Outcome) (p : Pos) (x u d : ℕ) (path : TypedTree) → Releases t p f → Releases (twin t n) p g
-      → shape_of (typing t).table u ≡ shape.Access d false true → Leads (typing t) (object_at (typing t) x).of path u → Takes (waits_in path) (start t).waits on → Compares (typing t) path
-      → AllowsAll facts (acts (source_acts (typing t) (Name p x path u) act.Free))
+      → shape_of (typing t).table u ≡ shape.Access d false true → Leads (typing t) (object_at (typing t) x).of path u → Takes (waits_in path) (start t).waits on
+      → asks.calls (has_call path) → Compares (typing t) path
+      → AllowsAll facts (acts (source_acts (typing t) (Name p x path u) act.Free)) → asks.keeps (act.Free (name_of x path) ∷ [])
       → Step (steps.evaluated t (place_of h (Name p x path u) at) f) (steps.evaluated (twin t n) (place_of h (Name p x path u) (start (twin t n))) g)
-  release_by on f g p x u d path one two access lead takes compares allowed =
+  release_by on f g p x u d path one two access lead takes calls compares allowed keep =
       let b : List Act = acts (acts_in (typing t) path) in
       let all : acts (source_acts (typing t) (Name p x path u) act.Free) ≡ b ++ (act.Free (name_of x path) ∷ []) =
       acts_append (acts_in (typing t) path) (record { pos = p; act = act.Free (name_of x path) } ∷ []) in
       let each = allows_both facts b (act.Free (name_of x path) ∷ []) (subst (AllowsAll facts) all allowed) in
-      let stay = steps_quiet_there at hands facts kept sound live (object_at (typing t) x).of u path lead (start t).waits on takes each.0 in
+      let stay = (law.steps (object_at (typing t) x).of u path lead (start t).waits on takes calls each.0).1 in
       let frees : Allows facts (act.Free (name_of x path)) = subst (λ z. Allows z (act.Free (name_of x path))) stay each.1.0 in
-      let place = place_on h settled hands t.state.leaks t.state.memory waits other facts kept sound alone live index_law own_law all_named only
-      (start t).waits on p x u path lead takes compares each.0
-      (λ w named same_name z past moved. free_way (home (typing t) depth) facts w (subst (λ y. Allows facts (act.Free y)) (sym same_name) frees) z (past_under z w past) moved)
-      (start (twin t n)) at_start in
-      step_then t n agrees (IsPlaced h settled hands t.state.leaks t.state.memory waits other facts kept sound alone live index_law own_law all_named only on x u path)
+      let place = place_on h settled own_law asks t.state.memory hands facts law (start t).waits on p x u path lead takes calls compares each.0
+      (IsWholeAt h asks t.state.memory hands facts on u) (λ way goes. law.free on x u path way goes d access frees keep) (start (twin t n)) at_start in
+      step_then t n agrees (Found (IsWholeAt h asks t.state.memory hands facts on u))
       (place_of h (Name p x path u) at) (place_of h (Name p x path u) (start (twin t n))) f g place.1 place.0
       (λ k i j found now.
-      let none : NoneGone (slots_of (typing t) i.memory k) = freed_none frees k i found in
+      let none : NoneGone (slots_of (typing t) i.memory k) = subst (λ (z : Now). NoneGone (slots_of (typing t) z.memory k)) (sym found.0) found.4 in
       released_same t n agrees p f g one two k i.memory j.memory now.0 now.2 (words_of (typing t) i.memory k) refl
       (sym (words_agree (typing t) i.memory j.memory now.0 k none)))
-    where
-      freed_none : Allows facts (act.Free (name_of x path)) → (k : Place) (i : Now)
-          → IsPlaced h settled hands t.state.leaks t.state.memory waits other facts kept sound alone live index_law own_law all_named only on x u path (Done k i)
-          → NoneGone (slots_of (typing t) i.memory k)
-      freed_none frees k i (way, goes_along, (l, still, spot, reaches, of)) =
-          let w : Way = way_along way (Object (OfVariable (home (typing t) depth x) x)) in
-          let named = named_way h settled hands t.state.leaks t.state.memory waits other facts kept sound alone live index_law own_law all_named only x way in
-          let rooted = named_rooted (home (typing t) depth) w named in
-          let mine : Allows facts (act.Free (ways.name_of w)) =
-          subst (λ z. Allows facts (act.Free z))
-          (sym (called h settled hands t.state.leaks t.state.memory waits other facts kept sound alone live index_law own_law all_named only x u path way goes_along)) frees in
-          subst (λ (z : Now). NoneGone (slots_of (typing t) z.memory k)) (sym still)
-          (spot_whole (typing t) settled t.state.memory hands only kept k l spot
-          (access_whole (typing t) settled t.state.memory hands t.state.leaks (Excused (home (typing t) depth) other facts) sound.known w l rooted reaches (live w l rooted reaches)
-          k d false spot (ap (shape_of (typing t).table) of ∙ access)
-          (λ moved. elim moved [
-            | inl said ↦ free_way (home (typing t) depth) facts w mine w (under_itself w) said
-            | inr o ↦ alone w (named_near (typing t) depth w named) o
-          ])))
 
   pub release_on : (on : List (List machine.Word)) (p : Pos) (x u d : ℕ) (path : TypedTree) → shape_of (typing t).table u ≡ shape.Access d false true
-      → Leads (typing t) (object_at (typing t) x).of path u → Takes (waits_in path) (start t).waits on → Compares (typing t) path
-      → AllowsAll facts (acts (source_acts (typing t) (Name p x path u) act.Free))
+      → Leads (typing t) (object_at (typing t) x).of path u → Takes (waits_in path) (start t).waits on → asks.calls (has_call path) → Compares (typing t) path
+      → AllowsAll facts (acts (source_acts (typing t) (Name p x path u) act.Free)) → asks.keeps (act.Free (name_of x path) ∷ [])
       → Step (steps.release t (Name p x path u)) (steps.release (twin t n) (Name p x path u))
-  release_on on p x u d path access lead takes compares allowed =
+  release_on on p x u d path access lead takes calls compares allowed keep =
       release_by on _ _ p x u d path (record {
         at_none = λ k m is. rw is refl;
         at_whole = λ k m v ws is. rw is refl;
@@ -438,7 +397,7 @@ module _ (t : Turn) (settled : IsSettled (typing t).table) (own_law : OwnsByShap
         at_more = λ k m c w ws is. rw is refl;
         at_freed = λ k m c is dead. rw (is, dead) refl;
         at_cell = λ k m c is alive. rw (is, alive) refl;
-      }) access lead takes compares allowed
+      }) access lead takes calls compares allowed keep
 
   -- ---- input
 
@@ -446,28 +405,27 @@ module _ (t : Turn) (settled : IsSettled (typing t).table) (own_law : OwnsByShap
   out_act name = act.Actual name mode.Out false false
 
   input_by : (on : List (List machine.Word)) (f g : Place → Memory → Outcome) (p : Pos) (x u : ℕ) (path : TypedTree) → Gets t f → Gets (twin t n) g
-      → Leads (typing t) (object_at (typing t) x).of path u → Takes (waits_in path) (start t).waits on → Compares (typing t) path
+      → Leads (typing t) (object_at (typing t) x).of path u → Takes (waits_in path) (start t).waits on → asks.calls (has_call path) → Compares (typing t) path
       → AllowsAll facts (acts (source_acts (typing t) (Name p x path u) out_act))
       → Step (steps.evaluated t (place_of h (Name p x path u) at) f) (steps.evaluated (twin t n) (place_of h (Name p x path u) (start (twin t n))) g)
-  input_by on f g p x u path one two lead takes compares allowed =
+  input_by on f g p x u path one two lead takes calls compares allowed =
       let b : List Act = acts (acts_in (typing t) path) in
       let all : acts (source_acts (typing t) (Name p x path u) out_act) ≡ b ++ (out_act (name_of x path) ∷ []) =
       acts_append (acts_in (typing t) path) (record { pos = p; act = out_act (name_of x path) } ∷ []) in
       let each = allows_both facts b (out_act (name_of x path) ∷ []) (subst (AllowsAll facts) all allowed) in
-      let stay = steps_quiet_there at hands facts kept sound live (object_at (typing t) x).of u path lead (start t).waits on takes each.0 in
+      let stay = (law.steps (object_at (typing t) x).of u path lead (start t).waits on takes calls each.0).1 in
       let actual : Allows facts (out_act (name_of x path)) = subst (λ z. Allows z (out_act (name_of x path))) stay each.1.0 in
       let writes : Allows facts (act.Write (name_of x path)) = (λ g has. switched (breaks_O3 (name_of x path) g) _ _ (actual g has)) in
-      let place = place_on h settled hands t.state.leaks t.state.memory waits other facts kept sound alone live index_law own_law all_named only
-      (start t).waits on p x u path lead takes compares each.0
-      (λ w named same_name z past moved. write_clean (home (typing t) depth) facts w (subst (λ y. Allows facts (act.Write y)) (sym same_name) writes) z past moved)
-      (start (twin t n)) at_start in
+      let place = place_on h settled own_law asks t.state.memory hands facts law (start t).waits on p x u path lead takes calls compares each.0
+      (IsAt h asks t.state.memory hands facts on u) (λ way goes. law.write on x u path way goes writes) (start (twin t n)) at_start in
       step_simply t n agrees (place_of h (Name p x path u) at) (place_of h (Name p x path u) (start (twin t n))) f g place.0
       (λ k i j now. got_same t n agrees f g one two k i.memory j.memory now.0 now.2)
 
-  pub input_on : (on : List (List machine.Word)) (p : Pos) (x u : ℕ) (path : TypedTree) → Leads (typing t) (object_at (typing t) x).of path u → Takes (waits_in path) (start t).waits on → Compares (typing t) path
+  pub input_on : (on : List (List machine.Word)) (p : Pos) (x u : ℕ) (path : TypedTree) → Leads (typing t) (object_at (typing t) x).of path u → Takes (waits_in path) (start t).waits on
+      → asks.calls (has_call path) → Compares (typing t) path
       → AllowsAll facts (acts (source_acts (typing t) (Name p x path u) out_act))
       → Step (steps.input t (Name p x path u)) (steps.input (twin t n) (Name p x path u))
-  input_on on p x u path lead takes compares allowed =
+  input_on on p x u path lead takes calls compares allowed =
       input_by on _ _ p x u path (record {
         at_missing = λ k m next. rw next refl;
         at_bad = λ k m next. rw next refl;
@@ -478,7 +436,7 @@ module _ (t : Turn) (settled : IsSettled (typing t).table) (own_law : OwnsByShap
         at_bad = λ k m next. rw next refl;
         at_number = λ k m v end next fits. rw (next, fits) refl;
         at_outside = λ k m v end next out. rw (next, out) refl;
-      }) lead takes compares allowed
+      }) lead takes calls compares allowed
 
   -- ---- choices
 
@@ -488,20 +446,20 @@ module _ (t : Turn) (settled : IsSettled (typing t).table) (own_law : OwnsByShap
   pub fall_same : Step (steps.turn t Fall) (steps.turn (twin t n) Fall)
   fall_same = raised_same t n agrees run.ProgramError t.state.memory n agrees
 
-  pub test_on : (on : List (List machine.Word)) (e : TypedTree) → Stays (typing t) e → Takes (waits_in e) (start t).waits on → Compares (typing t) e → AllowsAll facts (acts (acts_in (typing t) e))
+  pub test_on : (on : List (List machine.Word)) (e : TypedTree) → Stays (typing t) e → Takes (waits_in e) (start t).waits on → asks.calls (has_call e) → Compares (typing t) e → AllowsAll facts (acts (acts_in (typing t) e))
       → Step (steps.test t e 0 1) (steps.test (twin t n) e 0 1)
-  test_on on e stays takes compares allowed =
+  test_on on e stays takes calls compares allowed =
       step_simply t n agrees (value h e at) (value h e (start (twin t n)))
       (λ ws m. goes t m (if run.is_true ws then 0 else 1)) (λ ws m. goes (twin t n) m (if run.is_true ws then 0 else 1))
-      (scalar (start t).waits on e stays takes compares allowed (start (twin t n)) at_start)
+      (scalar (start t).waits on e stays takes calls compares allowed (start (twin t n)) at_start)
       (λ ws i j now. goes_same t n agrees i.memory j.memory (if run.is_true ws then 0 else 1) now.0 now.2)
 
-  pub choose_on : (on : List (List machine.Word)) (e : TypedTree) (choices : List TypedCode) → Stays (typing t) e → Takes (waits_in e) (start t).waits on → Compares (typing t) e
+  pub choose_on : (on : List (List machine.Word)) (e : TypedTree) (choices : List TypedCode) → Stays (typing t) e → Takes (waits_in e) (start t).waits on → asks.calls (has_call e) → Compares (typing t) e
       → AllowsAll facts (acts (acts_in (typing t) e)) → Step (steps.choose t e choices) (steps.choose (twin t n) e choices)
-  choose_on on e choices stays takes compares allowed =
+  choose_on on e choices stays takes calls compares allowed =
       step_simply t n agrees (value h e at) (value h e (start (twin t n)))
       (λ ws m. steps.chosen t (length choices) (steps.choice choices ws) m) (λ ws m. steps.chosen (twin t n) (length choices) (steps.choice choices ws) m)
-      (scalar (start t).waits on e stays takes compares allowed (start (twin t n)) at_start)
+      (scalar (start t).waits on e stays takes calls compares allowed (start (twin t n)) at_start)
       (λ ws i j now. by_test (steps.choice choices ws) i j now (nat_lt (steps.choice choices ws) (length choices)))
     where
       by_test : (k : ℕ) (i j : Now) → SameNow (typing t) i j → (b : Bool)
@@ -509,42 +467,42 @@ module _ (t : Turn) (settled : IsSettled (typing t).table) (own_law : OwnsByShap
       by_test k i j now true = goes_same t n agrees i.memory j.memory k now.0 now.2
       by_test k i j now false = raised_same t n agrees run.ConstraintError i.memory j.memory now.0
 
-  pub leave_loop_on : (on : List (List machine.Word)) (e rest : TypedTree) → rest ≡ NoMore → Stays (typing t) e → Takes (waits_in e) (start t).waits on → Compares (typing t) e
+  pub leave_loop_on : (on : List (List machine.Word)) (e rest : TypedTree) → rest ≡ NoMore → Stays (typing t) e → Takes (waits_in e) (start t).waits on → asks.calls (has_call e) → Compares (typing t) e
       → AllowsAll facts (acts (acts_in (typing t) (More e rest))) → Step (steps.leave_loop t (More e rest)) (steps.leave_loop (twin t n) (More e rest))
   unfolding acts_in
-  leave_loop_on on e rest last stays takes compares allowed =
+  leave_loop_on on e rest last stays takes calls compares allowed =
       let same : acts_in (typing t) e ++ acts_in (typing t) rest ≡ acts_in (typing t) e =
       ap (λ z. acts_in (typing t) e ++ acts_in (typing t) z) last ∙ append-nil (acts_in (typing t) e) in
-      test_on on e stays takes compares (subst (λ z. AllowsAll facts (acts z)) same allowed)
+      test_on on e stays takes calls compares (subst (λ z. AllowsAll facts (acts z)) same allowed)
 
   -- the operand of a short circuit, whose value waits
-  pub operand_on : (on : List (List machine.Word)) (e : TypedTree) (op : Option ShortCircuit) → Stays (typing t) e → Takes (waits_in e) (start t).waits on → Compares (typing t) e
+  pub operand_on : (on : List (List machine.Word)) (e : TypedTree) (op : Option ShortCircuit) → Stays (typing t) e → Takes (waits_in e) (start t).waits on → asks.calls (has_call e) → Compares (typing t) e
       → AllowsAll facts (acts (acts_in (typing t) e)) → Step (steps.operand t e op) (steps.operand (twin t n) e op)
-  operand_on on e (Some o) stays takes compares allowed =
+  operand_on on e (Some o) stays takes calls compares allowed =
       step_simply t n agrees (value h e at) (value h e (start (twin t n)))
       (λ ws m. Goes (behind t (steps.truth_waiting ws ∷ waiting t) m (if run.decides o ws then 1 else 0)))
       (λ ws m. Goes (behind (twin t n) (steps.truth_waiting ws ∷ waiting (twin t n)) m (if run.decides o ws then 1 else 0)))
-      (scalar (start t).waits on e stays takes compares allowed (start (twin t n)) at_start)
+      (scalar (start t).waits on e stays takes calls compares allowed (start (twin t n)) at_start)
       (λ ws i j now. ((refl, now.0), now.2))
-  operand_on on e None stays takes compares allowed =
+  operand_on on e None stays takes calls compares allowed =
       step_simply t n agrees (value h e at) (value h e (start (twin t n)))
       (λ ws m. Goes (behind t (steps.truth_waiting ws ∷ drop 1 (waiting t)) m 0))
       (λ ws m. Goes (behind (twin t n) (steps.truth_waiting ws ∷ drop 1 (waiting (twin t n))) m 0))
-      (scalar (start t).waits on e stays takes compares allowed (start (twin t n)) at_start)
+      (scalar (start t).waits on e stays takes calls compares allowed (start (twin t n)) at_start)
       (λ ws i j now. ((refl, now.0), now.2))
 
   -- ---- output
 
-  pub output_on : (on : List (List machine.Word)) (e rest : TypedTree) (line : Bool) → rest ≡ NoMore → Writes (typing t) e → Takes (waits_in e) (start t).waits on → Compares (typing t) e
+  pub output_on : (on : List (List machine.Word)) (e rest : TypedTree) (line : Bool) → rest ≡ NoMore → Writes (typing t) e → Takes (waits_in e) (start t).waits on → asks.calls (has_call e) → Compares (typing t) e
       → AllowsAll facts (acts (acts_in (typing t) (More e rest))) → Step (steps.output t (More e rest) line) (steps.output (twin t n) (More e rest) line)
   unfolding acts_in
-  output_on on e rest line last writes takes compares allowed =
+  output_on on e rest line last writes takes calls compares allowed =
       let same : acts_in (typing t) e ++ acts_in (typing t) rest ≡ acts_in (typing t) e =
       ap (λ z. acts_in (typing t) e ++ acts_in (typing t) z) last ∙ append-nil (acts_in (typing t) e) in
       step_simply t n agrees (text_of h e at) (text_of h e (start (twin t n)))
       (λ bytes m. Goes (record (behind t (waiting t) m 0) { output = t.state.output ++ bytes ++ (if line then 10 ∷ [] else []) }))
       (λ bytes m. Goes (record (behind (twin t n) (waiting t) m 0) { output = t.state.output ++ bytes ++ (if line then 10 ∷ [] else []) }))
-      (text_on h settled hands t.state.leaks t.state.memory waits other facts kept sound alone live index_law own_law all_named only (start t).waits on e writes takes compares
+      (text_on h settled own_law asks t.state.memory hands facts law (start t).waits on e writes takes calls compares
       (subst (λ z. AllowsAll facts (acts z)) same allowed) (start (twin t n)) at_start).0
       (λ bytes i j now. ((refl, now.0), now.2))
 
@@ -555,40 +513,40 @@ module _ (t : Turn) (settled : IsSettled (typing t).table) (own_law : OwnsByShap
   -- ---- loops
 
   bounds_same : (mid on : List (List machine.Word)) (low high : TypedTree) → Stays (typing t) low → Stays (typing t) high → Takes (waits_in low) (start t).waits mid → Takes (waits_in high) mid on
-      → Compares (typing t) low → Compares (typing t) high → AllowsAll facts (acts (acts_in (typing t) low ++ acts_in (typing t) high))
+      → asks.calls (has_call low) → asks.calls (has_call high) → Compares (typing t) low → Compares (typing t) high → AllowsAll facts (acts (acts_in (typing t) low ++ acts_in (typing t) high))
       → SameTo (typing t) (steps.bounds t low high at) (steps.bounds t low high (start (twin t n)))
-  bounds_same mid on low high stays stays' takes takes' compares compares' allowed =
+  bounds_same mid on low high stays stays' takes takes' calls calls' compares compares' allowed =
       let each = allows_both facts (acts (acts_in (typing t) low)) (acts (acts_in (typing t) high))
       (subst (AllowsAll facts) (acts_append (acts_in (typing t) low) (acts_in (typing t) high)) allowed) in
-      let q = taking h settled hands t.state.leaks t.state.memory waits other facts kept sound alone live index_law own_law all_named AsValue low stays (start t).waits mid takes each.0 in
+      let q = law.quiet AsValue low stays (start t).waits mid takes calls each.0 in
       let second : List machine.Word → Now → Evaluated steps.Bounds = (λ a now. followed_by (value h high now) (λ b now. Done (record { low = a; high = b }) now)) in
       then_same (typing t) (Quiet (record { memory = t.state.memory; waits = mid }) One) (value h low at) (value h low (start (twin t n))) second second q.0
-      (scalar (start t).waits mid low stays takes compares each.0 (start (twin t n)) at_start)
+      (scalar (start t).waits mid low stays takes calls compares each.0 (start (twin t n)) at_start)
       (λ a i j quiet_there now. subst (λ z. SameTo (typing t) (second a z) (second a j)) (sym quiet_there.0)
       (simply (typing t) (value h high (record { memory = t.state.memory; waits = mid })) (value h high j) (λ b now. Done (record { low = a; high = b }) now) (λ b now. Done (record { low = a; high = b }) now)
-      (scalar mid on high stays' takes' compares' (subst (λ z. AllowsAll z (acts (acts_in (typing t) high))) q.1 each.1) j (subst (λ z. SameNow (typing t) z j) quiet_there.0 now))
+      (scalar mid on high stays' takes' calls' compares' (subst (λ z. AllowsAll z (acts (acts_in (typing t) high))) q.1 each.1) j (subst (λ z. SameNow (typing t) z j) quiet_there.0 now))
       (λ b k k' last. (refl, last))))
 
   start_by : (mid on : List (List machine.Word)) (f g : steps.Bounds → Memory → Outcome) (x : ℕ) (fails : steps.Bounds → Bool) (loop : steps.Bounds → Loop) (low high : TypedTree)
       → Starts t x fails loop f → Starts (twin t n) x fails loop g → Stays (typing t) low → Stays (typing t) high → Takes (waits_in low) (start t).waits mid → Takes (waits_in high) mid on
-      → Compares (typing t) low → Compares (typing t) high → AllowsAll facts (acts (acts_in (typing t) low ++ acts_in (typing t) high))
+      → asks.calls (has_call low) → asks.calls (has_call high) → Compares (typing t) low → Compares (typing t) high → AllowsAll facts (acts (acts_in (typing t) low ++ acts_in (typing t) high))
       → Step (steps.evaluated t (steps.bounds t low high at) f) (steps.evaluated (twin t n) (steps.bounds t low high (start (twin t n))) g)
-  start_by mid on f g x fails loop low high one two stays stays' takes takes' compares compares' allowed =
+  start_by mid on f g x fails loop low high one two stays stays' takes takes' calls calls' compares compares' allowed =
       step_simply t n agrees (steps.bounds t low high at) (steps.bounds t low high (start (twin t n))) f g
-      (bounds_same mid on low high stays stays' takes takes' compares compares' allowed)
+      (bounds_same mid on low high stays stays' takes takes' calls calls' compares compares' allowed)
       (λ b i j now. started_same t n agrees x fails loop f g one two b i.memory j.memory now.0 now.2)
 
   pub start_on : (mid on : List (List machine.Word)) (x : ℕ) (low high : TypedTree) → Stays (typing t) low → Stays (typing t) high → Takes (waits_in low) (start t).waits mid → Takes (waits_in high) mid on
-      → Compares (typing t) low → Compares (typing t) high → AllowsAll facts (acts (acts_in (typing t) low ++ acts_in (typing t) high))
+      → asks.calls (has_call low) → asks.calls (has_call high) → Compares (typing t) low → Compares (typing t) high → AllowsAll facts (acts (acts_in (typing t) low ++ acts_in (typing t) high))
       → Step (steps.start_loop t x low high) (steps.start_loop (twin t n) x low high)
-  start_on mid on x low high stays stays' takes takes' compares compares' allowed =
+  start_on mid on x low high stays stays' takes takes' calls calls' compares compares' allowed =
       start_by mid on _ _ x
       (λ b. int_le (steps.number b.low) (steps.number b.high)
       && not (fits_type (typing t).table (object_at (typing t) x).of b.low && fits_type (typing t).table (object_at (typing t) x).of b.high))
       (λ b. record { parameter = x; low = steps.number b.low; high = steps.number b.high; first = true }) low high
       (record { at_fault = λ b m e. rw e refl; at_turn = λ b m e. rw e refl })
       (record { at_fault = λ b m e. rw e refl; at_turn = λ b m e. rw e refl })
-      stays stays' takes takes' compares compares' allowed
+      stays stays' takes takes' calls calls' compares compares' allowed
 
   -- an iteration
   turned_same : (x : ℕ) (ws : List machine.Word) (v : Option ℤ)
@@ -609,7 +567,7 @@ module _ (t : Turn) (settled : IsSettled (typing t).table) (own_law : OwnsByShap
       let l : Loc = OfRoot (OfVariable (home (typing t) depth x) x) in
       let spot : Spot (typing t) t.state.memory hands k l = record { base = refl; made = tt; at = refl; there = refl; of = inl refl } in
       let none : NoneGone (slots_of (typing t) t.state.memory k) =
-      spot_whole (typing t) settled t.state.memory hands only kept k l spot
+      spot_whole (typing t) settled t.state.memory hands only law.kept k l spot
       (plain_whole (typing t) settled t.state.memory hands k l spot (λ p. no_leaf (typing t).table settled k.of plain p)) in
       subst (λ z. SameStep t (steps.next_turn t x reversed)
       (steps.turned_to (twin t n) x k z (steps.next_value reversed (steps.loop_of x t.frame.loops) (steps.number z))))

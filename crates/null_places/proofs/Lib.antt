@@ -5,10 +5,14 @@ pub mod Only
 -- what is looked at isn't gone
 pub mod Places
 pub mod Walks
+pub mod Laws
 pub mod Scalars
 pub mod Evaluated
 pub mod Instructions
 pub mod Calls
+pub mod Direct
+-- programs without borrowers and observers
+pub mod Plain
 -- typed programs
 pub mod Typed
 -- steps, and the law

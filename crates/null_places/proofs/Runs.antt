@@ -6,7 +6,7 @@ use Rattle.flow_paths.specs.declared.report.Effects.{Effects}
 use Rattle.flow_paths.specs.Objects.{Typing, object_at}
 use Rattle.flow_paths.specs.Laid.{FlowProgram, flow_typing, flow_program}
 use Rattle.machine.specs.Words.{default}
-use Rattle.machine.specs.Memory.{OfVariable, OfCell}
+use Rattle.machine.specs.Memory.{Memory, OfVariable, OfCell}
 use Rattle.machine.specs.Evaluate.{StorageError}
 use Rattle.machine.specs.States.{State, Ending, Raised, Spent, Outcome, Goes, Ends, sub_of, frame_words, stack_words, frame_at_start}
 use Rattle.machine.specs.Run.{empty_memory, step, then_on, within, state_at_start, run_of, main_of, run_with, ended, run}
@@ -15,7 +15,7 @@ use Rattle.soundness.specs.Ready.{IsReady}
 use Rattle.soundness.proofs.Beginning.{sound_start}
 use Rattle.soundness.proofs.Stepping.{sound_step}
 use Rattle.null_places.specs.Cleared.{cleared_state, cleared_outcome, null_step, null_within, null_run_of, null_run, RunsWithNull}
-use Rattle.null_places.specs.Agrees.{SameState, SameOutcome}
+use Rattle.null_places.specs.Agrees.{Agrees, SameState, SameOutcome}
 use Rattle.null_places.specs.Compares.{AreCompared}
 use Rattle.null_places.proofs.Memories.{itself, clear_agrees, agrees_right, agrees_clear, count_agree, freed_count}
 use Rattle.null_places.proofs.Only.{OnlyOwners, fresh_whole}
@@ -57,56 +57,58 @@ plainly s (Ends e a) (Ends f b) same = same
 plainly s (Goes a) (Ends f b) same = absurd same
 plainly s (Ends e a) (Goes b) same = absurd same
 
-module _ (table : Table) (typed : TypedProgram) (effects : Effects) (input : List ℕ) (ready : IsReady table typed effects)
-    (compared : AreCompared (flow_program table typed)) where
-  abbrev program : FlowProgram
-  program = flow_program table typed
+-- What a step goes on to.
+abbrev pub GoesOn : (State → Type 0) → Outcome → Type 0
+GoesOn sound (Goes state) = sound state
+GoesOn sound (Ends e state) = Unit {0}
 
+-- ---- runs of states of which steps keep what is known
+
+module _ (program : FlowProgram) (input : List ℕ) (sound : State → Type 0)
+    (begins : sound (state_at_start program)) (steps : (state : State) → sound state → GoesOn sound (step program input state))
+    (same : (state : State) → sound state → OnlyOwners (flow_typing program) state.memory → (n : Memory) → Agrees state.memory n
+    → SameStepBy (flow_typing program) (step program input state) (step program input (record state { memory = n }))) where
   abbrev s : Typing
   s = flow_typing program
 
   -- A sound state, where only words that own are gone.
-  abbrev pub IsGood : State → Type 0
-  IsGood state = IsSound table typed effects state × OnlyOwners (flow_typing (flow_program table typed)) state.memory
+  abbrev IsGood : State → Type 0
+  IsGood state = sound state × OnlyOwners (flow_typing program) state.memory
 
   -- A step of one is the same in a state that agrees with it.
-  pub states_same : (a b : State) → IsGood a → SameState a b
-      → SameStepBy (flow_typing (flow_program table typed)) (step (flow_program table typed) input a) (step (flow_program table typed) input b)
-  states_same a b good same =
-      subst (λ z. SameStepBy s (step program input a) (step program input z)) (sym same.0)
-      (step_same table typed effects input ready compared a good.0 good.1 b.memory same.1)
+  states_same : (a b : State) → IsGood a → SameState a b → SameStepBy s (step program input a) (step program input b)
+  states_same a b good agrees =
+      subst (λ z. SameStepBy s (step program input a) (step program input z)) (sym agrees.0) (same a good.0 good.1 b.memory agrees.1)
 
   -- With null in moved places a step leads to the same, with null where it moved.
-  pub clear_step : (state : State) → IsGood state
-      → null_step (flow_program table typed) input (cleared_state state) ≡ null_step (flow_program table typed) input state
-  clear_step state good =
+  pub clear_step : (state : State) → sound state → OnlyOwners (flow_typing program) state.memory
+      → null_step program input (cleared_state state) ≡ null_step program input state
+  clear_step state good only =
       sym (outcome_clear (step program input state) (step program input (cleared_state state))
       (plainly s (step program input state) (step program input (cleared_state state))
-      (states_same state (cleared_state state) good (refl, clear_agrees state.memory))))
-
-  -- ---- runs
+      (states_same state (cleared_state state) (good, only) (refl, clear_agrees state.memory))))
 
   then_same : (k : ℕ) → ((a b : State) → IsGood a → SameState a b → SameOutcome (within k program input a) (null_within k program input b))
-      → (x y : Outcome) → LeadsOn table typed effects x → SameStepBy s x y
+      → (x y : Outcome) → GoesOn sound x → SameStepBy s x y
       → SameOutcome (then_on x (within k program input)) (then_on (cleared_outcome y) (null_within k program input))
-  then_same k on (Goes a) (Goes b) leads same =
-      on a (cleared_state b) (leads, same.1) ((ap cleared_state same.0.0), agrees_right a.memory b.memory same.0.1)
-  then_same k on (Ends e a) (Ends f b) leads same = (same.0, ((ap cleared_state same.1.0), agrees_right a.memory b.memory same.1.1))
-  then_same k on (Goes a) (Ends f b) leads same = absurd same
-  then_same k on (Ends e a) (Goes b) leads same = absurd same
+  then_same k on (Goes a) (Goes b) leads agrees =
+      on a (cleared_state b) (leads, agrees.1) ((ap cleared_state agrees.0.0), agrees_right a.memory b.memory agrees.0.1)
+  then_same k on (Ends e a) (Ends f b) leads agrees = (agrees.0, ((ap cleared_state agrees.1.0), agrees_right a.memory b.memory agrees.1.1))
+  then_same k on (Goes a) (Ends f b) leads agrees = absurd agrees
+  then_same k on (Ends e a) (Goes b) leads agrees = absurd agrees
 
   many_same : (k : ℕ) (a b : State) → IsGood a → SameState a b → SameOutcome (within k program input a) (null_within k program input b)
   unfolding within null_within
-  many_same zero a b good same = (refl, same)
-  many_same (suc k) a b good same =
-      then_same k (many_same k) (step program input a) (step program input b) (sound_step table typed effects input ready a good.0) (states_same a b good same)
+  many_same zero a b good agrees = (refl, agrees)
+  many_same (suc k) a b good agrees =
+      then_same k (many_same k) (step program input a) (step program input b) (steps a good.0) (states_same a b good agrees)
 
   start_good : IsGood (state_at_start program)
-  start_good = (sound_start table typed effects ready, none)
+  start_good = (begins, none)
     where
-      none : OnlyOwners (flow_typing (flow_program table typed)) empty_memory
+      none : OnlyOwners (flow_typing program) empty_memory
       none (OfVariable f x) o gone =
-          (let no : true ≡ false = sym gone ∙ fresh_whole (default (flow_typing (flow_program table typed)).table (object_at (flow_typing (flow_program table typed)) x).of) o in cc)
+          (let no : true ≡ false = sym gone ∙ fresh_whole (default (flow_typing program).table (object_at (flow_typing program) x).of) o in cc)
       none (OfCell zero) o gone = cc
       none (OfCell (suc k)) o gone = cc
 
@@ -120,6 +122,21 @@ module _ (table : Table) (typed : TypedProgram) (effects : Effects) (input : Lis
       by_room false = (refl, (refl, itself empty_memory))
 
   -- With each budget the run with null in moved places gives what the run gives.
-  pub ready_runs : RunsWithNull (flow_program table typed) input
+  pub sound_runs : RunsWithNull program input
   unfolding run null_run
-  ready_runs k = ended_same (run_of program (main_of program.main) input k) (null_run_of program (main_of program.main) input k) (runs_same (main_of program.main) k)
+  sound_runs k = ended_same (run_of program (main_of program.main) input k) (null_run_of program (main_of program.main) input k) (runs_same (main_of program.main) k)
+
+-- ---- programs that are ready
+
+module _ (table : Table) (typed : TypedProgram) (effects : Effects) (input : List ℕ) (ready : IsReady table typed effects)
+    (compared : AreCompared (flow_program table typed)) where
+  leads : (o : Outcome) → LeadsOn table typed effects o → GoesOn (λ state. IsSound table typed effects state) o
+  leads (Goes state) on = on
+  leads (Ends e state) on = tt
+
+  -- With each budget the run with null in moved places gives what the run gives.
+  pub ready_runs : RunsWithNull (flow_program table typed) input
+  ready_runs =
+      sound_runs (flow_program table typed) input (λ state. IsSound table typed effects state) (sound_start table typed effects ready)
+      (λ state sound. leads (step (flow_program table typed) input state) (sound_step table typed effects input ready state sound))
+      (step_same table typed effects input ready compared)

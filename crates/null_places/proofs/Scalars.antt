@@ -1,18 +1,12 @@
--- Scalar expressions and the indexes of names give the same in memories that agree.
-use Rattle.std.proofs.Common.{◌≡◌, refl, sym, ap, ◌∙◌, subst, inl, inr, ℕ, Bool, true, false, not, ◌&&◌, ◌||◌, List, [], ◌∷◌, ◌++◌, map, drop, get_or, ◌+◌, ℤ, ◌-ℤ◌, int_le, unsigned_abs, Option, Some, None, if◌then◌else◌}
+-- Scalar expressions, the indexes of names and the actuals of scalar formals give the same in memories
+-- that agree.
+use Rattle.std.proofs.Common.{◌≡◌, refl, sym, ap, ◌∙◌, subst, inl, inr, ℕ, Bool, true, false, not, ◌&&◌, List, [], ◌∷◌, ◌++◌, map, drop, get_or, ◌+◌, ℤ, ◌-ℤ◌, int_le, unsigned_abs, Option, Some, None, if◌then◌else◌}
 use Rattle.spark_base.specs.declared.position.Pos.{Pos}
 use Rattle.place_names.specs.declared.act.Act.TheVariants as act
-use Rattle.place_names.specs.declared.selector.Sel.{Sel}
-use Rattle.place_names.specs.declared.selector.Sel.TheVariants as sel
 use Rattle.place_names.specs.declared.act.Mode.{Mode}
 use Rattle.place_names.specs.declared.act.Mode.TheVariants as mode
 use Rattle.place_names.specs.declared.act.Placed.{Placed}
 use Rattle.place_names.specs.declared.fact.Fact.{Fact}
-use Rattle.place_names.specs.declared.fact.Fact.TheVariants.{Moved}
-use Rattle.place_names.specs.declared.rule.Rule.TheVariants.{O2}
-use Rattle.place_names.specs.declared.rule.State.TheVariants as state
-use Rattle.place_names.specs.Names.{Name as PlaceName, leads_to}
-use Rattle.place_names.specs.Rules.{Forbidden}
 use Rattle.resolved_tree.specs.declared.operator.Operator.{Operator}
 use Rattle.resolved_tree.specs.declared.operator.UnaryOperator.{UnaryOperator}
 use Rattle.type_definitions.specs.declared.table.Static.{Static}
@@ -22,7 +16,7 @@ use Rattle.type_definitions.specs.Types.{shape_of, full, is_owning, is_scalar, v
 use Rattle.typed_tree.specs.Trees.{TypedTree, Number, Literal, Text, Name, Component as IntoComponent, Designated, Element, Call, EndOfFile, Parens, Image, Unary, Binary, Short, IsNull, Aggregate, Alike, New, NoMore, More}
 use Rattle.typed_tree.specs.Trees as typed
 use Rattle.flow_paths.specs.Objects.{object_at, is_anonymous, view_of as view_of_object, Passing, ByValue}
-use Rattle.flow_paths.specs.Names.{has_call, waiting, name_of, selectors}
+use Rattle.flow_paths.specs.Names.{has_call, waiting, name_of}
 use Rattle.flow_paths.specs.Acts.{used, acts_in, actual_values}
 use Rattle.machine.specs.Words.{component_type, fits_type}
 use Rattle.machine.specs.Words as machine
@@ -31,31 +25,24 @@ use Rattle.machine.specs.Evaluate.{Here, Now, Use, AsValue, AsView, Evaluated, D
 use Rattle.machine.specs.Evaluate as run
 use Rattle.machine.specs.Owners.{is_in}
 use Rattle.machine.specs.Calls.{Passed, From, To, type_of, value_passed, passed, all_passed}
-use Rattle.machine.specs.States.{Waiting, Leak}
-use Rattle.owned_ways.specs.Ways.{OfVariable, Loc, OfRoot, Way, Object, Reaches, IsRooted, Past, Named, IsMoved, Excused, Allows, after, AllowsAll, Sound}
-use Rattle.owned_ways.specs.Ways as ways
-use Rattle.owned_ways.proofs.Locations.{under_itself}
-use Rattle.owned_ways.proofs.Named.{under_leads}
-use Rattle.owned_ways.proofs.Assigned.{test_fails, either_left, named_rooted}
+use Rattle.machine.specs.States.{Waiting}
+use Rattle.owned_ways.specs.Ways.{Loc, Allows, after, AllowsAll}
 use Rattle.part_offsets.specs.Parts.{IsSettled}
-use Rattle.soundness.specs.Seen.{content, trunk, seen, home, IsNear}
-use Rattle.soundness.specs.Typed.{OwnsByShape, Kept, Spot}
+use Rattle.soundness.specs.Typed.{OwnsByShape, Spot}
 use Rattle.soundness.specs.Sound.{goes_through_none, AreCopied}
 use Rattle.soundness.specs.Ready.{IsActualBy, AreActuals}
-use Rattle.typed_laws.specs.Needed.{Stays, Leads, Writes, IndexLaw}
-use Rattle.soundness.proofs.Near.{named_near, past_near}
-use Rattle.soundness.proofs.Walks.{way_along, Walked}
+use Rattle.typed_laws.specs.Needed.{Stays, Leads, Writes}
 use Rattle.soundness.proofs.Steps.{no_leaf}
-use Rattle.soundness.proofs.Scalars.{after_append, allows_both, acts, acts_append, read_way, look_way, number_along, named_along}
+use Rattle.soundness.proofs.Scalars.{after_append, allows_both, acts, acts_append}
 use Rattle.soundness.proofs.Contents.{bool_cases}
 use Rattle.soundness.proofs.Taking.{Takes, takes_as, takes_both, takes_zero}
-use Rattle.soundness.proofs.Passing.{way_by, way_of, head_acts, head_values, head_reads, reads_keep, one_on}
-use Rattle.soundness.proofs.Stays.{Quiet, One, Any, Goes, quiet_from, taking, steps_taking, name_on}
+use Rattle.soundness.proofs.Passing.{IsLaid, AreLaid, TakesAll, way_by, way_of, head_acts, head_values, head_reads, reads_keep}
+use Rattle.soundness.proofs.Stays.{Quiet, One, Any, quiet_then, quiet_from}
 use Rattle.null_places.specs.Compares.{Compares}
 use Rattle.null_places.proofs.Memories.{itself, NoneGone, words_agree}
-use Rattle.null_places.proofs.Only.{OnlyOwners}
-use Rattle.null_places.proofs.Places.{spot_whole, plain_whole, access_whole}
-use Rattle.null_places.proofs.Walks.{SameNow, SameTo, then_same, simply, walk_same}
+use Rattle.null_places.proofs.Places.{spot_whole, plain_whole}
+use Rattle.null_places.proofs.Walks.{SameNow, SameTo, then_same, simply}
+use Rattle.null_places.proofs.Laws.{Premises, Behaves, Found, Finds, IsAt, IsWholeAt}
 
 -- ---- operators
 
@@ -113,12 +100,6 @@ module _ (h : Here) where
         (if b then record n { memory = moved_out h.typing k n.memory } else n) (if b then record n' { memory = moved_out h.typing k n'.memory } else n')) (sym plain) same,
   )
 
--- a comparison with null keeps what it names from being moved
-look_clean : (at_home : ℕ → ℕ) (facts : List Fact) (w : Way) → Allows facts (act.Look (ways.name_of w)) → IsMoved at_home facts w → ⊥
-look_clean at_home facts w allowed h =
-    test_fails Forbidden (record { rule = O2; name = ways.name_of w; word = state.Moved }) (leads_to (ways.name_of w) (ways.name_of w) || false)
-    (either_left (leads_to (ways.name_of w) (ways.name_of w)) false (under_leads w w (under_itself w))) (allowed (Moved (ways.name_of w)) h.1)
-
 scalar_owns : (s : Shape) (f : ℕ → Bool) → is_scalar (view_of s) ≡ true → owns_of f s ≡ false
 scalar_owns (shape.Whole a b) f e = refl
 scalar_owns (shape.Listed l a b) f e = refl
@@ -127,80 +108,15 @@ scalar_owns (shape.Fields cs) f e = cc
 scalar_owns (shape.Elements a b el) f e = cc
 scalar_owns (shape.Same of) f e = cc
 
--- ---- names that go through no access value
-
-abbrev has_deref : List Sel → Bool
-has_deref [] = false
-has_deref (sel.Deref ∷ rest) = true
-has_deref (sel.Field i ∷ rest) = has_deref rest
-has_deref (sel.Elem ∷ rest) = has_deref rest
-
-deref_front : (a b : List Sel) → has_deref a ≡ true → has_deref (a ++ b) ≡ true
-deref_front [] b e = cc
-deref_front (sel.Deref ∷ a) b e = refl
-deref_front (sel.Field i ∷ a) b e = deref_front a b e
-deref_front (sel.Elem ∷ a) b e = deref_front a b e
-
-deref_end : (a : List Sel) → has_deref (a ++ sel.Deref ∷ []) ≡ true
-deref_end [] = refl
-deref_end (sel.Deref ∷ a) = refl
-deref_end (sel.Field i ∷ a) = deref_end a
-deref_end (sel.Elem ∷ a) = deref_end a
-
--- what is past a number goes through it
-past_deref : (v w : Way) → Past v w → has_deref (ways.sels_of w) ≡ true
-past_deref v (Object r) past = absurd past
-past_deref v (ways.Lost n) past = absurd past
-past_deref v (ways.Into w i) past = deref_front (ways.sels_of w) (ways.sel_of i ∷ []) (past_deref v w past)
-past_deref v (ways.All w) past = deref_end (ways.sels_of w)
-
-selectors_direct : (path : TypedTree) → goes_through_none path ≡ true → has_deref (selectors path) ≡ false
-unfolding goes_through_none selectors
-selectors_direct (IntoComponent i rest) direct = selectors_direct rest direct
-selectors_direct (Designated rest) direct = cc
-selectors_direct (Element index low high rest) direct = selectors_direct rest direct
-selectors_direct path direct = refl
-
 -- ---- names and expressions
 
-module _ (h : Here) (settled : IsSettled h.typing.table) (hands : List Waiting) (leaks : List Leak) (m : Memory) (waits : List (List machine.Word))
-    (other : Way → Type 0) (facts : List Fact) (kept : Kept h.typing m hands)
-    (sound : Sound (home h.typing h.frame) other (seen h.typing m hands leaks) facts) (alone : (w : Way) → IsNear h.frame w → other w → ⊥)
-    (live : (w : Way) (l : Loc) → IsRooted w → Reaches (seen h.typing m hands leaks) w l → (content h.typing m hands (trunk l)).owns ≡ true)
-    (index_law : IndexLaw) (own_law : OwnsByShape h.typing.table)
-    (all_named : (t d : ℕ) (c n : Bool) → shape_of h.typing.table t ≡ shape.Access d c n → n ≡ true) (only : OnlyOwners h.typing m) where
-  -- with these values, which wait
+module _ (h : Here) (settled : IsSettled h.typing.table) (own_law : OwnsByShape h.typing.table) (asks : Premises h) (m : Memory) (hands : List Waiting) (facts : List Fact)
+    (law : Behaves h asks m hands facts own_law) where
+  abbrev SameNowAt : List (List machine.Word) → Now → Type 0
+  SameNowAt ws n = SameNow h.typing (record { memory = m; waits = ws }) n
+
   abbrev at : List (List machine.Word) → Now
   at ws = record { memory = m; waits = ws }
-
-  abbrev SameNowAt : List (List machine.Word) → Now → Type 0
-  SameNowAt ws n = SameNow h.typing (at ws) n
-
-  abbrev first_way : ℕ → Way
-  first_way x = Object (OfVariable (home h.typing h.frame x) x)
-
-  -- nothing moved stands on the way of a name
-  abbrev Clean : ℕ → TypedTree → Type 0
-  Clean x steps =
-      (w : Way) → Named (home h.typing h.frame) w → ways.name_of w ≡ name_of x steps → (v : Way) → Past v w → IsMoved (home h.typing h.frame) facts v → ⊥
-
-  pub called : (x t : ℕ) (steps : TypedTree) (way : List run.Step) → Goes h.typing.table (object_at h.typing x).of t steps way
-      → ways.name_of (way_along way (first_way x)) ≡ name_of x steps
-  called x t steps way goes = (λ j. record { root = number_along way (first_way x) j; sels = goes.sels (first_way x) j })
-
-  pub named_way : (x : ℕ) (way : List run.Step) → Named (home h.typing h.frame) (way_along way (first_way x))
-  named_way x way = named_along (home h.typing h.frame) way (first_way x) refl
-
-  pub name_same : (on : List (List machine.Word)) (x : ℕ) (steps : TypedTree) (t : ℕ) (way : List run.Step) → Goes h.typing.table (object_at h.typing x).of t steps way → Clean x steps
-      → (n' : Now) → SameNowAt on n' → SameTo h.typing (walked h.typing way (variable_place h x) (at on)) (walked h.typing way (variable_place h x) n')
-  name_same on x steps t way goes clean n' same =
-      walk_same h.typing settled hands leaks m on (Excused (home h.typing h.frame) other facts) kept sound.owned sound.known live only way (variable_place h x)
-      (OfRoot (OfVariable (home h.typing h.frame x) x)) (first_way x) t
-      (record { base = refl; made = tt; at = refl; there = refl; of = inl refl }) tt refl goes.lead
-      (λ v p moved. elim moved [
-        | inr o ↦ alone v (past_near h.frame v (way_along way (first_way x)) p (named_near h.typing h.frame (way_along way (first_way x)) (named_way x way))) o
-        | inl mine ↦ clean (way_along way (first_way x)) (named_way x way) (called x t steps way goes) v p mine
-      ]) n' same
 
   not_owning : (t : ℕ) → is_scalar (full h.typing.table t) ≡ true → is_owning h.typing.table t ≡ false
   not_owning t e = own_law t ∙ scalar_owns (shape_of h.typing.table t) (is_owning h.typing.table) e
@@ -208,126 +124,102 @@ module _ (h : Here) (settled : IsSettled h.typing.table) (hands : List Waiting) 
   -- what a place of a scalar type has isn't gone
   scalar_none : (k : Place) (l : Loc) (t : ℕ) → Spot h.typing m hands k l → k.of ≡ t → is_scalar (full h.typing.table t) ≡ true → NoneGone (slots_of h.typing m k)
   scalar_none k l t spot of scalar =
-      spot_whole h.typing settled m hands only kept k l spot
+      spot_whole h.typing settled m hands law.only law.kept k l spot
       (plain_whole h.typing settled m hands k l spot (λ p. no_leaf h.typing.table settled k.of (ap (λ z. is_scalar (full h.typing.table z)) of ∙ scalar) p))
 
-  read_same : (on : List (List machine.Word)) (u : Use) (w : Way) (t : ℕ) → is_scalar (full h.typing.table t) ≡ true → (k : Place) (n n' : Now)
-      → Walked h.typing settled hands leaks m on w t (Done k n) → SameNow h.typing n n' → SameTo h.typing (held_or_taken h u k n) (held_or_taken h u k n')
-  read_same on AsView w t scalar k n n' (l, is, spot, reaches, of) same =
+  abbrev IsThere : List (List machine.Word) → ℕ → Place → Now → Type 0
+  IsThere on t k n = IsAt h asks m hands facts on t k n
+
+  read_same : (on : List (List machine.Word)) (u : Use) (t : ℕ) → is_scalar (full h.typing.table t) ≡ true → (k : Place) (n n' : Now)
+      → IsThere on t k n → SameNow h.typing n n' → SameTo h.typing (held_or_taken h u k n) (held_or_taken h u k n')
+  read_same on AsView t scalar k n n' (is, l, spot, of) same =
       view_same h k n n' (subst (λ (z : Now). NoneGone (slots_of h.typing z.memory k)) (sym is) (scalar_none k l t spot of scalar)) same
-  read_same on AsValue w t scalar k n n' (l, is, spot, reaches, of) same =
+  read_same on AsValue t scalar k n n' (is, l, spot, of) same =
       copy_same h k n n' (subst (λ (z : Now). NoneGone (slots_of h.typing z.memory k)) (sym is) (scalar_none k l t spot of scalar))
       (ap (is_owning h.typing.table) of ∙ not_owning t scalar) same
 
   abbrev QuietAt : {A : Type 0} → List (List machine.Word) → (A → Type 0) → Evaluated A → Type 0
-  QuietAt on P x = Quiet (at on) P x
+  QuietAt on P x = Quiet (record { memory = m; waits = on }) P x
 
-  abbrev Stay : List Placed → Type 0
-  Stay ps = after (acts ps) facts ≡ facts
+  abbrev Stays_so : List Placed → Type 0
+  Stays_so ps = after (acts ps) facts ≡ facts
 
-  split_allowed : (a b : List Placed) → AllowsAll facts (acts (a ++ b)) → (Stay a → AllowsAll facts (acts b)) × AllowsAll facts (acts a)
+  split_allowed : (a b : List Placed) → AllowsAll facts (acts (a ++ b)) → (Stays_so a → AllowsAll facts (acts b)) × AllowsAll facts (acts a)
   split_allowed a b x =
       let each = allows_both facts (acts a) (acts b) (subst (AllowsAll facts) (acts_append a b) x) in
       (λ stay. subst (λ z. AllowsAll z (acts b)) stay each.1, each.0)
 
-  quiet_here : (u : Use) (e : TypedTree) → Stays h.typing e → (before on : List (List machine.Word)) → Takes (waiting e) before on
-      → AllowsAll facts (acts (acts_in h.typing e))
-      → Quiet (at on) One (evaluate h u e (at before)) × Stay (acts_in h.typing e)
-  quiet_here u e stays before on takes allowed =
-      taking h settled hands leaks m waits other facts kept sound alone live index_law own_law all_named u e stays before on takes allowed
-
-  steps_here : (t u : ℕ) (steps : TypedTree) → Leads h.typing t steps u → (before on : List (List machine.Word)) → Takes (waiting steps) before on
-      → AllowsAll facts (acts (acts_in h.typing steps))
-      → Quiet (at on) (λ way. Goes h.typing.table t u steps way) (steps_of h steps (at before)) × Stay (acts_in h.typing steps)
-  steps_here t u steps lead before on takes allowed =
-      steps_taking h settled hands leaks m waits other facts kept sound alone live index_law own_law all_named t u steps lead before on takes allowed
-
-  name_here : (on : List (List machine.Word)) (x : ℕ) (steps : TypedTree) (t : ℕ) (way : List run.Step) → Goes h.typing.table (object_at h.typing x).of t steps way → Clean x steps
-      → Walked h.typing settled hands leaks m on (way_along way (first_way x)) t (walked h.typing way (variable_place h x) (at on))
-  name_here on x steps t way goes clean = name_on h settled hands leaks m waits other facts kept sound alone live index_law own_law all_named on x steps t way goes clean
-
   -- a name whose steps are evaluated, and what is done with its place
-  pub place_then : {A : Type 0} (before on : List (List machine.Word)) (x t : ℕ) (steps : TypedTree) (f g : Place → Now → Evaluated A) → Clean x steps
-      → Quiet (at on) (λ way. Goes h.typing.table (object_at h.typing x).of t steps way) (steps_of h steps (at before)) → (n' : Now)
-      → SameTo h.typing (steps_of h steps (at before)) (steps_of h steps n')
-      → ((way : List run.Step) → Goes h.typing.table (object_at h.typing x).of t steps way → (k : Place) (n n' : Now)
-      → Walked h.typing settled hands leaks m on (way_along way (first_way x)) t (Done k n) → SameNow h.typing n n' → SameTo h.typing (f k n) (g k n'))
-      → SameTo h.typing (followed_by (steps_of h steps (at before)) (λ way now. followed_by (walked h.typing way (variable_place h x) now) f))
+  pub place_then : {A : Type 0} (before on : List (List machine.Word)) (x t : ℕ) (steps : TypedTree) (f g : Place → Now → Evaluated A)
+      (known : Place → Now → Type 0)
+      → ((way : List run.Step) → asks.goes (object_at h.typing x).of t steps way → Finds h asks m hands facts on x way known)
+      → Quiet (record { memory = m; waits = on }) (λ way. asks.goes (object_at h.typing x).of t steps way) (steps_of h steps (record { memory = m; waits = before })) → (n' : Now)
+      → SameTo h.typing (steps_of h steps (record { memory = m; waits = before })) (steps_of h steps n')
+      → ((k : Place) (n n' : Now) → known k n → SameNow h.typing n n' → SameTo h.typing (f k n) (g k n'))
+      → SameTo h.typing (followed_by (steps_of h steps (record { memory = m; waits = before })) (λ way now. followed_by (walked h.typing way (variable_place h x) now) f))
       (followed_by (steps_of h steps n') (λ way now. followed_by (walked h.typing way (variable_place h x) now) g))
-  place_then before on x t steps f g clean q n' same next =
-      then_same h.typing (QuietAt on (λ way. Goes h.typing.table (object_at h.typing x).of t steps way)) (steps_of h steps (at before)) (steps_of h steps n')
+  place_then before on x t steps f g known finds q n' same next =
+      then_same h.typing (QuietAt on (λ way. asks.goes (object_at h.typing x).of t steps way)) (steps_of h steps (at before)) (steps_of h steps n')
       (λ way now. followed_by (walked h.typing way (variable_place h x) now) f) (λ way now. followed_by (walked h.typing way (variable_place h x) now) g) q same
       (λ way n n'' p now. subst (λ z. SameTo h.typing (followed_by (walked h.typing way (variable_place h x) z) f) (followed_by (walked h.typing way (variable_place h x) n'') g)) (sym p.0)
-      (then_same h.typing (Walked h.typing settled hands leaks m on (way_along way (first_way x)) t) (walked h.typing way (variable_place h x) (at on))
-      (walked h.typing way (variable_place h x) n'') f g (name_here on x steps t way p.1 clean)
-      (name_same on x steps t way p.1 clean n'' (subst (λ z. SameNow h.typing z n'') p.0 now)) (next way p.1)))
+      (let found = finds way p.1 in
+      then_same h.typing (Found known) (walked h.typing way (variable_place h x) (at on))
+      (walked h.typing way (variable_place h x) n'') f g found.0
+      (found.1 n'' (subst (λ z. SameNow h.typing z n'') p.0 now)) next))
 
-  -- what is compared with null
-  looked_same : (on : List (List machine.Word)) (x t : ℕ) (steps : TypedTree) (d : ℕ) (c b : Bool) → shape_of h.typing.table t ≡ shape.Access d c b → Allows facts (act.Look (name_of x steps))
-      → (way : List run.Step) → Goes h.typing.table (object_at h.typing x).of t steps way → (k : Place) (n n' : Now)
-      → Walked h.typing settled hands leaks m on (way_along way (first_way x)) t (Done k n) → SameNow h.typing n n'
-      → SameTo h.typing (held_or_taken h AsView k n) (held_or_taken h AsView k n')
-  looked_same on x t steps d c b is looks way goes k n n' (l, still, spot, reaches, of) same =
-      let w : Way = way_along way (first_way x) in
-      let rooted = named_rooted (home h.typing h.frame) w (named_way x way) in
-      let mine : Allows facts (act.Look (ways.name_of w)) = subst (λ z. Allows facts (act.Look z)) (sym (called x t steps way goes)) looks in
-      let type : shape_of h.typing.table k.of ≡ shape.Access d c true =
-      ap (shape_of h.typing.table) of ∙ is ∙ ap (shape.Access d c) (all_named t d c b is) in
-      let none : NoneGone (slots_of h.typing m k) =
-      spot_whole h.typing settled m hands only kept k l spot
-      (access_whole h.typing settled m hands leaks (Excused (home h.typing h.frame) other facts) sound.known w l rooted reaches (live w l rooted reaches) k d c spot type
-      (λ moved. elim moved [
-        | inl facts_say ↦ look_clean (home h.typing h.frame) facts w mine facts_say
-        | inr o ↦ alone w (named_near h.typing h.frame w (named_way x way)) o
-      ])) in
-      view_same h k n n' (subst (λ (z : Now). NoneGone (slots_of h.typing z.memory k)) (sym still) none) same
+  abbrev IsWhole : List (List machine.Word) → ℕ → Place → Now → Type 0
+  IsWhole on t k n = IsWholeAt h asks m hands facts on t k n
+
+  pub none_there : (on : List (List machine.Word)) (t : ℕ) (k : Place) (n : Now) → IsWholeAt h asks m hands facts on t k n → NoneGone (slots_of h.typing n.memory k)
+  none_there on t k n found = subst (λ (z : Now). NoneGone (slots_of h.typing z.memory k)) (sym found.0) found.4
 
   -- the value that waits first
   waited_same : (n n' : Now) → SameNow h.typing n n' → SameTo h.typing (run.waited n) (run.waited n')
   waited_same n n' same = (ap (λ ws. get_or ws 0 []) same.1, (same.0, ap (drop 1) same.1, same.2))
 
   mutual
-    unfolding Stays Leads Compares evaluate steps_of acts_in has_call selectors waiting
+    unfolding Stays Leads Compares evaluate steps_of acts_in has_call waiting
 
-    pub scalar_on : (u : Use) (e : TypedTree) → Stays h.typing e → (before on : List (List machine.Word)) → Takes (waiting e) before on → Compares h.typing e
-        → AllowsAll facts (acts (acts_in h.typing e))
+    pub scalar_on : (u : Use) (e : TypedTree) → Stays h.typing e → (before on : List (List machine.Word)) → Takes (waiting e) before on → asks.calls (has_call e)
+        → Compares h.typing e → AllowsAll facts (acts (acts_in h.typing e))
         → (n' : Now) → SameNowAt before n' → SameTo h.typing (evaluate h u e (at before)) (evaluate h u e n')
-    scalar_on u (Number v) stays before on takes compares allowed n' same = (refl, same)
-    scalar_on u (Literal n) stays before on takes compares allowed n' same = (refl, same)
-    scalar_on u typed.Null stays before on takes compares allowed n' same = (refl, same)
-    scalar_on u (Text b) stays before on takes compares allowed n' same = absurd stays
-    scalar_on u EndOfFile stays before on takes compares allowed n' same = (refl, same)
-    scalar_on u NoMore stays before on takes compares allowed n' same = absurd stays
-    scalar_on u (Name p x steps t) (lead, scalar) before on takes compares allowed n' same =
+    scalar_on u (Number v) stays before on takes calls compares allowed n' same = (refl, same)
+    scalar_on u (Literal n) stays before on takes calls compares allowed n' same = (refl, same)
+    scalar_on u typed.Null stays before on takes calls compares allowed n' same = (refl, same)
+    scalar_on u (Text b) stays before on takes calls compares allowed n' same = absurd stays
+    scalar_on u EndOfFile stays before on takes calls compares allowed n' same = (refl, same)
+    scalar_on u NoMore stays before on takes calls compares allowed n' same = absurd stays
+    scalar_on u (Name p x steps t) (lead, scalar) before on takes calls compares allowed n' same =
         let owns = not_owning t scalar in
         let is : used h.typing (name_of x steps) t ≡ act.Read (name_of x steps) =
         ap (λ b. if b then act.Move (name_of x steps) (parts h.typing.table t) else act.Read (name_of x steps)) owns in
         let each = split_allowed (acts_in h.typing steps) (record { pos = p; act = used h.typing (name_of x steps) t } ∷ []) allowed in
-        let inner = steps_here (object_at h.typing x).of t steps lead before on takes each.1 in
+        let inner = law.steps (object_at h.typing x).of t steps lead before on takes calls each.1 in
         let reads : Allows facts (act.Read (name_of x steps)) = subst (Allows facts) is (each.0 inner.1).0 in
-        place_then before on x t steps (held_or_taken h u) (held_or_taken h u)
-        (λ w named same_name v past moved. read_way (home h.typing h.frame) facts w (subst (λ z. Allows facts (act.Read z)) (sym same_name) reads) v past moved)
-        inner.0 n' (steps_on (object_at h.typing x).of t steps lead before on takes compares each.1 n' same)
-        (λ way goes k n n'' walked now. read_same on u (way_along way (first_way x)) t scalar k n n'' walked now)
-    scalar_on u (Call p sub actuals) stays before on takes compares allowed n' same = waited_same (at before) n' same
-    scalar_on u (Parens e) stays before on takes compares allowed n' same = scalar_on AsValue e stays before on takes compares allowed n' same
-    scalar_on u (Image t e) stays before on takes compares allowed n' same = absurd stays
-    scalar_on u (Unary op e) stays before on takes compares allowed n' same =
+        place_then before on x t steps (held_or_taken h u) (held_or_taken h u) (IsThere on t)
+        (λ way goes. law.read on x t steps way goes reads)
+        inner.0 n' (steps_on (object_at h.typing x).of t steps lead before on takes calls compares each.1 n' same)
+        (λ k n n'' found now. read_same on u t scalar k n n'' found now)
+    scalar_on u (Call p sub actuals) stays before on takes calls compares allowed n' same = waited_same (at before) n' same
+    scalar_on u (Parens e) stays before on takes calls compares allowed n' same = scalar_on AsValue e stays before on takes calls compares allowed n' same
+    scalar_on u (Image t e) stays before on takes calls compares allowed n' same = absurd stays
+    scalar_on u (Unary op e) stays before on takes calls compares allowed n' same =
         simply h.typing (evaluate h AsValue e (at before)) (evaluate h AsValue e n') (operated_alone op) (operated_alone op)
-        (scalar_on AsValue e stays before on takes compares allowed n' same) (λ ws n n'' now. one_same h op ws n n'' now)
-    scalar_on u (Binary op a b) stays before on takes compares allowed n' same =
+        (scalar_on AsValue e stays before on takes calls compares allowed n' same) (λ ws n n'' now. one_same h op ws n n'' now)
+    scalar_on u (Binary op a b) stays before on takes calls compares allowed n' same =
         let two = takes_both (waiting a) (waiting b) before on takes in
         let each = split_allowed (acts_in h.typing a) (acts_in h.typing b) allowed in
-        let left = quiet_here AsValue a stays.0 before two.0 two.1 each.1 in
+        let both = asks.both_calls (has_call a) (has_call b) calls in
+        let left = law.quiet AsValue a stays.0 before two.0 two.1 both.0 each.1 in
         then_same h.typing (QuietAt two.0 One) (evaluate h AsValue a (at before)) (evaluate h AsValue a n')
         (λ x now. followed_by (evaluate h AsValue b now) (operated op x)) (λ x now. followed_by (evaluate h AsValue b now) (operated op x)) left.0
-        (scalar_on AsValue a stays.0 before two.0 two.1 compares.0 each.1 n' same)
+        (scalar_on AsValue a stays.0 before two.0 two.1 both.0 compares.0 each.1 n' same)
         (λ x n n'' q now. subst (λ z. SameTo h.typing (followed_by (evaluate h AsValue b z) (operated op x)) (followed_by (evaluate h AsValue b n'') (operated op x))) (sym q.0)
         (simply h.typing (evaluate h AsValue b (at two.0)) (evaluate h AsValue b n'') (operated op x) (operated op x)
-        (scalar_on AsValue b stays.1 two.0 on two.2 compares.1 (each.0 left.1) n'' (subst (λ z. SameNow h.typing z n'') q.0 now))
+        (scalar_on AsValue b stays.1 two.0 on two.2 both.1 compares.1 (each.0 left.1) n'' (subst (λ z. SameNow h.typing z n'') q.0 now))
         (λ y k k' last. two_same h op x y k k' last)))
     -- with a call on the right, the value waits
-    scalar_on u (Short op p a q b) stays before on takes compares allowed n' same = elim (bool_cases (has_call b)) [
+    scalar_on u (Short op p a q b) stays before on takes calls compares allowed n' same = elim (bool_cases (has_call b)) [
       | inl called_there ↦ subst (λ c. SameTo h.typing (if c then run.waited (at before) else followed_by (evaluate h AsValue a (at before)) right)
           (if c then run.waited n' else followed_by (evaluate h AsValue a n') right)) (sym called_there) (waited_same (at before) n' same)
       | inr none ↦ (
@@ -336,13 +228,14 @@ module _ (h : Here) (settled : IsSettled h.typing.table) (hands : List Waiting) 
           let sum = takes_as _ (waiting a + waiting b) before on (ap (λ c. if c then 1 else waiting a + waiting b) none) takes in
           let two = takes_both (waiting a) (waiting b) before on sum in
           let each = split_allowed (acts_in h.typing a) (acts_in h.typing b) (subst (λ z. AllowsAll facts (acts z)) is allowed) in
-          let left = quiet_here AsValue a stays.0 before two.0 two.1 each.1 in
+          let both = asks.both_calls (has_call a) (has_call b) calls in
+          let left = law.quiet AsValue a stays.0 before two.0 two.1 both.0 each.1 in
           subst (λ c. SameTo h.typing (if c then run.waited (at before) else followed_by (evaluate h AsValue a (at before)) right)
           (if c then run.waited n' else followed_by (evaluate h AsValue a n') right)) (sym none)
           (then_same h.typing (QuietAt two.0 One) (evaluate h AsValue a (at before)) (evaluate h AsValue a n') right right left.0
-          (scalar_on AsValue a stays.0 before two.0 two.1 compares.0 each.1 n' same)
+          (scalar_on AsValue a stays.0 before two.0 two.1 both.0 compares.0 each.1 n' same)
           (λ x n n'' q now. decided (decides op x) x n n'' now (subst (λ z. SameTo h.typing (evaluate h AsValue b z) (evaluate h AsValue b n'')) (sym q.0)
-          (scalar_on AsValue b stays.1 two.0 on two.2 compares.1 (each.0 left.1) n'' (subst (λ z. SameNow h.typing z n'') q.0 now))))))
+          (scalar_on AsValue b stays.1 two.0 on two.2 both.1 compares.1 (each.0 left.1) n'' (subst (λ z. SameNow h.typing z n'') q.0 now))))))
     ]
       where
         right : List machine.Word → Now → Evaluated (List machine.Word)
@@ -352,92 +245,83 @@ module _ (h : Here) (settled : IsSettled h.typing.table) (hands : List Waiting) 
             → SameTo h.typing (if c then Done x n else evaluate h AsValue b n) (if c then Done x n'' else evaluate h AsValue b n'')
         decided true x n n'' now is = (refl, now)
         decided false x n n'' now is = is
-    scalar_on u (IsNull equal (Name p x steps t)) lead before on takes (d, c, b, is, compares) allowed n' same =
+    scalar_on u (IsNull equal (Name p x steps t)) lead before on takes calls (d, c, b, is, compares) allowed n' same =
         let each = split_allowed (acts_in h.typing steps) (record { pos = p; act = act.Look (name_of x steps) } ∷ []) allowed in
-        let inner = steps_here (object_at h.typing x).of t steps lead before on takes each.1 in
+        let inner = law.steps (object_at h.typing x).of t steps lead before on takes calls each.1 in
         let looks : Allows facts (act.Look (name_of x steps)) = (each.0 inner.1).0 in
         simply h.typing (evaluate h AsView (Name p x steps t) (at before)) (evaluate h AsView (Name p x steps t) n')
         (λ ws now. Done (truth (if run.is_null ws then equal else not equal)) now) (λ ws now. Done (truth (if run.is_null ws then equal else not equal)) now)
-        (place_then before on x t steps (held_or_taken h AsView) (held_or_taken h AsView)
-        (λ w named same_name v past moved. look_way (home h.typing h.frame) facts w (subst (λ z. Allows facts (act.Look z)) (sym same_name) looks) v past moved)
-        inner.0 n' (steps_on (object_at h.typing x).of t steps lead before on takes compares each.1 n' same)
-        (λ way goes k n n'' walked now. looked_same on x t steps d c b is looks way goes k n n'' walked now))
+        (place_then before on x t steps (held_or_taken h AsView) (held_or_taken h AsView) (IsWhole on t)
+        (λ way goes. law.look on x t steps way goes d c b is looks)
+        inner.0 n' (steps_on (object_at h.typing x).of t steps lead before on takes calls compares each.1 n' same)
+        (λ k n n'' found now. view_same h k n n'' (none_there on t k n found) now))
         (λ ws n n'' now. (refl, now))
-    scalar_on u (IsNull equal (Call p sub actuals)) stays before on takes compares allowed n' same =
+    scalar_on u (IsNull equal (Call p sub actuals)) stays before on takes calls compares allowed n' same =
         simply h.typing (run.waited (at before)) (run.waited n')
         (λ ws now. Done (truth (if run.is_null ws then equal else not equal)) now) (λ ws now. Done (truth (if run.is_null ws then equal else not equal)) now)
         (waited_same (at before) n' same) (λ ws n n'' now. (refl, now))
-    scalar_on u (IsNull equal e) stays before on takes compares allowed n' same = absurd stays
-    scalar_on u (More e rest) stays before on takes compares allowed n' same = absurd stays
-    scalar_on u (Aggregate t es) stays before on takes compares allowed n' same = absurd stays
-    scalar_on u (Alike t e) stays before on takes compares allowed n' same = absurd stays
-    scalar_on u (New t v) stays before on takes compares allowed n' same = absurd stays
-    scalar_on u (IntoComponent i rest) stays before on takes compares allowed n' same = absurd stays
-    scalar_on u (Designated rest) stays before on takes compares allowed n' same = absurd stays
-    scalar_on u (Element index low high rest) stays before on takes compares allowed n' same = absurd stays
+    scalar_on u (IsNull equal e) stays before on takes calls compares allowed n' same = absurd stays
+    scalar_on u (More e rest) stays before on takes calls compares allowed n' same = absurd stays
+    scalar_on u (Aggregate t es) stays before on takes calls compares allowed n' same = absurd stays
+    scalar_on u (Alike t e) stays before on takes calls compares allowed n' same = absurd stays
+    scalar_on u (New t v) stays before on takes calls compares allowed n' same = absurd stays
+    scalar_on u (IntoComponent i rest) stays before on takes calls compares allowed n' same = absurd stays
+    scalar_on u (Designated rest) stays before on takes calls compares allowed n' same = absurd stays
+    scalar_on u (Element index low high rest) stays before on takes calls compares allowed n' same = absurd stays
 
     pub steps_on : (t u : ℕ) (steps : TypedTree) → Leads h.typing t steps u → (before on : List (List machine.Word)) → Takes (waiting steps) before on
-        → Compares h.typing steps → AllowsAll facts (acts (acts_in h.typing steps))
+        → asks.calls (has_call steps) → Compares h.typing steps → AllowsAll facts (acts (acts_in h.typing steps))
         → (n' : Now) → SameNowAt before n' → SameTo h.typing (steps_of h steps (at before)) (steps_of h steps n')
-    steps_on t u (IntoComponent i rest) (lt, lead) before on takes compares allowed n' same =
+    steps_on t u (IntoComponent i rest) (lt, lead) before on takes calls compares allowed n' same =
         simply h.typing (steps_of h rest (at before)) (steps_of h rest n') (λ way now. Done (run.ToComponent i ∷ way) now) (λ way now. Done (run.ToComponent i ∷ way) now)
-        (steps_on (component_type h.typing.table t i) u rest lead before on takes compares allowed n' same) (λ way n n'' now. (refl, now))
-    steps_on t u (Designated rest) (d, c, b, is, lead) before on takes compares allowed n' same =
+        (steps_on (component_type h.typing.table t i) u rest lead before on takes calls compares allowed n' same) (λ way n n'' now. (refl, now))
+    steps_on t u (Designated rest) (d, c, b, is, lead) before on takes calls compares allowed n' same =
         simply h.typing (steps_of h rest (at before)) (steps_of h rest n') (λ way now. Done (run.ToDesignated ∷ way) now) (λ way now. Done (run.ToDesignated ∷ way) now)
-        (steps_on d u rest lead before on takes compares allowed n' same) (λ way n n'' now. (refl, now))
-    steps_on t u (Element index low high rest) (e, is, stays, lead) before on takes compares allowed n' same =
+        (steps_on d u rest lead before on takes calls compares allowed n' same) (λ way n n'' now. (refl, now))
+    steps_on t u (Element index low high rest) (e, is, stays, lead) before on takes calls compares allowed n' same =
         let two = takes_both (waiting index) (waiting rest) before on takes in
         let each = split_allowed (acts_in h.typing index) (acts_in h.typing rest) allowed in
-        let first = quiet_here AsValue index stays before two.0 two.1 each.1 in
+        let both = asks.both_calls (has_call index) (has_call rest) calls in
+        let first = law.quiet AsValue index stays before two.0 two.1 both.0 each.1 in
         let last : ℕ → Now → Evaluated (List run.Step) = (λ k now. followed_by (steps_of h rest now) (λ way now. Done (run.ToElement k ∷ way) now)) in
         then_same h.typing (QuietAt two.0 One) (evaluate h AsValue index (at before)) (evaluate h AsValue index n')
         (λ ws now. followed_by (indexed low high ws now) last) (λ ws now. followed_by (indexed low high ws now) last) first.0
-        (scalar_on AsValue index stays before two.0 two.1 compares.0 each.1 n' same)
+        (scalar_on AsValue index stays before two.0 two.1 both.0 compares.0 each.1 n' same)
         (λ ws n n'' q now.
         let test = index_same h low high ws n n'' now in
         then_same h.typing (Still h n) (indexed low high ws n) (indexed low high ws n'') last last test.1 test.0
         (λ k i i' still so. subst (λ z. SameTo h.typing (last k z) (last k i')) (sym (still ∙ q.0))
         (simply h.typing (steps_of h rest (at two.0)) (steps_of h rest i') (λ way now. Done (run.ToElement k ∷ way) now) (λ way now. Done (run.ToElement k ∷ way) now)
-        (steps_on e u rest lead two.0 on two.2 compares.1 (each.0 first.1) i' (subst (λ z. SameNow h.typing z i') (still ∙ q.0) so)) (λ way n n'' now. (refl, now)))))
-    steps_on t u NoMore lead before on takes compares allowed n' same = (refl, same)
-    steps_on t u steps lead before on takes compares allowed n' same = absurd lead
+        (steps_on e u rest lead two.0 on two.2 both.1 compares.1 (each.0 first.1) i' (subst (λ z. SameNow h.typing z i') (still ∙ q.0) so)) (λ way n n'' now. (refl, now)))))
+    steps_on t u NoMore lead before on takes calls compares allowed n' same = (refl, same)
+    steps_on t u steps lead before on takes calls compares allowed n' same = absurd lead
 
   -- ---- places
 
-  -- A place that a name leads to.
-  abbrev pub IsPlaced : List (List machine.Word) → ℕ → ℕ → TypedTree → Evaluated Place → Type 0
-  IsPlaced on x t steps (Done k n) =
-      (way : List run.Step) × Goes h.typing.table (object_at h.typing x).of t steps way
-      × Walked h.typing settled hands leaks m on (way_along way (first_way x)) t (Done k n)
-  IsPlaced on x t steps y = Unit {0}
+  known_then : (on : List (List machine.Word)) (x t : ℕ) (steps : TypedTree) (known : Place → Now → Type 0)
+      → ((way : List run.Step) → asks.goes (object_at h.typing x).of t steps way → Finds h asks m hands facts on x way known) → (y : Evaluated (List run.Step))
+      → Quiet (at on) (λ way. asks.goes (object_at h.typing x).of t steps way) y → Found known (followed_by y (λ way now. walked h.typing way (variable_place h x) now))
+  known_then on x t steps known finds (Done way n) (same, goes) =
+      subst (λ z. Found known (walked h.typing way (variable_place h x) z)) (sym same) (finds way goes).0
+  known_then on x t steps known finds (Raises e n) q = tt
+  known_then on x t steps known finds (Traps e n) q = tt
 
-  from_walk : (on : List (List machine.Word)) (x t : ℕ) (steps : TypedTree) (way : List run.Step) → Goes h.typing.table (object_at h.typing x).of t steps way → (z : Evaluated Place)
-      → Walked h.typing settled hands leaks m on (way_along way (first_way x)) t z → IsPlaced on x t steps z
-  from_walk on x t steps way goes (Done k n) is = (way, goes, is)
-  from_walk on x t steps way goes (Raises e n) is = tt
-  from_walk on x t steps way goes (Traps e n) is = tt
-
-  placed_there : (on : List (List machine.Word)) (x t : ℕ) (steps : TypedTree) → Clean x steps → (y : Evaluated (List run.Step))
-      → Quiet (at on) (λ way. Goes h.typing.table (object_at h.typing x).of t steps way) y
-      → IsPlaced on x t steps (followed_by y (λ way now. walked h.typing way (variable_place h x) now))
-  placed_there on x t steps clean (Done way n) (same, goes) =
-      subst (λ z. IsPlaced on x t steps (walked h.typing way (variable_place h x) z)) (sym same)
-      (from_walk on x t steps way goes (walked h.typing way (variable_place h x) (at on)) (name_here on x steps t way goes clean))
-  placed_there on x t steps clean (Raises e n) q = tt
-  placed_there on x t steps clean (Traps e n) q = tt
-
+  -- a place that is found, and what is known of it
   pub place_on : (before on : List (List machine.Word)) (p : Pos) (x t : ℕ) (steps : TypedTree) → Leads h.typing (object_at h.typing x).of steps t
-      → Takes (waiting steps) before on → Compares h.typing steps
-      → AllowsAll facts (acts (acts_in h.typing steps)) → Clean x steps → (n' : Now) → SameNowAt before n'
-      → SameTo h.typing (place_of h (Name p x steps t) (at before)) (place_of h (Name p x steps t) n') × IsPlaced on x t steps (place_of h (Name p x steps t) (at before))
-  place_on before on p x t steps lead takes compares allowed clean n' same =
-      let q = (steps_here (object_at h.typing x).of t steps lead before on takes allowed).0 in (
-        then_same h.typing (QuietAt on (λ way. Goes h.typing.table (object_at h.typing x).of t steps way)) (steps_of h steps (at before)) (steps_of h steps n')
+      → Takes (waiting steps) before on → asks.calls (has_call steps) → Compares h.typing steps
+      → AllowsAll facts (acts (acts_in h.typing steps)) → (known : Place → Now → Type 0)
+      → ((way : List run.Step) → asks.goes (object_at h.typing x).of t steps way → Finds h asks m hands facts on x way known)
+      → (n' : Now) → SameNow h.typing (record { memory = m; waits = before }) n'
+      → SameTo h.typing (place_of h (Name p x steps t) (record { memory = m; waits = before })) (place_of h (Name p x steps t) n')
+      × Found known (place_of h (Name p x steps t) (record { memory = m; waits = before }))
+  place_on before on p x t steps lead takes calls compares allowed known finds n' same =
+      let q = (law.steps (object_at h.typing x).of t steps lead before on takes calls allowed).0 in (
+        then_same h.typing (QuietAt on (λ way. asks.goes (object_at h.typing x).of t steps way)) (steps_of h steps (at before)) (steps_of h steps n')
             (λ way now. walked h.typing way (variable_place h x) now) (λ way now. walked h.typing way (variable_place h x) now) q
-            (steps_on (object_at h.typing x).of t steps lead before on takes compares allowed n' same)
+            (steps_on (object_at h.typing x).of t steps lead before on takes calls compares allowed n' same)
             (λ way n n'' p now. subst (λ z. SameTo h.typing (walked h.typing way (variable_place h x) z) (walked h.typing way (variable_place h x) n'')) (sym p.0)
-            (name_same on x steps t way p.1 clean n'' (subst (λ z. SameNow h.typing z n'') p.0 now))),
-        placed_there on x t steps clean (steps_of h steps (at before)) q,
+            ((finds way p.1).1 n'' (subst (λ z. SameNow h.typing z n'') p.0 now))),
+        known_then on x t steps known finds (steps_of h steps (at before)) q,
       )
 
   -- ---- strings
@@ -451,29 +335,30 @@ module _ (h : Here) (settled : IsSettled h.typing.table) (hands : List Waiting) 
   weaker on (Raises e n) q = q
   weaker on (Traps e n) q = q
 
-  pub text_on : (before on : List (List machine.Word)) (e : TypedTree) → Writes h.typing e → Takes (waiting e) before on → Compares h.typing e
+  pub text_on : (before on : List (List machine.Word)) (e : TypedTree) → Writes h.typing e → Takes (waiting e) before on → asks.calls (has_call e) → Compares h.typing e
       → AllowsAll facts (acts (acts_in h.typing e)) → (n' : Now) → SameNowAt before n'
-      → SameTo h.typing (text_of h e (at before)) (text_of h e n') × Quiet (at on) (Any {A = List ℕ}) (text_of h e (at before)) × Stay (acts_in h.typing e)
-  unfolding Writes text_of acts_in Compares waiting
-  text_on before on (Text b) writes takes compares allowed n' same = ((refl, same), (ap at (takes_zero before on takes), tt), refl)
-  text_on before on (Image u e) stays takes compares allowed n' same =
-      let q = quiet_here AsValue e stays before on takes allowed in (
+      → SameTo h.typing (text_of h e (at before)) (text_of h e n') × Quiet (at on) (Any {A = List ℕ}) (text_of h e (at before)) × Stays_so (acts_in h.typing e)
+  unfolding Writes text_of acts_in has_call Compares waiting
+  text_on before on (Text b) writes takes calls compares allowed n' same = ((refl, same), (ap at (takes_zero before on takes), tt), refl)
+  text_on before on (Image u e) stays takes calls compares allowed n' same =
+      let q = law.quiet AsValue e stays before on takes calls allowed in (
         simply h.typing (value h e (at before)) (value h e n') (λ ws now. Done (run.image_of h.typing.table u ws) now) (λ ws now. Done (run.image_of h.typing.table u ws) now)
-            (scalar_on AsValue e stays before on takes compares allowed n' same) (λ ws n n'' now. (refl, now)),
+            (scalar_on AsValue e stays before on takes calls compares allowed n' same) (λ ws n n'' now. (refl, now)),
         text_quiet on on (value h e (at before)) (λ ws now. Done (run.image_of h.typing.table u ws) now) (weaker on (value h e (at before)) q.0) (λ ws. (refl, tt)),
         q.1,
       )
-  text_on before on (Parens e) writes takes compares allowed n' same = text_on before on e writes takes compares allowed n' same
-  text_on before on (Binary op a b) (wa, wb) takes compares allowed n' same =
+  text_on before on (Parens e) writes takes calls compares allowed n' same = text_on before on e writes takes calls compares allowed n' same
+  text_on before on (Binary op a b) (wa, wb) takes calls compares allowed n' same =
       let two = takes_both (waiting a) (waiting b) before on takes in
       let each = split_allowed (acts_in h.typing a) (acts_in h.typing b) allowed in
-      let left = text_on before two.0 a wa two.1 compares.0 each.1 n' same in
-      let own = text_on two.0 on b wb two.2 compares.1 (each.0 left.2) (at two.0) (itself_there two.0) in
+      let both = asks.both_calls (has_call a) (has_call b) calls in
+      let left = text_on before two.0 a wa two.1 both.0 compares.0 each.1 n' same in
+      let own = text_on two.0 on b wb two.2 both.1 compares.1 (each.0 left.2) (at two.0) (itself_there two.0) in
       let second : List ℕ → Now → Evaluated (List ℕ) = (λ x now. followed_by (text_of h b now) (λ y now. Done (x ++ y) now)) in (
         then_same h.typing (QuietAt two.0 (Any {A = List ℕ})) (text_of h a (at before)) (text_of h a n') second second left.1 left.0
             (λ x n n'' q now. subst (λ z. SameTo h.typing (second x z) (second x n'')) (sym q.0)
             (simply h.typing (text_of h b (at two.0)) (text_of h b n'') (λ y now. Done (x ++ y) now) (λ y now. Done (x ++ y) now)
-            (text_on two.0 on b wb two.2 compares.1 (each.0 left.2) n'' (subst (λ z. SameNow h.typing z n'') q.0 now)).0 (λ y k k' last. (refl, last)))),
+            (text_on two.0 on b wb two.2 both.1 compares.1 (each.0 left.2) n'' (subst (λ z. SameNow h.typing z n'') q.0 now)).0 (λ y k k' last. (refl, last)))),
         text_quiet two.0 on (text_of h a (at before)) second left.1
             (λ x. text_quiet on on (text_of h b (at two.0)) (λ y now. Done (x ++ y) now) own.1 (λ y. (refl, tt))),
         ap (λ z. after z facts) (acts_append (acts_in h.typing a) (acts_in h.typing b)) ∙ after_append (acts (acts_in h.typing a)) (acts (acts_in h.typing b)) facts
@@ -481,8 +366,8 @@ module _ (h : Here) (settled : IsSettled h.typing.table) (hands : List Waiting) 
       )
     where
       itself_there : (ws : List (List machine.Word)) → SameNowAt ws (at ws)
-      itself_there ws = (itself m, refl, only)
-  text_on before on e writes takes compares allowed n' same = absurd writes
+      itself_there ws = (itself m, refl, law.only)
+  text_on before on e writes takes calls compares allowed n' same = absurd writes
 
   -- ---- actuals of formals of scalar types
 
@@ -499,27 +384,21 @@ module _ (h : Here) (settled : IsSettled h.typing.table) (hands : List Waiting) 
       by_test true = (refl, same)
       by_test false = (refl, same)
 
-  passed_same : (before on : List (List machine.Word)) (x : ℕ) (e : TypedTree) → Stays h.typing e → Takes (waiting e) before on → Compares h.typing e
+  passed_same : (before on : List (List machine.Word)) (x : ℕ) (e : TypedTree) → Stays h.typing e → Takes (waiting e) before on → asks.calls (has_call e) → Compares h.typing e
       → AllowsAll facts (acts (acts_in h.typing e)) → (n' : Now) → SameNowAt before n'
       → SameTo h.typing (passed h ByValue x e (at before)) (passed h ByValue x e n')
-  passed_same before on x e stays takes compares allowed n' same =
+  passed_same before on x e stays takes calls compares allowed n' same =
       let b : Bool = is_anonymous (view_of_object h.typing x) in
       let last : List machine.Word → Now → Evaluated Passed = (λ ws now. followed_by (checked h (type_of h x) ws now) value_passed) in
       simply h.typing (if b then viewed h e (at before) else value h e (at before)) (if b then viewed h e n' else value h e n') last last
       (if_same b (viewed h e (at before)) (value h e (at before)) (viewed h e n') (value h e n')
-      (scalar_on AsView e stays before on takes compares allowed n' same) (scalar_on AsValue e stays before on takes compares allowed n' same))
+      (scalar_on AsView e stays before on takes calls compares allowed n' same) (scalar_on AsValue e stays before on takes calls compares allowed n' same))
       (λ ws n n'' now. value_there x ws n n'' now)
 
   any_quiet : {A : Type 0} (on : List (List machine.Word)) (P : A → Type 0) (x : Evaluated A) → Quiet (at on) P x → Quiet (at on) (Any {A = A}) x
   any_quiet on P (Done a n) q = (q.0, tt)
   any_quiet on P (Raises e n) q = q
   any_quiet on P (Traps e n) q = q
-
-  -- a name that goes through no access value has nothing moved on its way
-  direct_clean : (x : ℕ) (path : TypedTree) → goes_through_none path ≡ true → Clean x path
-  direct_clean x path direct w named same_name v past moved =
-      let none : has_deref (ways.sels_of w) ≡ false = ap (λ (z : PlaceName). has_deref z.sels) same_name ∙ selectors_direct path direct in
-      let no : true ≡ false = sym (past_deref v w past) ∙ none in cc
 
   read_back : (x : ℕ) (k : Place) (n n' : Now) → NoneGone (slots_of h.typing n.memory k) → SameNow h.typing n n'
       → SameTo h.typing (followed_by (checked h (type_of h x) (words_of h.typing n.memory k) n) (λ ws now. Done (From k) now))
@@ -538,33 +417,33 @@ module _ (h : Here) (settled : IsSettled h.typing.table) (hands : List Waiting) 
   -- an actual, by the mode of its formal
   given_same : (before on : List (List machine.Word)) (mode_of : Mode) (x : ℕ) (e : TypedTree) → IsActualBy h.typing mode_of e
       → (is_in mode_of ≡ false → goes_through_none e ≡ true)
-      → Takes (waiting e) before on → Compares h.typing e → AllowsAll facts (acts (head_acts h.typing own_law mode_of e)) → (n' : Now) → SameNowAt before n'
+      → Takes (waiting e) before on → asks.calls (has_call e) → Compares h.typing e → AllowsAll facts (acts (head_acts h.typing own_law mode_of e)) → (n' : Now) → SameNowAt before n'
       → SameTo h.typing (passed h (way_by h.typing own_law mode_of) x e (at before)) (passed h (way_by h.typing own_law mode_of) x e n')
-  unfolding Compares goes_through_none waiting
-  given_same before on mode.In x e stays direct takes compares allowed n' same = passed_same before on x e stays takes compares allowed n' same
-  given_same before on mode.Out x (Name p y path u) (t, (lead, type), plain) direct takes compares allowed n' same =
+  unfolding Compares goes_through_none has_call waiting
+  given_same before on mode.In x e stays direct takes calls compares allowed n' same = passed_same before on x e stays takes calls compares allowed n' same
+  given_same before on mode.Out x (Name p y path u) (t, (lead, type), plain) direct takes calls compares allowed n' same =
       simply h.typing (place_of h (Name p y path u) (at before)) (place_of h (Name p y path u) n') (λ k now. Done (To k) now) (λ k now. Done (To k) now)
-      (place_on before on p y u path lead takes compares allowed (direct_clean y path (direct refl)) n' same).0 (λ k n n'' now. (refl, now))
-  given_same before on mode.Out x e (t, never, plain) direct takes compares allowed n' same = absurd never
-  given_same before on mode.InOut x (Name p y path u) (t, (lead, type), plain) direct takes compares allowed n' same =
-      let place = place_on before on p y u path lead takes compares allowed (direct_clean y path (direct refl)) n' same in
+      (place_on before on p y u path lead takes calls compares allowed (IsThere on u) (λ way goes. law.direct on y u path way goes (direct refl)) n' same).0 (λ k n n'' now. (refl, now))
+  given_same before on mode.Out x e (t, never, plain) direct takes calls compares allowed n' same = absurd never
+  given_same before on mode.InOut x (Name p y path u) (t, (lead, type), plain) direct takes calls compares allowed n' same =
+      let place = place_on before on p y u path lead takes calls compares allowed (IsThere on u) (λ way goes. law.direct on y u path way goes (direct refl)) n' same in
       let back : Place → Now → Evaluated Passed =
       (λ k now. followed_by (checked h (type_of h x) (words_of h.typing now.memory k) now) (λ ws now. Done (From k) now)) in
-      then_same h.typing (IsPlaced on y u path) (place_of h (Name p y path u) (at before)) (place_of h (Name p y path u) n') back back place.1 place.0
-      (λ k n n'' found now. read_back x k n n'' (subst (λ (z : Now). NoneGone (slots_of h.typing z.memory k)) (sym found.2.1)
-      (scalar_none k found.2.0 u found.2.2 found.2.4 (subst (λ z. is_scalar (full h.typing.table z) ≡ true) (sym type) plain))) now)
-  given_same before on mode.InOut x e (t, never, plain) direct takes compares allowed n' same = absurd never
+      then_same h.typing (Found (IsThere on u)) (place_of h (Name p y path u) (at before)) (place_of h (Name p y path u) n') back back place.1 place.0
+      (λ k n n'' found now. read_back x k n n'' (subst (λ (z : Now). NoneGone (slots_of h.typing z.memory k)) (sym found.0)
+      (scalar_none k found.1 u found.2 found.3 (subst (λ z. is_scalar (full h.typing.table z) ≡ true) (sym type) plain))) now)
+  given_same before on mode.InOut x e (t, never, plain) direct takes calls compares allowed n' same = absurd never
 
   abbrev ways_of : List ℕ → List Passing
   ways_of formals = map (way_of h.typing own_law) formals
 
   pub all_on : (before on : List (List machine.Word)) (formals : List ℕ) (actuals : TypedTree) → AreActuals h.typing formals actuals → AreCopied h.typing formals actuals
-      → Takes (waiting actuals) before on
+      → Takes (waiting actuals) before on → asks.calls (has_call actuals)
       → Compares h.typing actuals → AllowsAll facts (acts (actual_values h.typing (map (way_of h.typing own_law) formals) actuals)) → (n' : Now) → SameNowAt before n'
       → SameTo h.typing (all_passed h (map (way_of h.typing own_law) formals) formals actuals (at before)) (all_passed h (map (way_of h.typing own_law) formals) formals actuals n')
-  unfolding Compares waiting
-  all_on before on [] actuals stay copied takes compares allowed n' same = (refl, same)
-  all_on before on (x ∷ formals) (More e rest) stay copied takes compares allowed n' same =
+  unfolding Compares has_call waiting
+  all_on before on [] actuals stay copied takes calls compares allowed n' same = (refl, same)
+  all_on before on (x ∷ formals) (More e rest) stay copied takes calls compares allowed n' same =
       let mode_of : Mode = (object_at h.typing x).mode in
       let two = takes_both (waiting e) (waiting rest) before on takes in
       let both : AllowsAll facts (acts (head_acts h.typing own_law mode_of e ++ actual_values h.typing (ways_of formals) rest)) =
@@ -573,14 +452,39 @@ module _ (h : Here) (settled : IsSettled h.typing.table) (hands : List Waiting) 
       (subst (AllowsAll facts) (acts_append (head_acts h.typing own_law mode_of e) (actual_values h.typing (ways_of formals) rest)) both) in
       let still : after (acts (head_acts h.typing own_law mode_of e)) facts ≡ facts =
       reads_keep (head_acts h.typing own_law mode_of e) (head_reads h.typing own_law mode_of e stay.0) facts in
+      let calling = asks.both_calls (has_call e) (has_call rest) calls in
       let quiet_there = any_quiet two.0 _ (passed h (way_by h.typing own_law mode_of) x e (at before))
-      (one_on h settled hands leaks m waits other facts kept sound alone live index_law own_law all_named before two.0 mode_of x e stay.0 copied.0 two.1 each.0) in
+      (law.passed x mode_of e stay.0 copied.0 before two.0 two.1 calling.0 each.0) in
       let next : Passed → Now → Evaluated (List Passed) = (λ a now. followed_by (all_passed h (ways_of formals) formals rest now) (λ more now. Done (a ∷ more) now)) in
       then_same h.typing (QuietAt two.0 (Any {A = Passed})) (passed h (way_by h.typing own_law mode_of) x e (at before)) (passed h (way_by h.typing own_law mode_of) x e n') next next quiet_there
-      (given_same before two.0 mode_of x e stay.0 copied.0 two.1 compares.0 each.0 n' same)
+      (given_same before two.0 mode_of x e stay.0 copied.0 two.1 calling.0 compares.0 each.0 n' same)
       (λ a n n'' q now. subst (λ z. SameTo h.typing (next a z) (next a n'')) (sym q.0)
       (simply h.typing (all_passed h (ways_of formals) formals rest (at two.0)) (all_passed h (ways_of formals) formals rest n'') (λ more now. Done (a ∷ more) now) (λ more now. Done (a ∷ more) now)
-      (all_on two.0 on formals rest stay.1 copied.1 two.2 compares.1 (subst (λ z. AllowsAll z (acts (actual_values h.typing (ways_of formals) rest))) still each.1) n''
+      (all_on two.0 on formals rest stay.1 copied.1 two.2 calling.1 compares.1 (subst (λ z. AllowsAll z (acts (actual_values h.typing (ways_of formals) rest))) still each.1) n''
       (subst (λ z. SameNow h.typing z n'') q.0 now))
       (λ more k k' last. (refl, last))))
-  all_on before on (x ∷ formals) actuals stay copied takes compares allowed n' same = (refl, same)
+  all_on before on (x ∷ formals) actuals stay copied takes calls compares allowed n' same = (refl, same)
+
+  -- And what is passed is a value of one word, or a place in a variable.
+  pub all_quiet : (before on : List (List machine.Word)) (formals : List ℕ) (actuals : TypedTree) → AreActuals h.typing formals actuals → AreCopied h.typing formals actuals
+      → TakesAll formals actuals before on → asks.calls (has_call actuals) → AllowsAll facts (acts (actual_values h.typing (map (way_of h.typing own_law) formals) actuals))
+      → Quiet (record { memory = m; waits = on }) (λ passed. AreLaid h.typing passed)
+      (all_passed h (map (way_of h.typing own_law) formals) formals actuals (record { memory = m; waits = before }))
+  unfolding has_call
+  all_quiet before on [] actuals stay copied takes calls allowed = (ap at takes, tt)
+  all_quiet before on (x ∷ formals) (More e rest) stay copied (mid, takes, more) calls allowed =
+      let mode_of : Mode = (object_at h.typing x).mode in
+      let calling = asks.both_calls (has_call e) (has_call rest) calls in
+      let each = allows_both facts (acts (head_acts h.typing own_law mode_of e)) (acts (actual_values h.typing (ways_of formals) rest))
+      (subst (AllowsAll facts) (acts_append (head_acts h.typing own_law mode_of e) (actual_values h.typing (ways_of formals) rest))
+      (subst (λ z. AllowsAll facts (acts z)) (head_values h.typing own_law mode_of e (ways_of formals) rest) allowed)) in
+      let still : after (acts (head_acts h.typing own_law mode_of e)) facts ≡ facts =
+      reads_keep (head_acts h.typing own_law mode_of e) (head_reads h.typing own_law mode_of e stay.0) facts in
+      quiet_from (at mid) (at on) (λ a. IsLaid h.typing a) (λ passed. AreLaid h.typing passed) refl (passed h (way_by h.typing own_law mode_of) x e (at before))
+      (λ a now. followed_by (all_passed h (ways_of formals) formals rest now) (λ more_passed now. Done (a ∷ more_passed) now))
+      (law.passed x mode_of e stay.0 copied.0 before mid takes calling.0 each.0)
+      (λ a is. quiet_then (at on) (λ passed. AreLaid h.typing passed) (λ passed. AreLaid h.typing passed) (all_passed h (ways_of formals) formals rest (at mid))
+      (λ more_passed now. Done (a ∷ more_passed) now)
+      (all_quiet mid on formals rest stay.1 copied.1 more calling.1 (subst (λ z. AllowsAll z (acts (actual_values h.typing (ways_of formals) rest))) still each.1))
+      (λ more_passed are. (refl, (is, are))))
+  all_quiet before on (x ∷ formals) actuals stay copied takes calls allowed = (ap at takes, tt)

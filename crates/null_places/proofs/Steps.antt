@@ -2,21 +2,22 @@
 use Rattle.std.proofs.Common.{◌≡◌, refl, sym, ap, ◌∙◌, subst, inl, inr, ℕ, suc, ◌+◌, ◌<◌, Bool, true, false, not, ◌||◌, List, [], ◌∷◌, ◌++◌, map, take, length, append-nil, Option, Some, None, if◌then◌else◌}
 use Rattle.spark_base.specs.Lists.{Has}
 use Rattle.spark_base.proofs.Lists.{Has-map_from, Has-append_left}
+use Rattle.spark_base.specs.declared.position.Pos.{Pos}
 use Rattle.place_names.specs.declared.act.Act.{Act}
 use Rattle.place_names.specs.declared.act.Act.TheVariants as act
 use Rattle.place_names.specs.declared.act.Placed.{Placed}
 use Rattle.place_names.specs.declared.fact.Fact.{Fact}
 use Rattle.place_names.specs.Rules.{forbids}
-use Rattle.type_definitions.specs.Types.{Table, shape_of}
+use Rattle.type_definitions.specs.Types.{Table, shape_of, full}
 use Rattle.type_definitions.specs.declared.table.Shape.TheVariants as shape
 use Rattle.typed_tree.specs.Trees.{TypedTree, Name, NoMore, More}
 use Rattle.typed_tree.specs.Programs.{TypedProgram}
 use Rattle.flow_paths.specs.declared.report.Effects.{Effects}
 use Rattle.flow_paths.specs.Instructions.{Instruction, Skip, Declare, Assign, Call, Output, Input, Release, Test, Choose, Start, Next, Evaluate, LeaveLoop, Hold, EndScope, Finish, Fall}
-use Rattle.flow_paths.specs.Objects.{Typing, sub_at, passings, Passing, traverses}
-use Rattle.flow_paths.specs.Names.{has_call, waiting as waits_in}
+use Rattle.flow_paths.specs.Objects.{Typing, sub_at, passings, Passing, traverses, is_anonymous, is_observer, object_at}
+use Rattle.flow_paths.specs.Names.{has_call, waiting as waits_in, whole, first, written, source}
 use Rattle.flow_paths.specs.Acts as flow
-use Rattle.flow_paths.specs.Acts.{acts_of, acts_in}
+use Rattle.flow_paths.specs.Acts.{acts_of, acts_in, declared_acts, assigned_to, stored_acts, source_acts, index_acts, reborrow, observe, target_pos}
 use Rattle.flow_paths.specs.Points.{NamedPoint, FlowPoint}
 use Rattle.flow_paths.specs.Laid.{FlowSub, FlowProgram, NamedSub, flow_sub, kept_roots, sub_facts, typing_of, flow_typing, flow_program, flow_named}
 use Rattle.flow_paths.specs.Paths.{ControlPath, facts_before}
@@ -24,7 +25,8 @@ use Rattle.flow_paths.specs.Effects.{act_writes, act_reads, flow_sub_at, path_po
 use Rattle.flow_paths.specs.Scopes.{taken}
 use Rattle.machine.specs.Words as machine
 use Rattle.machine.specs.Memory.{Memory}
-use Rattle.machine.specs.States.{Frame, State, Goes, sub_of}
+use Rattle.machine.specs.Evaluate.{Here}
+use Rattle.machine.specs.States.{Waiting, Frame, State, Goes, sub_of}
 use Rattle.machine.specs.Step.{Turn, turn, start}
 use Rattle.machine.specs.Step as steps
 use Rattle.machine.specs.Owners.{waiting_in}
@@ -32,7 +34,7 @@ use Rattle.machine.specs.Run.{step}
 use Rattle.owned_ways.specs.Ways.{Way, Sound, AllowsAll}
 use Rattle.soundness.specs.Seen.{home, IsNear, is_view_formal}
 use Rattle.soundness.specs.Typed.{Kept}
-use Rattle.typed_laws.specs.Needed.{IsFine, Source, FirstWrites, FirstStays, Returns}
+use Rattle.typed_laws.specs.Needed.{IsFine, Source, Gives, FirstWrites, FirstStays, Returns}
 use Rattle.soundness.specs.Sound.{calls_procedures, Stage, facts_of, Elsewhere, AreStages, AreRunning, AreWaiting, AreAwaited, InScope, IsNoCall, IsNamedSub, IsAtPoint, view_of, IsSound, AreCopied}
 use Rattle.soundness.specs.Ready.{IsCalled, IsSupplied, IsReady}
 use Rattle.soundness.proofs.Scalars.{acts, acts_append, allows_both}
@@ -47,13 +49,16 @@ use Rattle.soundness.proofs.Taking.{Takes, takes_as, takes_both, no_takes, Takes
 use Rattle.soundness.proofs.Eased.{takes_all}
 use Rattle.soundness.proofs.Operands.{handed_over, hold_is}
 use Rattle.soundness.proofs.Successors.{not_true, both_not, finish_or, call_or}
-use Rattle.soundness.proofs.Instructions.{not_anonymous}
+use Rattle.soundness.proofs.Instructions.{not_anonymous, not_borrower, not_observer}
+use Rattle.soundness.proofs.Numbers.{index_law}
 use Rattle.soundness.proofs.Standing.{no_in_formals, sub_is, step_is, supplied, fine, acts_agree, facts_are, allowed_whole, allowed}
 use Rattle.soundness.proofs.Innermost.{from_both as sound_from_both, sound as sound_now, unused as sound_unused, allowed_now as sound_allowed}
 use Rattle.null_places.specs.Agrees.{Agrees}
 use Rattle.null_places.specs.Compares.{Compares, ComparesIn, AreCompared}
 use Rattle.null_places.proofs.Only.{OnlyOwners}
+use Rattle.null_places.proofs.Laws.{Premises, Values}
 use Rattle.null_places.proofs.Calls.{call_same, finish_same}
+use Rattle.null_places.proofs.Plain.{plain_premises, IsReadyIn, plain_values}
 use Rattle.null_places.proofs.Instructions.{SameStepBy, SameStep, twin, both_are, step_simply, source_same, declare_on, assign_on, end_scope_same, release_on, input_on, skip_same, fall_same, test_on, choose_on, leave_loop_on, operand_on, output_on, line_same, start_on, next_same}
 
 module _ (table : Table) (typed : TypedProgram) (effects : Effects) (input : List ℕ) (ready : IsReady table typed effects)
@@ -73,6 +78,10 @@ module _ (table : Table) (typed : TypedProgram) (effects : Effects) (input : Lis
   -- whether an instruction has a call, where only procedures are called
   abbrev Plainly : Instruction → Type 0
   Plainly i = (calls : Bool) → (calls_procedures i ≡ true → calls ≡ false) → TakesPlainly s calls
+
+  given_there : (u : ℕ) (e : TypedTree) → Source s u e → Gives s u e
+  given_there u e (inl view) = absurd (let no : true ≡ false = sym view.0 ∙ not_anonymous s ready.class.all_named u in cc)
+  given_there u e (inr gives) = gives
 
   -- ---- an instruction that is no call, at a point
 
@@ -94,90 +103,129 @@ module _ (table : Table) (typed : TypedProgram) (effects : Effects) (input : Lis
     abbrev TakesIn : Instruction → Type 0
     TakesIn i = Takes (taken i) (start t).waits on
 
+    abbrev h : Here
+    h = steps.here t
+
+    abbrev asks : Premises h
+    asks = plain_premises h
+
+    abbrev ready_in : Memory → List Waiting → List Fact → Type 0
+    ready_in m hands known = IsReadyIn h ready.accepted.settled state.leaks other alone no_views index_law ready.owns ready.class.all_named m hands known
+
+    laws : Values h ready.owns asks ready_in
+    laws = plain_values h ready.accepted.settled state.leaks other alone no_views index_law ready.owns ready.class.all_named
+
+    so : ready_in state.memory (waiting_in state) facts
+    so = record { sound = sound; kept = kept }
+
+    owner : (u : ℕ) → is_anonymous (full s.table u) ≡ false
+    owner u = not_anonymous s ready.class.all_named u
+
+    -- without borrowers and observers
+    declared_plain : (x : ℕ) (v : TypedTree) → declared_acts s x v ≡ acts_in s v
+    declared_plain x v =
+        ap (λ b. if b then source_acts s (first v) (act.Borrow x) else
+        (if is_observer s x then source_acts s (first v) (observe s x) else acts_in s v)) (not_borrower s ready.class.all_named x)
+        ∙ ap (λ b. if b then source_acts s (first v) (observe s x) else acts_in s v) (not_observer s ready.class.all_named x)
+
+    assigned_plain : (q : Pos) (o : Option ℕ) (target e : TypedTree) → assigned_to s q o target e ≡ stored_acts s target e
+    assigned_plain q None target e = refl
+    assigned_plain q (Some x) target e =
+        ap (λ b. if b then index_acts s e ++ reborrow (target_pos q (written target)) x (source e)
+        else (if is_observer s x then source_acts s e (observe s x) else stored_acts s target e)) (not_borrower s ready.class.all_named x)
+        ∙ ap (λ b. if b then source_acts s e (observe s x) else stored_acts s target e) (not_observer s ready.class.all_named x)
+
     assigns : (target e : TypedTree) → IsFine s named.sub.result (Assign target e) → TakesIn (Assign target e) → Plainly (Assign target e)
         → ComparesIn s (Assign target e) → AllowsAll facts (acts_by (Assign target e)) → Same (Assign target e)
     unfolding has_call waits_in Compares
     assigns (Name q x path u) e (v, (leads, type), source) takes plainly compares allowed_there =
         let two = takes_both (waits_in e) (waits_in path) (start t).waits on takes in
-        assign_on t ready.accepted.settled ready.owns other alone no_views ready.class.all_named facts sound kept only n agrees two.0 on
-        p.pos q x u path e (subst (λ z. Source s z e) (sym type) source) leads
-        (plainly (has_call e) (λ calls. (both_not (has_call path) (has_call e) calls).1)) two.1 two.2 compares.0 compares.1 allowed_there
+        assign_on t ready.accepted.settled ready.owns asks ready_in laws facts so only n agrees two.0 on
+        q x u path e (owner u) tt (given_there u e (subst (λ z. Source s z e) (sym type) source)) leads
+        (plainly (has_call e) (λ calls. (both_not (has_call path) (has_call e) calls).1))
+        (plainly (has_call path) (λ calls. (both_not (has_call path) (has_call e) calls).0)) two.1 two.2 compares.0 compares.1
+        (subst (λ z. AllowsAll facts (acts z)) (assigned_plain p.pos (whole (Name q x path u)) (Name q x path u) e) allowed_there) tt
     assigns target e (v, never, source) takes plainly compares allowed_there = absurd never
 
-    writes : (text : TypedTree) (line : Bool) → FirstWrites s text → TakesIn (Output text line) → ComparesIn s (Output text line)
+    writes : (text : TypedTree) (line : Bool) → FirstWrites s text → TakesIn (Output text line) → Plainly (Output text line) → ComparesIn s (Output text line)
         → AllowsAll facts (acts_by (Output text line)) → Same (Output text line)
-    unfolding acts_in waits_in Compares
-    writes (More e rest) line (last, text) takes compares allowed_there =
-        output_on t ready.accepted.settled ready.owns other alone no_views ready.class.all_named facts sound kept only n agrees on
+    unfolding acts_in has_call waits_in Compares
+    writes (More e rest) line (last, text) takes plainly compares allowed_there =
+        output_on t ready.accepted.settled ready.owns asks ready_in laws facts so only n agrees on
         e rest line last text
         (takes_as (taken (Output (More e rest) line)) (waits_in e) (start t).waits on (ap (λ z. waits_in e + waits_in z) last ∙ nothing_more (waits_in e)) takes)
+        (plainly (has_call e) (λ calls. (or_both (has_call e) (has_call rest) (not_true (has_call e || has_call rest) calls)).0))
         compares.0 allowed_there
-    writes NoMore line text takes compares allowed_there =
-        line_same t ready.accepted.settled ready.owns other alone no_views ready.class.all_named facts sound kept only n agrees line
-    writes other_text line never takes compares allowed_there = absurd never
+    writes NoMore line text takes plainly compares allowed_there =
+        line_same t ready.accepted.settled ready.owns asks ready_in laws facts so only n agrees line
+    writes other_text line never takes plainly compares allowed_there = absurd never
 
-    reads : (target : TypedTree) → IsFine s named.sub.result (Input target) → TakesIn (Input target) → ComparesIn s (Input target)
+    reads : (target : TypedTree) → IsFine s named.sub.result (Input target) → TakesIn (Input target) → Plainly (Input target) → ComparesIn s (Input target)
         → AllowsAll facts (acts_by (Input target)) → Same (Input target)
-    unfolding waits_in Compares
-    reads (Name q x path u) (v, (leads, type), scalar) takes compares allowed_there =
-        input_on t ready.accepted.settled ready.owns other alone no_views ready.class.all_named facts sound kept only n agrees on
-        q x u path leads takes compares allowed_there
-    reads target (v, never, scalar) takes compares allowed_there = absurd never
+    unfolding has_call waits_in Compares
+    reads (Name q x path u) (v, (leads, type), scalar) takes plainly compares allowed_there =
+        input_on t ready.accepted.settled ready.owns asks ready_in laws facts so only n agrees on
+        q x u path leads takes (plainly (has_call path) (λ none. not_true (has_call path) none)) compares allowed_there
+    reads target (v, never, scalar) takes plainly compares allowed_there = absurd never
 
-    releases : (target : TypedTree) → IsFine s named.sub.result (Release target) → TakesIn (Release target) → ComparesIn s (Release target)
+    releases : (target : TypedTree) → IsFine s named.sub.result (Release target) → TakesIn (Release target) → Plainly (Release target) → ComparesIn s (Release target)
         → AllowsAll facts (acts_by (Release target)) → Same (Release target)
-    unfolding waits_in Compares
-    releases (Name q x path u) (v, d, (leads, type), access) takes compares allowed_there =
-        release_on t ready.accepted.settled ready.owns other alone no_views ready.class.all_named facts sound kept only n agrees on
-        q x u d path (subst (λ z. shape_of s.table z ≡ shape.Access d false true) (sym type) access) leads takes compares allowed_there
-    releases target (v, d, never, access) takes compares allowed_there = absurd never
+    unfolding has_call waits_in Compares
+    releases (Name q x path u) (v, d, (leads, type), access) takes plainly compares allowed_there =
+        release_on t ready.accepted.settled ready.owns asks ready_in laws facts so only n agrees on
+        q x u d path (subst (λ z. shape_of s.table z ≡ shape.Access d false true) (sym type) access) leads takes
+        (plainly (has_call path) (λ none. not_true (has_call path) none)) compares allowed_there tt
+    releases target (v, d, never, access) takes plainly compares allowed_there = absurd never
 
-    leaves : (e : TypedTree) → FirstStays s e → TakesIn (LeaveLoop e) → ComparesIn s (LeaveLoop e)
+    leaves : (e : TypedTree) → FirstStays s e → TakesIn (LeaveLoop e) → Plainly (LeaveLoop e) → ComparesIn s (LeaveLoop e)
         → AllowsAll facts (acts_by (LeaveLoop e)) → Same (LeaveLoop e)
-    unfolding acts_in waits_in Compares
-    leaves (More e rest) (last, stays) takes compares allowed_there =
-        leave_loop_on t ready.accepted.settled ready.owns other alone no_views ready.class.all_named facts sound kept only n agrees on
+    unfolding acts_in has_call waits_in Compares
+    leaves (More e rest) (last, stays) takes plainly compares allowed_there =
+        leave_loop_on t ready.accepted.settled ready.owns asks ready_in laws facts so only n agrees on
         e rest last stays
         (takes_as (taken (LeaveLoop (More e rest))) (waits_in e) (start t).waits on (ap (λ z. waits_in e + waits_in z) last ∙ nothing_more (waits_in e)) takes)
+        (plainly (has_call e) (λ calls. (or_both (has_call e) (has_call rest) (not_true (has_call e || has_call rest) calls)).0))
         compares.0 allowed_there
-    leaves NoMore text takes compares allowed_there =
-        skip_same t ready.accepted.settled ready.owns other alone no_views ready.class.all_named facts sound kept only n agrees
-    leaves e never takes compares allowed_there = absurd never
+    leaves NoMore text takes plainly compares allowed_there =
+        skip_same t ready.accepted.settled ready.owns asks ready_in laws facts so only n agrees
+    leaves e never takes plainly compares allowed_there = absurd never
 
     pub each_same : (i : Instruction) → IsNoCall i → (i ≡ Finish → ⊥) → ((v : TypedTree) → i ≡ Hold v → Same (Hold v)) → IsFine s named.sub.result i
         → TakesIn i → Plainly i → ComparesIn s i → AllowsAll facts (acts_by i) → Same i
     each_same Skip calls going hold text takes plainly compares allowed_there =
-        skip_same t ready.accepted.settled ready.owns other alone no_views ready.class.all_named facts sound kept only n agrees
+        skip_same t ready.accepted.settled ready.owns asks ready_in laws facts so only n agrees
     each_same (Declare x v) calls going hold text takes plainly compares allowed_there =
-        declare_on t ready.accepted.settled ready.owns other alone no_views ready.class.all_named facts sound kept only n agrees on
-        x v text (plainly (has_call v) (λ none. not_true (has_call v) none)) takes compares allowed_there
+        declare_on t ready.accepted.settled ready.owns asks ready_in laws facts so only n agrees on
+        x v (owner (object_at s x).of) tt text (plainly (has_call v) (λ none. not_true (has_call v) none)) takes compares
+        (subst (λ z. AllowsAll facts (acts z)) (declared_plain x v) allowed_there) tt
     each_same (Assign target e) calls going hold text takes plainly compares allowed_there = assigns target e text takes plainly compares allowed_there
     each_same (Call sub actuals result) calls going hold text takes plainly compares allowed_there = absurd (calls sub actuals result refl)
-    each_same (Output text line) calls going hold writing takes plainly compares allowed_there = writes text line writing takes compares allowed_there
-    each_same (Input target) calls going hold text takes plainly compares allowed_there = reads target text takes compares allowed_there
-    each_same (Release e) calls going hold text takes plainly compares allowed_there = releases e text takes compares allowed_there
+    each_same (Output text line) calls going hold writing takes plainly compares allowed_there = writes text line writing takes plainly compares allowed_there
+    each_same (Input target) calls going hold text takes plainly compares allowed_there = reads target text takes plainly compares allowed_there
+    each_same (Release e) calls going hold text takes plainly compares allowed_there = releases e text takes plainly compares allowed_there
     each_same (Test e) calls going hold stays takes plainly compares allowed_there =
-        test_on t ready.accepted.settled ready.owns other alone no_views ready.class.all_named facts sound kept only n agrees on
-        e stays takes compares allowed_there
+        test_on t ready.accepted.settled ready.owns asks ready_in laws facts so only n agrees on
+        e stays takes (plainly (has_call e) (λ none. not_true (has_call e) none)) compares allowed_there
     each_same (Choose e choices) calls going hold stays takes plainly compares allowed_there =
-        choose_on t ready.accepted.settled ready.owns other alone no_views ready.class.all_named facts sound kept only n agrees on
-        e choices stays takes compares allowed_there
+        choose_on t ready.accepted.settled ready.owns asks ready_in laws facts so only n agrees on
+        e choices stays takes (plainly (has_call e) (λ none. not_true (has_call e) none)) compares allowed_there
     each_same (Start x reversed low high) calls going hold (scalar, stays, stays') takes plainly compares allowed_there =
         let two = takes_both (waits_in low) (waits_in high) (start t).waits on takes in
-        start_on t ready.accepted.settled ready.owns other alone no_views ready.class.all_named facts sound kept only n agrees two.0 on
-        x low high stays stays' two.1 two.2 compares.0 compares.1 allowed_there
+        start_on t ready.accepted.settled ready.owns asks ready_in laws facts so only n agrees two.0 on
+        x low high stays stays' two.1 two.2 (plainly (has_call low) (λ none. (both_not (has_call low) (has_call high) none).0))
+        (plainly (has_call high) (λ none. (both_not (has_call low) (has_call high) none).1)) compares.0 compares.1 allowed_there
     each_same (Next x reversed low high) calls going hold scalar takes plainly compares allowed_there =
-        next_same t ready.accepted.settled ready.owns other alone no_views ready.class.all_named facts sound kept only n agrees x reversed scalar
+        next_same t ready.accepted.settled ready.owns asks ready_in laws facts so only n agrees x reversed scalar
     each_same (Evaluate temporary e op) calls going hold stays takes plainly compares allowed_there =
-        operand_on t ready.accepted.settled ready.owns other alone no_views ready.class.all_named facts sound kept only n agrees on
-        e op stays takes compares allowed_there
-    each_same (LeaveLoop e) calls going hold text takes plainly compares allowed_there = leaves e text takes compares allowed_there
+        operand_on t ready.accepted.settled ready.owns asks ready_in laws facts so only n agrees on
+        e op stays takes (plainly (has_call e) (λ none. (let no : false ≡ true = none in cc))) compares allowed_there
+    each_same (LeaveLoop e) calls going hold text takes plainly compares allowed_there = leaves e text takes plainly compares allowed_there
     each_same (Hold v) calls going hold text takes plainly compares allowed_there = hold v refl
     each_same (EndScope x) calls going hold text takes plainly compares allowed_there =
-        end_scope_same t ready.accepted.settled ready.owns other alone no_views ready.class.all_named facts sound kept only n agrees x
+        end_scope_same t n agrees only x
     each_same Finish calls going hold text takes plainly compares allowed_there = absurd (going refl)
     each_same Fall calls going hold text takes plainly compares allowed_there =
-        fall_same t ready.accepted.settled ready.owns other alone no_views ready.class.all_named facts sound kept only n agrees
+        fall_same t ready.accepted.settled ready.owns asks ready_in laws facts so only n agrees
 
   -- ---- the package objects
 
@@ -301,6 +349,18 @@ module _ (table : Table) (typed : TypedProgram) (effects : Effects) (input : Lis
       | inl procedures ↦ inl (none (sym (ap calls_procedures e) ∙ procedures (flow_sub own named) in_subs here in_points))
     ]
 
+    -- ---- names and expressions
+
+    abbrev ready_there : Memory → List Waiting → List Fact → Type 0
+    ready_there m hands known =
+        IsReadyIn (steps.here turn_here) ready.accepted.settled state.leaks far alone_there no_views index_law ready.owns ready.class.all_named m hands known
+
+    laws_there : Values (steps.here turn_here) ready.owns (plain_premises (steps.here turn_here)) ready_there
+    laws_there = plain_values (steps.here turn_here) ready.accepted.settled state.leaks far alone_there no_views index_law ready.owns ready.class.all_named
+
+    so_now : ready_there state.memory (waiting_in state) facts_now
+    so_now = record { sound = well_now; kept = kept }
+
     -- ---- a return
 
     holds_value : (e : TypedTree) (of : ℕ) → p.instr ≡ Hold (More e NoMore) → named.sub.result ≡ Some of → Source s of e
@@ -320,17 +380,17 @@ module _ (table : Table) (typed : TypedProgram) (effects : Effects) (input : Lis
         (step_simply turn_here n agrees (steps.taken_by turn_here of e (start turn_here)) (steps.taken_by turn_here of e (start (twin turn_here n)))
         (λ ws m. Goes (handed_over program input here state top.frame below.frame rest of ws m))
         (λ ws m. Goes (handed_over program input here (record state { memory = n }) top.frame below.frame rest of ws m))
-        (source_same turn_here ready.accepted.settled ready.owns far alone_there no_views ready.class.all_named facts_now well_now kept only n agrees []
-        of e source
+        (source_same turn_here ready.accepted.settled ready.owns (plain_premises (steps.here turn_here)) ready_there laws_there facts_now so_now only n agrees []
+        of e (not_anonymous s ready.class.all_named of) tt (given_there of e source)
         (plainly (Hold (More e NoMore)) is (has_call e) (λ calls. (or_both (has_call e) (has_call NoMore) (not_true (has_call e || has_call NoMore) calls)).0))
         (takes_as (taken (Hold (More e NoMore))) (waits_in e) (start turn_here).waits [] (nothing_more (waits_in e)) (takes_of (Hold (More e NoMore)) is))
-        compares.0 (subst (AllowsAll facts_now) same allowed_there))
+        compares.0 (subst (AllowsAll facts_now) same allowed_there) tt)
         (λ ws i j now. ((refl, now.0), now.2)))
 
     returns : (v : TypedTree) (r : Option ℕ) → p.instr ≡ Hold v → named.sub.result ≡ r → Returns s r v → ComparesIn s (Hold v)
         → AllowsAll facts_now (acts (placed_by s (Hold v))) → SameHere (Hold v)
     returns v None is result none compares allowed_there =
-        subst SameHere (sym (ap Hold none)) (skip_same turn_here ready.accepted.settled ready.owns far alone_there no_views ready.class.all_named facts_now well_now kept only n agrees)
+        subst SameHere (sym (ap Hold none)) (skip_same turn_here ready.accepted.settled ready.owns (plain_premises (steps.here turn_here)) ready_there laws_there facts_now so_now only n agrees)
     returns v (Some of) is result (e, same, source) compares allowed_there =
         subst SameHere (sym (ap Hold same))
         (holds_value e of (is ∙ ap Hold same) result source (subst (λ z. ComparesIn s (Hold z)) same compares)
@@ -422,10 +482,16 @@ module _ (table : Table) (typed : TypedProgram) (effects : Effects) (input : Lis
           (sound_from_both table typed effects input ready state top below more rest named p frames deep stages running awaiting of_sub at_point path sound_before kept scope)
           own_allowed values_apart
 
+      call_plain : (r : Option ℕ) → calls_procedures (Call k actuals r) ≡ true → has_call actuals ≡ false
+      call_plain None none = not_true (has_call actuals) none
+      call_plain (Some u) none = cc
+
       calls_it : SameHere (Call k actuals result)
       calls_it =
-          call_same turn_here ready.accepted.settled ready.owns far alone_there no_views ready.class.all_named facts_now well_now kept only n agrees k actuals
-          scalar_formals ways_are called.actuals_stay copied_there [] (takes_of (Call k actuals result) e) (subst (ComparesIn s) e compares_here) values_allowed
+          call_same turn_here ready.accepted.settled ready.owns (plain_premises (steps.here turn_here)) facts_now
+          (laws_there.behaves state.memory (waiting_in state) facts_now so_now only) n agrees k actuals
+          scalar_formals ways_are called.actuals_stay copied_there [] (takes_of (Call k actuals result) e)
+          (plainly (Call k actuals result) e (has_call actuals) (λ none. call_plain result none)) (subst (ComparesIn s) e compares_here) values_allowed
 
     pub main_same : SameAt state n
     main_same =
@@ -433,7 +499,7 @@ module _ (table : Table) (typed : TypedProgram) (effects : Effects) (input : Lis
         (step_is table typed effects input ready (record state { memory = n }) top older outer named p frames of_sub at_point)
         (elim (finish_or p.instr) [
           | inl is ↦ subst SameHere (sym is)
-              (finish_same turn_here ready.accepted.settled ready.owns far facts_now n agrees (well_now, kept) only running.1.0 below.frame rest refl)
+              (finish_same turn_here ready.accepted.settled ready.owns n agrees kept only running.1.0 below.frame rest refl)
           | inr going ↦ elim (call_or p.instr) [
             | inr calls ↦ goes_plainly calls going
             | inl call ↦ subst SameHere (sym call.3) (calls_it call.0 call.1 call.2 call.3)

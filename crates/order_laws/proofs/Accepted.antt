@@ -65,8 +65,8 @@ module _ (p : Program) (effects : Effects) (no_fault : type_fault p ≡ None) (a
   module _ (class : IsFunctionClass (flow_program (known_of p).table (typed_of p))) (answered : AnswerCalls) (passed : PassActuals) (still : StillPackages) where
     pub third_ready : IsReady table (typed_of p) effects
     third_ready =
-        functions_ready table (typed_of p) effects accepted table_owns class is_in_order
-        (subst (AreAnswered table (typed_of p)) (sym rest_is) answered) passed (subst (AreStill table (typed_of p)) (sym first_is) still)
+        functions_ready table (typed_of p) effects accepted table_owns is_in_order
+        (subst (AreAnswered table (typed_of p)) (sym rest_is) answered) passed (subst (AreStill table (typed_of p)) (sym first_is) still) class
 
     -- Each moment of its run is well owned, and none is a trap.
     pub third_sound : (input : List ℕ) → RunIsSound table (typed_of p) input

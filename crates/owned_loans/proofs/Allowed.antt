@@ -19,7 +19,7 @@ use Rattle.place_names.specs.Rules.{lent, moved_or_borrowed, moved_or_lent, brea
 use Rattle.owned_ways.specs.Ways.{Way, name_of, number_of, sels_of, Allows}
 use Rattle.owned_ways.proofs.Assigned.{kept_fact, either_left}
 use Rattle.owned_loans.proofs.Clear.{refused}
-use Rattle.owned_loans.proofs.Safe.{Open, Unlent, Unborrowed, Unmoved}
+use Rattle.owned_loans.proofs.Safe.{Open, OpenWhole, Unlent, Unborrowed, Unmoved}
 
 pub either_right : (a b : Bool) → b ≡ true → a || b ≡ true
 either_right true b e = refl
@@ -60,6 +60,14 @@ look_open facts u allowed = record {
   moved = λ n has leads less.
       refused (breaks_O2 (name_of u) (Moved n)) O2 (name_of u) (Moved n) (either_left (leads_to n (name_of u)) false leads) (allowed (Moved n) has);
   lent = λ h n has leads less.
+      refused (breaks_O2 (name_of u) (Lent Borrowed h n)) O2 (name_of u) (Lent Borrowed h n) leads (allowed (Lent Borrowed h n) has);
+}
+
+pub look_whole : (facts : List Fact) (u : Way) → Allows facts (Look (name_of u)) → OpenWhole facts u
+look_whole facts u allowed = record {
+  moved = λ n has leads.
+      refused (breaks_O2 (name_of u) (Moved n)) O2 (name_of u) (Moved n) (either_left (leads_to n (name_of u)) false leads) (allowed (Moved n) has);
+  lent = λ h n has leads.
       refused (breaks_O2 (name_of u) (Lent Borrowed h n)) O2 (name_of u) (Lent Borrowed h n) leads (allowed (Lent Borrowed h n) has);
 }
 
@@ -113,6 +121,15 @@ free_open facts k allowed = record {
       (allowed (Lent Borrowed h n) has);
 }
 
+pub free_whole : (facts : List Fact) (k : Way) → Allows facts (Free (name_of k)) → OpenWhole facts k
+free_whole facts k allowed = record {
+  moved = λ n has leads.
+      refused (breaks_O14 (name_of k) (Moved n)) O14 (name_of k) (Moved n) (either_left (leads_to n (name_of k)) false leads) (allowed (Moved n) has);
+  lent = λ h n has leads.
+      refused (breaks_O14 (name_of k) (Lent Borrowed h n)) O14 (name_of k) (Lent Borrowed h n) (leads_overlaps n (name_of k) leads)
+      (allowed (Lent Borrowed h n) has);
+}
+
 pub free_unlent : (facts : List Fact) (k : Way) → Allows facts (Free (name_of k)) → Unlent facts k
 free_unlent facts k allowed l h n has over =
     refused (breaks_O14 (name_of k) (Lent l h n)) O14 (name_of k) (Lent l h n) over (allowed (Lent l h n) has)
@@ -122,6 +139,12 @@ free_unlent facts k allowed l h n has over =
 -- No name that was moved, and no place that is borrowed, overlaps a name.
 abbrev pub Cleared : List Fact → Way → Type 0
 Cleared facts u = Unborrowed facts u × Unmoved facts u
+
+pub cleared_whole : (facts : List Fact) (u : Way) → Cleared facts u → OpenWhole facts u
+cleared_whole facts u (unborrowed, unmoved) = record {
+  moved = λ n has leads. unmoved n has (leads_overlaps n (name_of u) leads);
+  lent = λ h n has leads. unborrowed h n has (leads_overlaps n (name_of u) leads);
+}
 
 pub cleared_open : (facts : List Fact) (u : Way) → Cleared facts u → Open facts u
 cleared_open facts u (unborrowed, unmoved) = record {

@@ -14,7 +14,7 @@ use Rattle.owned_ways.proofs.Dropped.{named_base}
 use Rattle.owned_loans.specs.Views.{Around, Views, expand, HasLoan, IsThrough, IsAway, IsLentToOthers, Viewed}
 use Rattle.owned_loans.proofs.Ways.{Meet, flip, meets_on, beginnings, under_on, meet_overlaps, Lifted, next_of, lifts, lifted_root}
 use Rattle.owned_loans.proofs.Meeting.{IsPlain, next, Lends, Both, meeting}
-use Rattle.owned_loans.proofs.Safe.{under_shorter, Open, Unlent, Unborrowed, Unmoved, loan_of, no_both, open_way, seen_way, clean_below, seen_below}
+use Rattle.owned_loans.proofs.Safe.{under_shorter, Open, OpenWhole, Unlent, Unborrowed, Unmoved, loan_of, no_both, open_way, open_itself, seen_way, clean_below, seen_below}
 
 -- what a way begins with doesn't go past it
 past_front : (k w : Way) → Under k w → Past w k → ⊥
@@ -137,6 +137,19 @@ module _ (home : ℕ → ℕ) (observer : ℕ → Bool) (other : Around home) (v
         not_longer : (t w : Way) → Under t w → (length (sels_of t) ≡ length (sels_of w)) ⊎ (length (sels_of t) < length (sels_of w))
         not_longer t w u = elim (under_shorter t w u) [ inl e ↦ inl (ap (λ z. length (sels_of z)) e) | inr less ↦ inr less ]
 
+    -- nor is it one that is open as a whole
+    itself_through : (u : Way) → IsName u → OpenWhole facts u → Under k (expand v u) → ⊥
+    itself_through u name free under =
+        elim (meeting home observer v s facts viewed.views k u (plain Borrowed k named lent) name
+        (subst (λ z. Under z (expand v u)) (sym (itself Borrowed k named lent)) under)) [
+          | inl above ↦ free.lent (number_of k) (name_of k) has (under_leads k u above)
+          | inr more ↦ elim more [
+            | inl a ↦ free.lent a.object (name_of (v.loan a.object)) (loan a.object a.lends)
+                (under_leads (v.loan a.object) u (under_on (v.loan a.object) a.name u a.loan a.begins))
+            | inr more ↦ elim more [ inl b ↦ apart Borrowed k named lent b.object b.lends (flip k (v.loan b.object) b.meets) | inr c ↦ none_both c ]
+          ]
+        ]
+
     -- a name through an observer meets none
     seen_through : (u w : Way) (z : Lifted v u) → Named home u → observer z.object ≡ true → Under k w → Meet w (expand v u) → ⊥
     seen_through u w z named_u is under meets =
@@ -191,6 +204,11 @@ module _ (home : ℕ → ℕ) (observer : ℕ → Bool) (other : Around home) (v
   pub open_away : (u w : Way) → IsName u → Open facts u → Past w (expand v u) → IsAway home v other facts w → ⊥
   open_away u w name free past (inl moved) = open_way home observer v s facts viewed.views viewed.clear u w name free past moved
   open_away u w name free past (inr away) = (let t = other.through w away in open_through t.0 t.1 t.3 u w name free t.2 past)
+
+  -- nor is it the name itself, if that is open as a whole
+  pub itself_away : (u : Way) → IsName u → OpenWhole facts u → IsAway home v other facts (expand v u) → ⊥
+  itself_away u name free (inl moved) = open_itself home observer v s facts viewed.views viewed.clear u name free moved
+  itself_away u name free (inr away) = (let t = other.through (expand v u) away in itself_through t.0 t.1 t.3 u name free t.2)
 
   -- nor above one through an observer
   pub seen_away : (u w : Way) (l : Lifted v u) → Named home u → observer l.object ≡ true → Past w (expand v u) → IsAway home v other facts w → ⊥

@@ -10,7 +10,7 @@ use Rattle.place_names.specs.declared.fact.Fact.{Fact}
 use Rattle.place_names.specs.declared.fact.Fact.TheVariants.{Moved, Lent}
 use Rattle.place_names.specs.Names.{Name, overlaps, leads_to}
 use Rattle.owned_ways.specs.Ways.{OfVariable, Way, Object, Lost, Into, All, View, Under, Past, Named, IsMoved, name_of, number_of, sels_of, sel_of}
-use Rattle.owned_ways.proofs.Locations.{past_under, not_past}
+use Rattle.owned_ways.proofs.Locations.{past_under, not_past, under_itself}
 use Rattle.owned_ways.proofs.Named.{longer, under_leads}
 use Rattle.owned_loans.specs.Views.{Views, expand, expand_root, IsMovedBy, AreClear, HasLoan, AreViews}
 use Rattle.owned_loans.proofs.Ways.{Meet, meets_on, beginnings, under_on, meet_overlaps, Lifted, next_of}
@@ -43,6 +43,11 @@ under_shorter t (All w) u = elim u [
 pub record Open (facts : List Fact) (u : Way) : Type 0 where
   pub moved : (n : Name) → Has facts (Moved n) → leads_to n (name_of u) ≡ true → length n.sels < length (sels_of u) → ⊥
   pub lent : (h : ℕ) (n : Name) → Has facts (Lent Borrowed h n) → leads_to n (name_of u) ≡ true → length n.sels < length (sels_of u) → ⊥
+
+-- None leads to it, the name itself or a shorter one.
+pub record OpenWhole (facts : List Fact) (u : Way) : Type 0 where
+  pub moved : (n : Name) → Has facts (Moved n) → leads_to n (name_of u) ≡ true → ⊥
+  pub lent : (h : ℕ) (n : Name) → Has facts (Lent Borrowed h n) → leads_to n (name_of u) ≡ true → ⊥
 
 -- No place that is lent overlaps a name.
 abbrev pub Unlent : List Fact → Way → Type 0
@@ -104,6 +109,18 @@ module _ (home : ℕ → ℕ) (observer : ℕ → Bool) (v : Views) (s : View) (
       not_longer t w u = elim (under_shorter t w u) [
         | inl e ↦ (let same = ap (λ z. length (sels_of z)) e in (omega arith))
         | inr less ↦ (omega arith)
+      ]
+
+  -- nor is it the name itself, if that is open as a whole
+  pub open_itself : (u : Way) → IsName u → OpenWhole facts u → IsMovedBy home v facts (expand v u) → ⊥
+  open_itself u plain free (m, moved, same) =
+      elim (meeting home observer v s facts views m u (moved_plain m moved) plain (subst (λ z. Under z (expand v u)) (sym same) (under_itself (expand v u)))) [
+        | inl under ↦ free.moved (name_of m) moved.1 (under_leads m u under)
+        | inr more ↦ elim more [
+          | inl a ↦ free.lent a.object (name_of (v.loan a.object)) (loan_of a.object a.lends)
+              (under_leads (v.loan a.object) u (under_on (v.loan a.object) a.name u a.loan a.begins))
+          | inr more ↦ elim more [ inl b ↦ not_beside m u moved b | inr c ↦ no_both c ]
+        ]
       ]
 
   -- nothing that was moved lies above a name through an observer

@@ -66,7 +66,7 @@ stored_named (Input target) x has = root_in target x has
 stored_named (Release e) x has = root_in e x has
 stored_named _ x has = absurd has
 
-seen_has : (outer : ℕ → Bool) (scope xs : List ℕ) (x : ℕ) → are_seen outer scope xs ≡ true → Has xs x → (outer x ≡ true) ⊎ (is_within x scope ≡ true)
+pub seen_has : (outer : ℕ → Bool) (scope xs : List ℕ) (x : ℕ) → are_seen outer scope xs ≡ true → Has xs x → (outer x ≡ true) ⊎ (is_within x scope ≡ true)
 seen_has outer scope [] x seen has = absurd has
 seen_has outer scope (y ∷ xs) x seen (inl e) =
     subst (λ z. (outer z ≡ true) ⊎ (is_within z scope ≡ true)) e
@@ -93,7 +93,7 @@ after_or (o ∷ xs) ts (suc x) = after_or xs ts x
 -- ---- the program
 
 module _ (table : Table) (typed : TypedProgram) (effects : Effects) (accepted : Accepted table typed effects)
-    (owns : OwnsByShape (flow_program table typed).table) (class : IsFunctionClass (flow_program table typed)) (order : IsInOrder table typed)
+    (owns : OwnsByShape (flow_program table typed).table) (order : IsInOrder table typed)
     (answered : AreAnswered table typed order.rest) (passed : ArePassed (flow_program table typed)) (still : AreStill table typed order.first) where
   abbrev program : FlowProgram
   program = flow_program table typed
@@ -107,21 +107,21 @@ module _ (table : Table) (typed : TypedProgram) (effects : Effects) (accepted : 
   alike : Agree s own
   alike = flow_agrees table typed
 
-  in_program : (named : NamedSub) → Has (flow_named table typed) named → Has program.subs (flow_sub own named)
+  pub in_program : (named : NamedSub) → Has (flow_named table typed) named → Has program.subs (flow_sub own named)
   unfolding flow_program
   in_program named has = Has-map (flow_sub own) (flow_named table typed) named has
 
   -- the package objects, or a body
-  abbrev Elaborates : NamedSub → Type 0
+  abbrev pub Elaborates : NamedSub → Type 0
   Elaborates named = elaborated own order.first ≡ named
 
-  abbrev OfBody : NamedSub → Type 0
+  abbrev pub OfBody : NamedSub → Type 0
   OfBody named = IsOfBody own order.rest named
 
-  cases : (named : NamedSub) → Has (flow_named table typed) named → Elaborates named ⊎ OfBody named
+  pub cases : (named : NamedSub) → Has (flow_named table typed) named → Elaborates named ⊎ OfBody named
   cases named has = named_cases own order.first order.rest named (subst (λ subs. Has (all_named own subs) named) order.subs has)
 
-  in_subs : (sub : TypedSub) → Has order.rest sub → Has typed.subs sub
+  pub in_subs : (sub : TypedSub) → Has order.rest sub → Has typed.subs sub
   in_subs sub has = subst (λ subs. Has subs sub) (sym order.subs) (inr has)
 
   first_in : Has typed.subs order.first
@@ -129,18 +129,18 @@ module _ (table : Table) (typed : TypedProgram) (effects : Effects) (accepted : 
 
   -- ---- the package objects
 
-  declares : (named : NamedSub) → Elaborates named → (p : NamedPoint) → Has named.points p → Declares own p
+  pub declares : (named : NamedSub) → Elaborates named → (p : NamedPoint) → Has named.points p → Declares own p
   declares named e p there =
       package_declares own (unnumbered own) order.first order.declares order.unmoved p (subst (λ (z : NamedSub). Has z.points p) (sym e) there)
 
-  still_there : (named : NamedSub) → Elaborates named → (p : NamedPoint) → Has named.points p → calls_procedures p.instr ≡ true
+  pub still_there : (named : NamedSub) → Elaborates named → (p : NamedPoint) → Has named.points p → calls_procedures p.instr ≡ true
   still_there named e p there = still p (subst (λ (z : NamedSub). Has z.points p) (sym e) there)
 
   -- An object with a number other than that of Ada.Text_IO.
-  abbrev IsNumbered : ℕ → Type 0
+  abbrev pub IsNumbered : ℕ → Type 0
   IsNumbered x = 1 ≤ x
 
-  package_is_ordered : (named : NamedSub) → Elaborates named → (p : NamedPoint) → Has named.points p → IsOrdered IsNumbered (reverse order.first.formals) p
+  pub package_is_ordered : (named : NamedSub) → Elaborates named → (p : NamedPoint) → Has named.points p → IsOrdered IsNumbered (reverse order.first.formals) p
   package_is_ordered named e p there =
       all_has (IsOrdered IsNumbered (reverse order.first.formals)) (elaboration_points (unnumbered own) order.first) p
       (package_ordered (unnumbered own) IsNumbered (λ x least temporary. (let none = temporary.1 in omega (arith, least, none))) order.first
@@ -151,10 +151,10 @@ module _ (table : Table) (typed : TypedProgram) (effects : Effects) (accepted : 
   -- ---- bodies
 
   -- An object of the text that belongs to no package.
-  abbrev IsOwn : ℕ → Type 0
+  abbrev pub IsOwn : ℕ → Type 0
   IsOwn x = (x < length own.objects) × (is_package_object own x ≡ false)
 
-  body_is_ordered : (named : NamedSub) → (b : OfBody named) → (p : NamedPoint) → Has named.points p → IsOrdered IsOwn (reverse (b.0).formals) p
+  pub body_is_ordered : (named : NamedSub) → (b : OfBody named) → (p : NamedPoint) → Has named.points p → IsOrdered IsOwn (reverse (b.0).formals) p
   body_is_ordered named (sub, has, n, above, e) p there =
       all_has (IsOrdered IsOwn (reverse sub.formals)) (sub_points (setting_from own n sub) sub) p
       (sub_ordered (setting_from own n sub) IsOwn (λ x what temporary. (let below = what.0 in let is = temporary.1 in omega (arith, above, below, is))) sub
@@ -164,13 +164,13 @@ module _ (table : Table) (typed : TypedProgram) (effects : Effects) (accepted : 
       ))
       (subst (λ (z : NamedSub). Has z.points p) (sym e) there)
 
-  body_is_left : (named : NamedSub) → OfBody named → (p : NamedPoint) → Has named.points p → IsLeft (is_package_object own) p
+  pub body_is_left : (named : NamedSub) → OfBody named → (p : NamedPoint) → Has named.points p → IsLeft (is_package_object own) p
   body_is_left named (sub, has, n, above, e) p there =
       all_has (IsLeft (is_package_object own)) (sub_points (setting_from own n sub) sub) p
       (sub_left (is_package_object own) (setting_from own n sub) sub (order.local sub has).seen)
       (subst (λ (z : NamedSub). Has z.points p) (sym e) there)
 
-  body_is_seen : (named : NamedSub) → OfBody named → (p : NamedPoint) → Has named.points p → IsSeen (is_package_object own) p
+  pub body_is_seen : (named : NamedSub) → OfBody named → (p : NamedPoint) → Has named.points p → IsSeen (is_package_object own) p
   body_is_seen named (sub, has, n, above, e) p there =
       all_has (IsSeen (is_package_object own)) (sub_points (setting_from own n sub) sub) p
       (sub_seen (is_package_object own) (setting_from own n sub) sub (order.local sub has).seen)
@@ -184,7 +184,7 @@ module _ (table : Table) (typed : TypedProgram) (effects : Effects) (accepted : 
   no_finish : (i : Instruction) (x : ℕ) (v : TypedTree) → i ≡ Declare x v → i ≡ Finish → ⊥
   no_finish i x v e f = (let both : Declare x v ≡ Finish = sym e ∙ f in cc)
 
-  ready_there : (named : NamedSub) → Has (flow_named table typed) named → (p : NamedPoint) → Has named.points p → is_ready p p.instr ≡ true
+  pub ready_there : (named : NamedSub) → Has (flow_named table typed) named → (p : NamedPoint) → Has named.points p → is_ready p p.instr ≡ true
   ready_there named has p there = elim (cases named has) [
     | inl e ↦ (package_is_ordered named e p there).ready
     | inr b ↦ (body_is_ordered named b p there).ready
@@ -228,7 +228,7 @@ module _ (table : Table) (typed : TypedProgram) (effects : Effects) (accepted : 
   numbered : (sub : TypedSub) → Has typed.subs sub → (x : ℕ) → Has (objects_of sub) x → x < length typed.objects
   numbered sub has x there = ((order.bodies sub has).numbered x there).1
 
-  laid : (named : NamedSub) → Has (flow_named table typed) named → IsLaid s named
+  pub laid : (named : NamedSub) → Has (flow_named table typed) named → IsLaid s named
   laid named has = named_goes table typed settled formals_last numbered named has
 
   -- what does without calls fills nothing
@@ -260,7 +260,7 @@ module _ (table : Table) (typed : TypedProgram) (effects : Effects) (accepted : 
   fills_same (Evaluate t e (Some op)) left h = h
   fills_same i left h = h
 
-  supplied_there : (named : NamedSub) → Has (flow_named table typed) named → (p : NamedPoint) → Has named.points p → IsSupplied s p
+  pub supplied_there : (named : NamedSub) → Has (flow_named table typed) named → (p : NamedPoint) → Has named.points p → IsSupplied s p
   supplied_there named has p there =
       let known = all_has (scope.IsSupplied (is_temporary_object s)) named.points p (held named has).0 there in
       (known.0, fills_same p.instr (drop (taken p.instr) p.scope) known.1)
@@ -352,22 +352,13 @@ module _ (table : Table) (typed : TypedProgram) (effects : Effects) (accepted : 
     result_at = ap (λ (z : FlowSub). z.result) is_there
 
   -- its formals are known as such
-  formals_known : (sub : FlowSub) → Has program.subs sub → (p : FlowPoint) → Has sub.points p → (n : ℕ) (actuals : TypedTree) (result : Option ℕ)
+  pub formals_known : (sub : FlowSub) → Has program.subs sub → (p : FlowPoint) → Has sub.points p → (n : ℕ) (actuals : TypedTree) (result : Option ℕ)
       → p.instr ≡ Call n actuals result → (x : ℕ) → Has (sub_of program n).formals x → is_formal s x ≡ true
   formals_known sub has p there n actuals result is x formal =
       let found = answered sub has p there n actuals result is in
       formals_at found.0 found.1 found.3 x (subst (λ m. Has (sub_of program m).formals x) found.2 formal)
 
-  plainly : AreScalarCalls program owns
-  plainly sub has p there n actuals result is =
-      let known = formals_known sub has p there n actuals result is in
-      record {
-        known = known;
-        formals = λ x formal. class.formals x (known x formal);
-        actuals_stay = passed sub has p there n actuals result is known;
-      }
-
-  are_called : AreCalled table typed
+  pub are_called : AreCalled table typed
   are_called sub has p there n actuals result is =
       let found = answered sub has p there n actuals result is in
       let known = formals_known sub has p there n actuals result is in
@@ -380,7 +371,7 @@ module _ (table : Table) (typed : TypedProgram) (effects : Effects) (accepted : 
         text_io = package_same s own alike 0 ∙ order.text_io;
       }
 
-  main_is : program.main ≡ Some (suc order.number)
+  pub main_is : program.main ≡ Some (suc order.number)
   unfolding flow_program
   main_is = order.is_main
 
@@ -415,65 +406,24 @@ module _ (table : Table) (typed : TypedProgram) (effects : Effects) (accepted : 
   entered_body k (inr (sub, has, p, there, actuals, result, is)) =
       (let found = answered sub has p there k actuals result is in (found.0, found.1, found.2, found.3))
 
-  are_returning : AreReturning program effects
+  pub are_returning : AreReturning program effects
   are_returning k entered =
       let body = entered_body k entered in
       subst IsReturning (sym body.2) (body_returning body.0 body.1 body.3)
 
-  -- ---- facts
-
-  abbrev IsNewIn : FlowSub → Type 0
-  IsNewIn sub =
-      (before : List ℕ) (last : ℕ) → ControlPath (path_points program effects sub) before last
-      → (x : ℕ) (v : TypedTree) → (get_or sub.points last no_point).instr ≡ Declare x v → (name : PlaceName) → name.root ≡ x
-      → (Has (facts_before (path_points program effects sub) before) (Moved name) → ⊥)
-      × (Has (facts_before (path_points program effects sub) (last ∷ before)) (Moved name) → ⊥)
-
-  -- an object is as the text has it, or a temporary, that owns nothing
-  object_or : (x : ℕ) → (object_at s x ≡ object_at own x) ⊎ (is_temporary_object s x ≡ true)
-  unfolding flow_program
-  object_or x = after_or typed.objects (temporaries_of (flow_named table typed)) x
-
-  owning_same : (x : ℕ) → is_owning s.table (object_at s x).of ≡ true → is_owning own.table (object_at own x).of ≡ true
-  owning_same x owning = elim (object_or x) [
-    | inl same ↦ (λ j. is_owning (sym alike.table j) (sym same j).of) ∙ owning
-    | inr held ↦ (let never : true ≡ false = sym owning ∙ plain_type s owns (object_at s x).of (class.temporaries x held) in cc)
-  ]
-
-  -- the initial values of package objects name nothing that owns
-  names_none : (named : NamedSub) → Elaborates named → (p : NamedPoint) → Has named.points p → (x : ℕ)
-      → Has (named_in p.instr) x → is_owning s.table (object_at s x).of ≡ true → ⊥
-  names_none named e p there x names owning =
-      let declared = declares named e p there (still_there named e p there) in
-      owns_none own (roots declared.1) x declared.3 (subst (λ i. Has (named_in i) x) declared.2 names) (owning_same x owning)
-
-  new_in : (named : NamedSub) → Has (flow_named table typed) named → IsNewIn (flow_sub own named)
-  new_in named has = elim (cases named has) [
-    | inl e ↦ new_there table typed effects class owns accepted.fine accepted.effects_are plainly named has (laid named has) (λ p there. (supplied_there named has p there).0) IsNumbered (λ x. ⊥) (reverse order.first.formals)
-        (λ x what out. out) (package_is_ordered named e) (λ p there x names owning. absurd (names_none named e p there x names owning))
-    | inr b ↦ new_there table typed effects class owns accepted.fine accepted.effects_are plainly named has (laid named has) (λ p there. (supplied_there named has p there).0) IsOwn (λ x. is_package_object own x ≡ true)
-        (reverse (b.0).formals) (λ x what out. (let both : false ≡ true = sym what.1 ∙ out in cc)) (body_is_ordered named b)
-        (λ p there x names owning. seen_has (is_package_object own) p.scope (named_in p.instr) x (body_is_seen named b p there) names)
-  ]
-
-  pub are_new : AreNew program effects
-  unfolding flow_program
-  are_new sub has =
-      let named = Has-map_from (flow_sub own) (flow_named table typed) sub has in subst IsNewIn named.2 (new_in named.0 named.1)
-
   -- ---- the package objects and the main procedure
 
-  abbrev packages : NamedSub
+  abbrev pub packages : NamedSub
   packages = elaborated own order.first
 
-  packages_stand : IsNamedSub (flow_named table typed) 0 packages
+  pub packages_stand : IsNamedSub (flow_named table typed) 0 packages
   packages_stand = ([], named_subs own (length own.objects) order.rest, ap (all_named own) order.subs, refl)
 
-  packages_in : Has (flow_named table typed) packages
+  pub packages_in : Has (flow_named table typed) packages
   packages_in = named_has (flow_named table typed) 0 packages packages_stand
 
   -- a point of the package objects, by name
-  package_point : (p : FlowPoint) → Has (sub_of program 0).points p → (q : NamedPoint) × Has packages.points q × (flow_at own packages q ≡ p)
+  pub package_point : (p : FlowPoint) → Has (sub_of program 0).points p → (q : NamedPoint) × Has packages.points q × (flow_at own packages q ≡ p)
   package_point p has =
       Has-map_from (λ (q : NamedPoint). flow_at own packages q) packages.points p
       (subst (λ (z : FlowSub). Has z.points p) (sub_there table typed 0 packages packages_stand) has)
@@ -481,48 +431,100 @@ module _ (table : Table) (typed : TypedProgram) (effects : Effects) (accepted : 
   no_call_here : (x : ℕ) (v : TypedTree) (n : ℕ) (actuals : TypedTree) (result : Option ℕ) → Declare x v ≡ Call n actuals result → ⊥
   no_call_here x v n actuals result e = cc
 
-  pub are_elaborated : AreElaborated program
-  are_elaborated = record { declared = declared_there; unmoved = unmoved_there }
-    where
-      declared_there : (p : FlowPoint) → Has (sub_of program 0).points p → (x : ℕ) × (v : TypedTree) × (p.instr ≡ Declare x v) × (has_call v ≡ false)
-      declared_there p has =
-          let q = package_point p has in
-          let found = declares packages refl q.0 q.1 (still_there packages refl q.0 q.1) in (
-            found.0,
-            found.1,
-            sym (ap (λ (z : FlowPoint). z.instr) q.2) ∙ found.2,
-            not_true (has_call found.1) (sym (ap calls_procedures found.2) ∙ still_there packages refl q.0 q.1),
-          )
+  -- Each point of the package objects declares one, without a call.
+  pub declared_there : (p : FlowPoint) → Has (sub_of program 0).points p → (x : ℕ) × (v : TypedTree) × (p.instr ≡ Declare x v) × (has_call v ≡ false)
+  declared_there p has =
+      let q = package_point p has in
+      let found = declares packages refl q.0 q.1 (still_there packages refl q.0 q.1) in (
+        found.0,
+        found.1,
+        sym (ap (λ (z : FlowPoint). z.instr) q.2) ∙ found.2,
+        not_true (has_call found.1) (sym (ap calls_procedures found.2) ∙ still_there packages refl q.0 q.1),
+      )
 
-      unmoved_there : (p : FlowPoint) → Has (sub_of program 0).points p → (a : Placed) → Has p.acts a → (name : PlaceName) → Has (adds a.act) (Moved name) → ⊥
-      unmoved_there p has a acts name moved =
-          let q = package_point p has in
-          let kept : List ℕ = kept_roots own 0 own.objects (sub_facts own order.first packages.points) in
-          let fine = accepted.fine (flow_sub own packages) (in_program packages packages_in) (flow_at own packages q.0)
-          (Has-map (λ (z : NamedPoint). flow_at own packages z) packages.points q.0 q.1) in
-          let declared = declares packages refl q.0 q.1 (still_there packages refl q.0 q.1) in
-          let no_call : IsNoCall (q.0).instr = (λ n actuals result is. no_call_here declared.0 declared.1 n actuals result (sym declared.2 ∙ is)) in
-          let found = instruction_owned s owns class.all_named order.first.result kept (q.0).pos (q.0).instr fine no_call a
-          (subst (λ z. Has z a) (sym (instruction_same s own alike order.first.result kept (q.0).pos (q.0).instr (λ n actuals result is. absurd (no_call n actuals result is))))
-          (subst (λ (z : FlowPoint). Has z.acts a) (sym q.2) acts)) name moved in
-          names_none packages refl q.0 q.1 name.root found.0 found.1
+  -- ---- facts
 
-  pub functions_ready : IsReady table typed effects
-  functions_ready = record {
-    accepted = accepted;
-    owns = owns;
-    class = class;
-    scoped = are_scoped;
-    new = are_new;
-    elaborated = are_elaborated;
-    packages = packages;
-    stands = packages_stand;
-    called = are_called;
-    returning = are_returning;
-    main = suc order.number;
-    is_main = main_is;
-    main_there = has_main;
-  }
+  -- an object is as the text has it, or a temporary, that owns nothing
+  pub object_or : (x : ℕ) → (object_at s x ≡ object_at own x) ⊎ (is_temporary_object s x ≡ true)
+  unfolding flow_program
+  object_or x = after_or typed.objects (temporaries_of (flow_named table typed)) x
+
+  module _ (class : IsFunctionClass (flow_program table typed)) where
+    plainly : AreScalarCalls program owns
+    plainly sub has p there n actuals result is =
+        let known = formals_known sub has p there n actuals result is in
+        record {
+          known = known;
+          formals = λ x formal. class.formals x (known x formal);
+          actuals_stay = passed sub has p there n actuals result is known;
+        }
+
+    abbrev IsNewIn : FlowSub → Type 0
+    IsNewIn sub =
+        (before : List ℕ) (last : ℕ) → ControlPath (path_points program effects sub) before last
+        → (x : ℕ) (v : TypedTree) → (get_or sub.points last no_point).instr ≡ Declare x v → (name : PlaceName) → name.root ≡ x
+        → (Has (facts_before (path_points program effects sub) before) (Moved name) → ⊥)
+        × (Has (facts_before (path_points program effects sub) (last ∷ before)) (Moved name) → ⊥)
+
+    owning_same : (x : ℕ) → is_owning s.table (object_at s x).of ≡ true → is_owning own.table (object_at own x).of ≡ true
+    owning_same x owning = elim (object_or x) [
+      | inl same ↦ (λ j. is_owning (sym alike.table j) (sym same j).of) ∙ owning
+      | inr held ↦ (let never : true ≡ false = sym owning ∙ plain_type s owns (object_at s x).of (class.temporaries x held) in cc)
+    ]
+
+    -- the initial values of package objects name nothing that owns
+    names_none : (named : NamedSub) → Elaborates named → (p : NamedPoint) → Has named.points p → (x : ℕ)
+        → Has (named_in p.instr) x → is_owning s.table (object_at s x).of ≡ true → ⊥
+    names_none named e p there x names owning =
+        let declared = declares named e p there (still_there named e p there) in
+        owns_none own (roots declared.1) x declared.3 (subst (λ i. Has (named_in i) x) declared.2 names) (owning_same x owning)
+
+    new_in : (named : NamedSub) → Has (flow_named table typed) named → IsNewIn (flow_sub own named)
+    new_in named has = elim (cases named has) [
+      | inl e ↦ new_there table typed effects class owns accepted.fine accepted.effects_are plainly named has (laid named has) (λ p there. (supplied_there named has p there).0) IsNumbered (λ x. ⊥) (reverse order.first.formals)
+          (λ x what out. out) (package_is_ordered named e) (λ p there x names owning. absurd (names_none named e p there x names owning))
+      | inr b ↦ new_there table typed effects class owns accepted.fine accepted.effects_are plainly named has (laid named has) (λ p there. (supplied_there named has p there).0) IsOwn (λ x. is_package_object own x ≡ true)
+          (reverse (b.0).formals) (λ x what out. (let both : false ≡ true = sym what.1 ∙ out in cc)) (body_is_ordered named b)
+          (λ p there x names owning. seen_has (is_package_object own) p.scope (named_in p.instr) x (body_is_seen named b p there) names)
+    ]
+
+    pub are_new : AreNew program effects
+    unfolding flow_program
+    are_new sub has =
+        let named = Has-map_from (flow_sub own) (flow_named table typed) sub has in subst IsNewIn named.2 (new_in named.0 named.1)
+
+    unmoved_there : (p : FlowPoint) → Has (sub_of program 0).points p → (a : Placed) → Has p.acts a → (name : PlaceName) → Has (adds a.act) (Moved name) → ⊥
+    unmoved_there p has a acts name moved =
+        let q = package_point p has in
+        let kept : List ℕ = kept_roots own 0 own.objects (sub_facts own order.first packages.points) in
+        let fine = accepted.fine (flow_sub own packages) (in_program packages packages_in) (flow_at own packages q.0)
+        (Has-map (λ (z : NamedPoint). flow_at own packages z) packages.points q.0 q.1) in
+        let declared = declares packages refl q.0 q.1 (still_there packages refl q.0 q.1) in
+        let no_call : IsNoCall (q.0).instr = (λ n actuals result is. no_call_here declared.0 declared.1 n actuals result (sym declared.2 ∙ is)) in
+        let found = instruction_owned s owns class.all_named order.first.result kept (q.0).pos (q.0).instr fine no_call a
+        (subst (λ z. Has z a) (sym (instruction_same s own alike order.first.result kept (q.0).pos (q.0).instr (λ n actuals result is. absurd (no_call n actuals result is))))
+        (subst (λ (z : FlowPoint). Has z.acts a) (sym q.2) acts)) name moved in
+        names_none packages refl q.0 q.1 name.root found.0 found.1
+
+    pub are_elaborated : AreElaborated program
+    are_elaborated = record { declared = declared_there; unmoved = unmoved_there }
+
+    pub functions_ready : IsReady table typed effects
+    functions_ready = record {
+      accepted = accepted;
+      owns = owns;
+      class = class;
+      scoped = are_scoped;
+      new = are_new;
+      elaborated = are_elaborated;
+      packages = packages;
+      stands = packages_stand;
+      called = are_called;
+      returning = are_returning;
+      main = suc order.number;
+      is_main = main_is;
+      main_there = has_main;
+    }
 
 -- So is a program of the second class: no object of it is a temporary.
 module _ (table : Table) (typed : TypedProgram) (effects : Effects) (accepted : Accepted table typed effects)
@@ -550,4 +552,4 @@ module _ (table : Table) (typed : TypedProgram) (effects : Effects) (accepted : 
 
   pub is_ready_program : IsReady table typed effects
   is_ready_program =
-      functions_ready table typed effects accepted owns (third_class (flow_program table typed) lasts class) order procedures_answered passed procedures_still
+      functions_ready table typed effects accepted owns order procedures_answered passed procedures_still (third_class (flow_program table typed) lasts class)

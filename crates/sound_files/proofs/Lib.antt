@@ -8,8 +8,11 @@ pub mod Formals
 pub mod Known
 pub mod First
 pub mod Flat
-pub mod Fine
+pub mod Laws
 pub mod Main
--- with calls of procedures
-pub mod Procedures
+-- what is called
+pub mod Called
+-- what the third class says as it is laid out
+pub mod Temporaries
+pub mod Classes
 pub mod Examples

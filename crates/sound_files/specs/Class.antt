@@ -1,19 +1,22 @@
 -- Programs with a main procedure and without anonymous access types, by their text: those without formals and
--- calls, and those that call procedures alone, whose formals are of scalar types.
-use Rattle.std.specs.Prelude.{◌≡◌, ℕ, true, Option, Some, None}
+-- calls, those that call procedures alone, whose formals are of scalar types, and those that call functions, too,
+-- whose results are.
+use Rattle.std.specs.Prelude.{◌≡◌, ◌⊎◌, ℕ, true, Option, Some, None}
 use Rattle.spark_base.specs.Lists.{Has}
 use Rattle.resolved_tree.specs.Trees.{Code, Program}
 use Rattle.type_definitions.specs.Types.{full, is_scalar}
+use Rattle.type_definitions.specs.Whole.{known_of}
 use Rattle.typed_tree.specs.Trees.{TypedTree}
 use Rattle.typed_tree.specs.Programs.{TypedSub}
 use Rattle.flow_paths.specs.Instructions.{Call}
-use Rattle.flow_paths.specs.Objects.{object_at, is_formal}
+use Rattle.flow_paths.specs.Objects.{object_at, sub_at, is_formal}
 use Rattle.flow_paths.specs.Points.{FlowPoint}
-use Rattle.flow_paths.specs.Laid.{FlowSub, FlowProgram, flow_typing}
+use Rattle.flow_paths.specs.Laid.{FlowSub, FlowProgram, flow_typing, flow_program}
 use Rattle.machine.specs.States.{sub_of}
 use Rattle.soundness.specs.Sound.{calls_nothing, calls_procedures, AreCopied}
 use Rattle.gathered_laws.specs.Named.{IsNamed}
-use Rattle.order_laws.specs.Orderly.{typed_of, bodies_of}
+use Rattle.called_subs.specs.Called.{CodeCalls}
+use Rattle.order_laws.specs.Orderly.{typed_of, typing_in, bodies_of}
 use Rattle.meant_files.specs.Formless.{IsFormless}
 
 pub record IsNamedText (p : Program) : Type 0 where
@@ -53,3 +56,25 @@ abbrev pub CopiesToVariables : FlowProgram → Type 0
 CopiesToVariables program =
     (sub : FlowSub) → Has program.subs sub → (p : FlowPoint) → Has sub.points p → (n : ℕ) (actuals : TypedTree) (result : Option ℕ)
     → p.instr ≡ Call n actuals result → AreCopied (flow_typing program) (sub_of program n).formals actuals
+
+-- ---- the third class
+
+-- Formals are of scalar types, by the typed program.
+abbrev pub FormalsAreScalar : Program → Type 0
+FormalsAreScalar p = (x : ℕ) → is_formal (typing_in p) x ≡ true → is_scalar (full (known_of p).table (object_at (typing_in p) x).of) ≡ true
+
+-- So are results.
+abbrev pub ResultsAreScalar : Program → Type 0
+ResultsAreScalar p = (sub : TypedSub) → Has (bodies_of p) sub → (t : ℕ) → sub.result ≡ Some t → is_scalar (full (known_of p).table t) ≡ true
+
+-- In each call, actuals of modes `out` and `in out` go through no access value.
+abbrev pub CopyToVariables : Program → Type 0
+CopyToVariables p =
+    (sub : TypedSub) → Has (typed_of p).subs sub → CodeCalls (λ n actuals. AreCopied (typing_in p) (sub_at (typing_in p) n).formals actuals) sub.body
+
+pub record CallsFunctions (p : Program) : Type 0 where
+  -- results are of scalar types; or procedures alone are called
+  pub results : CallsProcedures (flow_program (known_of p).table (typed_of p)) ⊎ ResultsAreScalar p
+  -- formals, too, and actuals of modes `out` and `in out` go through no access value
+  pub formals : FormalsAreScalar p
+  pub copied : CopyToVariables p

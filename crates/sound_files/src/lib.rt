@@ -1,13 +1,16 @@
-//! The runs of accepted files are sound: definitions and laws, for readers.
+//! The resolved code of accepted files is orderly, and which classes programs are of: definitions and
+//! laws, for readers.
 //!
 //! `order_laws` says what is asked of the resolved code of a program beside what typing and the reports
 //! say (`IsOrderly`). Here is what the code of files has of it: Integer owns nothing, where the code
 //! declares in order (`proofs/Whole.antt`); units are as the grammar has them, with each exit in a loop
 //! (`Written`); and each declaration of an object has a number of its own (`Once`). That what names
-//! denote is in scope stands in `seen_files`. The class of programs stands in `specs/Class.antt`, and is
-//! the first one of `soundness` (`Access`, `Formals`, `First`): subprograms have no formals there
-//! (`Formless`), and instructions are typed (`Fine`), since files are meant (`meant_files`): packages are
-//! units alone (`Flat`), so types that are read while declarations are gathered are those that are read at
-//! last (`steady_types`). `Main` joins this with the types of files, and `Examples` has a program whose code
-//! is orderly. Nothing here runs.
+//! denote is in scope stands in `seen_files`. Files are meant (`meant_files`): packages are units alone
+//! (`Flat`), so types that are read while declarations are gathered are those that are read at last
+//! (`steady_types`), and the table of types is as typed expressions ask (`Laws`). `Main` joins this, and
+//! `Examples` has a program whose code is orderly.
+//!
+//! The classes of programs stand in `specs/Class.antt`. Of what they ask of the typed program, laws on
+//! runs ask of the one that is laid out (`proofs/Classes.antt`); what is called has a body (`Called`),
+//! and in a text without formals there are none (`Formless`, `Formals`). Nothing here runs.
 #![tactic(auto)]

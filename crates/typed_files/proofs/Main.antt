@@ -3,6 +3,7 @@
 use Rattle.std.proofs.Common.{◌≡◌, ◌≤◌, ◌∙◌, inl, inr, sym, ap, subst, ℕ, true, List, [], map, length, IsTrue, None}
 use Rattle.std.specs.Prelude.{flat_map}
 use Rattle.spark_base.specs.Lists.{Has}
+use Rattle.ada_lexer.specs.Tokens.{Cut}
 use Rattle.ada_tree.specs.declared.unit.SourceUnit.{SourceUnit}
 use Rattle.name_events.specs.Outline.{source_events}
 use Rattle.name_events.specs.Identified.{identified}
@@ -26,6 +27,9 @@ use Rattle.orderly_files.specs.Apart.{AreApart}
 use Rattle.orderly_files.specs.Ended.{AllEnded}
 use Rattle.orderly_files.proofs.Main.{files_in_order}
 use Rattle.file_positions.specs.Order.{Ascends, event_positions}
+use Rattle.file_positions.specs.Texts.{AreParsed}
+use Rattle.file_positions.proofs.Ascending.{events_ascend}
+use Rattle.file_positions.proofs.Main.{files_apart as parsed_apart, files_ended}
 use Rattle.flow_paths.specs.Objects.{object_at}
 use Rattle.gathered_laws.specs.Made.{IsMade}
 use Rattle.gathered_laws.specs.Views.{AreViews}
@@ -171,3 +175,7 @@ module _ (files : List (List SourceUnit)) where
     -- The law.
     pub files_are_typed : is_typed (laid_in p) ≡ true
     files_are_typed = text_is_typed p none are_meant
+
+  -- So it is if the files are parsed from texts: then their positions are as in a text.
+  pub parsed_steps : (texts : List (List Cut)) → AreParsed 0 texts files → name_fault files ≡ None → type_fault p ≡ None → AreTyped (laid_in p)
+  parsed_steps texts parsed = files_steps (parsed_apart texts files parsed) (files_ended (identified files) texts files parsed) (events_ascend texts files parsed)

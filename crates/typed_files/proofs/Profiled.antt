@@ -587,6 +587,7 @@ module _ (p : Program) (formed : IsTrue (all_formed p.units)) (orderly : IsOrder
       record {
         formals = subst (λ n. AreFormals y (sub_at y (i + 1)).formals (formals_of known n)) here.number
             (subst (λ xs. AreFormals y xs (formals_of known (front_number here.front))) (sym here.formals) fits.0);
+        result = here.result;
         types = making d;
         names = λ k v less same. by_its_name (formals_of known d) k v (subst (λ n. AreWordsApart (names_in (formals_of known n))) here.number fits.1) less same;
         through = λ e o rest first.

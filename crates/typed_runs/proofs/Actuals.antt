@@ -1,5 +1,6 @@
 -- Actuals: each is a value for its formal, or a place of its type.
 use Rattle.std.proofs.Common.{◌≡◌, ◌⊎◌, refl, sym, ap, ◌∙◌, subst, inl, inr, ℕ, suc, ◌+◌, ◌<◌, Bool, true, false, not, ◌||◌, List, [], ◌∷◌, ◌++◌, map, length, get_or, nat_eq, Some, None, if◌then◌else◌, arith}
+use Rattle.std.specs.Prelude.{is_some}
 use Rattle.std.proofs.lemmas.Bool.{eqb-true}
 use Rattle.spark_base.specs.declared.position.Pos.{Pos}
 use Rattle.place_names.specs.declared.act.Mode.{Mode}
@@ -351,10 +352,13 @@ module _ (s : Site) (objects : List Object) (subs : List Signature) (made : ℕ 
     by_names args n [] (k ∷ rest) are same count once meant none = absurd are
 
     -- The law: actuals that break no sentence are as the formals ask.
-    pub call_given : (args : Tree) → AreArguments s y args → arguments c (role.Actuals f) 0 args ≡ [] → associates (formal_names (profile_of (entry_of s.context.known f))) (given_names args) ≡ true
-        → IsCall y (sub_number s f) (arguments_given c (role.Actuals f) args (values 0 args))
-    call_given args meant none fit =
-        (by (all_by_position (given_names args)) refl (and_right (nat_eq (length (given_names args)) (length (formal_names (profile_of (entry_of s.context.known f))))) _ fit), profiled.through)
+    pub call_given : (given : Bool) → is_some (profile_of (entry_of s.context.known f)).result ≡ given → (args : Tree) → AreArguments s y args → arguments c (role.Actuals f) 0 args ≡ [] → associates (formal_names (profile_of (entry_of s.context.known f))) (given_names args) ≡ true
+        → IsCall y given (sub_number s f) (arguments_given c (role.Actuals f) args (values 0 args))
+    call_given given gives args meant none fit = (
+      by (all_by_position (given_names args)) refl (and_right (nat_eq (length (given_names args)) (length (formal_names (profile_of (entry_of s.context.known f))))) _ fit),
+      profiled.through,
+      ap is_some profiled.result ∙ gives,
+    )
       where
         count : length (given_names args) ≡ length fs
         count =

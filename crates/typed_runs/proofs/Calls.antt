@@ -1,6 +1,6 @@
 -- Statements that call: a procedure, an instance of Unchecked_Deallocation, input and output.
 use Rattle.std.proofs.Common.{◌≡◌, refl, sym, ap, ◌∙◌, subst, ℕ, ◌+◌, Bool, true, false, ◌&&◌, List, [], ◌∷◌, ◌++◌, map, Option, Some, None}
-use Rattle.std.specs.Prelude.{is_none}
+use Rattle.std.specs.Prelude.{is_none, is_some}
 use Rattle.spark_base.specs.declared.position.Pos.{Pos}
 use Rattle.resolved_tree.specs.Trees.{Tree, Named, Applied, Argument, NoMore, More}
 use Rattle.type_definitions.specs.declared.table.Entry.{Entry}
@@ -27,7 +27,7 @@ use Rattle.typed_tree.specs.Statements.{typed_text, typed_call, call_of, predefi
 use Rattle.flow_paths.specs.Instructions as instruction
 use Rattle.flow_paths.specs.Objects.{Typing, Signature}
 use Rattle.typed_laws.specs.Fine.{Agree, Laws, IsMeant, AreSuffixes, IsSuffix, AreArguments}
-use Rattle.typed_laws.proofs.Agreeing.{holds, nil_left, nil_right, and_right, agree_access, agree_counts}
+use Rattle.typed_laws.proofs.Agreeing.{holds, nil_left, nil_right, and_left, and_right, agree_access, agree_counts}
 use Rattle.typed_points.proofs.Flags.{flagged, at_flags, typed_same, meant_same}
 use Rattle.typed_points.proofs.Strings.{string_own}
 use Rattle.typed_steps.specs.Steps.{IsPlaceOf, FirstText, IsText, IsCall}
@@ -45,6 +45,10 @@ unfolding AreSuffixes IsSuffix AreArguments
 with_arguments s y NoMore P F never good meant none = good NoMore tt none
 with_arguments s y (More (Applied args) NoMore) P F never good meant none = good args meant.0 none
 with_arguments s y rest P F never good meant none = absurd (never none)
+
+none_given : (o : Option ℕ) → is_none o ≡ true → is_some o ≡ false
+none_given None is = refl
+none_given (Some t) is = cc
 
 -- ---- whether in a loop, a call means the same
 
@@ -131,9 +135,9 @@ module _ (s : Site) (objects : List Object) (subs : List Signature) (made : ℕ 
     -- ---- procedures
 
     procedure_called : (p : Pos) (d : ℕ) (profile : Profile) (rest : Tree) → entry_of s.context.known d ≡ entry.Subprogram profile → IsMeant s y (Named p d rest)
-        → called c p d (entry.Subprogram profile) (actuals_of rest) ≡ [] → IsCall y (sub_number s d) (typed_actuals s d rest) × Within y (typed_actuals s d rest)
+        → called c p d (entry.Subprogram profile) (actuals_of rest) ≡ [] → IsCall y false (sub_number s d) (typed_actuals s d rest) × Within y (typed_actuals s d rest)
     unfolding IsMeant behind within_suffix arguments
-    procedure_called p d profile rest is meant none = subst (λ es. IsCall y (sub_number s d) es × Within y es) (actuals_same looped starts s d rest) (by rest (kept (meant_same looped starts s y (Named p d rest) meant)) none)
+    procedure_called p d profile rest is meant none = subst (λ es. IsCall y false (sub_number s d) es × Within y es) (actuals_same looped starts s d rest) (by rest (kept (meant_same looped starts s y (Named p d rest) meant)) none)
       where
         kept : IsMeant z y (Named p d rest) → AreSuffixes z y rest
         kept h = h.1
@@ -143,14 +147,15 @@ module _ (s : Site) (objects : List Object) (subs : List Signature) (made : ℕ 
 
         at : (rest args : Tree) → call_arguments rest ≡ args → AreSuffixes z y rest → behind c (way.Giving (role.Actuals d)) rest ≡ []
             → is_none profile.result && associates (map (λ (f : FormalInfo). f.name) profile.formals) (given_names args) ≡ true
-            → IsCall y (sub_number s d) (typed_actuals z d rest) × Within y (typed_actuals z d rest)
+            → IsCall y false (sub_number s d) (typed_actuals z d rest) × Within y (typed_actuals z d rest)
         at rest args same kept inner fit =
-            actuals_within z objects subs made laws profiled d rest (profiled d profile is) kept inner
+            actuals_within z objects subs made laws profiled false d rest (profiled d profile is)
+            (ap (λ e. is_some (profile_of e).result) is ∙ none_given profile.result (and_left (is_none profile.result) _ fit)) kept inner
             (subst (λ ns. associates ns (given_names (call_arguments rest)) ≡ true) names_is
             (subst (λ x. associates (map (λ (f : FormalInfo). f.name) profile.formals) (given_names x) ≡ true) (sym same) (and_right (is_none profile.result) _ fit)))
 
         by : (rest : Tree) → AreSuffixes z y rest → called c p d (entry.Subprogram profile) (actuals_of rest) ≡ []
-            → IsCall y (sub_number s d) (typed_actuals z d rest) × Within y (typed_actuals z d rest)
+            → IsCall y false (sub_number s d) (typed_actuals z d rest) × Within y (typed_actuals z d rest)
         by NoMore h none = at NoMore NoMore refl h refl (holds 3 p _ (nil_left _ (arguments c (role.Actuals d) 0 NoMore) none))
         by (More (Applied args) NoMore) h none =
             at (More (Applied args) NoMore) args refl h (ap (λ xs. xs ++ []) (nil_right (demand 3 p (is_none profile.result && associates (map (λ (f : FormalInfo). f.name) profile.formals) (given_names args))) _ none))

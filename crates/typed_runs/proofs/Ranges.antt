@@ -18,7 +18,7 @@ use Rattle.type_definitions.specs.Faults.{demand}
 use Rattle.type_definitions.specs.Names.{Context, seen, reading_of}
 use Rattle.type_definitions.specs.Expressions.{faults, inside, own_type, scalar_own, behind, way_of}
 use Rattle.type_definitions.specs.Statements.{range_faults, range_of_faults, ranged, no_suffix, is_array, scalar_mark, type_or_integer}
-use Rattle.type_definitions.specs.Gathered.{parameter_type, declared_number}
+use Rattle.type_definitions.specs.Gathered.{declared_number}
 use Rattle.typed_tree.specs.Trees.{TypedTree, TypedCode}
 use Rattle.typed_tree.specs.Trees as typed
 use Rattle.typed_tree.specs.declared.object.Object.{Object}

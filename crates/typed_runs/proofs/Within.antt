@@ -1,5 +1,6 @@
 -- The calls and the operands of short circuits within an expression that breaks no sentence.
 use Rattle.std.proofs.Common.{◌≡◌, refl, sym, ap, ◌∙◌, subst, ℕ, suc, ◌+◌, Bool, true, false, ◌&&◌, List, [], ◌∷◌, ◌++◌, map, get_or, nat_eq, ℤ, negsuc, not, Some, None, if◌then◌else◌}
+use Rattle.std.specs.Prelude.{is_some}
 use Rattle.std.specs.List.{AllByRecursion}
 use Rattle.spark_base.specs.declared.position.Pos.{Pos}
 use Rattle.resolved_tree.specs.declared.node.Mark.{Mark}
@@ -242,14 +243,14 @@ module _ (s : Site) (objects : List Object) (subs : List Signature) (made : ℕ 
       within (Text p t) loose want meant m none = tt
       within (Null p) loose want meant m none = tt
       within (Named p d rest) loose want meant m none =
-          by (reading_of c d rest) refl none (λ t e. steps_within rest t meant.1 e) (λ f of e fit. actuals_within f rest of meant.1 e fit)
+          by (reading_of c d rest) refl none (λ t e. steps_within rest t meant.1 e) (λ f of gives e fit. actuals_within true f rest of gives meant.1 e fit)
           (λ t is e. imaged_within d t rest is meant.1 e)
         where
           by : (r : Reading) → reading_of c d rest ≡ r
               → reading_faults c p d loose (given_names (call_arguments rest)) r ++ behind c (way_of c.known d (entry_of c.known d)) rest ≡ []
               → ((t : ℕ) → behind c (way.Along t) rest ≡ [] → Within y (typed_steps s t rest))
-              → ((f : ℕ) → IsProfiled s.context.known s.bodies y made f → behind c (way.Giving (role.Actuals f)) rest ≡ []
-              → associates (formal_names (profile_of (entry_of c.known f))) (given_names (call_arguments rest)) ≡ true → IsCall y (sub_number s f) (typed_actuals s f rest) × Within y (typed_actuals s f rest))
+              → ((f : ℕ) → IsProfiled s.context.known s.bodies y made f → is_some (profile_of (entry_of c.known f)).result ≡ true → behind c (way.Giving (role.Actuals f)) rest ≡ []
+              → associates (formal_names (profile_of (entry_of c.known f))) (given_names (call_arguments rest)) ≡ true → IsCall y true (sub_number s f) (typed_actuals s f rest) × Within y (typed_actuals s f rest))
               → ((t : ℕ) → IsImage c d t (entry_of c.known d) rest → behind c (way_of c.known d (entry_of c.known d)) rest ≡ [] → Within y (typed_imaged s rest))
               → Within y (typed_name s p d r (typed_steps s (object_type (entry_of c.known d)) rest) (typed_actuals s (called_function r) rest) (typed_imaged s rest))
           by reading.Off is h steps calls images = tt
@@ -267,9 +268,10 @@ module _ (s : Site) (objects : List Object) (subs : List Signature) (made : ℕ 
               let after = nil_right (reading_faults c p d loose (given_names (call_arguments rest)) (reading.Call f)) _ h in
               let way_is : way_of c.known d (entry_of c.known d) ≡ way.Giving (role.Actuals f) =
               function_way c.known d found.1 (entry_of c.known d) found.2 ∙ ap (λ z. way.Giving (role.Actuals z)) (sym found.0) in
-              let entry_is = function_entry c.known f found.1 (subst (λ z. (profile_of (entry_of c.known z)).result ≡ Some found.1) (sym found.0) found.2) in
+              let result_is : (profile_of (entry_of c.known f)).result ≡ Some found.1 = subst (λ z. (profile_of (entry_of c.known z)).result ≡ Some found.1) (sym found.0) found.2 in
+              let entry_is = function_entry c.known f found.1 result_is in
               let of = profiled f entry_is.0 entry_is.1 in
-              calls f of (subst (λ z. behind c z rest ≡ []) way_is after) fit
+              calls f of (ap is_some result_is) (subst (λ z. behind c z rest ≡ []) way_is after) fit
           by (reading.Image t) is h steps calls images =
               images t (image_read c d t rest is) (nil_right (reading_faults c p d loose (given_names (call_arguments rest)) (reading.Image t)) _ h)
           by reading.EndOfFile is h steps calls images = tt
@@ -345,16 +347,17 @@ module _ (s : Site) (objects : List Object) (subs : List Signature) (made : ℕ 
       step_within a t after meant none h = h
 
       -- The actuals of a call.
-      pub actuals_within : (f : ℕ) (rest : Tree) → IsProfiled s.context.known s.bodies y made f → AreSuffixes s y rest → behind c (way.Giving (role.Actuals f)) rest ≡ []
+      pub actuals_within : (given : Bool) (f : ℕ) (rest : Tree) → IsProfiled s.context.known s.bodies y made f → is_some (profile_of (entry_of c.known f)).result ≡ given
+          → AreSuffixes s y rest → behind c (way.Giving (role.Actuals f)) rest ≡ []
           → associates (formal_names (profile_of (entry_of c.known f))) (given_names (call_arguments rest)) ≡ true
-          → IsCall y (sub_number s f) (typed_actuals s f rest) × Within y (typed_actuals s f rest)
-      actuals_within f (More (Applied args) rest) of meant none fit =
+          → IsCall y given (sub_number s f) (typed_actuals s f rest) × Within y (typed_actuals s f rest)
+      actuals_within given f (More (Applied args) rest) of gives meant none fit =
           let here = nil_left (arguments c (role.Actuals f) 0 args) _ none in (
-            call_given s objects subs made laws f of args meant.0 here fit,
+            call_given s objects subs made laws f of given gives args meant.0 here fit,
             arranged_within y (role_names c (role.Actuals f)) (given_names args) (typed_values s (role.Actuals f) 0 args)
                 (values_within args (role.Actuals f) 0 meant.0 (actuals_made f of) here),
           )
-      actuals_within f rest of meant none fit = (call_given s objects subs made laws f of NoMore tt refl fit, tt)
+      actuals_within given f rest of gives meant none fit = (call_given s objects subs made laws f of given gives NoMore tt refl fit, tt)
 
       imaged_within : (d t : ℕ) (rest : Tree) → IsImage c d t (entry_of c.known d) rest → AreSuffixes s y rest → behind c (way_of c.known d (entry_of c.known d)) rest ≡ []
           → Within y (typed_imaged s rest)

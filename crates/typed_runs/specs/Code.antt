@@ -1,6 +1,6 @@
 -- Typed code whose steps have expressions of the types of their places, and what stands at points of
 -- its own before a step: calls, and the operands of short circuits.
-use Rattle.std.specs.Prelude.{ℕ, Option, None}
+use Rattle.std.specs.Prelude.{ℕ, true, Option, None}
 use Rattle.type_definitions.specs.Entries.{boolean}
 use Rattle.typed_tree.specs.Trees.{TypedTree, Name, Component, Designated, Element, Image, Parens, Unary, Binary, Short, IsNull, Aggregate, Alike, New, TypedCode, Declare, Assign, Output, Input, Release, If, Branch, Case, When, Loop, While, For, Exit, Return, Block, More}
 use Rattle.typed_tree.specs.Trees as typed
@@ -13,7 +13,7 @@ use Rattle.typed_steps.specs.Steps.{IsCall, IsTypedStep}
 
 -- The calls and the operands of short circuits within an expression.
 unfoldable pub Within : Typing → TypedTree → Type 0
-Within s (typed.Call p sub actuals) = IsCall s sub actuals × Within s actuals
+Within s (typed.Call p sub actuals) = IsCall s true sub actuals × Within s actuals
 Within s (Short op p a q b) = Has s boolean a × Has s boolean b × Within s a × Within s b
 Within s (Name p x steps t) = Within s steps
 Within s (Component i rest) = Within s rest

@@ -39,6 +39,7 @@ formals_of known d = (profile_of (entry_of known d)).formals
 -- What is asked of a subprogram that is called. `made` says of which numbers stand for types.
 pub record IsProfiled (known : Known) (bodies : List ℕ) (y : Typing) (made : ℕ → Type 0) (d : ℕ) : Type 0 where
   pub formals : AreFormals y (sub_at y (position_or_len (nat_eq d) bodies + 1)).formals (formals_of known d)
+  pub result : (sub_at y (position_or_len (nat_eq d) bodies + 1)).result ≡ (profile_of (entry_of known d)).result
   pub types : (i : ℕ) → made (get_or (formals_of known d) i no_formal).of
   -- no two formals have one name, in any case of letters
   pub names : (k : ℕ) (v : List ℕ) → k < length (formals_of known d) → same_word (get_or (formals_of known d) k no_formal).name v ≡ true

@@ -3,7 +3,7 @@
 -- This is what a lowering to words of known sorts, kinds and bounds asks for. The machine's
 -- `is_typed` goes by the sorts of words alone, and a record of one component has the sorts of that
 -- component.
-use Rattle.std.specs.Prelude.{◌≡◌, ◌⊎◌, ℕ, Bool, true, false, List, [], ◌∷◌, length, Option, Some, None}
+use Rattle.std.specs.Prelude.{◌≡◌, ◌⊎◌, ℕ, Bool, true, false, List, [], ◌∷◌, length, Option, Some, None, is_some}
 use Rattle.spark_base.specs.Lists.{Has as Holds}
 use Rattle.place_names.specs.declared.act.Mode.{Mode}
 use Rattle.place_names.specs.declared.act.Mode.TheVariants as mode
@@ -88,8 +88,10 @@ abbrev pub GoesThrough : Typing → Signature → Type 0
 GoesThrough s sub =
     traverses s.table sub.result ≡ true → (x : ℕ) (rest : List ℕ) → sub.formals ≡ x ∷ rest → is_scalar (full s.table (object_at s x).of) ≡ false
 
-abbrev pub IsCall : Typing → ℕ → TypedTree → Type 0
-IsCall s sub actuals = ActualsTaken s (sub_at s sub).formals actuals × GoesThrough s (sub_at s sub)
+-- A call gives a result just where a function is called.
+abbrev pub IsCall : Typing → Bool → ℕ → TypedTree → Type 0
+IsCall s given sub actuals =
+    ActualsTaken s (sub_at s sub).formals actuals × GoesThrough s (sub_at s sub) × (is_some (sub_at s sub).result ≡ given)
 
 -- A procedure returns no value, and a function one of its type.
 abbrev pub Returned : Typing → Option ℕ → TypedTree → Type 0
@@ -101,7 +103,7 @@ Returned s (Some t) v = (e : TypedTree) × (v ≡ More e NoMore) × Taken s t e
 abbrev pub IsTypedStep : Typing → Option ℕ → Instruction → Type 0
 IsTypedStep s result (Declare x v) = FirstTaken s (object_at s x).of v
 IsTypedStep s result (Assign target e) = (t : ℕ) × IsPlaceOf s t target × Taken s t e
-IsTypedStep s result (instruction.Call sub actuals r) = IsCall s sub actuals
+IsTypedStep s result (instruction.Call sub actuals r) = IsCall s (is_some r) sub actuals
 IsTypedStep s result (Output text line) = FirstText s text
 IsTypedStep s result (Input target) = (t : ℕ) × IsPlaceOf s t target × (counts (shape_of s.table t) ≡ true)
 IsTypedStep s result (Release e) = (t : ℕ) × (d : ℕ) × IsPlaceOf s t e × (shape_of s.table t ≡ shape.Access d false true)

@@ -1,6 +1,6 @@
 -- What the acts of an instruction move or lend is rooted in an object that the instruction names, whose
 -- scope ends at a point; and no act changes an observer itself.
-use Rattle.std.proofs.Common.{◌≡◌, refl, sym, ap, ◌∙◌, subst, ◌⊎◌, inl, inr, ℕ, zero, suc, ◌<◌, Bool, true, false, not, ◌&&◌, ◌||◌, List, [], ◌∷◌, ◌++◌, map, length, get_or, arith, ℤ, Option, Some, None, if◌then◌else◌}
+use Rattle.std.proofs.Common.{◌≡◌, refl, sym, ap, ◌∙◌, subst, ◌⊎◌, inl, inr, ℕ, zero, suc, ◌<◌, Bool, true, false, ◌&&◌, ◌||◌, List, [], ◌∷◌, ◌++◌, map, length, get_or, arith, ℤ, Option, Some, None, if◌then◌else◌}
 use Rattle.spark_base.specs.Lists.{Has}
 use Rattle.spark_base.proofs.Lists.{Has-append_left, Has-append_right, Has-append_cases}
 use Rattle.spark_base.specs.declared.position.Pos.{Pos}
@@ -14,6 +14,8 @@ use Rattle.place_names.specs.declared.fact.Fact.TheVariants.{Moved}
 use Rattle.place_names.specs.declared.selector.Sel.{Sel}
 use Rattle.place_names.specs.Facts.{adds, place}
 use Rattle.place_names.specs.Names.{Name as PlaceName, extend}
+use Rattle.type_definitions.specs.declared.judgement.View.{View}
+use Rattle.type_definitions.specs.declared.judgement.View.TheVariants as view
 use Rattle.type_definitions.specs.declared.table.Component.{Component as Part}
 use Rattle.type_definitions.specs.declared.table.Shape.{Shape}
 use Rattle.type_definitions.specs.declared.table.Shape.TheVariants as shape
@@ -28,13 +30,14 @@ use Rattle.flow_paths.specs.Acts.{acts_in, acts_of, used, placed, naming, observ
 use Rattle.flow_paths.specs.Views.{changes}
 use Rattle.machine.specs.Words.{component_type, element_of, no_component}
 use Rattle.soundness.specs.Typed.{OwnsByShape}
-use Rattle.soundness.specs.Sound.{calls_nothing}
+use Rattle.soundness.specs.Sound.{IsNoCall}
 use Rattle.soundness.specs.Ready.{IsActualBy, AreActuals}
 use Rattle.soundness.proofs.Passing.{IsRead, AreReads, way_by, way_of}
 use Rattle.typed_laws.specs.Needed.{Stays, Leads, Gives, GivesParts, GivesFirst, Writes, FirstWrites, Source, FirstSource, IsPlace, FirstStays, Returns, IsFine}
 use Rattle.viewed_soundness.specs.Holds.{IsNamed, PartsAreNamed}
 use Rattle.scope_laws.specs.Code.{roots}
 use Rattle.scope_laws.specs.Order.{named_in}
+use Rattle.view_laws.specs.InOrder.{is_call, NamesSource}
 
 -- ---- types
 
@@ -117,6 +120,14 @@ scalar_shape (shape.Whole a b) e f = cc
 scalar_shape (shape.Listed l a b) e f = cc
 scalar_shape (shape.Elements a b el) e f = cc
 scalar_shape (shape.Same of) e f = cc
+
+pub no_anonymous : (v : View) → is_scalar v ≡ true → is_anonymous v ≡ false
+no_anonymous (view.Access d c n) e = cc
+no_anonymous view.Fields e = cc
+no_anonymous (view.Whole low high) e = refl
+no_anonymous (view.Listed low high) e = refl
+no_anonymous (view.Elements low high of) e = cc
+no_anonymous _ e = refl
 
 pub observer_anonymous : (s : Typing) (x : ℕ) → is_observer s x ≡ true → is_anonymous (view_of s x) ≡ true
 observer_anonymous s x e = or_right (is_borrowing (view_of s x)) (is_observing (view_of s x)) (both_second (is_variable (object_at s x).kind) (is_observing (view_of s x)) e)
@@ -467,24 +478,18 @@ module _ (s : Typing) (own_law : OwnsByShape s.table) (parts_named : PartsAreNam
         λ k e. cc,
       )
 
-  lent_good : (want : ℕ) (e : TypedTree) (a : PlaceName → Act) → IsLending a → is_anonymous (full s.table want) ≡ true → not (has_call e) ≡ true
+  lent_good : (want : ℕ) (e : TypedTree) (a : PlaceName → Act) → IsLending a → is_anonymous (full s.table want) ≡ true → is_call e ≡ false
       → Source s want e → IsGoodSource e a
-  unfolding roots has_call
+  unfolding roots
   lent_good want (Name p x steps t) a lends anonymous silent fine w is =
       subst (λ (z : Written). IsGood (x ∷ roots steps) (a z.name)) (let same : record { pos = p; name = name_of x steps; of = t } ≡ w = cc in same)
       (lends (name_of x steps) (x ∷ roots steps) (inl refl) (source_lasts want p x steps t anonymous fine))
   lent_good want (Call p sub actuals) a lends anonymous silent fine w is = cc
   lent_good want _ a lends anonymous silent fine w is = cc
 
-  first_lent : (want : ℕ) (v : TypedTree) (a : PlaceName → Act) → IsLending a → is_anonymous (full s.table want) ≡ true → not (has_call v) ≡ true
+  first_lent : (want : ℕ) (v : TypedTree) (a : PlaceName → Act) → IsLending a → is_anonymous (full s.table want) ≡ true → is_call (first v) ≡ false
       → FirstSource s want v → AreGood (source_acts s (first v) a) (roots v)
-  unfolding has_call
-  first_lent want (More e rest) a lends anonymous silent fine =
-      first_source want (More e rest) a (lent_good want e a lends anonymous (none_first (has_call e) (has_call rest) silent) fine.1) fine
-    where
-      none_first : (b c : Bool) → not (b || c) ≡ true → not b ≡ true
-      none_first true c h = cc
-      none_first false c h = refl
+  first_lent want (More e rest) a lends anonymous silent fine = first_source want (More e rest) a (lent_good want e a lends anonymous silent fine.1) fine
   first_lent want NoMore a lends anonymous silent fine = first_source want NoMore a (λ w is. cc) fine
   first_lent want _ a lends anonymous silent fine = absurd fine
 
@@ -518,13 +523,13 @@ module _ (s : Typing) (own_law : OwnsByShape s.table) (parts_named : PartsAreNam
     first_given want NoMore plain fine = nothing
     first_given want _ plain fine = absurd fine
 
-    declared_good : (x : ℕ) (v : TypedTree) → not (has_call v) ≡ true → FirstSource s (object_at s x).of v → AreGood (declared_acts s x v) (roots v)
+    declared_good : (x : ℕ) (v : TypedTree) → (is_anonymous (view_of s x) ≡ true → is_call (first v) ≡ false) → FirstSource s (object_at s x).of v → AreGood (declared_acts s x v) (roots v)
     declared_good x v silent fine = by (is_borrower s x) (is_observer s x) refl refl
       where
         by : (b c : Bool) → is_borrower s x ≡ b → is_observer s x ≡ c
             → AreGood (if b then source_acts s (first v) (act.Borrow x) else (if c then source_acts s (first v) (observe s x) else acts_in s v)) (roots v)
-        by true c e f = first_lent (object_at s x).of v (act.Borrow x) (borrow_lends x) (borrower_anonymous s x e) silent fine
-        by false true e f = first_lent (object_at s x).of v (observe s x) (observe_lends x) (observer_anonymous s x f) silent fine
+        by true c e f = first_lent (object_at s x).of v (act.Borrow x) (borrow_lends x) (borrower_anonymous s x e) (silent (borrower_anonymous s x e)) fine
+        by false true e f = first_lent (object_at s x).of v (observe s x) (observe_lends x) (observer_anonymous s x f) (silent (observer_anonymous s x f)) fine
         by false false e f = first_given (object_at s x).of v (no_view x e f) fine
 
     stored_good : (p : Pos) (x : ℕ) (steps : TypedTree) (t u : ℕ) (e : TypedTree) → Leads s (object_at s x).of steps t → Gives s u e
@@ -549,7 +554,8 @@ module _ (s : Typing) (own_law : OwnsByShape s.table) (parts_named : PartsAreNam
         (given u e (λ anonymous. part (leads_whole (object_at s x).of steps t leads (ap (λ z. is_anonymous (full s.table z)) same ∙ anonymous))) origin)
         (λ m is none. absurd (some (ap (λ (z : PlaceName). z.sels) is ∙ none)))
 
-    assigned_good : (pos p : Pos) (x : ℕ) (steps : TypedTree) (t u : ℕ) (e : TypedTree) → Leads s (object_at s x).of steps t → t ≡ u → not (has_call e) ≡ true → Source s u e
+    assigned_good : (pos p : Pos) (x : ℕ) (steps : TypedTree) (t u : ℕ) (e : TypedTree) → Leads s (object_at s x).of steps t → t ≡ u
+        → ((y : ℕ) → whole (Name p x steps t) ≡ Some y → is_anonymous (view_of s y) ≡ true → is_call e ≡ false) → Source s u e
         → AreGood (assigned_to s pos (whole (Name p x steps t)) (Name p x steps t) e) (roots e ++ roots (Name p x steps t))
     unfolding Leads selectors
     assigned_good pos p x NoMore t u e leads same silent origin = by (is_borrower s x) (is_observer s x) refl refl
@@ -567,7 +573,7 @@ module _ (s : Typing) (own_law : OwnsByShape s.table) (parts_named : PartsAreNam
         by false true b_is c_is =
             in_source e (Name p x NoMore t) (source_acts s e (observe s x))
             (source_good e (observe s x) (lent_good u e (observe s x) (observe_lends x)
-            (ap (λ z. is_anonymous (full s.table z)) (sym (leads ∙ same)) ∙ observer_anonymous s x c_is) silent origin) (source_indexed u e origin))
+            (ap (λ z. is_anonymous (full s.table z)) (sym (leads ∙ same)) ∙ observer_anonymous s x c_is) (silent x refl (observer_anonymous s x c_is)) origin) (source_indexed u e origin))
         by false false b_is c_is =
             stored_good p x NoMore t u e leads
             (given u e (λ anonymous. no_view x b_is c_is (ap (λ z. is_anonymous (full s.table z)) (leads ∙ same) ∙ anonymous)) origin)
@@ -580,7 +586,8 @@ module _ (s : Typing) (own_law : OwnsByShape s.table) (parts_named : PartsAreNam
         part_good p x (Designated rest) t u e (λ none. cc) (λ none. cc) leads same origin
     assigned_good pos p x _ t u e leads same silent origin = absurd leads
 
-    target_good : (pos : Pos) (target : TypedTree) (u : ℕ) (e : TypedTree) → IsPlace s target u → not (has_call e) ≡ true → Source s u e
+    target_good : (pos : Pos) (target : TypedTree) (u : ℕ) (e : TypedTree) → IsPlace s target u
+        → ((y : ℕ) → whole target ≡ Some y → is_anonymous (view_of s y) ≡ true → is_call e ≡ false) → Source s u e
         → AreGood (assigned_to s pos (whole target) target e) (roots e ++ roots target)
     target_good pos (Name p x steps t) u e there silent origin = assigned_good pos p x steps t u e there.0 there.1 silent origin
     target_good pos _ u e there silent origin = absurd there
@@ -610,32 +617,32 @@ module _ (s : Typing) (own_law : OwnsByShape s.table) (parts_named : PartsAreNam
             alone fine.0 NoMore refl
             (gives_good t fine.0 (given t fine.0 (λ anonymous. true_false (traverses s.table (Some t)) anonymous e) fine.2))
 
-    pub instruction_good : (result : Option ℕ) (kept : List ℕ) (pos : Pos) (i : Instruction) → IsFine s result i → calls_nothing i ≡ true
+    pub instruction_good : (result : Option ℕ) (kept : List ℕ) (pos : Pos) (i : Instruction) → IsFine s result i → IsNoCall i → NamesSource s i
         → AreGood (acts_of (record { typing = s; result = result; roots = kept }) pos i) (named_in i)
-    instruction_good result kept pos Skip fine calls = good_none []
-    instruction_good result kept pos (Declare x v) fine calls = declared_good x v calls fine
-    instruction_good result kept pos (Assign target e) fine calls =
-        target_good pos target fine.0 e fine.1 (both_second (not (has_call target)) (not (has_call e)) calls) fine.2
-    instruction_good result kept pos (instruction.Call sub actuals temporary) fine calls = cc
-    instruction_good result kept pos (Output text line) fine calls = first_writes text fine
-    instruction_good result kept pos (Input target) fine calls =
+    instruction_good result kept pos Skip fine no_call names = good_none []
+    instruction_good result kept pos (Declare x v) fine no_call names = declared_good x v names fine
+    instruction_good result kept pos (Assign target e) fine no_call names =
+        target_good pos target fine.0 e fine.1 names fine.2
+    instruction_good result kept pos (instruction.Call sub actuals temporary) fine no_call names = absurd (no_call sub actuals temporary refl)
+    instruction_good result kept pos (Output text line) fine no_call names = first_writes text fine
+    instruction_good result kept pos (Input target) fine no_call names =
         place_good target fine.0 fine.1 (scalar_plain fine.0 fine.2) (λ m. act.Actual m mode.Out false false) (λ m name none. none)
         (λ m k e. (let same : m ≡ k = cc in same))
-    instruction_good result kept pos (Release e) fine calls =
+    instruction_good result kept pos (Release e) fine no_call names =
         place_good e fine.0 fine.2 (ap (λ z. is_anonymous (view_of_shape z)) fine.3) act.Free (λ m name none. none) (λ m k e. (let same : m ≡ k = cc in same))
-    instruction_good result kept pos (Test e) fine calls = stays_good e fine
-    instruction_good result kept pos (Choose e choices) fine calls = stays_good e fine
-    instruction_good result kept pos (Start x reversed low high) fine calls =
+    instruction_good result kept pos (Test e) fine no_call names = stays_good e fine
+    instruction_good result kept pos (Choose e choices) fine no_call names = stays_good e fine
+    instruction_good result kept pos (Start x reversed low high) fine no_call names =
         good_both (acts_in s low) (acts_in s high) (roots low) (roots high) (stays_good low fine.1) (stays_good high fine.2)
-    instruction_good result kept pos (Next x reversed low high) fine calls = good_none []
-    instruction_good result kept pos (Evaluate temporary e left) fine calls = cc
-    instruction_good result kept pos (LeaveLoop e) fine calls = first_stays e fine
-    instruction_good result kept pos (Hold v) fine calls = returned_good result v fine
-    instruction_good result kept pos (EndScope x) fine calls =
+    instruction_good result kept pos (Next x reversed low high) fine no_call names = good_none []
+    instruction_good result kept pos (Evaluate temporary e left) fine no_call names = stays_good e fine
+    instruction_good result kept pos (LeaveLoop e) fine no_call names = first_stays e fine
+    instruction_good result kept pos (Hold v) fine no_call names = returned_good result v fine
+    instruction_good result kept pos (EndScope x) fine no_call names =
         good_one (placed pos (act.EndScope x (is_borrower s x))) [] (good_quiet [] (act.EndScope x (is_borrower s x)) ((λ name none. none), (λ m e. cc)))
-    instruction_good result kept pos Finish fine calls =
+    instruction_good result kept pos Finish fine no_call names =
         good_one (placed pos (act.Return kept)) [] (good_quiet [] (act.Return kept) ((λ name none. none), (λ m e. cc)))
-    instruction_good result kept pos Fall fine calls = good_none []
+    instruction_good result kept pos Fall fine no_call names = good_none []
 
   -- What reads moves and changes nothing.
   pub reads_good : (acts : List Placed) (xs : List ℕ) → AreReads acts → AreGood acts xs

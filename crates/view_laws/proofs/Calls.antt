@@ -1,45 +1,56 @@
--- The acts of each point, those of calls of procedures among them.
-use Rattle.std.proofs.Common.{◌≡◌, sym, ap, subst, inl, inr, ℕ, true, List, map, ◌++◌, Option, None}
+-- The acts of each point, those of calls among them.
+use Rattle.std.proofs.Common.{◌≡◌, sym, ap, ◌∙◌, subst, inl, inr, ℕ, true, false, List, map, ◌++◌, Option}
+use Rattle.spark_base.specs.Lists.{Has}
 use Rattle.spark_base.specs.declared.position.Pos.{Pos}
 use Rattle.spark_base.proofs.Lists.{Has-append_cases}
 use Rattle.place_names.specs.declared.act.Placed.{Placed}
 use Rattle.typed_tree.specs.Trees.{TypedTree}
 use Rattle.flow_paths.specs.Instructions.{Instruction, Call}
-use Rattle.flow_paths.specs.Objects.{object_at, is_variable, is_anonymous, view_of}
+use Rattle.flow_paths.specs.Objects.{object_at, is_variable, is_anonymous, traverses, view_of}
 use Rattle.flow_paths.specs.Acts.{acts_of, actual_values, actual_acts}
-use Rattle.flow_paths.specs.Laid.{FlowProgram, flow_typing}
+use Rattle.flow_paths.specs.Points.{FlowPoint}
+use Rattle.flow_paths.specs.Laid.{FlowSub, FlowProgram, flow_typing}
 use Rattle.machine.specs.States.{sub_of}
 use Rattle.soundness.specs.Typed.{OwnsByShape}
-use Rattle.soundness.specs.Sound.{calls_procedures}
-use Rattle.soundness.proofs.Successors.{calls_cases}
-use Rattle.soundness.proofs.Passing.{way_of, values_read, passed_to}
+use Rattle.soundness.proofs.Successors.{call_or}
+use Rattle.soundness.proofs.Passing.{way_of, values_read, passed_by}
 use Rattle.typed_laws.specs.Needed.{IsFine}
 use Rattle.viewed_soundness.specs.Holds.{PartsAreNamed}
 use Rattle.scope_laws.specs.Order.{named_in}
-use Rattle.ready_laws.proofs.Facts.{IsPlainCall}
+use Rattle.ready_laws.proofs.Facts.{IsScalarCall}
+use Rattle.view_laws.specs.InOrder.{NamesSource}
 use Rattle.view_laws.proofs.Acts.{AreGood, instruction_good, reads_good, copies_good}
+
+-- Formals of what is called are known as such and are of scalar types, and so is its result.
+abbrev pub IsViewCall : (program : FlowProgram) → OwnsByShape (flow_typing program).table → ℕ → TypedTree → Type 0
+IsViewCall program owns n actuals = IsScalarCall program owns n actuals × (traverses (flow_typing program).table (sub_of program n).result ≡ false)
+
+abbrev pub AreViewCalls : (program : FlowProgram) → OwnsByShape (flow_typing program).table → Type 0
+AreViewCalls program owns =
+    (sub : FlowSub) → Has program.subs sub → (p : FlowPoint) → Has sub.points p → (n : ℕ) (actuals : TypedTree) (result : Option ℕ)
+    → p.instr ≡ Call n actuals result → IsViewCall program owns n actuals
 
 module _ (program : FlowProgram) (owns : OwnsByShape program.table) (parts_named : PartsAreNamed program.table) where
   -- A call reads what its actuals name, and what is copied back to is no observer.
-  call_good : (result : Option ℕ) (kept xs : List ℕ) (pos : Pos) (n : ℕ) (actuals : TypedTree) → IsPlainCall program owns n actuals
-      → AreGood (flow_typing program) owns parts_named (acts_of (record { typing = flow_typing program; result = result; roots = kept }) pos (Call n actuals None)) xs
-  call_good result kept xs pos n actuals plain =
+  call_good : (result : Option ℕ) (kept xs : List ℕ) (pos : Pos) (n : ℕ) (actuals : TypedTree) (t : Option ℕ) → IsViewCall program owns n actuals
+      → AreGood (flow_typing program) owns parts_named (acts_of (record { typing = flow_typing program; result = result; roots = kept }) pos (Call n actuals t)) xs
+  call_good result kept xs pos n actuals t (plain, no_traversal) =
       let formals : List ℕ = (sub_of program n).formals in
       let values : List Placed = actual_values (flow_typing program) (map (way_of (flow_typing program) owns) formals) actuals in
       let copies : List Placed = actual_acts (map (way_of (flow_typing program) owns) formals) actuals in
       subst (λ z. AreGood (flow_typing program) owns parts_named z xs)
-      (sym (ap (λ ways. actual_values (flow_typing program) ways actuals ++ actual_acts ways actuals) (passed_to program owns n plain.result plain.formals)))
+      (sym (ap (λ ways. actual_values (flow_typing program) ways actuals ++ actual_acts ways actuals) (passed_by program owns n no_traversal plain.formals)))
       (λ a has. elim (Has-append_cases values copies a has) [
         | inl value ↦ reads_good (flow_typing program) owns parts_named values xs (values_read (flow_typing program) owns formals actuals plain.actuals_stay) a value
         | inr copy ↦ copies_good (flow_typing program) owns parts_named formals actuals xs plain.actuals_stay a copy
       ])
 
   pub point_good : ((x : ℕ) → is_anonymous (view_of (flow_typing program) x) ≡ true → is_variable (object_at (flow_typing program) x).kind ≡ true)
-      → (result : Option ℕ) (kept : List ℕ) (pos : Pos) (i : Instruction) → IsFine (flow_typing program) result i → calls_procedures i ≡ true
-      → ((n : ℕ) (actuals : TypedTree) → i ≡ Call n actuals None → IsPlainCall program owns n actuals)
+      → (result : Option ℕ) (kept : List ℕ) (pos : Pos) (i : Instruction) → IsFine (flow_typing program) result i
+      → ((n : ℕ) (actuals : TypedTree) (t : Option ℕ) → i ≡ Call n actuals t → IsViewCall program owns n actuals) → NamesSource (flow_typing program) i
       → AreGood (flow_typing program) owns parts_named (acts_of (record { typing = flow_typing program; result = result; roots = kept }) pos i) (named_in i)
-  point_good local result kept pos i fine calls plainly = elim (calls_cases i calls) [
-    | inl nothing ↦ instruction_good (flow_typing program) owns parts_named local result kept pos i fine nothing
-    | inr call ↦ subst (λ j. AreGood (flow_typing program) owns parts_named (acts_of (record { typing = flow_typing program; result = result; roots = kept }) pos j) (named_in i))
-        (sym call.2) (call_good result kept (named_in i) pos call.0 call.1 (plainly call.0 call.1 call.2))
+  point_good local result kept pos i fine calls names = elim (call_or i) [
+    | inr no_call ↦ instruction_good (flow_typing program) owns parts_named local result kept pos i fine no_call names
+    | inl call ↦ subst (λ j. AreGood (flow_typing program) owns parts_named (acts_of (record { typing = flow_typing program; result = result; roots = kept }) pos j) (named_in i))
+        (sym call.3) (call_good result kept (named_in i) pos call.0 call.1 call.2 (calls call.0 call.1 call.2 call.3))
   ]

@@ -1,6 +1,6 @@
 -- Along a control path, what facts say was moved is in scope, or in an object of a package; so no fact speaks
 -- of an object that is declared. (As in `ready_laws`, but with views.)
-use Rattle.std.proofs.Common.{◌≡◌, refl, sym, ap, ◌∙◌, subst, ◌⊎◌, inl, inr, ℕ, Bool, true, false, not, ◌&&◌, ◌||◌, ◌==◌, eqb-true, eq-eqb, List, [], ◌∷◌, ◌++◌, map, drop, get_or, Some, None}
+use Rattle.std.proofs.Common.{◌≡◌, refl, sym, ap, ◌∙◌, subst, ◌⊎◌, inl, inr, ℕ, Bool, true, false, not, ◌&&◌, ◌||◌, ◌==◌, eqb-true, eq-eqb, List, [], ◌∷◌, ◌++◌, map, take, drop, get_or, Option, Some, None}
 use Rattle.std.specs.Prelude.{filter}
 use Rattle.std.specs.List.{AllByRecursion}
 use Rattle.std.proofs.lemmas.List.Folds.{list_any-append}
@@ -13,33 +13,36 @@ use Rattle.place_names.specs.declared.fact.Fact.{Fact}
 use Rattle.place_names.specs.declared.fact.Fact.TheVariants.{Moved}
 use Rattle.place_names.specs.Facts.{adds, removes, effect}
 use Rattle.place_names.specs.Names.{Name as PlaceName}
-use Rattle.type_definitions.specs.Types.{Table}
+use Rattle.type_definitions.specs.Types.{Table, full, is_owning, is_scalar}
 use Rattle.typed_tree.specs.Trees.{TypedTree}
 use Rattle.typed_tree.specs.Programs.{TypedProgram}
 use Rattle.flow_paths.specs.declared.report.Effects.{Effects}
 use Rattle.flow_paths.specs.Instructions.{Instruction, Skip, Declare, Assign, Call, Output, Input, Release, Test, Choose, Start, Next, Evaluate, LeaveLoop, Hold, EndScope, Finish, Fall}
-use Rattle.flow_paths.specs.Objects.{Typing, object_at, is_variable, is_anonymous, view_of, is_borrower, has_scope_end}
+use Rattle.flow_paths.specs.Objects.{Typing, Signature, object_at, sub_at, is_variable, is_formal, is_anonymous, view_of, is_borrower, has_scope_end}
 use Rattle.flow_paths.specs.Acts.{acts_of}
 use Rattle.flow_paths.specs.Points.{NamedPoint, FlowPoint}
 use Rattle.flow_paths.specs.Laid.{FlowSub, FlowProgram, NamedSub, kept_roots, sub_facts, flow_sub, typing_of, flow_typing, flow_program, flow_named}
 use Rattle.flow_paths.specs.Paths.{PathPoint, ControlPath, begins, goes_on, is_some_point, acts_at, facts_before}
 use Rattle.flow_paths.specs.Effects.{AreEffects, called_acts, path_points}
-use Rattle.flow_paths.specs.Scopes.{Leads, Silent, is_last, is_within, is_temporary, is_ready, brought, scope_behind}
+use Rattle.flow_paths.specs.Scopes.{Leads, Silent, taken, is_last, is_within, is_temporary, is_ready, brought, scope_behind}
 use Rattle.machine.specs.Run.{no_point}
 use Rattle.owned_ways.specs.Ways.{after}
 use Rattle.soundness.specs.Typed.{OwnsByShape}
 use Rattle.typed_laws.specs.Needed.{IsFine, AreFine}
-use Rattle.soundness.specs.Sound.{IsAtPoint, calls_procedures}
+use Rattle.soundness.specs.Sound.{IsAtPoint, is_temporary_object, temporaries_in}
 use Rattle.soundness.proofs.Scalars.{acts}
 use Rattle.soundness.proofs.Paths.{facts_next}
-use Rattle.soundness.proofs.Points.{IsLaid, flow_at, typing_same, point_has, point_there, path_there, next_there}
-use Rattle.soundness.proofs.Successors.{procedures_take_none}
+use Rattle.soundness.proofs.Points.{IsLaid, flow_at, point_has, point_there, path_there, next_there}
+use Rattle.soundness.proofs.Typings.{flow_agrees, instruction_same}
+use Rattle.soundness.proofs.Waited.{within_left}
+use Rattle.soundness.proofs.Passing.{plain_type, signature_there}
 use Rattle.soundness.proofs.Used.{called_add_none}
 use Rattle.soundness.proofs.Waits.{drop_none}
 use Rattle.scope_laws.specs.Order.{IsOrdered, named_in}
 use Rattle.viewed_soundness.specs.Holds.{PartsAreNamed}
-use Rattle.ready_laws.proofs.Facts.{ArePlainCalls}
-use Rattle.view_laws.proofs.Calls.{point_good}
+use Rattle.view_laws.specs.InOrder.{NamesSource}
+use Rattle.view_laws.proofs.Acts.{no_anonymous}
+use Rattle.view_laws.proofs.Calls.{AreViewCalls, point_good}
 
 -- ---- scopes
 
@@ -59,26 +62,27 @@ last_out x y (z ∷ rest) last within ne = elim (any_either (y == z) (is_within 
 ]
 
 -- What is in scope at an instruction is so after it, but for an object whose scope ends there.
-behind_within : (i : Instruction) (scope : List ℕ) (x : ℕ) → calls_procedures i ≡ true → ((y : ℕ) → i ≡ EndScope y → is_within x (drop 1 scope) ≡ true)
+behind_within : (i : Instruction) (scope : List ℕ) (x : ℕ) → ((y : ℕ) → i ≡ EndScope y → is_within x (drop 1 scope) ≡ true)
     → is_within x scope ≡ true → is_within x (brought i scope) ≡ true
-behind_within (Declare y v) scope x calls ends within = or_right (x == y) (is_within x scope) within
-behind_within (Start y reversed low high) scope x calls ends within = or_right (x == y) (is_within x scope) within
-behind_within (Call sub actuals None) scope x calls ends within = within
-behind_within (Call sub actuals (Some t)) scope x calls ends within = cc
-behind_within (Evaluate t e left) scope x calls ends within = cc
-behind_within (EndScope y) scope x calls ends within = ends y refl
-behind_within Skip scope x calls ends within = within
-behind_within (Assign target e) scope x calls ends within = within
-behind_within (Output text line) scope x calls ends within = within
-behind_within (Input target) scope x calls ends within = within
-behind_within (Release e) scope x calls ends within = within
-behind_within (Test e) scope x calls ends within = within
-behind_within (Choose e choices) scope x calls ends within = within
-behind_within (Next y reversed low high) scope x calls ends within = within
-behind_within (LeaveLoop e) scope x calls ends within = within
-behind_within (Hold v) scope x calls ends within = within
-behind_within Finish scope x calls ends within = within
-behind_within Fall scope x calls ends within = within
+behind_within (Declare y v) scope x ends within = or_right (x == y) (is_within x scope) within
+behind_within (Start y reversed low high) scope x ends within = or_right (x == y) (is_within x scope) within
+behind_within (Call sub actuals None) scope x ends within = within
+behind_within (Call sub actuals (Some t)) scope x ends within = or_right (x == t) (is_within x scope) within
+behind_within (Evaluate t e (Some op)) scope x ends within = or_right (x == t) (is_within x scope) within
+behind_within (Evaluate t e None) scope x ends within = within
+behind_within (EndScope y) scope x ends within = ends y refl
+behind_within Skip scope x ends within = within
+behind_within (Assign target e) scope x ends within = within
+behind_within (Output text line) scope x ends within = within
+behind_within (Input target) scope x ends within = within
+behind_within (Release e) scope x ends within = within
+behind_within (Test e) scope x ends within = within
+behind_within (Choose e choices) scope x ends within = within
+behind_within (Next y reversed low high) scope x ends within = within
+behind_within (LeaveLoop e) scope x ends within = within
+behind_within (Hold v) scope x ends within = within
+behind_within Finish scope x ends within = within
+behind_within Fall scope x ends within = within
 
 module _ (s : Typing) where
   not_silent : (lasts temporary : Bool) → lasts ≡ true → not lasts && not temporary ≡ true → ⊥
@@ -125,14 +129,16 @@ ended_fact x borrower facts name has root = elim (Has-append_cases (filter (λ f
 
 -- ---- paths
 
-module _ (table : Table) (typed : TypedProgram) (effects : Effects)
-    (calls : (sub : FlowSub) → Has (flow_program table typed).subs sub → (p : FlowPoint) → Has sub.points p → calls_procedures p.instr ≡ true)
-    (owns : OwnsByShape (flow_program table typed).table) (parts_named : PartsAreNamed (flow_program table typed).table)
-    (fine : AreFine (flow_program table typed)) (objects : (flow_program table typed).objects ≡ typed.objects)
+module _ (table : Table) (typed : TypedProgram) (effects : Effects) (owns : OwnsByShape (flow_program table typed).table)
+    (parts_named : PartsAreNamed (flow_program table typed).table) (fine : AreFine (flow_program table typed))
     (effects_are : AreEffects (flow_program table typed) effects)
     (local : (x : ℕ) → is_anonymous (view_of (flow_typing (flow_program table typed)) x) ≡ true
     → is_variable (object_at (flow_typing (flow_program table typed)) x).kind ≡ true)
-    (plainly : ArePlainCalls (flow_program table typed) owns) where
+    (temporaries : (x : ℕ) → is_temporary_object (flow_typing (flow_program table typed)) x ≡ true
+    → is_scalar (full (flow_program table typed).table (object_at (flow_typing (flow_program table typed)) x).of) ≡ true)
+    (sources : (sub : FlowSub) → Has (flow_program table typed).subs sub → (p : FlowPoint) → Has sub.points p
+    → NamesSource (flow_typing (flow_program table typed)) p.instr)
+    (plainly : AreViewCalls (flow_program table typed) owns) where
   abbrev program : FlowProgram
   program = flow_program table typed
 
@@ -142,12 +148,23 @@ module _ (table : Table) (typed : TypedProgram) (effects : Effects)
   abbrev own : Typing
   own = typing_of table typed
 
-  same : s ≡ own
-  same = typing_same table typed objects
+  -- the scope of a temporary ends at no point of its own
+  lasting : (x : ℕ) → has_scope_end s x ≡ true → is_temporary_object s x ≡ true → ⊥
+  lasting x lasts held =
+      let scalar = temporaries x held in
+      elim (any_either (is_owning s.table (object_at s x).of) (is_anonymous (view_of s x)) lasts) [
+        | inl owning ↦ not_both (is_owning s.table (object_at s x).of) owning (plain_type s owns (object_at s x).of scalar)
+        | inr anonymous ↦ not_both (is_anonymous (view_of s x)) anonymous (no_anonymous (view_of s x) scalar)
+      ]
+    where
+      not_both : (b : Bool) → b ≡ true → b ≡ false → ⊥
+      not_both true e f = cc
+      not_both false e f = cc
 
   -- One subprogram, in which what has an end of its scope and is named is in scope, or in an object from
   -- outside.
-  module _ (named : NamedSub) (has_sub : Has (flow_named table typed) named) (laid : IsLaid own named)
+  module _ (named : NamedSub) (has_sub : Has (flow_named table typed) named) (laid : IsLaid s named)
+      (supplied : (p : NamedPoint) → Has named.points p → temporaries_in s (take (taken p.instr) p.scope) ≡ taken p.instr)
       (is outer : ℕ → Type 0) (formals : List ℕ) (not_outer : (x : ℕ) → is x → outer x → ⊥)
       (ordered : (p : NamedPoint) → Has named.points p → IsOrdered is formals p)
       (seen : (p : NamedPoint) → Has named.points p → (x : ℕ) → Has (named_in p.instr) x → has_scope_end s x ≡ true
@@ -172,9 +189,6 @@ module _ (table : Table) (typed : TypedProgram) (effects : Effects)
       in_sub : Has (flow_sub own named).points (flow_at own named p)
       in_sub = Has-map (λ (q : NamedPoint). flow_at own named q) named.points p there
 
-      calls_there : calls_procedures p.instr ≡ true
-      calls_there = calls (flow_sub own named) in_program (flow_at own named p) in_sub
-
       fine_there : IsFine s named.sub.result p.instr
       fine_there = fine (flow_sub own named) in_program (flow_at own named p) in_sub
 
@@ -188,8 +202,8 @@ module _ (table : Table) (typed : TypedProgram) (effects : Effects)
       -- what the acts of the point move
       own_known : (a : Placed) → Has (acts_here p.instr) a → (name : PlaceName) → Has (adds a.act) (Moved name) → Known p name.root
       own_known a has name moved =
-          let found = (point_good program owns parts_named local named.sub.result kept p.pos p.instr fine_there calls_there
-          (λ n actuals e. plainly (flow_sub own named) in_program (flow_at own named p) in_sub n actuals None e) a has).0 (Moved name) moved in
+          let found = (point_good program owns parts_named local named.sub.result kept p.pos p.instr fine_there
+          (plainly (flow_sub own named) in_program (flow_at own named p) in_sub) (sources (flow_sub own named) in_program (flow_at own named p) in_sub) a has).0 (Moved name) moved in
           (found.1, seen p there name.root found.0 found.1)
 
       moves_known : (a : Act) → Has (acts (whole_acts p.instr)) a → (name : PlaceName) → Has (adds a) (Moved name) → Known p name.root
@@ -201,11 +215,18 @@ module _ (table : Table) (typed : TypedProgram) (effects : Effects)
             | inr called ↦ absurd (called_add_none program effects effects_are p.pos p.instr stands.0 (Moved name) called adds_it)
           ]
 
+      -- formals of what is called are known as such
+      formals_there : (n : ℕ) (actuals : TypedTree) (t : Option ℕ) → p.instr ≡ Call n actuals t → (x : ℕ) → Has (sub_at s n).formals x → is_formal s x ≡ true
+      formals_there n actuals t e x has =
+          let plain = (plainly (flow_sub own named) in_program (flow_at own named p) in_sub n actuals t e).0 in
+          plain.known x (subst (λ fs. Has fs x) (ap (λ (z : Signature). z.formals) (signature_there program.subs n)) has)
+
       module _ (n : ℕ) (at_point : IsAtPoint named.points n p) where
         acts_are : acts_at points n ≡ acts (whole_acts p.instr)
         acts_are =
             ap (λ (z : PathPoint). acts z.acts) (path_there own named n p at_point program effects)
-            ∙ ap (λ z. acts (acts_of (record { typing = z; result = named.sub.result; roots = kept }) p.pos p.instr ++ called_acts program effects p.pos p.instr)) (sym same)
+            ∙ ap (λ z. acts (z ++ called_acts program effects p.pos p.instr))
+            (sym (instruction_same s own (flow_agrees table typed) named.sub.result kept p.pos p.instr formals_there))
 
         facts_are : (before : List ℕ) → facts_before points (n ∷ before) ≡ after (acts (whole_acts p.instr)) (facts_before points before)
         facts_are before = facts_next points before n ∙ ap (λ z. after z (facts_before points before)) acts_are
@@ -216,19 +237,22 @@ module _ (table : Table) (typed : TypedProgram) (effects : Effects)
             facts_kept (Known p) (acts (whole_acts p.instr)) (facts_before points before) known moves_known name
             (subst (λ z. Has z (Moved name)) (facts_are before) has)
 
-        behind_is : scope_behind p ≡ brought p.instr p.scope
-        behind_is = ap (λ k. brought p.instr (drop k p.scope)) (procedures_take_none p.instr calls_there) ∙ ap (brought p.instr) (drop_none p.scope)
+        abbrev left : List ℕ
+        left = drop (taken p.instr) p.scope
 
         -- what they know is in scope after the instruction
-        within_behind : (before : List ℕ) (name : PlaceName) → Has (facts_before points (n ∷ before)) (Moved name) → is_within name.root p.scope ≡ true
-            → is_within name.root (scope_behind p) ≡ true
-        within_behind before name has within =
-            ap (is_within name.root) behind_is
-            ∙ behind_within p.instr p.scope name.root calls_there
-            (λ x e. last_out x name.root p.scope (subst (λ i. is_ready p i ≡ true) e (ordered p there).ready) within
-            (ended_fact x (is_borrower s x) (facts_before points before) name
-            (subst (λ z. Has z (Moved name)) (facts_are before ∙ ap (λ i. after (acts (whole_acts i)) (facts_before points before)) e) has)))
-            within
+        within_behind : (before : List ℕ) (name : PlaceName) → Has (facts_before points (n ∷ before)) (Moved name) → has_scope_end s name.root ≡ true
+            → is_within name.root p.scope ≡ true → is_within name.root (scope_behind p) ≡ true
+        within_behind before name has lasts within = elim (within_left s (taken p.instr) p.scope (supplied p there) name.root within) [
+          | inl held ↦ absurd (lasting name.root lasts held)
+          | inr there_left ↦
+              behind_within p.instr left name.root
+              (λ x e. last_out x name.root left
+              (subst (λ z. is_last x z ≡ true) (sym (ap (λ i. drop (taken i) p.scope) e ∙ drop_none p.scope)) (subst (λ i. is_ready p i ≡ true) e (ordered p there).ready)) there_left
+              (ended_fact x (is_borrower s x) (facts_before points before) name
+              (subst (λ z. Has z (Moved name)) (facts_are before ∙ ap (λ i. after (acts (whole_acts i)) (facts_before points before)) e) has)))
+              there_left
+        ]
 
     first_at : (f : FlowPoint → PathPoint) (g : NamedPoint → FlowPoint) (qs : List NamedPoint) → is_some_point (map f (map g qs)) → (p : NamedPoint) × IsAtPoint qs 0 p
     first_at f g [] some = absurd some
@@ -242,15 +266,14 @@ module _ (table : Table) (typed : TypedProgram) (effects : Effects)
         let here = standing old a path in
         let p : NamedPoint = here.0 in
         let there : Has named.points p = point_has named.points a p here.1 in
-        let on = next_there own named laid p there b (subst (λ (z : PathPoint). Has z.next b) (path_there own named a p here.1 program effects) next) in (
+        let on = next_there s named laid p there b (subst (λ (z : PathPoint). Has z.next b) (path_there own named a p here.1 program effects) next) in (
           on.0,
           on.1,
           λ name has. (let known = known_on p there a here.1 old here.2 name has in (
             known.0,
             elim known.1 [
               | inl out ↦ inl out
-              | inr within ↦ inr (leads_within s name.root (scope_behind p) (on.0).scope (subst (λ z. Leads z (scope_behind p) (on.0).scope) (sym same) on.2) known.0
-                  (within_behind p there a here.1 old name has within))
+              | inr within ↦ inr (leads_within s name.root (scope_behind p) (on.0).scope on.2 known.0 (within_behind p there a here.1 old name has known.0 within))
             ],
           )),
         )

@@ -2,11 +2,12 @@ pub mod Acts
 pub mod Reports
 pub mod Enclosing
 pub mod Inner
+pub mod Same
 pub mod Calls
 pub mod Packages
 pub mod Facts
+pub mod Formals
 pub mod Scoped
 pub mod Points
-pub mod Spared
 pub mod Ready
 pub mod Written

@@ -1,6 +1,6 @@
 -- Borrowers and observers at the points of an accepted program: what they are declared and assigned with,
 -- what lasts as long as they do, and what is in scope where scopes end.
-use Rattle.std.proofs.Common.{◌≡◌, refl, sym, ap, ◌∙◌, subst, ◌⊎◌, inl, inr, ℕ, suc, ◌+◌, ◌<◌, ◌≤◌, Bool, true, false, cond, not, ◌&&◌, ◌||◌, ◌==◌, eqb-true, eq-eqb, List, [], ◌∷◌, ◌++◌, map, drop, length, arith, if◌then◌else◌, Some, None}
+use Rattle.std.proofs.Common.{◌≡◌, refl, sym, ap, ◌∙◌, subst, ◌⊎◌, inl, inr, ℕ, zero, suc, ◌+◌, ◌<◌, ◌≤◌, Bool, true, false, cond, not, ◌&&◌, ◌||◌, ◌==◌, eqb-true, eq-eqb, List, [], ◌∷◌, ◌++◌, map, drop, length, arith, if◌then◌else◌, Some}
 use Rattle.std.specs.Prelude.{nat_lt}
 use Rattle.std.specs.Bool.{Decides}
 use Rattle.std.specs.List.{AllByRecursion, position_or_len}
@@ -25,15 +25,15 @@ use Rattle.typed_tree.specs.Programs.{TypedSub, TypedProgram}
 use Rattle.flow_paths.specs.declared.report.Effects.{Effects}
 use Rattle.flow_paths.specs.Instructions.{Instruction, Declare, Assign, Input, EndScope}
 use Rattle.flow_paths.specs.Objects.{Typing, object_at, is_variable, is_borrower, is_observer, is_borrowing, is_observing, is_anonymous, is_formal, is_package_object, has_scope_end, view_of}
-use Rattle.flow_paths.specs.Names.{name_of, written, source, has_call}
+use Rattle.flow_paths.specs.Names.{first, name_of, written, source}
 use Rattle.flow_paths.specs.Acts.{placed, observe, reborrow, target_pos, index_acts, source_acts, assigned_to, stored_acts, declared_acts, acts_in, acts_of}
 use Rattle.flow_paths.specs.Points.{PointName, same_place, same_point, NamedPoint, FlowPoint}
 use Rattle.flow_paths.specs.Laid.{FlowSub, FlowProgram, NamedSub, number_in, kept_roots, sub_facts, flow_sub, typing_of, flow_typing, flow_program, flow_named}
 use Rattle.flow_paths.specs.Scopes.{Differ, is_last, is_within, is_ready, brought, scope_behind, taken}
 use Rattle.flow_paths.specs.Views.{changes, encloses, scope_of, is_assignment}
-use Rattle.soundness.specs.Sound.{IsAtPoint, calls_procedures}
+use Rattle.soundness.specs.Sound.{IsAtPoint}
 use Rattle.soundness.proofs.Points.{flow_at, next_there}
-use Rattle.soundness.proofs.Successors.{procedures_take_none}
+use Rattle.soundness.proofs.Typings.{package_same, formal_same}
 use Rattle.soundness.proofs.Waits.{drop_none}
 use Rattle.typed_laws.specs.Needed.{Leads, IsFine}
 use Rattle.viewed_soundness.specs.Holds.{KeepsObserved, AllKeep}
@@ -44,14 +44,15 @@ use Rattle.layered_scopes.specs.Layered.{is_older}
 use Rattle.layered_scopes.specs.Points.{IsAbove, GoesOn, AreFading}
 use Rattle.layered_scopes.proofs.Layered.{sub_good}
 use Rattle.ready_laws.proofs.Subs.{setting_from}
-use Rattle.view_laws.specs.InOrder.{is_name_of, is_list_end, is_one_name_of, is_any, fits}
+use Rattle.ready_laws.proofs.Ready.{seen_has}
+use Rattle.view_laws.specs.InOrder.{is_name_of, is_list_end, is_one_name_of, is_any, is_call, NamesSource, fits}
 use Rattle.view_laws.specs.Program.{IsViewProgram}
 use Rattle.view_laws.proofs.Acts.{source_lasts}
 use Rattle.view_laws.proofs.Calls.{point_good}
 use Rattle.view_laws.proofs.Reports.{unchanged, not_observed, observed_encloses, reborrowed_own}
 use Rattle.view_laws.proofs.Enclosing.{enclosing_less}
 use Rattle.view_laws.proofs.Scoped as scoped
-use Rattle.view_laws.proofs.Scoped.{seen_has}
+use Rattle.view_laws.proofs.Same as same
 
 -- ---- tests
 
@@ -210,7 +211,12 @@ one_point points n a b (front, rest, is, long) (front', rest', is', long') = ali
     aligned (x ∷ front) (y ∷ front') e long =
         (let tails : front ++ a ∷ rest ≡ front' ++ b ∷ rest' = cc in aligned front front' tails (omega (arith, long)))
 
--- ---- ends of scopes
+-- ---- scopes
+
+within_whole : (y n : ℕ) (scope : List ℕ) → is_within y (drop n scope) ≡ true → is_within y scope ≡ true
+within_whole y zero scope within = ap (is_within y) (sym (drop_none scope)) ∙ within
+within_whole y (suc n) [] within = within
+within_whole y (suc n) (z ∷ scope) within = or_right (y == z) (is_within y scope) (within_whole y n scope within)
 
 last_out : (x y : ℕ) (scope : List ℕ) → is_last x scope ≡ true → is_within y scope ≡ true → (y ≡ x → ⊥) → is_within y (drop 1 scope) ≡ true
 last_out x y [] last within ne = cc
@@ -259,8 +265,17 @@ module _ (table : Table) (typed : TypedProgram) (effects : Effects) (given : IsV
   abbrev own : Typing
   own = typing_of table typed
 
-  same : s ≡ own
-  same = scoped.same table typed effects given
+  text_local : (x : ℕ) → is_anonymous (view_of own x) ≡ true → is_variable (object_at own x).kind ≡ true
+  text_local x anonymous = (given.views.local x anonymous).0
+
+  anonymous_same : (x : ℕ) → is_anonymous (view_of s x) ≡ is_anonymous (view_of own x)
+  anonymous_same = same.anonymous_same table typed given.temporaries text_local
+
+  observer_same : (x : ℕ) → is_observer s x ≡ is_observer own x
+  observer_same = same.observer_same table typed given.temporaries text_local
+
+  scope_same : (x : ℕ) → scope_of s x ≡ scope_of own x
+  scope_same = same.scope_same table typed given.temporaries text_local
 
   scopes_same : program.scopes ≡ typed.scopes
   unfolding flow_program
@@ -315,13 +330,17 @@ module _ (table : Table) (typed : TypedProgram) (effects : Effects) (given : IsV
     fine_there : IsFine s named.sub.result p.instr
     fine_there = scoped.fine_there table typed effects given named has p there
 
+    source_there : NamesSource s p.instr
+    source_there = scoped.source_there table typed effects given named has p there
+
     act_there : (a : Placed) → Has (acts_here s) a → Has at.acts a
-    act_there a h = subst (λ (z : Typing). Has (acts_here z) a) same h
+    act_there a h = subst (λ ps. Has ps a) (scoped.acts_same table typed effects given named has p there named.sub.result kept) h
 
     pub changed_plain : (a : Placed) → Has at.acts a → (m : PlaceName) → changes a.act ≡ Some m → is_observer s m.root ≡ false
     changed_plain a h m e = elim (bool_cases (is_nil m.sels)) [
       | inl empty ↦ (point_good program given.owns given.parts_named (λ x anonymous. (local x anonymous).0) named.sub.result kept p.pos p.instr fine_there
-          (scoped.calls_there table typed effects given named has p there) (λ n actuals e. scoped.plainly table typed effects given sub in_program at in_sub n actuals None e) a (subst (λ (z : Typing). Has (acts_here z) a) (sym same) h)).1 m e (nil_is m.sels empty)
+          (scoped.plainly table typed effects given sub in_program at in_sub) source_there a
+          (subst (λ ps. Has ps a) (sym (scoped.acts_same table typed effects given named has p there named.sub.result kept)) h)).1 m e (nil_is m.sels empty)
       | inr some ↦ unchanged program effects given.accepted.no_reports sub in_program at in_sub a h m e (ap not some)
     ]
 
@@ -350,36 +369,38 @@ module _ (table : Table) (typed : TypedProgram) (effects : Effects) (given : IsV
     formals_known : (x : ℕ) → Has named.sub.formals x → is_formal s x ≡ true
     formals_known x there =
         let mine : Has (body.0).formals x = subst (λ (z : NamedSub). Has z.sub.formals x) (sym body.4) there in
-        ap (λ z. is_formal z x) same ∙ (given.order.local body.0 body.1).formals x mine
+        formal_same s own (scoped.alike table typed effects given) x ∙ (given.order.local body.0 body.1).formals x mine
 
     module _ (p : NamedPoint) (there : Has named.points p) where
       above : Above p
       above = all_has Above named.points p good.0 there
 
-      seen_there : (y : ℕ) → Has (named_in p.instr) y → (is_package_object s y ≡ true) ⊎ (is_within y p.scope ≡ true)
-      seen_there y names =
-          subst (λ (z : Typing). (is_package_object z y ≡ true) ⊎ (is_within y p.scope ≡ true)) (sym same)
-          (seen_has (is_package_object own) p.scope (named_in p.instr) y (scoped.body_is_seen table typed effects given named body p there) names)
+      -- what is in scope after the temporaries that are taken
+      abbrev left : List ℕ
+      left = drop (taken p.instr) p.scope
+
+      seen_there : (y : ℕ) → Has (named_in p.instr) y → (is_package_object s y ≡ true) ⊎ (is_within y left ≡ true)
+      seen_there y names = elim (seen_has (is_package_object own) left (named_in p.instr) y (scoped.body_is_left table typed effects given named body p there) names) [
+        | inl shared ↦ inl (package_same s own (scoped.alike table typed effects given) y ∙ shared)
+        | inr within ↦ inr within
+      ]
 
       outlives : (y x : ℕ) → Has (named_in p.instr) y → has_scope_end s y ≡ true
-          → (is_within y p.scope ≡ true → encloses program.scopes (scope_of s y) (scope_of s x) ≡ true) → Outlives p.scope y x
+          → (is_within y left ≡ true → encloses program.scopes (scope_of s y) (scope_of s x) ≡ true) → Outlives p.scope y x
       outlives y x names lasts around = elim (seen_there y names) [
         | inl shared ↦ inl shared
-        | inr within ↦ inr (within, lasts, around within)
+        | inr within ↦ inr (within_whole y (taken p.instr) p.scope within, lasts, around within)
       ]
 
       older_encloses : (y x : ℕ) → is_older own typed.scopes x y ≡ true → encloses program.scopes (scope_of s y) (scope_of s x) ≡ true
       older_encloses y x e =
-          ap (λ z. encloses z (scope_of s y) (scope_of s x)) scopes_same ∙ ap (λ (z : Typing). encloses typed.scopes (scope_of z y) (scope_of z x)) same
+          ap (λ z. encloses z (scope_of s y) (scope_of s x)) scopes_same ∙ (λ j. encloses typed.scopes (scope_same y j) (scope_same x j))
           ∙ and_second (nat_lt y x) (encloses typed.scopes (scope_of own y) (scope_of own x)) e
 
       -- what is in scope where an object is declared
-      around_declared : (x : ℕ) (e : TypedTree) → p.instr ≡ Declare x e → (y : ℕ) → is_within y p.scope ≡ true
+      around_declared : (x : ℕ) (e : TypedTree) → p.instr ≡ Declare x e → (y : ℕ) → is_within y left ≡ true
           → encloses program.scopes (scope_of s y) (scope_of s x) ≡ true
-      around_declared x e is y within =
-          older_encloses y x (above.declares x e is y
-          (subst (λ n. Has (drop n p.scope) y) (sym (procedures_take_none p.instr (scoped.calls_there table typed effects given named has p there)))
-          (subst (λ sc. Has sc y) (sym (drop_none p.scope)) (within_has y p.scope within))))
+      around_declared x e is y within = older_encloses y x (above.declares x e is y (within_has y left within))
 
       abbrev here : FlowPoint
       here = flow_at own named p
@@ -398,7 +419,7 @@ module _ (table : Table) (typed : TypedProgram) (effects : Effects) (given : IsV
             (placed q (act.Borrow x (name_of y path)))
             (act_has (Declare x (More (Name q y path u) NoMore)) is (placed q (act.Borrow x (name_of y path))) (borrow_there s x q y path u (borrows x anonymous none)))
             x (name_of y path) refl,
-        ltb-true y x (or_other (is_observer own x) (nat_lt y x) (ap (λ z. is_observer z x) (sym same) ∙ none) test),
+        ltb-true y x (or_other (is_observer own x) (nat_lt y x) (sym (observer_same x) ∙ none) test),
       )
 
       -- where a view is declared
@@ -407,10 +428,10 @@ module _ (table : Table) (typed : TypedProgram) (effects : Effects) (given : IsV
           × (is_observer s x ≡ false → (is_observer s y ≡ false) × (y < x))
       declared_there x e is anonymous =
           let test : ℕ → Bool = λ y. is_observer own x || nat_lt y x in
-          let mine : is_anonymous (view_of own x) ≡ true = ap (λ z. is_anonymous (view_of z x)) (sym same) ∙ anonymous in
-          let silent : not (has_call e) ≡ true = sym (ap calls_procedures is) ∙ scoped.calls_there table typed effects given named has p there in
-          let found = one_name_is test e (or_first (is_one_name_of test e) (has_call e) silent
-          (not_test (is_anonymous (view_of own x)) (is_one_name_of test e || has_call e) mine (sym (ap (fits own) is) ∙ above.declared x e is))) in
+          let mine : is_anonymous (view_of own x) ≡ true = sym (anonymous_same x) ∙ anonymous in
+          let names : NamesSource s (Declare x e) = subst (NamesSource s) is (source_there named has p there) in
+          let found = one_name_is test e (or_first (is_one_name_of test e) (is_call (first e)) (ap not (names anonymous))
+          (not_test (is_anonymous (view_of own x)) (is_one_name_of test e || is_call (first e)) mine (sym (ap (fits own) is) ∙ above.declared x e is))) in
           let value : TypedTree = More (Name found.0 found.1 found.2 found.3) NoMore in
           let whole_is : p.instr ≡ Declare x value = is ∙ ap (Declare x) found.4 in
           let fine : IsFine s named.sub.result (Declare x value) = subst (IsFine s named.sub.result) whole_is (fine_there named has p there) in (
@@ -431,11 +452,10 @@ module _ (table : Table) (typed : TypedProgram) (effects : Effects) (given : IsV
       unfolding Leads
       assigned_there q x w e is anonymous =
           let target : TypedTree = Name q x NoMore w in
-          let mine : is_anonymous (view_of own x) ≡ true = ap (λ z. is_anonymous (view_of z x)) (sym same) ∙ anonymous in
-          let silent : not (has_call e) ≡ true =
-          and_second (not (has_call target)) (not (has_call e)) (sym (ap calls_procedures is) ∙ scoped.calls_there table typed effects given named has p there) in
+          let mine : is_anonymous (view_of own x) ≡ true = sym (anonymous_same x) ∙ anonymous in
+          let names : NamesSource s (Assign target e) = subst (NamesSource s) is (source_there named has p there) in
           let found = name_is is_any e (not_test (is_anonymous (view_of own x)) (is_name_of is_any e) mine
-          (or_first (not (is_anonymous (view_of own x)) || is_name_of is_any e) (has_call e) silent (sym (ap (fits own) is) ∙ above.assigned target e is))) in
+          (or_first (not (is_anonymous (view_of own x)) || is_name_of is_any e) (is_call e) (ap not (names x refl anonymous)) (sym (ap (fits own) is) ∙ above.assigned target e is))) in
           let y : ℕ = found.1 in
           let n : TypedTree = Name found.0 y found.2 found.3 in
           let whole_is : p.instr ≡ Assign target n = is ∙ ap (Assign target) found.4 in
@@ -488,22 +508,21 @@ module _ (table : Table) (typed : TypedProgram) (effects : Effects) (given : IsV
           → (z : ℕ) × (q.instr ≡ EndScope z) × (scope_of s x ≡ scope_of s z)
       followed_there y x is q n next stands within sees alike =
           let laid = scoped.laid table typed effects given named has in
-          let on = next_there own named laid p there n next in
+          let on = next_there s named laid p there n next in
           let one : on.0 ≡ q = one_point named.points n on.0 q on.1 stands in
           let gone : List ℕ = on.2.0 in
           let before : is_within x (scope_behind p) ≡ true =
           ap (is_within x) on.2.2 ∙ list_any-append (λ z. x == z) gone (on.0).scope
           ∙ or_right (is_within x gone) (is_within x (on.0).scope) (ap (λ (z : NamedPoint). is_within x z.scope) one ∙ within) in
           let found = fading_at own named.points good.1 p there y x is (within_has x (drop 1 p.scope) (ap (is_within x) (sym (behind_is y is)) ∙ before))
-          (ap (λ z. is_observer z x) (sym same) ∙ sees)
-          (ap (λ z. scope_of z x) (sym same) ∙ alike ∙ ap (λ z. scope_of z y) same) in
+          (sym (observer_same x) ∙ sees) (sym (scope_same x) ∙ alike ∙ scope_same y) in
           let number : number_in named.points (found.0).name ≡ n =
           single (number_in named.points (found.0).name) n (subst (λ z. Has (map (number_in named.points) z) n) found.5 next) in
           let q_is : found.0 ≡ q =
           one_point named.points n found.0 q (subst (λ k. IsAtPoint named.points k found.0) number (number_there named.points found.0 laid.0 found.1)) stands in (
             found.2,
             sym (ap (λ (z : NamedPoint). z.instr) q_is) ∙ found.3,
-            alike ∙ ap (λ z. scope_of z y) same ∙ sym found.4 ∙ ap (λ z. scope_of z found.2) (sym same),
+            alike ∙ scope_same y ∙ sym found.4 ∙ sym (scope_same found.2),
           )
         where
           single : (k n : ℕ) → Has (k ∷ []) n → k ≡ n
@@ -516,9 +535,9 @@ module _ (table : Table) (typed : TypedProgram) (effects : Effects) (given : IsV
   pub package_there : (named : NamedSub) → Has (flow_named table typed) named → scoped.Elaborates table typed effects given named → (p : NamedPoint)
       → Has named.points p → (x : ℕ) × (v : TypedTree) × (p.instr ≡ Declare x v) × (is_anonymous (view_of s x) ≡ false)
   package_there named has e p there =
-      let found = scoped.declares table typed effects given named e p there (scoped.calls_there table typed effects given named has p there) in
+      let found = scoped.declares table typed effects given named e p there (scoped.still_there table typed effects given named e p there) in
       let plain = scoped.plain_there table typed effects given named e p there found.0 found.1 found.2 in
-      (found.0, found.1, found.2, ap (λ z. is_anonymous (view_of z found.0)) same ∙ not_true (is_anonymous (view_of own found.0)) (and_first _ _ plain))
+      (found.0, found.1, found.2, anonymous_same found.0 ∙ not_true (is_anonymous (view_of own found.0)) (and_first _ _ plain))
     where
       not_true : (b : Bool) → not b ≡ true → b ≡ false
       not_true true e = cc

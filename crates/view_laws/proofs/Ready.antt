@@ -1,20 +1,19 @@
 -- An accepted program with borrowers and observers whose subprograms and views are in order is ready, as
 -- soundness with views asks.
-use Rattle.std.proofs.Common.{◌≡◌, refl, sym, ap, ◌∙◌, ◌⊎◌, inl, inr, ℕ, zero, suc, true, false, List, [], ◌∷◌, map, get_or, Option}
+use Rattle.std.proofs.Common.{◌≡◌, refl, sym, ap, ◌∙◌, inl, inr, ℕ, suc, true, false, List, map}
 use Rattle.spark_base.specs.Lists.{Has}
 use Rattle.type_definitions.specs.Types.{Table}
 use Rattle.typed_tree.specs.Trees.{TypedTree, Name, NoMore}
 use Rattle.typed_tree.specs.Programs.{TypedProgram}
 use Rattle.flow_paths.specs.declared.report.Effects.{Effects}
-use Rattle.flow_paths.specs.Instructions.{Instruction, Declare, Assign, Call, EndScope}
+use Rattle.flow_paths.specs.Instructions.{Instruction, Declare, Assign, EndScope}
 use Rattle.flow_paths.specs.Objects.{Typing, is_anonymous, view_of}
 use Rattle.flow_paths.specs.Points.{NamedPoint, FlowPoint}
-use Rattle.flow_paths.specs.Laid.{FlowSub, FlowProgram, NamedSub, number_in, flow_typing, flow_program, flow_named}
+use Rattle.flow_paths.specs.Laid.{FlowProgram, NamedSub, number_in, flow_typing, flow_program, flow_named}
 use Rattle.machine.specs.States.{sub_of}
-use Rattle.machine.specs.Run.{no_point}
-use Rattle.soundness.specs.Sound.{calls_nothing, IsAtPoint, RunIsSound}
+use Rattle.soundness.specs.Sound.{IsAtPoint, RunIsSound}
 use Rattle.viewed_steps.specs.Sound.{IsViewClass}
-use Rattle.viewed_steps.specs.Ready.{AreOrderly, ViewsAreOrderly, AreSpared, IsReady}
+use Rattle.viewed_steps.specs.Ready.{AreOrderly, ViewsAreOrderly, IsReady}
 use Rattle.viewed_steps.proofs.Main.{ready_sound}
 use Rattle.view_laws.specs.Program.{IsViewProgram}
 use Rattle.view_laws.proofs.Enclosing.{itself, transitive}
@@ -27,25 +26,8 @@ no_assign i x v target e is other = (let both : Declare x v ≡ Assign target e 
 no_end : (i : Instruction) (x : ℕ) (v : TypedTree) (y : ℕ) → i ≡ Declare x v → i ≡ EndScope y → ⊥
 no_end i x v y is other = (let both : Declare x v ≡ EndScope y = sym is ∙ other in cc)
 
-there_or_none : {A : Type 0} (xs : List A) (n : ℕ) (d : A) → Has xs (get_or xs n d) ⊎ (get_or xs n d ≡ d)
-there_or_none [] n d = inr refl
-there_or_none (x ∷ xs) zero d = inl (inl refl)
-there_or_none (x ∷ xs) (suc n) d = elim (there_or_none xs n d) [ inl there ↦ inl (inr there) | inr none ↦ inr none ]
-
 same_object : (i : Instruction) (x y : ℕ) (v e : TypedTree) → i ≡ Declare x v → i ≡ Declare y e → x ≡ y
 same_object i x y v e is other = (let both : Declare x v ≡ Declare y e = sym is ∙ other in cc)
-
--- Where nothing is called, no call has facts.
-pub uncalled_spared : (program : FlowProgram) (effects : Effects)
-    → ((sub : FlowSub) → Has program.subs sub → (p : FlowPoint) → Has sub.points p → calls_nothing p.instr ≡ true) → AreSpared program effects
-uncalled_spared program effects no_calls sub has before last path n actuals result e = absurd (elim (there_or_none sub.points last no_point) [
-  | inl there ↦ (
-      let no : false ≡ true = sym (ap calls_nothing e) ∙ no_calls sub has (get_or sub.points last no_point) there in cc)
-  | inr none ↦ no_call n actuals result (ap (λ (z : FlowPoint). z.instr) (sym none) ∙ e)
-])
-  where
-    no_call : (n : ℕ) (actuals : TypedTree) (result : Option ℕ) → no_point.instr ≡ Call n actuals result → ⊥
-    no_call n actuals result e = cc
 
 module _ (table : Table) (typed : TypedProgram) (effects : Effects) (given : IsViewProgram table typed effects) where
   abbrev program : FlowProgram
@@ -110,13 +92,14 @@ module _ (table : Table) (typed : TypedProgram) (effects : Effects) (given : IsV
   class : IsViewClass program
   class = record {
     parts_named = given.parts_named;
-    calls = given.calls;
+    results = given.results;
+    temporaries = given.temporaries;
     formals = given.formals;
     copied = given.copied;
   }
 
-  pub views_ready : AreSpared program effects → IsReady table typed effects
-  views_ready spared = record {
+  pub views_ready : IsReady table typed effects
+  views_ready = record {
     accepted = given.accepted;
     owns = given.owns;
     class = class;
@@ -125,7 +108,7 @@ module _ (table : Table) (typed : TypedProgram) (effects : Effects) (given : IsV
     elaborated = scoped.are_elaborated table typed effects given;
     orderly = views_orderly;
     called = scoped.are_called table typed effects given;
-    spared = spared;
+    returning = scoped.are_returning table typed effects given;
     packages = scoped.packages table typed effects given;
     stands = scoped.packages_stand table typed effects given;
     main = suc given.order.number;
@@ -133,7 +116,6 @@ module _ (table : Table) (typed : TypedProgram) (effects : Effects) (given : IsV
     main_there = scoped.has_main table typed effects given;
   }
 
-  -- So each moment of its run is well owned, and none is a trap, where no part of a package object is lent when
-  -- a procedure is called.
-  pub views_sound : AreSpared program effects → (input : List ℕ) → RunIsSound table typed input
-  views_sound spared input = ready_sound table typed effects input (views_ready spared)
+  -- So each moment of its run is well owned, and none is a trap.
+  pub views_sound : (input : List ℕ) → RunIsSound table typed input
+  views_sound input = ready_sound table typed effects input views_ready

@@ -4,12 +4,12 @@ use Rattle.std.specs.Prelude.{◌≡◌, ℕ, ◌≤◌, Bool, true, false, not,
 use Rattle.std.specs.List.{list_all}
 use Rattle.spark_base.specs.Lists.{Has}
 use Rattle.type_definitions.specs.Types.{Table}
-use Rattle.typed_tree.specs.Trees.{TypedTree, Name, NoMore, More, TypedCode}
+use Rattle.typed_tree.specs.Trees.{TypedTree, Name, Call, NoMore, More, TypedCode}
 use Rattle.typed_tree.specs.Trees as typed
 use Rattle.typed_tree.specs.Programs.{TypedSub, TypedProgram}
 use Rattle.flow_paths.specs.Instructions.{Instruction, Declare, Assign}
 use Rattle.flow_paths.specs.Objects.{Typing, object_at, is_variable, is_anonymous, is_observer, is_package_object, view_of}
-use Rattle.flow_paths.specs.Names.{whole, has_call}
+use Rattle.flow_paths.specs.Names.{first, whole}
 use Rattle.flow_paths.specs.Laid.{typing_of}
 use Rattle.scope_laws.specs.Code.{roots}
 use Rattle.layered_scopes.specs.Layered.{is_older, is_body_layered}
@@ -37,12 +37,22 @@ abbrev pub stores_name : Typing → Option ℕ → TypedTree → Bool
 stores_name s None e = true
 stores_name s (Some x) e = not (is_anonymous (view_of s x)) || is_name_of is_any e
 
+abbrev pub is_call : TypedTree → Bool
+is_call (Call p sub actuals) = true
+is_call e = false
+
 -- A view is declared with a name, and a borrower with one that is rooted in an older object; a view is
--- assigned a name. Or a function is called.
+-- assigned a name. Or what a function gives.
 abbrev pub fits : Typing → Instruction → Bool
-fits s (Declare x v) = not (is_anonymous (view_of s x)) || (is_one_name_of (λ y. is_observer s x || nat_lt y x) v || has_call v)
-fits s (Assign target e) = stores_name s (whole target) e || has_call e
+fits s (Declare x v) = not (is_anonymous (view_of s x)) || (is_one_name_of (λ y. is_observer s x || nat_lt y x) v || is_call (first v))
+fits s (Assign target e) = stores_name s (whole target) e || is_call e
 fits s i = true
+
+-- What a view is declared or assigned with isn't what a function gives.
+abbrev pub NamesSource : Typing → Instruction → Type 0
+NamesSource s (Declare x v) = is_anonymous (view_of s x) ≡ true → is_call (first v) ≡ false
+NamesSource s (Assign target e) = (x : ℕ) → whole target ≡ Some x → is_anonymous (view_of s x) ≡ true → is_call e ≡ false
+NamesSource s i = Unit {0}
 
 -- ---- the package objects
 

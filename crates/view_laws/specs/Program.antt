@@ -1,5 +1,5 @@
 -- A program with borrowers and observers and what is known of it.
-use Rattle.std.specs.Prelude.{◌≡◌, ℕ, true, Option}
+use Rattle.std.specs.Prelude.{◌≡◌, ◌⊎◌, ℕ, true, Option}
 use Rattle.spark_base.specs.Lists.{Has}
 use Rattle.type_definitions.specs.Types.{Table, full, is_scalar}
 use Rattle.typed_tree.specs.Trees.{TypedTree}
@@ -11,26 +11,33 @@ use Rattle.flow_paths.specs.Points.{FlowPoint}
 use Rattle.flow_paths.specs.Laid.{FlowSub, flow_typing, flow_program}
 use Rattle.machine.specs.States.{sub_of}
 use Rattle.soundness.specs.Typed.{OwnsByShape}
-use Rattle.soundness.specs.Sound.{Accepted, calls_procedures, AreCopied}
-use Rattle.ready_laws.specs.InOrder.{IsInOrder, AreCallees, ArePassed}
+use Rattle.soundness.specs.Sound.{Accepted, calls_procedures, is_temporary_object, ArePlainResults, AreCopied}
+use Rattle.ready_laws.specs.InOrder.{IsInOrder, AreAnswered, AreStill, ArePassed}
 use Rattle.viewed_soundness.specs.Holds.{PartsAreNamed}
-use Rattle.view_laws.specs.InOrder.{AreViewsInOrder}
+use Rattle.view_laws.specs.InOrder.{NamesSource, AreViewsInOrder}
 
--- It is accepted and typed, anonymous access types are those of objects alone, procedures alone are
--- called, whose formals are of scalar types, actuals that are copied back to go through no access value,
--- and its subprograms and views are in order.
+-- It is accepted and typed, anonymous access types are those of objects alone, procedures are called, or
+-- functions too, and then all have results of scalar types; formals are of scalar types, actuals that are
+-- copied back to go through no access value, no view has a call as its source, and its subprograms and views
+-- are in order.
 pub record IsViewProgram (table : Table) (typed : TypedProgram) (effects : Effects) : Type 0 where
   pub accepted : Accepted table typed effects
   pub owns : OwnsByShape (flow_program table typed).table
   pub parts_named : PartsAreNamed (flow_program table typed).table
-  pub calls : (sub : FlowSub) → Has (flow_program table typed).subs sub → (p : FlowPoint) → Has sub.points p → calls_procedures p.instr ≡ true
+  pub results : ((sub : FlowSub) → Has (flow_program table typed).subs sub → (p : FlowPoint) → Has sub.points p → calls_procedures p.instr ≡ true)
+      ⊎ ArePlainResults (flow_typing (flow_program table typed))
+  pub temporaries : (x : ℕ) → is_temporary_object (flow_typing (flow_program table typed)) x ≡ true
+      → is_scalar (full (flow_program table typed).table (object_at (flow_typing (flow_program table typed)) x).of) ≡ true
   pub formals : (x : ℕ) → is_formal (flow_typing (flow_program table typed)) x ≡ true
       → is_scalar (full (flow_program table typed).table (object_at (flow_typing (flow_program table typed)) x).of) ≡ true
   pub copied : (sub : FlowSub) → Has (flow_program table typed).subs sub → (p : FlowPoint) → Has sub.points p → (n : ℕ) (actuals : TypedTree)
       (result : Option ℕ) → p.instr ≡ Call n actuals result
       → ((x : ℕ) → Has (sub_of (flow_program table typed) n).formals x → is_formal (flow_typing (flow_program table typed)) x ≡ true)
       → AreCopied (flow_typing (flow_program table typed)) (sub_of (flow_program table typed) n).formals actuals
+  pub sources : (sub : FlowSub) → Has (flow_program table typed).subs sub → (p : FlowPoint) → Has sub.points p
+      → NamesSource (flow_typing (flow_program table typed)) p.instr
   pub order : IsInOrder table typed
-  pub callees : AreCallees table typed order.rest
+  pub answered : AreAnswered table typed order.rest
   pub passed : ArePassed (flow_program table typed)
+  pub still : AreStill table typed order.first
   pub views : AreViewsInOrder table typed order.first order.rest

@@ -1,8 +1,9 @@
 -- Facts of all frames, as the innermost one has them: its own, those of the frames around on package
 -- objects beside them, and what those frames have moved of their own.
 use Rattle.std.proofs.Common.{◌≡◌, refl, sym, ap, ◌∙◌, subst, ◌⊎◌, inl, inr, ℕ, suc, Bool, true, false, not, ◌&&◌, ◌==◌, List, ◌++◌, arith, Option, Some, None}
+use Rattle.place_names.specs.declared.rule.Loan.TheVariants.{Borrowed}
 use Rattle.spark_base.specs.Lists.{Has}
-use Rattle.spark_base.proofs.Lists.{Has-append_cases, Has-map, Has-map_from}
+use Rattle.spark_base.proofs.Lists.{Has-append_cases, Has-map, Has-append_left}
 use Rattle.place_names.specs.declared.act.Mode.TheVariants as mode
 use Rattle.place_names.specs.declared.act.Act.{Act}
 use Rattle.place_names.specs.declared.act.Act.TheVariants as act
@@ -16,18 +17,19 @@ use Rattle.flow_paths.specs.declared.report.Effects.{Effects}
 use Rattle.flow_paths.specs.Effects.{act_writes}
 use Rattle.flow_paths.specs.Objects.{Typing, is_anonymous, is_observer, is_package_object, view_of}
 use Rattle.flow_paths.specs.Laid.{FlowProgram, flow_typing, flow_program}
-use Rattle.machine.specs.States.{State}
-use Rattle.owned_ways.specs.Ways.{Way, View, Told, Named, number_of, sels_of, name_of}
+use Rattle.machine.specs.States.{Return, State}
+use Rattle.owned_ways.specs.Ways.{Way, View, Told, Named, number_of, sels_of, name_of, Under}
 use Rattle.soundness.specs.Seen.{home, IsNear}
 use Rattle.soundness.specs.Sound.{Stage, facts_of, view_of as view_here}
-use Rattle.soundness.proofs.Around.{near_or_far, IsFar, near_package, package_named, inherited_has, inherited_from}
-use Rattle.owned_loans.specs.Views.{known_gone, Views, expand}
+use Rattle.soundness.proofs.Around.{near_or_far, IsFar, near_package, package_named, inherited_has}
+use Rattle.owned_loans.specs.Views.{on, known_gone, Views, expand}
 use Rattle.owned_loans.proofs.Ended.{stands_itself}
-use Rattle.owned_loans.proofs.Ways.{root_on, lifts, lifted_way}
+use Rattle.owned_loans.proofs.Ways.{under_on, on_under, lifts, lifted_root, lifted_way}
+use Rattle.viewed_steps.proofs.Roots.{borrower_goes}
 use Rattle.owned_loans.proofs.Moves.{named_way}
 use Rattle.viewed_steps.specs.Sound.{ViewStage, stages_of, IsWaiting}
 use Rattle.viewed_steps.proofs.Lent.{ends}
-use Rattle.viewed_steps.proofs.Waiting.{StandsBetween, root_own, not_near, no_view_there, handed}
+use Rattle.viewed_steps.proofs.Waiting.{StandsBetween, lent_for, no_view_there, handed, moved_handed, moved_there, loans_there, IsLentFor}
 use Rattle.exact_facts.proofs.Steps.{named_variable}
 use Rattle.viewed_facts.specs.Exact.{IsDefiniteBy, IsDefinite, IsDefiniteOf}
 
@@ -72,9 +74,9 @@ module _ (table : Table) (typed : TypedProgram) (effects : Effects)
   s = flow_typing (flow_program table typed)
 
   -- what a fact of a frame that waits stands for begins where the frame has a name
-  waiting_named : (state : State) (callee : ℕ) (g : ViewStage) → IsWaiting table typed effects state callee g → (w : Way)
+  waiting_named : (state : State) (callee : ℕ) (backs : List Return) (g : ViewStage) → IsWaiting table typed effects state callee backs g → (w : Way)
       → IsDefiniteBy (home s g.stage.depth) g.views (facts_of program effects g.stage) w → Named (home s g.stage.depth) w
-  waiting_named state callee g waits w (u, moved, plain, leads) =
+  waiting_named state callee backs g waits w (u, moved, plain, leads) =
       subst (Named (home s g.stage.depth)) leads
       (named_way (home s g.stage.depth) (is_observer s) (known_gone (home s g.stage.depth) (λ z. ⊥)) g.views (view_here s state) (facts_of program effects g.stage)
       waits.views (suc (number_of u)) u (omega arith) (moved.0, waits.clear.owned (name_of u) moved.1))
@@ -82,7 +84,7 @@ module _ (table : Table) (typed : TypedProgram) (effects : Effects)
   pub between_named : (state : State) (depth : ℕ) (g : ViewStage) → StandsBetween table typed effects unmoved local state depth g → (w : Way)
       → IsDefiniteBy (home s g.stage.depth) g.views (facts_of program effects g.stage) w → Named (home s g.stage.depth) w
   between_named state depth g (inl first) w d = absurd (unmoved g.stage first.0 (name_of d.0) d.1.1)
-  between_named state depth g (inr (some, less, callee, waits)) w d = waiting_named state callee g waits w d
+  between_named state depth g (inr (some, less, callee, backs, waits)) w d = waiting_named state callee backs g waits w d
 
   -- A fact without an element of the innermost frame, or of one around, calls it moved.
   abbrev pub IsDefiniteHere : ℕ → Views → List Fact → List ViewStage → Way → Type 0
@@ -91,8 +93,11 @@ module _ (table : Table) (typed : TypedProgram) (effects : Effects)
 
   module _ (state : State) (depth : ℕ) (older : List ViewStage) (between : (g : ViewStage) → Has older g → StandsBetween table typed effects unmoved local state depth g)
       (v : Views) (own_views : (x : ℕ) (w : Way) → v.way x ≡ Some w → is_package_object s x ≡ false) where
-    abbrev elsewhere : Way → Type 0
-    elsewhere = IsFar depth (IsDefiniteOf program effects older)
+    -- what they have moved of their own, or through a place of a package object that they have borrowed
+    abbrev pub elsewhere : Way → Type 0
+    elsewhere w =
+        IsFar depth (IsDefiniteOf (flow_program table typed) effects older) w
+        ⊎ (IsLentFor table typed effects unmoved local state depth older between Borrowed w × IsDefiniteOf (flow_program table typed) effects older w)
 
     abbrev around : List Fact
     around = handed table typed effects unmoved local state depth older between
@@ -114,43 +119,43 @@ module _ (table : Table) (typed : TypedProgram) (effects : Effects)
         by_fact : (u : Way) → Named (home s depth) u → has_elem (sels_of u) ≡ false → expand v u ≡ w → Has around (Moved (name_of u))
             → IsDefiniteHere depth v own older w
         by_fact u named plain leads has =
-            let from = inherited_from program effects (stages_of older) (Moved (name_of u)) has in
-            let found = Has-map_from (λ (z : ViewStage). z.stage) older from.0 from.1 in
-            let g : ViewStage = found.0 in
+            let from = moved_handed table typed effects unmoved local state depth older between (name_of u) has in
+            let g : ViewStage = from.0 in
             let there : Named (home s g.stage.depth) u = package_named s depth g.stage.depth u from.3 named in
             let by_them : expand g.views u ≡ u =
             stands_itself (home s g.stage.depth) (is_observer s) (known_gone (home s g.stage.depth) (λ z. ⊥)) g.views u there
-            (no_view_there table typed effects unmoved local state depth older between g found.1 (number_of u) from.3) in
+            (no_view_there table typed effects unmoved local state depth older between g from.1 (number_of u) from.3) in
             inr (
               g,
-              found.1,
+              from.1,
               (
                 u,
-                (there, subst (λ z. Has (facts_of program effects z) (Moved (name_of u))) (sym found.2) from.2),
+                (there, from.2),
                 plain,
                 by_them ∙ sym (itself u from.3 named) ∙ leads,
               ),
             )
 
         by : IsDefinite (home s depth) v elsewhere (own ++ around) w → IsDefiniteHere depth v own older w
-        by (inr (begins_there, (far, d))) = inr d
+        by (inr (begins_there, inl (far, d))) = inr d
+        by (inr (begins_there, inr (lent, d))) = inr d
         by (inl (u, (named, has), plain, leads)) = elim (Has-append_cases own around (Moved (name_of u)) has) [
           | inl mine ↦ inl (u, (named, mine), plain, leads)
           | inr there ↦ by_fact u named plain leads there
         ]
 
     -- and without them
-    pub apart_told : (view : View) (all own : List Fact) → ((f : Fact) → Has own f → Has all f) → ((f : Fact) → Has around f → Has all f)
+    pub apart_told : (view : View) (all own : List Fact) → ((f : Fact) → Has own f → Has all f) → ((n : PlaceName) → Has around (Moved n) → Has all (Moved n))
         → Told view (IsDefinite (home s depth) v elsewhere all) → Told view (IsDefiniteHere depth v own older)
     apart_told view all own mine others told w l is r = told w l (by is) r
       where
         near_by : IsNear depth w → (g : ViewStage) → Has older g → IsDefiniteBy (home s g.stage.depth) g.views (facts_of program effects g.stage) w
             → StandsBetween table typed effects unmoved local state depth g → IsDefinite (home s depth) v elsewhere all w
         near_by near g has d (inl first) = absurd (unmoved g.stage first.0 (name_of d.0) d.1.1)
-        near_by near g has d (inr (some, less, callee, waits)) = elim (lifts g.views d.0) [
+        near_by near g has d (inr (some, less, callee, backs, waits)) = elim (lifts g.views d.0) [
           | inl e ↦ (
               let u : Way = d.0 in
-              let there : Named (home s g.stage.depth) w = waiting_named state callee g waits w d in
+              let there : Named (home s g.stage.depth) w = waiting_named state callee backs g waits w d in
               let same : u ≡ w = sym e ∙ d.3 in
               let shared_there : is_package_object s (number_of w) ≡ true = near_package s g.stage.depth depth some less w there near in
               let shared : is_package_object s (number_of u) ≡ true = subst (λ z. is_package_object s (number_of z) ≡ true) (sym same) shared_there in
@@ -159,21 +164,32 @@ module _ (table : Table) (typed : TypedProgram) (effects : Effects)
                 u,
                 (
                   named,
-                  others (Moved (name_of u))
-                      (inherited_has program effects (stages_of older) g.stage (Has-map (λ (k : ViewStage). k.stage) older g has) (Moved (name_of u)) d.1.1 shared),
+                  others (name_of u)
+                      (Has-append_left (moved_there table typed effects unmoved local state depth older between) (loans_there table typed effects unmoved local older) (Moved (name_of u))
+                      (inherited_has program effects (stages_of older) g.stage (Has-map (λ (k : ViewStage). k.stage) older g has) (Moved (name_of u)) d.1.1 shared)),
                 ),
                 d.2,
                 itself u shared named ∙ same,
               ))
-          | inr l ↦ absurd (
-              let root = root_own table typed effects unmoved local state callee g waits l.object l.way l.has in
-              let number : number_of w ≡ number_of l.way = ap number_of (sym d.3 ∙ lifted_way g.views d.0 l) ∙ root_on l.way l.rest in
-              not_near s g.stage.depth depth some less w (waiting_named state callee g waits w d) (ap (is_package_object s) number ∙ root.1) near)
+          | inr l ↦ (
+              let plain : is_observer s (number_of d.0) ≡ false = waits.clear.owned (name_of d.0) d.1.1 in
+              let goes = borrower_goes (home s g.stage.depth) (is_observer s) g.views (view_here s state) (facts_of program effects g.stage) waits.views l.object l.way
+              (ap (is_observer s) (sym (lifted_root g.views d.0 l)) ∙ plain) l.has in
+              let named : Named (home s g.stage.depth) w = waiting_named state callee backs g waits w d in
+              let under : Under goes.1 w = subst (Under goes.1) (sym (lifted_way g.views d.0 l) ∙ d.3) (under_on goes.1 l.way (on l.way l.rest) goes.4 (on_under l.way l.rest)) in
+              inr (
+                named_variable (home s g.stage.depth) w named,
+                inr (
+                  lent_for table typed effects unmoved local state depth older between g has some Borrowed goes.0 goes.1 w goes.2 goes.3 under
+                      (near_package s g.stage.depth depth some less w named near),
+                  (g, has, d),
+                ),
+              ))
         ]
 
         by : IsDefiniteHere depth v own older w → IsDefinite (home s depth) v elsewhere all w
         by (inl (u, (named, has), plain, leads)) = inl (u, (named, mine (Moved (name_of u)) has), plain, leads)
         by (inr (g, has, d)) = elim (near_or_far depth w) [
-          | inr far ↦ inr (named_variable (home s g.stage.depth) w (between_named state depth g (between g has) w d), (far, (g, has, d)))
+          | inr far ↦ inr (named_variable (home s g.stage.depth) w (between_named state depth g (between g has) w d), inl (far, (g, has, d)))
           | inl near ↦ near_by near g has d (between g has)
         ]

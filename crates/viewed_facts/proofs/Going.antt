@@ -1,5 +1,5 @@
 -- Each step of a sound state whose facts are exact leads to such a state, in a program that is ready.
-use Rattle.std.proofs.Common.{◌≡◌, refl, sym, ◌∙◌, subst, ◌⊎◌, inl, inr, ℕ, suc, true, false, List, [], ◌∷◌, length, arith, Some, None}
+use Rattle.std.proofs.Common.{◌≡◌, refl, sym, ◌∙◌, subst, ◌⊎◌, inl, inr, ℕ, suc, true, false, List, [], ◌∷◌, length, arith, Some}
 use Rattle.spark_base.specs.Lists.{Has}
 use Rattle.place_names.specs.declared.fact.Fact.{Fact}
 use Rattle.place_names.specs.declared.fact.Fact.TheVariants.{Moved}
@@ -14,17 +14,16 @@ use Rattle.flow_paths.specs.Laid.{FlowSub, FlowProgram, NamedSub, flow_typing, f
 use Rattle.flow_paths.specs.Paths.{ControlPath, facts_before}
 use Rattle.flow_paths.specs.Effects.{path_points}
 use Rattle.machine.specs.Memory.{Memory}
-use Rattle.machine.specs.States.{Frame, State, Outcome, Goes, Ends, sub_of}
+use Rattle.machine.specs.States.{Waiting, Frame, State, Outcome, Goes, Ends, sub_of}
 use Rattle.machine.specs.Owners.{waiting_in}
 use Rattle.machine.specs.Run.{step}
 use Rattle.owned_ways.specs.Ways.{Way, Loc, Gone, Reaches, Told, Named, name_of}
 use Rattle.soundness.specs.Seen.{home, seen}
 use Rattle.soundness.specs.Typed.{Kept}
-use Rattle.soundness.specs.Sound.{Stage, facts_of, AreStages, IsProcedure, InScope, IsNamedSub, IsAtPoint, IsNoCall, IsOnward, AreSameWords, view_of as view_here}
+use Rattle.soundness.specs.Sound.{Stage, facts_of, AreStages, IsRunnable, AreAwaited, InScope, IsNamedSub, IsAtPoint, IsNoCall, IsOnward, AreSameWords, view_of as view_here}
 use Rattle.soundness.proofs.Points.{sub_there}
-use Rattle.soundness.proofs.Successors.{calls_cases}
 use Rattle.owned_loans.specs.Views.{known_gone, Views, Viewed}
-use Rattle.viewed_steps.specs.Sound.{IsResting, HoldsAt, ArePlaced, NoneAbove, ViewStage, stages_of, GoneElsewhere, AreWaiting, IsRunning, AreTurned, AreLeft, Follows, steps_on, leaves_scope, begins_main, calls_one, ends_one, LeadsAlong}
+use Rattle.viewed_steps.specs.Sound.{AreScalarFormals, IsResting, HoldsAt, ArePlaced, NoneAbove, ViewStage, stages_of, GoneElsewhere, AreWaiting, IsRunning, AreTurned, AreLeft, Follows, steps_on, leaves_scope, begins_main, returns_one, calls_one, ends_one, LeadsAlong}
 use Rattle.viewed_steps.specs.Ready.{IsReady}
 use Rattle.viewed_steps.proofs.Waiting.{StandsBetween, all_between}
 use Rattle.viewed_steps.proofs.Standing as standing
@@ -37,7 +36,7 @@ use Rattle.viewed_facts.proofs.Steps.{named_definite}
 use Rattle.viewed_facts.proofs.Frames.{between_named, IsDefiniteHere}
 use Rattle.viewed_facts.proofs.Stepping.{told_next, told_left}
 
-module _ (table : Table) (typed : TypedProgram) (effects : Effects) (input : List ℕ) (ready : IsReady table typed effects) where
+module _ (table : Table) (typed : TypedProgram) (effects : Effects) (input : List ℕ) (ready : IsReady table typed effects) (scalars : AreScalarFormals (flow_program table typed)) where
   abbrev program : FlowProgram
   program = flow_program table typed
 
@@ -102,9 +101,9 @@ module _ (table : Table) (typed : TypedProgram) (effects : Effects) (input : Lis
       begins_there : (w : Way) → IsDefiniteOf program effects stages w → Begins (IsOn s (λ f. f ≡ depth → ⊥) m n same) w
       begins_there w (g, has, definite) = elim (between g has) [
         | inl first ↦ absurd (unmoved g first.0 w definite)
-        | inr (some, less, callee, waits) ↦ named_begins s (λ f. f ≡ depth → ⊥) m n same g.stage.depth
+        | inr (some, less, callee, backs, waits) ↦ named_begins s (λ f. f ≡ depth → ⊥) m n same g.stage.depth
             (λ e. omega (arith, less, some, e)) (λ e. omega (arith, less, e)) w
-            (between_named table typed effects unmoved_stage local state depth g (inr (some, less, callee, waits)) w definite)
+            (between_named table typed effects unmoved_stage local state depth g (inr (some, less, callee, backs, waits)) w definite)
       ]
 
   -- ---- the frames after a step
@@ -136,6 +135,22 @@ module _ (table : Table) (typed : TypedProgram) (effects : Effects) (input : Lis
 
     follows_told : Follows program effects i state.memory top older after_step.memory next around → AllTold after_step.memory (next ∷ around)
     follows_told (steps_on calls end going on turned same) = onward_told on (inl (calls, end, going, turned)) same
+    follows_told (returns_one calls end going below more waits same on turned around_is) = returned below more waits same around_is
+      where
+        -- the facts of the frame that waits are as they were
+        returned : (below : ViewStage) (more : List ViewStage) (waits : List Waiting) → older ≡ below ∷ more
+            → around ≡ record below { stage = record below.stage { frame = record below.stage.frame { waits = waits } } } ∷ more → AllTold after_step.memory (next ∷ around)
+        returned below more waits same around_is w l (g, inl is, definite) reaches =
+            told_step on (inl (calls, end, going, turned)) w l (inl (then_there top.stage next.stage on next.views w (same_stage next g is w definite))) reaches
+        returned below more waits same around_is w l (g, inr has, definite) reaches =
+            told_step on (inl (calls, end, going, turned)) w l (inr (elim (subst (λ gs. Has gs g) around_is has) [
+              | inl is ↦ (
+                below,
+                subst (λ gs. Has gs below) (sym same) (inl refl),
+                same_stage (record below { stage = record below.stage { frame = record below.stage.frame { waits = waits } } }) g is w definite,
+              )
+              | inr there ↦ (g, subst (λ gs. Has gs g) (sym same) (inr there), definite)
+            ])) reaches
     follows_told (leaves_scope y is on left same) = onward_told on (inr (y, is, left)) same
     follows_told (begins_main below none same on fresh) = λ w l (g, has, definite) reaches. absurd (by_frame below none same on fresh w g has definite)
       where
@@ -146,7 +161,7 @@ module _ (table : Table) (typed : TypedProgram) (effects : Effects) (input : Lis
           | inl is ↦ unmoved below (on.0 ∙ packages_first none) w (same_stage below g is w definite)
           | inr never ↦ never
         ]
-    follows_told (calls_one waits same on fresh fewer words) = λ w l (g, has, definite) reaches. by_frame waits same on fresh fewer words w l g has definite reaches
+    follows_told (calls_one waits same on fresh fewer words) = λ w l (g, has, definite) reaches. by_frame waits same on fresh fewer (words scalars) w l g has definite reaches
       where
         by_frame : (waits : Stage) → around ≡ record { stage = waits; views = top.views } ∷ older → IsOnward top.stage waits → next.stage.before ≡ []
             → ((f : Fact) → Has (facts_of program effects waits) f → Has (facts_of program effects top.stage) f) → AreSameWords s (λ f. Unit {0}) state.memory after_step.memory
@@ -164,7 +179,7 @@ module _ (table : Table) (typed : TypedProgram) (effects : Effects) (input : Lis
                   all w l (top, inl refl, subst (λ d. IsDefiniteBy (home s d) top.views (facts_of program effects top.stage) w) on.1 before) reaches)
             ]
     follows_told (ends_one same words) = λ w l (g, has, definite) reaches.
-        told_ended state top.stage.depth state.memory after_step.memory older between words
+        told_ended state top.stage.depth state.memory after_step.memory older between (words scalars)
         (λ v k (h, there, is) r. told v k (h, inr there, is) r) w l (g, subst (λ gs. Has gs g) (sym same) has, definite) reaches
 
   -- ---- what holds at a step
@@ -179,7 +194,7 @@ module _ (table : Table) (typed : TypedProgram) (effects : Effects) (input : Lis
   between_of state top views older [] stages running g has = absurd stages
   between_of state top views [] (f ∷ outer) stages running g has = absurd has
   between_of state top views (below ∷ more) (f ∷ outer) stages running g has =
-      all_between table typed effects unmoved_stage local state top.frame.sub top.depth (below ∷ more) outer stages.2
+      all_between table typed effects unmoved_stage local state top.frame.sub top.depth top.frame.returns (below ∷ more) outer stages.2
       (let deep = stages.1 in omega (arith, deep)) running.2 g has
 
   none_then : (top : Stage) → top.frame.sub ≡ 0 → (v : Views) (w : Way) → Here top.depth v (facts_then top) [] w → ⊥
@@ -196,7 +211,8 @@ module _ (table : Table) (typed : TypedProgram) (effects : Effects) (input : Lis
   module _ (state : State) (top : Stage) (below : ViewStage) (more_frames : List ViewStage) (rest : List Frame) (named : NamedSub) (p : NamedPoint)
       (frames : state.frames ≡ top.frame ∷ (below.stage.frame ∷ rest)) (deep : top.depth ≡ suc (length rest))
       (stages : AreStages (stages_of (below ∷ more_frames)) (below.stage.frame ∷ rest))
-      (running : IsProcedure table typed top.frame.sub × IsResting s top × AreWaiting table typed effects state top.frame.sub (below ∷ more_frames))
+      (running : IsRunnable table typed top.frame.sub × IsResting s top × AreWaiting table typed effects state top.frame.sub top.frame.returns (below ∷ more_frames))
+      (awaiting : AreAwaited table typed 0 (top ∷ stages_of (below ∷ more_frames)))
       (of_sub : IsNamedSub (flow_named table typed) top.frame.sub named) (at_point : IsAtPoint named.points top.frame.next p)
       (path : ControlPath (path_points program effects (sub_of program top.frame.sub)) top.before top.frame.next) (views : Views)
       (viewed_before : Viewed (home s (suc (length rest))) (is_observer s) (known_gone (home s (suc (length rest))) (GoneElsewhere program effects (below ∷ more_frames))) views
@@ -208,20 +224,16 @@ module _ (table : Table) (typed : TypedProgram) (effects : Effects) (input : Lis
         → Told (seen s next.memory [] []) (Here (suc (length rest)) later (facts_then top) (below ∷ more_frames))
     main_told next goes later (only, clear) (inr (y, is, left)) =
         subst (λ (z : FlowSub). Told (seen s next.memory [] []) (Here (suc (length rest)) later (facts_before (path_points program effects z) (top.frame.next ∷ top.before)) (below ∷ more_frames)))
-        (sym (sub_there table typed top.frame.sub named of_sub)) (told_left table typed effects input ready state top below more_frames rest named p frames deep stages running of_sub at_point path views viewed_before kept scope holds placed_before above exact_before y is next goes later only left)
+        (sym (sub_there table typed top.frame.sub named of_sub)) (told_left table typed effects input ready state top below more_frames rest named p frames deep stages running awaiting of_sub at_point path views viewed_before kept scope holds placed_before above exact_before y is next goes later only left)
     main_told next goes later (only, clear) (inl (calls, end, going, turned)) =
-        elim (calls_cases p.instr (standing.calls_there table typed effects input ready state top (below ∷ more_frames) (below.stage.frame ∷ rest) named p frames of_sub at_point)) [
-          | inr call ↦ absurd (calls call.0 call.1 None call.2)
-          | inl plain ↦
-              subst (λ (z : FlowSub). Told (seen s next.memory [] []) (Here (suc (length rest)) later (facts_before (path_points program effects z) (top.frame.next ∷ top.before)) (below ∷ more_frames)))
-              (sym (sub_there table typed top.frame.sub named of_sub))
-              (told_next table typed effects input ready state top below more_frames rest named p frames deep stages running of_sub at_point path views viewed_before kept scope holds placed_before above exact_before going plain end next goes later only
-              (λ n has. clear n (subst (λ (z : FlowSub). Has (facts_before (path_points program effects z) (top.frame.next ∷ top.before)) (Moved n))
-              (sym (sub_there table typed top.frame.sub named of_sub)) has)) turned)
-        ]
+        subst (λ (z : FlowSub). Told (seen s next.memory [] []) (Here (suc (length rest)) later (facts_before (path_points program effects z) (top.frame.next ∷ top.before)) (below ∷ more_frames)))
+        (sym (sub_there table typed top.frame.sub named of_sub))
+        (told_next table typed effects input ready state top below more_frames rest named p frames deep stages running awaiting of_sub at_point path views viewed_before kept scope holds placed_before above exact_before going calls end next goes later only
+        (λ n has. clear n (subst (λ (z : FlowSub). Has (facts_before (path_points program effects z) (top.frame.next ∷ top.before)) (Moved n))
+        (sym (sub_there table typed top.frame.sub named of_sub)) has)) turned)
 
   step_told : (state : State) (top : Stage) (views : Views) (older : List ViewStage) (fs : List Frame) → state.frames ≡ fs → AreStages (top ∷ stages_of older) fs
-      → IsRunning table typed effects state (record { stage = top; views = views }) older
+      → IsRunning table typed effects state (record { stage = top; views = views }) older → AreAwaited table typed 0 (top ∷ stages_of older)
       → ControlPath (path_points program effects (sub_of program top.frame.sub)) top.before top.frame.next
       → Viewed (home s top.depth) (is_observer s) (known_gone (home s top.depth) (GoneElsewhere program effects older)) views (view_here s state) (facts_of program effects top)
       → Kept s state.memory (waiting_in state)
@@ -230,17 +242,17 @@ module _ (table : Table) (typed : TypedProgram) (effects : Effects) (input : Lis
       → NoneAbove s top.depth state.memory → Told (seen s state.memory [] []) (IsDefiniteOf program effects (record { stage = top; views = views } ∷ older))
       → (next : State) → step program input state ≡ Goes next → (later : Views) → AreClearThen top later → Stays p.instr views later
       → Told (seen s next.memory [] []) (Here top.depth later (facts_then top) older)
-  step_told state top views [] fs is stages running path well kept named of_sub p at_point scope holds there above exact next goes later clear stays =
+  step_told state top views [] fs is stages running awaiting path well kept named of_sub p at_point scope holds there above exact next goes later clear stays =
       λ w l definite reaches. absurd (none_then top running.0 later w definite)
-  step_told state top views (below ∷ more) (f ∷ (g ∷ rest)) is (frame, deep, (around_frame, deeper, others)) running path well kept named of_sub p at_point scope holds there above exact
+  step_told state top views (below ∷ more) (f ∷ (g ∷ rest)) is (frame, deep, (around_frame, deeper, others)) running awaiting path well kept named of_sub p at_point scope holds there above exact
       next goes later clear stays =
       subst (λ d. Told (seen s next.memory [] []) (Here d later (facts_then top) (below ∷ more))) (sym deep)
-      (main_told state top below more rest named p (is ∙ (λ j. sym frame j ∷ (sym around_frame j ∷ rest))) deep (refl, deeper, others) running of_sub at_point path views
+      (main_told state top below more rest named p (is ∙ (λ j. sym frame j ∷ (sym around_frame j ∷ rest))) deep (refl, deeper, others) running awaiting of_sub at_point path views
       (subst (λ d. Viewed (home s d) (is_observer s) (known_gone (home s d) (GoneElsewhere program effects (below ∷ more))) views (view_here s state) (facts_of program effects top)) deep well) kept
       (subst (λ d. InScope s state.memory d p.scope) deep scope) (subst (λ d. HoldsAt s d views state.memory p) deep holds) there
       (subst (λ d. NoneAbove s d state.memory) deep above) exact next goes later clear stays)
-  step_told state top views (below ∷ more) [] is stages running path well kept named of_sub p at_point scope holds there above exact next goes later clear stays = absurd stages
-  step_told state top views (below ∷ more) (f ∷ []) is stages running path well kept named of_sub p at_point scope holds there above exact next goes later clear stays = absurd stages.2
+  step_told state top views (below ∷ more) [] is stages running awaiting path well kept named of_sub p at_point scope holds there above exact next goes later clear stays = absurd stages
+  step_told state top views (below ∷ more) (f ∷ []) is stages running awaiting path well kept named of_sub p at_point scope holds there above exact next goes later clear stays = absurd stages.2
 
   pub exactly_step : StepsLeadExactly table typed effects input
   exactly_step state (sound, exact) = by (step program input state) refl (sound_along table typed effects input ready state sound)
@@ -253,10 +265,10 @@ module _ (table : Table) (typed : TypedProgram) (effects : Effects) (input : Lis
         leads.0,
         follows_told sound.point.instr state after_step (record { stage = sound.top; views = sound.views }) sound.older (packages_of state sound.top sound.views sound.older sound.running)
             (between_of state sound.top sound.views sound.older state.frames sound.stages sound.running)
-            (named_definite (home s sound.top.depth) (is_observer s) (known_gone (home s sound.top.depth) (GoneElsewhere program effects sound.older)) sound.views (λ z. ⊥) (λ k w under at none. none)
+            (named_definite (home s sound.top.depth) (is_observer s) (known_gone (home s sound.top.depth) (GoneElsewhere program effects sound.older)) sound.views (λ z. ⊥) (λ w none. absurd none)
             (view_here s state) (facts_of program effects sound.top) sound.viewed)
             exact (record { stage = (leads.0).top; views = (leads.0).views }) (leads.0).older
-            (λ on stays. step_told state sound.top sound.views sound.older state.frames refl sound.stages sound.running sound.path sound.viewed sound.kept sound.named sound.of_sub sound.point
+            (λ on stays. step_told state sound.top sound.views sound.older state.frames refl sound.stages sound.running sound.awaited sound.path sound.viewed sound.kept sound.named sound.of_sub sound.point
             sound.at_point sound.scope sound.holds sound.placed sound.none_above exact after_step is (leads.0).views (
               (leads.0).holds.only,
               λ n has. (leads.0).viewed.clear.owned n (subst (λ z. Has z (Moved n)) (sym (facts_onward sound.top (leads.0).top on)) has),

@@ -1,7 +1,9 @@
 -- Facts without an element stay exact in instructions of programs with borrowers and observers, and their excused leak
 -- checks don't fail. What is exact is said with the ways that views had before; that a view got another way is
 -- `told_turned` of `Steps`.
-use Rattle.std.proofs.Common.{◌≡◌, refl, sym, ap, ◌∙◌, subst, ◌⊎◌, inl, inr, ℕ, Bool, true, false, not, List, [], ◌∷◌, ◌++◌, map, length, nat_lt, append-nil, Some, if◌then◌else◌}
+use Rattle.std.proofs.Common.{◌≡◌, refl, sym, ap, ◌∙◌, subst, ◌⊎◌, inl, inr, ℕ, Bool, true, false, not, List, [], ◌∷◌, ◌++◌, map, length, ◌+◌, append-nil, Some, if◌then◌else◌}
+use Rattle.place_names.specs.declared.rule.Loan.{Loan}
+use Rattle.place_names.specs.declared.rule.Loan.TheVariants.{Borrowed}
 use Rattle.spark_base.specs.Lists.{Has}
 use Rattle.spark_base.specs.declared.position.Pos.{Pos}
 use Rattle.place_names.specs.declared.act.Act.TheVariants as act
@@ -10,20 +12,19 @@ use Rattle.place_names.specs.declared.fact.Fact.TheVariants.{Moved}
 use Rattle.place_names.specs.Names.{Name as PlaceName, object}
 use Rattle.place_names.specs.Facts.{effect}
 use Rattle.type_definitions.specs.Types.{full, parts}
-use Rattle.typed_tree.specs.Trees.{TypedTree, TypedCode, Name, NoMore, More}
+use Rattle.typed_tree.specs.Trees.{TypedTree, Name, NoMore, More}
 use Rattle.flow_paths.specs.declared.point.LeakSpot.{LeakSpot}
 use Rattle.flow_paths.specs.Instructions.{Skip}
 use Rattle.flow_paths.specs.Objects.{Typing, object_at, is_observer, is_anonymous, view_of}
-use Rattle.flow_paths.specs.Names.{has_call, name_of, first}
+use Rattle.flow_paths.specs.Names.{has_call, name_of, first, waiting as waits_in}
 use Rattle.flow_paths.specs.Scopes.{taken}
 use Rattle.flow_paths.specs.Acts.{acts_in, stored_acts, declared_acts, source_acts, observe, spot}
 use Rattle.machine.specs.Words as machine
 use Rattle.machine.specs.Memory.{Memory, declared, undeclared, stored}
 use Rattle.machine.specs.Evaluate.{Here, Now, AsValue, Evaluated, Done, Raises, Traps, followed_by, evaluate, initial, checked, value, viewed, place_of, variable_place}
-use Rattle.machine.specs.Evaluate as run
 use Rattle.machine.specs.Calls.{checks_at}
 use Rattle.machine.specs.States.{Waiting, Leak, Outcome, Goes, Ends}
-use Rattle.machine.specs.Step.{Turn, typing, here, start, Stored, first_value, taken_by, declare, assign, goes, leaking_goes, target_pos}
+use Rattle.machine.specs.Step.{Turn, typing, here, Stored, first_value, taken_by, declare, goes, leaking_goes, target_pos}
 use Rattle.machine.specs.Step as steps
 use Rattle.machine.specs.Owners.{waiting_in}
 use Rattle.owned_ways.specs.Ways.{OfVariable, OfRoot, Way, Object, Empty, Held, View, Under, Named, IsSame, after, AllowsAll, number_of, name_of as way_name}
@@ -40,23 +41,21 @@ use Rattle.soundness.proofs.Scalars.{acts}
 use Rattle.soundness.proofs.Stays.{Quiet, One}
 use Rattle.soundness.proofs.Numbers.{index_law}
 use Rattle.soundness.proofs.Lasting.{keeps}
-use Rattle.soundness.proofs.Waits.{or_both}
-use Rattle.owned_loans.specs.Views.{Around, Views, expand, Viewed}
+use Rattle.owned_loans.specs.Views.{Around, Views, expand, Viewed, IsThrough}
 use Rattle.viewed_soundness.specs.Holds.{IsNamed, PartsAreNamed, AllKeep}
 use Rattle.viewed_soundness.proofs.Names.{true_false}
-use Rattle.viewed_soundness.proofs.Stays.{quiet}
 use Rattle.viewed_soundness.proofs.Evaluated.{Given}
 use Rattle.viewed_soundness.proofs.Viewing.{view_leaf, view_unseen}
-use Rattle.viewed_soundness.proofs.Outcomes.{named_plain, not_views, IsGood, start_is, live}
+use Rattle.viewed_soundness.proofs.Outcomes.{named_plain, not_views, IsGood, scalar_taken}
 use Rattle.viewed_steps.proofs.Declared.{IsUnmoved, IsFree, stands_root, first_given}
 use Rattle.exact_facts.specs.Exact.{NoneFails, Knows}
 use Rattle.exact_facts.proofs.Steps.{IsPlaced, keeps_placed}
-use Rattle.exact_facts.proofs.Memories.{clear_names}
 use Rattle.exact_facts.proofs.Instructions.{none_made}
+use Rattle.soundness.proofs.Taking.{Takes, takes_as, TakesPlainly, both_plainly, nothing_more}
 use Rattle.viewed_facts.specs.Exact.{IsDefinite, IsExact}
-use Rattle.viewed_facts.proofs.Steps.{named_definite, definite_variable, told_still, told_fewer, told_turned}
+use Rattle.viewed_facts.proofs.Steps.{named_definite, definite_variable, told_still, told_fewer, told_turned, IsOthers, of_others}
 use Rattle.viewed_facts.proofs.Memories.{told_seen, exact_from, declared_exact, ended_exact}
-use Rattle.viewed_facts.proofs.Evaluated.{ExactTo, checked_exact, exact_after}
+use Rattle.viewed_facts.proofs.Evaluated.{ExactTo, checked_exact, exact_on}
 use Rattle.viewed_facts.proofs.Stored.{StoresExact, assigned_exact}
 use Rattle.viewed_facts.proofs.Checks.{place_holds}
 
@@ -64,7 +63,7 @@ module _ (t : Turn) (settled : IsSettled (typing t).table) (own_law : OwnsByShap
     (alone : (w : Way) → IsNear (length t.outer) w → other.gone w → ⊥) (no_formals : (x : ℕ) → is_view_formal (typing t) x ≡ false)
     (v : Views) (parts_named : PartsAreNamed (typing t).table) (may : ℕ → ℕ → Type 0)
     (frames : t.state.frames ≡ t.frame ∷ t.outer) (none : taken t.point.instr ≡ 0)
-    (elsewhere : Way → Type 0) (away : (w : Way) → IsNear (length t.outer) w → elsewhere w → ⊥) (Excused : LeakSpot → Type 0) where
+    (elsewhere : Way → Type 0) (away : (w : Way) → elsewhere w → (IsNear (length t.outer) w → ⊥) ⊎ IsThrough (home (typing t) (length t.outer)) other.lent Borrowed w) (Excused : LeakSpot → Type 0) where
   abbrev s : Typing
   s = typing t
 
@@ -86,11 +85,15 @@ module _ (t : Turn) (settled : IsSettled (typing t).table) (own_law : OwnsByShap
   abbrev Exact : Memory → List Fact → Type 0
   Exact n facts = IsExact s (home s depth) v elsewhere n facts
 
-  apart : (k w : Way) → Under k w → Named (home s depth) k → elsewhere w → ⊥
-  apart = clear_names s depth elsewhere away
+  apart : (w : Way) → elsewhere w → IsOthers (home s depth) other w
+  apart w e = of_others s depth other w (away w e)
 
-  started : start t ≡ record { memory = t.state.memory; waits = [] }
-  started = start_is t settled own_law other alone no_formals v parts_named may frames none
+  -- before these values are taken
+  abbrev at : List (List machine.Word) → Now
+  at ws = record { memory = t.state.memory; waits = ws }
+
+  abbrev ExactTo_here : List Fact → Evaluated (List machine.Word) → Type 0
+  ExactTo_here facts y = ExactTo (here t) settled t.state.leaks [] other alone (keeps s settled own_law) no_formals index_law own_law v parts_named elsewhere away facts y
 
   -- Facts are exact where the step goes on, and of these leak checks none fails that is excused.
   abbrev pub ExactOn : List Fact → List LeakSpot → Outcome → Type 0
@@ -105,44 +108,21 @@ module _ (t : Turn) (settled : IsSettled (typing t).table) (own_law : OwnsByShap
   quiet_on P facts exact (Raises e n) is f next = tt
   quiet_on P facts exact (Traps e n) never f next = tt
 
-  -- a scalar expression, and what is done with its value
-  pub value_exact : (e : TypedTree) → Stays s e → has_call e ≡ false → (facts : List Fact) → Good facts → AllowsAll facts (acts (acts_in s e))
-      → Exact m facts → (f : List machine.Word → Memory → Outcome) → ((ws : List machine.Word) → ExactOn facts [] (f ws m))
-      → ExactOn (after (acts (acts_in s e)) facts) [] (steps.evaluated t (value (here t) e (start t)) f)
-  value_exact e stays calls facts good allowed exact f next =
-      let q = quiet (here t) settled hands t.state.leaks m [] other facts v good.kept good.viewed good.holds alone
-      (live t settled own_law other alone no_formals v parts_named may frames none facts good) index_law own_law parts_named AsValue e stays calls allowed in
-      subst (λ z. ExactOn (after (acts (acts_in s e)) facts) [] (steps.evaluated t (value (here t) e z) f)) (sym started)
-      (subst (λ z. ExactOn z [] (steps.evaluated t (value (here t) e now) f)) (sym q.1)
-      (quiet_on One facts exact (value (here t) e now) q.0 f (λ ws one. next ws)))
+  -- a scalar expression, which takes these values, and what is done with its value
+  pub value_on : (ws : List (List machine.Word)) (e : TypedTree) → Stays s e → Takes (waits_in e) ws [] → (facts : List Fact) → Good facts
+      → AllowsAll facts (acts (acts_in s e)) → Exact m facts → (f : List machine.Word → Memory → Outcome) → ((vs : List machine.Word) → ExactOn facts [] (f vs m))
+      → ExactOn (after (acts (acts_in s e)) facts) [] (steps.evaluated t (value (here t) e (at ws)) f)
+  value_on ws e stays takes facts good allowed exact f next =
+      let q = scalar_taken t settled own_law other alone no_formals v parts_named may frames none ws e stays takes facts good allowed in
+      subst (λ z. ExactOn z [] (steps.evaluated t (value (here t) e (at ws)) f)) (sym q.1)
+      (quiet_on One facts exact (value (here t) e (at ws)) q.0 f (λ vs one. next vs))
 
-  pub test_exact : (e : TypedTree) → Stays s e → has_call e ≡ false → (facts : List Fact) → Good facts → AllowsAll facts (acts (acts_in s e))
-      → Exact m facts → ExactOn (after (acts (acts_in s e)) facts) [] (steps.test t e 0 1)
-  test_exact e stays calls facts good allowed exact =
-      value_exact e stays calls facts good allowed exact (λ ws n. goes t n (if run.is_true ws then 0 else 1)) (λ ws. (exact, tt))
-
-  -- where there is such an alternative
-  chosen_exact : (facts : List Fact) → Exact m facts → (count k : ℕ) → ExactOn facts [] (steps.chosen t count k m)
-  chosen_exact facts exact count k = by_test (nat_lt k count)
-    where
-      by_test : (b : Bool) → ExactOn facts [] (if b then goes t m k else steps.raised t run.ConstraintError m)
-      by_test true = (exact, tt)
-      by_test false = tt
-
-  pub choose_exact : (e : TypedTree) (choices : List TypedCode) → Stays s e → has_call e ≡ false → (facts : List Fact) → Good facts
-      → AllowsAll facts (acts (acts_in s e)) → Exact m facts → ExactOn (after (acts (acts_in s e)) facts) [] (steps.choose t e choices)
-  choose_exact e choices stays calls facts good allowed exact =
-      value_exact e stays calls facts good allowed exact (λ ws n. steps.chosen t (length choices) (steps.choice choices ws) n)
-      (λ ws. chosen_exact facts exact (length choices) (steps.choice choices ws))
-
-  pub leave_loop_exact : (e rest : TypedTree) → rest ≡ NoMore → Stays s e → has_call e ≡ false → (facts : List Fact) → Good facts
-      → AllowsAll facts (acts (acts_in s (More e rest))) → Exact m facts
-      → ExactOn (after (acts (acts_in s (More e rest))) facts) [] (steps.leave_loop t (More e rest))
-  unfolding acts_in
-  leave_loop_exact e rest last stays calls facts good allowed exact =
-      let same : acts_in s e ++ acts_in s rest ≡ acts_in s e = ap (λ z. acts_in s e ++ acts_in s z) last ∙ append-nil (acts_in s e) in
-      subst (λ z. ExactOn (after (acts z) facts) [] (steps.test t e 0 1)) (sym same)
-      (test_exact e stays calls facts good (subst (λ z. AllowsAll facts (acts z)) same allowed) exact)
+  -- a value that waits then
+  pub waits_exact : (facts : List Fact) → (y : Evaluated (List machine.Word)) → ExactTo_here facts y → (f : List machine.Word → Memory → Outcome)
+      → ((ws : List machine.Word) (n : Memory) → Exact n facts → ExactOn facts [] (f ws n)) → ExactOn facts [] (steps.evaluated t y f)
+  waits_exact facts (Done ws n) exact f next = next ws n.memory exact
+  waits_exact facts (Raises e n) exact f next = tt
+  waits_exact facts (Traps e n) exact f next = tt
 
   pub skip_exact : (facts : List Fact) → Exact m facts → ExactOn facts [] (steps.turn t Skip)
   skip_exact facts exact = (exact, tt)
@@ -158,35 +138,37 @@ module _ (t : Turn) (settled : IsSettled (typing t).table) (own_law : OwnsByShap
   then_stored name u before facts pos pos' count known (Raises e n) given = none_made Excused (map (spot pos' name count) (parts s.table u))
   then_stored name u before facts pos pos' count known (Traps e n) given = none_made Excused (map (spot pos' name count) (parts s.table u))
 
-  pub assign_exact : (p : Pos) (x u : ℕ) (path e : TypedTree) → IsNamed s.table u → Gives s u e → Leads s (object_at s x).of path u
-      → has_call e ≡ false → has_call path ≡ false → (facts : List Fact) → Good facts
+  -- what is done with the value and the place
+  abbrev pub stored_at : Pos → Stored → Memory → Outcome
+  stored_at pos st n = leaking_goes (checks_at (typing t) pos n st.place) (goes t (stored (typing t) st.place st.words n) 0)
+
+  abbrev pub found_at : TypedTree → List machine.Word → Now → Evaluated Stored
+  found_at target ws n = followed_by (place_of (here t) target n) (λ k n. Done (record { words = ws; place = k }) n)
+
+  pub assign_on : (ws mid : List (List machine.Word)) (p : Pos) (x u : ℕ) (path e : TypedTree) → IsNamed s.table u → Gives s u e → Leads s (object_at s x).of path u
+      → TakesPlainly s (has_call e) → Takes (waits_in e) ws mid → Takes (waits_in path) mid [] → (facts : List Fact) → Good facts
       → AllowsAll facts (acts (stored_acts s (Name p x path u) e)) → AllKeep (is_observer s) (acts (stored_acts s (Name p x path u) e))
       → Exact m facts
       → (count : ℕ) → Knows Excused p (name_of x path) count (after (acts (acts_in s e ++ acts_in s path)) facts) (parts s.table u)
-      → ExactOn (after (acts (stored_acts s (Name p x path u) e)) facts) (map (spot p (name_of x path) count) (parts s.table u)) (assign t (Name p x path u) e)
-  assign_exact p x u path e named gives lead calls calls' facts good allowed keep exact count known =
+      → ExactOn (after (acts (stored_acts s (Name p x path u) e)) facts) (map (spot p (name_of x path) count) (parts s.table u))
+      (steps.evaluated t (followed_by (taken_by t u e (at ws)) (found_at (Name p x path u))) (stored_at (target_pos t (Name p x path u))))
+  assign_on ws mid p x u path e named gives lead calls takes takes' facts good allowed keep exact count known =
       let target : TypedTree = Name p x path u in
       let h : Here = here t in
       let spots : List LeakSpot = map (spot p (name_of x path) count) (parts s.table u) in
-      let placed : List machine.Word → Now → Evaluated Stored = (λ ws n. followed_by (place_of h target n) (λ k n. Done (record { words = ws; place = k }) n)) in
-      subst (λ z. ExactOn (after (acts (stored_acts s target e)) facts) spots (steps.evaluated t (followed_by (taken_by t u e z) placed)
-      (λ (st : Stored) n. leaking_goes (checks_at s (target_pos t target) n st.place) (goes t (stored s st.place st.words n) 0)))) (sym started)
-      (subst (λ b. ExactOn (after (acts (stored_acts s target e)) facts) spots
-      (steps.evaluated t (followed_by (if b then viewed h e now else followed_by (value h e now) (checked h u)) placed)
-      (λ (st : Stored) n. leaking_goes (checks_at s (target_pos t target) n st.place) (goes t (stored s st.place st.words n) 0)))) (sym (named_plain s.table u named))
+      subst (λ b. ExactOn (after (acts (stored_acts s target e)) facts) spots
+      (steps.evaluated t (followed_by (if b then viewed h e (at ws) else followed_by (value h e (at ws)) (checked h u)) (found_at target)) (stored_at (target_pos t target))))
+      (sym (named_plain s.table u named))
       (then_stored (name_of x path) u (after (acts (acts_in s e ++ acts_in s path)) facts) (after (acts (stored_acts s target e)) facts) (target_pos t target) p count known
-      (followed_by (followed_by (evaluate h AsValue e now) (checked h u)) placed)
-      (assigned_exact h settled t.state.leaks [] other alone (keeps s settled own_law) no_formals index_law own_law v parts_named elsewhere away Excused p x u path e named gives lead
-      calls calls' m hands facts (record { viewed = good.viewed; kept = good.kept; holds = good.holds }) allowed keep exact)))
+      (followed_by (followed_by (evaluate h AsValue e (at ws)) (checked h u)) (found_at target))
+      (assigned_exact h settled t.state.leaks [] other alone (keeps s settled own_law) no_formals index_law own_law v parts_named elsewhere away Excused ws mid [] p x u path e named gives lead
+      calls takes takes' m hands facts (record { viewed = good.viewed; kept = good.kept; holds = good.holds }) allowed keep exact))
 
   -- ---- a variable is declared that no fact speaks of
 
   abbrev Speaks_not : ℕ → List Fact → Type 0
   Speaks_not x facts =
       IsUnmoved t settled own_law other alone no_formals v parts_named may frames none x facts × IsFree t settled own_law other alone no_formals v parts_named may frames none x
-
-  abbrev ExactTo_here : List Fact → Evaluated (List machine.Word) → Type 0
-  ExactTo_here facts y = ExactTo (here t) settled t.state.leaks [] other alone (keeps s settled own_law) no_formals index_law own_law v parts_named elsewhere away facts y
 
   abbrev Given_here : ℕ → List Fact → Evaluated (List machine.Word) → Type 0
   Given_here u facts y = Given (here t) settled t.state.leaks [] other alone (keeps s settled own_law) no_formals index_law own_law v parts_named u hands facts y
@@ -196,7 +178,16 @@ module _ (t : Turn) (settled : IsSettled (typing t).table) (own_law : OwnsByShap
 
   unspoken : (x : ℕ) (facts : List Fact) (z : View) → Viewed (home s depth) (is_observer s) other v z facts → Speaks_not x facts
       → (w : Way) → IsDefinite (home s depth) v elsewhere facts w → Under (Object (OfVariable depth x)) w → ⊥
-  unspoken x facts z viewed (unmoved, free) w (inr e) under = away w (near_under depth (Object (OfVariable depth x)) w under (inr refl)) e.1
+  unspoken x facts z viewed (unmoved, free) w (inr e) under = elim (away w e.1) [
+    | inl far ↦ far (near_under depth (Object (OfVariable depth x)) w under (inr refl))
+    | inr (k, named, begins_it, lent) ↦ (
+        let begins_there = longer (Object (OfVariable depth x)) w under in
+        let begins_lent = longer k w begins_it in
+        let root : number_of k ≡ x = sym begins_lent.root ∙ begins_there.root in
+        let at_home : home s depth (number_of k) ≡ depth =
+        same_frame (home s depth (number_of k)) (number_of k) depth x (sym (named_base (home s depth) k named) ∙ sym begins_lent.base ∙ begins_there.base) in
+        free.1 Borrowed (way_name k) lent root (sym at_home ∙ ap (home s depth) root))
+  ]
   unspoken x facts z viewed (unmoved, free) w (inl d) under =
       let begins_there = longer (Object (OfVariable depth x)) w under in
       let named : Named (home s depth) w = named_definite (home s depth) (is_observer s) other v elsewhere apart z facts viewed w d in
@@ -206,7 +197,7 @@ module _ (t : Turn) (settled : IsSettled (typing t).table) (own_law : OwnsByShap
       let root : number_of (expand v d.0) ≡ x = ap number_of d.3 ∙ begins_there.root in
       elim (stands_root v d.0) [
         | inl e ↦ unmoved (way_name d.0) d.1.1 (sym e ∙ root) (sym at_home)
-        | inr (y, k, has, e) ↦ free y k has at_home (sym e ∙ root)
+        | inr (y, k, has, e) ↦ free.0 y k has at_home (sym e ∙ root)
       ]
 
   then_declared : (x : ℕ) (facts : List Fact) (y : Evaluated (List machine.Word)) → Given_here (object_at s x).of facts y → ExactTo_here facts y → Speaks_not x facts
@@ -221,33 +212,38 @@ module _ (t : Turn) (settled : IsSettled (typing t).table) (own_law : OwnsByShap
   then_declared x facts (Traps e n) never exact none_said = tt
 
   -- what it is declared with
-  source_exact : (u : ℕ) (e : TypedTree) → IsNamed s.table u → Source s u e → has_call e ≡ false → (facts : List Fact) → Good facts
-      → AllowsAll facts (acts (acts_in s e)) → AllKeep (is_observer s) (acts (acts_in s e)) → Exact m facts → ExactTo_here (after (acts (acts_in s e)) facts) (taken_by t u e now)
-  source_exact u e named (inl (view, is)) calls facts good allowed keep exact = absurd (true_false (is_anonymous (full s.table u)) view (named_plain s.table u named))
-  source_exact u e named (inr gives) calls facts good allowed keep exact =
-      subst (λ b. ExactTo_here (after (acts (acts_in s e)) facts) (if b then viewed (here t) e now else followed_by (value (here t) e now) (checked (here t) u)))
+  pub source_exact : (ws : List (List machine.Word)) (u : ℕ) (e : TypedTree) → IsNamed s.table u → Source s u e → TakesPlainly s (has_call e) → Takes (waits_in e) ws []
+      → (facts : List Fact) → Good facts → AllowsAll facts (acts (acts_in s e)) → AllKeep (is_observer s) (acts (acts_in s e)) → Exact m facts
+      → ExactTo_here (after (acts (acts_in s e)) facts) (taken_by t u e (at ws))
+  source_exact ws u e named (inl (view, is)) calls takes facts good allowed keep exact = absurd (true_false (is_anonymous (full s.table u)) view (named_plain s.table u named))
+  source_exact ws u e named (inr gives) calls takes facts good allowed keep exact =
+      subst (λ b. ExactTo_here (after (acts (acts_in s e)) facts) (if b then viewed (here t) e (at ws) else followed_by (value (here t) e (at ws)) (checked (here t) u)))
       (sym (named_plain s.table u named))
       (checked_exact (here t) settled t.state.leaks [] other alone (keeps s settled own_law) no_formals index_law own_law v parts_named elsewhere away u
-      (after (acts (acts_in s e)) facts) (evaluate (here t) AsValue e now)
-      (exact_after (here t) settled t.state.leaks [] other alone (keeps s settled own_law) no_formals index_law own_law v parts_named elsewhere away e u gives calls
+      (after (acts (acts_in s e)) facts) (evaluate (here t) AsValue e (at ws))
+      (exact_on (here t) settled t.state.leaks [] other alone (keeps s settled own_law) no_formals index_law own_law v parts_named elsewhere away e u gives calls ws [] takes
       m hands facts (record { viewed = good.viewed; kept = good.kept; holds = good.holds }) allowed named keep exact))
 
-  first_exact : (u : ℕ) (e : TypedTree) → IsNamed s.table u → FirstSource s u e → has_call e ≡ false → (facts : List Fact) → Good facts
-      → AllowsAll facts (acts (acts_in s e)) → AllKeep (is_observer s) (acts (acts_in s e)) → Exact m facts → ExactTo_here (after (acts (acts_in s e)) facts) (first_value t u e now)
-  unfolding acts_in has_call initial
-  first_exact u (More e rest) named (last, gives) calls facts good allowed keep exact =
+  first_exact : (ws : List (List machine.Word)) (u : ℕ) (e : TypedTree) → IsNamed s.table u → FirstSource s u e → TakesPlainly s (has_call e) → Takes (waits_in e) ws []
+      → (facts : List Fact) → Good facts → AllowsAll facts (acts (acts_in s e)) → AllKeep (is_observer s) (acts (acts_in s e)) → Exact m facts
+      → ExactTo_here (after (acts (acts_in s e)) facts) (first_value t u e (at ws))
+  unfolding acts_in has_call initial waits_in
+  first_exact ws u (More e rest) named (last, gives) calls takes facts good allowed keep exact =
       let same : acts_in s e ++ acts_in s rest ≡ acts_in s e = ap (λ z. acts_in s e ++ acts_in s z) last ∙ append-nil (acts_in s e) in
-      subst (λ z. ExactTo_here (after (acts z) facts) (taken_by t u e now)) (sym same)
-      (source_exact u e named gives (or_both (has_call e) (has_call rest) calls).0 facts good (subst (λ z. AllowsAll facts (acts z)) same allowed)
-      (subst (λ z. AllKeep (is_observer s) (acts z)) same keep) exact)
-  first_exact u NoMore named gives calls facts good allowed keep exact = exact
-  first_exact u e named gives calls facts good allowed keep exact = absurd gives
+      let alone_there : waits_in e + waits_in rest ≡ waits_in e = ap (λ z. waits_in e + waits_in z) last ∙ nothing_more (waits_in e) in
+      subst (λ z. ExactTo_here (after (acts z) facts) (taken_by t u e (at ws))) (sym same)
+      (source_exact ws u e named gives (both_plainly s (has_call e) (has_call rest) calls).0 (takes_as (waits_in e + waits_in rest) (waits_in e) ws [] alone_there takes)
+      facts good (subst (λ z. AllowsAll facts (acts z)) same allowed) (subst (λ z. AllKeep (is_observer s) (acts z)) same keep) exact)
+  first_exact ws u NoMore named gives calls takes facts good allowed keep exact = exact
+  first_exact ws u e named gives calls takes facts good allowed keep exact = absurd gives
 
   -- An object is declared that isn't a view. No fact after the evaluation names it.
-  pub declare_exact : (x : ℕ) (e : TypedTree) → IsNamed s.table (object_at s x).of → FirstSource s (object_at s x).of e → has_call e ≡ false → (facts : List Fact)
+  pub declare_on : (ws : List (List machine.Word)) (x : ℕ) (e : TypedTree) → IsNamed s.table (object_at s x).of → FirstSource s (object_at s x).of e
+      → TakesPlainly s (has_call e) → Takes (waits_in e) ws [] → (facts : List Fact)
       → Good facts → AllowsAll facts (acts (declared_acts s x e)) → AllKeep (is_observer s) (acts (declared_acts s x e))
-      → Speaks_not x (after (acts (declared_acts s x e)) facts) → Exact m facts → ExactOn (after (acts (declared_acts s x e)) facts) [] (declare t x e)
-  declare_exact x e named gives calls facts good allowed keep none_said exact =
+      → Speaks_not x (after (acts (declared_acts s x e)) facts) → Exact m facts
+      → ExactOn (after (acts (declared_acts s x e)) facts) [] (steps.evaluated t (first_value t (object_at s x).of e (at ws)) (λ ws n. goes t (declared depth x ws n) 0))
+  declare_on ws x e named gives calls takes facts good allowed keep none_said exact =
       let kinds = not_views s x named in
       let same : declared_acts s x e ≡ acts_in s e =
       ap (λ b. if b then source_acts s (first e) (act.Borrow x) else
@@ -255,12 +251,11 @@ module _ (t : Turn) (settled : IsSettled (typing t).table) (own_law : OwnsByShap
       ∙ ap (λ b. if b then source_acts s (first e) (observe s x) else acts_in s e) kinds.1 in
       let allows = subst (λ z. AllowsAll facts (acts z)) same allowed in
       let keep_there = subst (λ z. AllKeep (is_observer s) (acts z)) same keep in
-      subst (λ z. ExactOn (after (acts z) facts) [] (declare t x e)) (sym same)
-      (subst (λ z. ExactOn (after (acts (acts_in s e)) facts) [] (steps.evaluated t (first_value t (object_at s x).of e z) (λ ws n. goes t (declared depth x ws n) 0))) (sym started)
-      (then_declared x (after (acts (acts_in s e)) facts) (first_value t (object_at s x).of e now)
-      (first_given t settled own_law other alone no_formals v parts_named may frames none (object_at s x).of e named gives calls facts good allows keep_there)
-      (first_exact (object_at s x).of e named gives calls facts good allows keep_there exact)
-      (subst (λ z. Speaks_not x (after (acts z) facts)) same none_said)))
+      subst (λ z. ExactOn (after (acts z) facts) [] (steps.evaluated t (first_value t (object_at s x).of e (at ws)) (λ ws n. goes t (declared depth x ws n) 0))) (sym same)
+      (then_declared x (after (acts (acts_in s e)) facts) (first_value t (object_at s x).of e (at ws))
+      (first_given t settled own_law other alone no_formals v parts_named may frames none ws (object_at s x).of e named gives calls takes facts good allows keep_there)
+      (first_exact ws (object_at s x).of e named gives calls takes facts good allows keep_there exact)
+      (subst (λ z. Speaks_not x (after (acts z) facts)) same none_said))
 
   -- ---- what owners don't see
 
@@ -308,15 +303,15 @@ module _ (t : Turn) (settled : IsSettled (typing t).table) (own_law : OwnsByShap
       (record { base = refl; made = tt; at = refl; there = refl; of = inl refl }) refl refl Excused t.point.pos pos count known
 
   pub end_scope_exact : (left : Views) (x : ℕ) (borrower : Bool) → home s depth x ≡ depth → (facts : List Fact)
-      → Viewed (home s depth) (is_observer s) other v (seen s m hands t.state.leaks) facts
+      → Viewed (home s depth) (is_observer s) other v (seen s m hands t.state.leaks) facts → ((l : Loan) (n : PlaceName) → other.lent l n → n.root ≡ x → ⊥)
       → ((y : ℕ) (w : Way) → v.way y ≡ Some w → is_anonymous (view_of s y) ≡ true)
       → ((y : ℕ) (w : Way) → left.way y ≡ Some w → (v.way y ≡ Some w) × (number_of w ≡ x → ⊥)) → Exact m facts
       → IsExact s (home s depth) left elsewhere (undeclared depth x m) (effect (act.EndScope x borrower) facts)
-  end_scope_exact left x borrower mine facts viewed only was exact =
+  end_scope_exact left x borrower mine facts viewed unlent only was exact =
       let checks = checks_made s.table settled (content s m hands (OfRoot (OfVariable (home s depth x) x))) [] (object_at s x).of t.point.pos t.state.leaks refl
       (ap not (no_formals x)) (alike s.table settled (object_at s x).of (object_at s x).of (inl refl)) in
       subst (λ f. IsExact s (home s depth) left elsewhere (undeclared f x m) (effect (act.EndScope x borrower) facts)) mine
-      (ended_exact s settled (home s depth) (is_observer s) other v elsewhere apart m hands t.state.leaks _ facts left x borrower viewed checks was
+      (ended_exact s settled (home s depth) (is_observer s) other v elsewhere apart m hands t.state.leaks _ facts left x borrower viewed unlent checks was
       (λ y w n has. view_empty m hands t.state.leaks (home s depth y) y (only y w has) n) exact)
 
   -- ---- views with other ways

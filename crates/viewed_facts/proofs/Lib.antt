@@ -9,6 +9,7 @@ pub mod Loops
 pub mod Viewing
 pub mod Frames
 pub mod Stepping
+pub mod Spots
 pub mod Main
 pub mod Going
 pub mod Runs

@@ -1,5 +1,7 @@
 -- Facts without an element stay exact in output, input and the iterations of loops, which change scalar places at most.
-use Rattle.std.proofs.Common.{◌≡◌, refl, sym, ap, ◌∙◌, subst, inl, inr, ℕ, suc, ◌+◌, Bool, true, false, not, ◌&&◌, List, [], ◌∷◌, ◌++◌, take, drop, length, append-nil, arith, ℤ, int_le, Option, Some, None, if◌then◌else◌}
+use Rattle.std.proofs.Common.{◌≡◌, refl, sym, ap, ◌∙◌, subst, inl, inr, ℕ, suc, ◌+◌, Bool, true, false, List, [], ◌∷◌, ◌++◌, take, drop, length, append-nil, arith, ℤ, Option, Some, None, if◌then◌else◌, ◌⊎◌}
+use Rattle.viewed_facts.proofs.Steps.{IsOthers, of_others}
+use Rattle.place_names.specs.declared.rule.Loan.TheVariants.{Borrowed}
 use Rattle.std.specs.Prelude as int
 use Rattle.spark_base.specs.declared.position.Pos.{Pos}
 use Rattle.place_names.specs.declared.act.Act.{Act}
@@ -13,7 +15,7 @@ use Rattle.type_definitions.specs.Types.{shape_of, words, is_scalar, full}
 use Rattle.typed_tree.specs.Trees.{TypedTree, Name, NoMore, More}
 use Rattle.flow_paths.specs.declared.point.LeakSpot.{LeakSpot}
 use Rattle.flow_paths.specs.Objects.{Typing, object_at, is_observer}
-use Rattle.flow_paths.specs.Names.{has_call, name_of}
+use Rattle.flow_paths.specs.Names.{name_of, waiting as waits_in}
 use Rattle.flow_paths.specs.Scopes.{taken}
 use Rattle.flow_paths.specs.Acts.{acts_in, source_acts}
 use Rattle.run_values.specs.declared.items.Item.{Item}
@@ -40,21 +42,21 @@ use Rattle.soundness.proofs.Memories.{put_other, removed_other}
 use Rattle.soundness.proofs.Walks.{way_along, Walked}
 use Rattle.soundness.proofs.Steps.{plain_shape}
 use Rattle.soundness.proofs.Scalars.{acts, acts_append, after_append, allows_both, number_along, named_along}
-use Rattle.soundness.proofs.Stays.{Quiet, Any, One, quiet_then}
+use Rattle.soundness.proofs.Taking.{Takes}
+use Rattle.soundness.proofs.Stays.{Quiet, Any, One, quiet_then, quiet_from}
 use Rattle.soundness.proofs.Numbers.{index_law}
 use Rattle.soundness.proofs.Lasting.{keeps}
 use Rattle.soundness.proofs.Freeing.{switched}
 use Rattle.soundness.proofs.Loops.{scalar_same}
-use Rattle.owned_loans.specs.Views.{Around, Views, expand}
+use Rattle.owned_loans.specs.Views.{Around, Views, expand, IsThrough}
 use Rattle.owned_loans.proofs.Allowed.{write_open}
 use Rattle.owned_loans.proofs.Moves.{named_way}
 use Rattle.viewed_soundness.specs.Holds.{PartsAreNamed}
-use Rattle.viewed_soundness.proofs.Stays.{Goes as GoesAlong, quiet, steps_quiet, name_quiet}
+use Rattle.viewed_soundness.proofs.Stays.{Goes as GoesAlong, name_quiet, taking, steps_taking}
 use Rattle.viewed_soundness.proofs.Evaluated.{Ready, live_trunk, blank_ready}
 use Rattle.viewed_soundness.proofs.Outcomes.{IsGood, start_is, live}
 use Rattle.viewed_steps.proofs.Rounds.{Starts, text_quiet}
 use Rattle.viewed_steps.proofs.Read.{Gets}
-use Rattle.exact_facts.proofs.Memories.{clear_names}
 use Rattle.viewed_facts.specs.Exact.{IsExact}
 use Rattle.viewed_facts.proofs.Memories.{stored_exact}
 use Rattle.viewed_facts.proofs.Instructions.{ExactOn, same_exact}
@@ -63,7 +65,7 @@ module _ (t : Turn) (settled : IsSettled (typing t).table) (own_law : OwnsByShap
     (alone : (w : Way) → IsNear (length t.outer) w → other.gone w → ⊥) (no_formals : (x : ℕ) → is_view_formal (typing t) x ≡ false)
     (v : Views) (parts_named : PartsAreNamed (typing t).table) (may : ℕ → ℕ → Type 0)
     (frames : t.state.frames ≡ t.frame ∷ t.outer) (none : taken t.point.instr ≡ 0)
-    (elsewhere : Way → Type 0) (away : (w : Way) → IsNear (length t.outer) w → elsewhere w → ⊥) (Excused : LeakSpot → Type 0) where
+    (elsewhere : Way → Type 0) (away : (w : Way) → elsewhere w → (IsNear (length t.outer) w → ⊥) ⊎ IsThrough (home (typing t) (length t.outer)) other.lent Borrowed w) (Excused : LeakSpot → Type 0) where
   abbrev s : Typing
   s = typing t
 
@@ -88,11 +90,12 @@ module _ (t : Turn) (settled : IsSettled (typing t).table) (own_law : OwnsByShap
   abbrev ExactHere : List Fact → Outcome → Type 0
   ExactHere facts outcome = ExactOn t settled own_law other alone no_formals v parts_named may frames none elsewhere away Excused facts [] outcome
 
-  away_from : (k w : Way) → Under k w → Named (home s depth) k → elsewhere w → ⊥
-  away_from = clear_names s depth elsewhere away
+  away_from : (w : Way) → elsewhere w → IsOthers (home s depth) other w
+  away_from w e = of_others s depth other w (away w e)
 
-  started : start t ≡ record { memory = t.state.memory; waits = [] }
-  started = start_is t settled own_law other alone no_formals v parts_named may frames none
+  -- before these values are taken
+  abbrev at : List (List machine.Word) → Now
+  at ws = record { memory = t.state.memory; waits = ws }
 
   -- ---- iterations
 
@@ -143,39 +146,26 @@ module _ (t : Turn) (settled : IsSettled (typing t).table) (own_law : OwnsByShap
   then_started x f starts scalar facts good exact (Raises e n) is = tt
   then_started x f starts scalar facts good exact (Traps e n) never = tt
 
-  started_by : (x : ℕ) (f : steps.Bounds → Memory → Outcome) (low high : TypedTree) → Starts t settled own_law other alone no_formals v parts_named may frames none x f
+  pub started_on : (ws mid : List (List machine.Word)) (x : ℕ) (f : steps.Bounds → Memory → Outcome) (low high : TypedTree)
+      → Starts t settled own_law other alone no_formals v parts_named may frames none x f
       → is_scalar (full s.table (object_at s x).of) ≡ true
-      → Stays s low → Stays s high → has_call low ≡ false → has_call high ≡ false → (facts : List Fact) → Good facts
+      → Stays s low → Stays s high → Takes (waits_in low) ws mid → Takes (waits_in high) mid [] → (facts : List Fact) → Good facts
       → AllowsAll facts (acts (acts_in s low ++ acts_in s high)) → Exact m facts
-      → ExactHere (after (acts (acts_in s low ++ acts_in s high)) facts) (steps.evaluated t (steps.bounds t low high (start t)) f)
-  started_by x f low high starts scalar stays stays' calls calls' facts good allowed exact =
+      → ExactHere (after (acts (acts_in s low ++ acts_in s high)) facts) (steps.evaluated t (steps.bounds t low high (at ws)) f)
+  started_on ws mid x f low high starts scalar stays stays' takes takes' facts good allowed exact =
       let each = allows_both facts (acts (acts_in s low)) (acts (acts_in s high)) (subst (AllowsAll facts) (acts_append (acts_in s low) (acts_in s high)) allowed) in
       let alive = live t settled own_law other alone no_formals v parts_named may frames none facts good in
-      let first_bound = quiet (here t) settled hands t.state.leaks m [] other facts v good.kept good.viewed good.holds alone alive index_law own_law parts_named AsValue low stays calls each.0 in
-      let second_bound = quiet (here t) settled hands t.state.leaks m [] other facts v good.kept good.viewed good.holds alone alive index_law own_law parts_named AsValue high stays' calls'
+      let first_bound = taking (here t) settled hands t.state.leaks m [] other facts v good.kept good.viewed good.holds alone alive index_law own_law parts_named AsValue low stays ws mid takes each.0 in
+      let second_bound = taking (here t) settled hands t.state.leaks m [] other facts v good.kept good.viewed good.holds alone alive index_law own_law parts_named AsValue high stays' mid [] takes'
       (subst (λ z. AllowsAll z (acts (acts_in s high))) first_bound.1 each.1) in
       let all : after (acts (acts_in s low ++ acts_in s high)) facts ≡ facts =
       ap (λ z. after z facts) (acts_append (acts_in s low) (acts_in s high)) ∙ after_append (acts (acts_in s low)) (acts (acts_in s high)) facts
       ∙ ap (after (acts (acts_in s high))) first_bound.1 ∙ second_bound.1 in
-      let q : Quiet now Both (steps.bounds t low high now) =
-      quiet_then now One Both (value (here t) low now) (λ a n. followed_by (value (here t) high n) (λ b n. Done (record { low = a; high = b }) n)) first_bound.0
-      (λ a one. quiet_then now One Both (value (here t) high now) (λ b n. Done (record { low = a; high = b }) n) second_bound.0 (λ b other_one. (refl, (one, other_one)))) in
-      subst (λ z. ExactHere z (steps.evaluated t (steps.bounds t low high (start t)) f)) (sym all)
-      (subst (λ z. ExactHere facts (steps.evaluated t (steps.bounds t low high z) f)) (sym started)
-      (then_started x f starts scalar facts good exact (steps.bounds t low high now) q))
-
-  pub start_exact : (x : ℕ) (low high : TypedTree) → is_scalar (full s.table (object_at s x).of) ≡ true
-      → Stays s low → Stays s high → has_call low ≡ false → has_call high ≡ false → (facts : List Fact) → Good facts
-      → AllowsAll facts (acts (acts_in s low ++ acts_in s high)) → Exact m facts
-      → ExactHere (after (acts (acts_in s low ++ acts_in s high)) facts) (steps.start_loop t x low high)
-  start_exact x low high scalar stays stays' calls calls' facts good allowed exact =
-      started_by x _ low high (record {
-        fails = λ b. int_le (steps.number b.low) (steps.number b.high)
-            && not (fits_type s.table (object_at s x).of b.low && fits_type s.table (object_at s x).of b.high);
-        loop = λ b. record { parameter = x; low = steps.number b.low; high = steps.number b.high; first = true };
-        at_fault = λ b m e. rw e refl;
-        at_turn = λ b m e. rw e refl;
-      }) scalar stays stays' calls calls' facts good allowed exact
+      let q : Quiet now Both (steps.bounds t low high (at ws)) =
+      quiet_from (at mid) now One Both refl (value (here t) low (at ws)) (λ a n. followed_by (value (here t) high n) (λ b n. Done (record { low = a; high = b }) n)) first_bound.0
+      (λ a one. quiet_then now One Both (value (here t) high (at mid)) (λ b n. Done (record { low = a; high = b }) n) second_bound.0 (λ b other_one. (refl, (one, other_one)))) in
+      subst (λ z. ExactHere z (steps.evaluated t (steps.bounds t low high (at ws)) f)) (sym all)
+      (then_started x f starts scalar facts good exact (steps.bounds t low high (at ws)) q)
 
   -- ---- output, of a text that changes nothing
 
@@ -187,21 +177,26 @@ module _ (t : Turn) (settled : IsSettled (typing t).table) (own_law : OwnsByShap
   written_exact facts exact line (Raises e n) is = tt
   written_exact facts exact line (Traps e n) never = tt
 
-  pub output_exact : (e rest : TypedTree) (line : Bool) → rest ≡ NoMore → Writes s e → has_call e ≡ false → (facts : List Fact) → Good facts
-      → AllowsAll facts (acts (acts_in s (More e rest))) → Exact m facts → ExactHere (after (acts (acts_in s (More e rest))) facts) (steps.output t (More e rest) line)
-  unfolding acts_in
-  output_exact e rest line last writes calls facts good allowed exact =
-      let same : acts_in s e ++ acts_in s rest ≡ acts_in s e = ap (λ z. acts_in s e ++ acts_in s z) last ∙ append-nil (acts_in s e) in
-      let q = text_quiet t settled own_law other alone no_formals v parts_named may frames none e writes calls facts good (subst (λ z. AllowsAll facts (acts z)) same allowed) in
-      subst (λ z. ExactHere z (steps.output t (More e rest) line)) (sym (ap (λ z. after (acts z) facts) same ∙ q.1))
-      (subst (λ z. ExactHere facts (steps.evaluated t (text_of (here t) e z) (λ bytes m. Goes (record (behind t (waiting t) m 0) {
+  pub output_on : (ws : List (List machine.Word)) (e rest : TypedTree) (line : Bool) → rest ≡ NoMore → Writes s e → Takes (waits_in e) ws [] → (facts : List Fact)
+      → Good facts → AllowsAll facts (acts (acts_in s (More e rest))) → Exact m facts
+      → ExactHere (after (acts (acts_in s (More e rest))) facts) (steps.evaluated t (text_of (here t) e (at ws)) (λ bytes m. Goes (record (behind t (waiting t) m 0) {
         output = t.state.output ++ bytes ++ (if line then 10 ∷ [] else []);
-      })))) (sym started) (written_exact facts exact line (text_of (here t) e now) q.0))
+      })))
+  unfolding acts_in
+  output_on ws e rest line last writes takes facts good allowed exact =
+      let same : acts_in s e ++ acts_in s rest ≡ acts_in s e = ap (λ z. acts_in s e ++ acts_in s z) last ∙ append-nil (acts_in s e) in
+      let q = text_quiet t settled own_law other alone no_formals v parts_named may frames none ws [] e writes takes facts good (subst (λ z. AllowsAll facts (acts z)) same allowed) in
+      subst (λ z. ExactHere z (steps.evaluated t (text_of (here t) e (at ws)) (λ bytes m. Goes (record (behind t (waiting t) m 0) {
+        output = t.state.output ++ bytes ++ (if line then 10 ∷ [] else []);
+      })))) (sym (ap (λ z. after (acts z) facts) same ∙ q.1)) (written_exact facts exact line (text_of (here t) e (at ws)) q.0)
 
   -- a line that ends without a text
   pub line_exact : (line : Bool) (facts : List Fact) → Exact m facts → ExactHere facts (steps.output t NoMore line)
   unfolding text_of
-  line_exact line facts exact = written_exact facts exact line (Done [] (start t)) (started, tt)
+  line_exact line facts exact =
+      subst (λ z. ExactHere facts (steps.evaluated t (Done [] z) (λ bytes m. Goes (record (behind t (waiting t) m 0) {
+        output = t.state.output ++ bytes ++ (if line then 10 ∷ [] else []);
+      })))) (sym (start_is t settled own_law other alone no_formals v parts_named may frames none)) (written_exact facts exact line (Done [] now) (refl, tt))
 
   -- ---- input
 
@@ -278,43 +273,32 @@ module _ (t : Turn) (settled : IsSettled (typing t).table) (own_law : OwnsByShap
   abbrev out_act : PlaceName → Act
   out_act name = act.Actual name mode.Out false false
 
-  got_by : (f : Place → Memory → Outcome) (p : Pos) (x u : ℕ) (path : TypedTree) → Gets t settled own_law other alone no_formals v parts_named may frames none f
-      → is_scalar (full s.table u) ≡ true → Leads s (object_at s x).of path u → has_call path ≡ false → is_observer s x ≡ false → (facts : List Fact) → Good facts
+  pub got_on : (ws : List (List machine.Word)) (f : Place → Memory → Outcome) (p : Pos) (x u : ℕ) (path : TypedTree)
+      → Gets t settled own_law other alone no_formals v parts_named may frames none f
+      → is_scalar (full s.table u) ≡ true → Leads s (object_at s x).of path u → Takes (waits_in path) ws [] → is_observer s x ≡ false → (facts : List Fact) → Good facts
       → AllowsAll facts (acts (source_acts s (Name p x path u) out_act)) → Exact m facts
-      → ExactHere (after (acts (source_acts s (Name p x path u) out_act)) facts) (steps.evaluated t (place_of (here t) (Name p x path u) (start t)) f)
-  got_by f p x u path gets scalar lead calls plain facts good allowed exact =
+      → ExactHere (after (acts (source_acts s (Name p x path u) out_act)) facts) (steps.evaluated t (place_of (here t) (Name p x path u) (at ws)) f)
+  got_on ws f p x u path gets scalar lead takes plain facts good allowed exact =
       let b : List Act = acts (acts_in s path) in
       let whole_acts : acts (source_acts s (Name p x path u) out_act) ≡ b ++ (out_act (name_of x path) ∷ []) =
       acts_append (acts_in s path) (record { pos = p; act = out_act (name_of x path) } ∷ []) in
       let each = allows_both facts b (out_act (name_of x path) ∷ []) (subst (AllowsAll facts) whole_acts allowed) in
-      let inner = steps_quiet (here t) settled hands t.state.leaks m [] other facts v good.kept good.viewed good.holds alone
-      (live t settled own_law other alone no_formals v parts_named may frames none facts good) index_law own_law parts_named (object_at s x).of u path lead calls each.0 in
+      let inner = steps_taking (here t) settled hands t.state.leaks m [] other facts v good.kept good.viewed good.holds alone
+      (live t settled own_law other alone no_formals v parts_named may frames none facts good) index_law own_law parts_named (object_at s x).of u path lead ws [] takes each.0 in
       let actual : Allows facts (out_act (name_of x path)) = subst (λ z. Allows z (out_act (name_of x path))) inner.1 each.1.0 in
       let writes : Allows facts (act.Write (name_of x path)) = (λ g has. switched (breaks_O3 (name_of x path) g) _ _ (actual g has)) in
       let behind_acts : after (acts (source_acts s (Name p x path u) out_act)) facts ≡ effect (act.Write (name_of x path)) facts =
       ap (λ z. after z facts) whole_acts ∙ after_append b (out_act (name_of x path) ∷ []) facts ∙ ap (effect (act.Write (name_of x path))) inner.1 in
-      subst (λ z. ExactHere z (steps.evaluated t (place_of (here t) (Name p x path u) (start t)) f)) (sym behind_acts)
-      (subst (λ z. ExactHere (effect (act.Write (name_of x path)) facts) (steps.evaluated t (place_of (here t) (Name p x path u) z) f)) (sym started)
-      (by_number writes inner.0 (next_item t.input t.state.at) refl))
+      subst (λ z. ExactHere z (steps.evaluated t (place_of (here t) (Name p x path u) (at ws)) f)) (sym behind_acts)
+      (by_number writes inner.0 (next_item t.input t.state.at) refl)
     where
       by_number : Allows facts (act.Write (name_of x path))
-          → Quiet now (λ way. GoesAlong s.table (object_at s x).of u path way) (steps_of (here t) path now)
+          → Quiet now (λ way. GoesAlong s.table (object_at s x).of u path way) (steps_of (here t) path (at ws))
           → (it : Item) → next_item t.input t.state.at ≡ it
-          → ExactHere (effect (act.Write (name_of x path)) facts) (steps.evaluated t (place_of (here t) (Name p x path u) now) f)
+          → ExactHere (effect (act.Write (name_of x path)) facts) (steps.evaluated t (place_of (here t) (Name p x path u) (at ws)) f)
       by_number writes q item.Missing e =
-          then_got f gets facts good exact u scalar (int.pos 0) x path plain writes item.Missing e (λ j end is. cc) (steps_of (here t) path now) q
+          then_got f gets facts good exact u scalar (int.pos 0) x path plain writes item.Missing e (λ j end is. cc) (steps_of (here t) path (at ws)) q
       by_number writes q item.Bad e =
-          then_got f gets facts good exact u scalar (int.pos 0) x path plain writes item.Bad e (λ j end is. cc) (steps_of (here t) path now) q
+          then_got f gets facts good exact u scalar (int.pos 0) x path plain writes item.Bad e (λ j end is. cc) (steps_of (here t) path (at ws)) q
       by_number writes q (item.Number i end) e =
-          then_got f gets facts good exact u scalar i x path plain writes (item.Number i end) e (λ j last is. cc) (steps_of (here t) path now) q
-
-  pub input_exact : (p : Pos) (x u : ℕ) (path : TypedTree) → is_scalar (full s.table u) ≡ true → Leads s (object_at s x).of path u → has_call path ≡ false
-      → is_observer s x ≡ false → (facts : List Fact) → Good facts → AllowsAll facts (acts (source_acts s (Name p x path u) out_act)) → Exact m facts
-      → ExactHere (after (acts (source_acts s (Name p x path u) out_act)) facts) (steps.input t (Name p x path u))
-  input_exact p x u path scalar lead calls plain facts good allowed exact =
-      got_by _ p x u path (record {
-        at_missing = λ k m next. rw next refl;
-        at_bad = λ k m next. rw next refl;
-        at_number = λ k m i end next fits. rw (next, fits) refl;
-        at_outside = λ k m i end next out. rw (next, out) refl;
-      }) scalar lead calls plain facts good allowed exact
+          then_got f gets facts good exact u scalar i x path plain writes (item.Number i end) e (λ j last is. cc) (steps_of (here t) path (at ws)) q

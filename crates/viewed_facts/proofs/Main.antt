@@ -1,13 +1,13 @@
 -- In each sound state of a program that is ready whose facts are exact, no leak check of the step fails that is excused.
-use Rattle.std.proofs.Common.{◌≡◌, refl, sym, ap, ◌∙◌, subst, ◌⊎◌, inl, inr, ℕ, suc, false, List, [], ◌∷◌, length, get_or, Option, None}
+use Rattle.std.specs.Prelude.{is_some}
+use Rattle.std.proofs.Common.{not, ◌≡◌, refl, sym, ap, ◌∙◌, subst, ◌⊎◌, inl, inr, ℕ, suc, List, [], ◌∷◌, length, get_or, Option}
 use Rattle.spark_base.specs.Lists.{Has}
 use Rattle.type_definitions.specs.Types.{Table}
 use Rattle.typed_tree.specs.Trees.{TypedTree}
 use Rattle.typed_tree.specs.Programs.{TypedProgram}
 use Rattle.flow_paths.specs.declared.report.Effects.{Effects}
 use Rattle.flow_paths.specs.Instructions.{Instruction, Declare, Call, EndScope, Finish}
-use Rattle.flow_paths.specs.Names.{has_call}
-use Rattle.flow_paths.specs.Objects.{Typing, sub_at, passings, is_observer}
+use Rattle.flow_paths.specs.Objects.{Typing, Signature, sub_at, passings, is_observer}
 use Rattle.flow_paths.specs.Acts.{actual_values, call_spots, leaks_of}
 use Rattle.flow_paths.specs.Points.{NamedPoint, FlowPoint}
 use Rattle.flow_paths.specs.Laid.{FlowSub, FlowProgram, NamedSub, flow_sub, kept_roots, sub_facts, typing_of, flow_typing, flow_program, flow_named}
@@ -20,16 +20,18 @@ use Rattle.machine.specs.Run.{no_point, step}
 use Rattle.owned_ways.specs.Ways.{Told}
 use Rattle.soundness.specs.Seen.{home, seen}
 use Rattle.soundness.specs.Typed.{Kept}
-use Rattle.soundness.specs.Sound.{Stage, facts_of, AreStages, IsProcedure, InScope, IsNamedSub, IsAtPoint, view_of as view_here}
+use Rattle.soundness.specs.Sound.{Stage, facts_of, AreStages, IsRunnable, AreAwaited, InScope, IsNamedSub, IsAtPoint, view_of as view_here}
 use Rattle.soundness.proofs.Points.{flow_at, sub_there, point_there, point_in}
-use Rattle.soundness.proofs.Successors.{calls_cases, finish_or}
+use Rattle.soundness.proofs.Successors.{call_or, finish_or}
+use Rattle.soundness.proofs.Passing.{signature_is}
 use Rattle.owned_loans.specs.Views.{known_gone, Views, Viewed}
-use Rattle.viewed_steps.specs.Sound.{IsResting, HoldsAt, ArePlaced, NoneAbove, ViewStage, stages_of, GoneElsewhere, AreWaiting, IsRunning}
+use Rattle.viewed_steps.specs.Sound.{AreScalarFormals, IsResting, HoldsAt, ArePlaced, NoneAbove, ViewStage, stages_of, GoneElsewhere, AreWaiting, IsRunning}
 use Rattle.viewed_steps.specs.Ready.{IsReady}
 use Rattle.viewed_steps.proofs.Standing as standing
 use Rattle.viewed_steps.proofs.Calling as calling
 use Rattle.exact_facts.specs.Exact.{NoneFails, checks_of}
-use Rattle.exact_facts.proofs.Calls.{all_spots}
+use Rattle.viewed_facts.proofs.Spots.{spots_none}
+use Rattle.exact_facts.proofs.Spots.{call_same, ways_same}
 use Rattle.viewed_facts.specs.Exact.{IsDefiniteOf, ExcusedHold}
 use Rattle.viewed_facts.proofs.Stepping.{checks_hold, ended_checks_hold}
 
@@ -37,7 +39,7 @@ pub end_or : (i : Instruction) → ((x : ℕ) × (i ≡ EndScope x)) ⊎ ((x : �
 end_or (EndScope x) = inl (x, refl)
 end_or i = inr (λ x e. cc)
 
-module _ (table : Table) (typed : TypedProgram) (effects : Effects) (input : List ℕ) (ready : IsReady table typed effects) where
+module _ (table : Table) (typed : TypedProgram) (effects : Effects) (input : List ℕ) (ready : IsReady table typed effects) (scalars : AreScalarFormals (flow_program table typed)) where
   abbrev program : FlowProgram
   program = flow_program table typed
 
@@ -96,7 +98,8 @@ module _ (table : Table) (typed : TypedProgram) (effects : Effects) (input : Lis
   module _ (state : State) (top : Stage) (below : ViewStage) (more_frames : List ViewStage) (rest : List Frame) (named : NamedSub) (p : NamedPoint)
       (frames : state.frames ≡ top.frame ∷ (below.stage.frame ∷ rest)) (deep : top.depth ≡ suc (length rest))
       (stages : AreStages (stages_of (below ∷ more_frames)) (below.stage.frame ∷ rest))
-      (running : IsProcedure table typed top.frame.sub × IsResting s top × AreWaiting table typed effects state top.frame.sub (below ∷ more_frames))
+      (running : IsRunnable table typed top.frame.sub × IsResting s top × AreWaiting table typed effects state top.frame.sub top.frame.returns (below ∷ more_frames))
+      (awaiting : AreAwaited table typed 0 (top ∷ stages_of (below ∷ more_frames)))
       (of_sub : IsNamedSub (flow_named table typed) top.frame.sub named) (at_point : IsAtPoint named.points top.frame.next p)
       (path : ControlPath (path_points program effects (sub_of program top.frame.sub)) top.before top.frame.next) (views : Views)
       (viewed_before : Viewed (home s (suc (length rest))) (is_observer s) (known_gone (home s (suc (length rest))) (GoneElsewhere program effects (below ∷ more_frames))) views
@@ -111,27 +114,31 @@ module _ (table : Table) (typed : TypedProgram) (effects : Effects) (input : Lis
     older = below ∷ more_frames
 
     -- formals of scalar types have no access parts
-    no_spots : (n : ℕ) (actuals : TypedTree) → p.instr ≡ Call n actuals None → has_call actuals ≡ false → (before : ℕ)
+    no_spots : (n : ℕ) (actuals : TypedTree) (result : Option ℕ) → p.instr ≡ Call n actuals result → (before : ℕ)
         → call_spots own (passings own (sub_at own n)) actuals before ≡ []
-    no_spots n actuals e no_call before =
-        sym (ap (λ z. call_spots z (passings z (sub_at z n)) actuals before) (standing.same table typed effects input ready))
-        ∙ ap (λ z. call_spots s z actuals before) (calling.ways_are table typed effects input ready state top below more_frames rest named p frames deep stages running of_sub at_point path views viewed_before kept scope holds placed_before above n actuals e no_call)
-        ∙ all_spots s ready.accepted.settled ready.owns (sub_of program n).formals actuals (calling.called table typed effects input ready state top below more_frames rest named p frames deep stages running of_sub at_point path views viewed_before kept scope holds placed_before above n actuals e no_call).actuals_stay before
+    no_spots n actuals result e before =
+        let called = calling.called table typed effects input ready state top below more_frames rest named p frames deep stages running awaiting of_sub at_point path views viewed_before kept scope holds placed_before above n actuals result e in
+        let agree = standing.agree table typed effects input ready in
+        let ways = ways_same s own agree n (λ x formal. called.formals x (subst (λ (z : Signature). Has z.formals x) (signature_is program n) formal)) in
+        sym (call_same s own agree (passings own (sub_at own n)) actuals before)
+        ∙ ap (λ z. call_spots s z actuals before) (sym ways)
+        ∙ ap (λ z. call_spots s z actuals before) (calling.ways_are table typed effects input ready state top below more_frames rest named p frames deep stages running awaiting of_sub at_point path views viewed_before kept scope holds placed_before above n actuals result e)
+        ∙ spots_none s ready.accepted.settled ready.owns (not (is_some (sub_of program n).result)) (sub_of program n).formals actuals called.actuals_stay before
 
     main_holds : Holds top state
     main_holds = elim (finish_or p.instr) [
       | inl finishes ↦ finish_holds state top named p of_sub at_point finishes
       | inr end ↦ elim (end_or p.instr) [
-        | inl (y, is) ↦ laid_holds state top named p of_sub at_point (ended_checks_hold table typed effects input ready state top below more_frames rest named p frames deep stages running of_sub at_point path views viewed_before kept scope holds placed_before above exact_before y is)
-        | inr going ↦ elim (calls_cases p.instr (standing.calls_there table typed effects input ready state top older outer named p frames of_sub at_point)) [
-          | inl calls ↦ laid_holds state top named p of_sub at_point (checks_hold table typed effects input ready state top below more_frames rest named p frames deep stages running of_sub at_point path views viewed_before kept scope holds placed_before above exact_before going calls end)
-          | inr (n, actuals, e, no_call) ↦ call_holds state top named p of_sub at_point n actuals None e (no_spots n actuals e no_call)
+        | inl (y, is) ↦ laid_holds state top named p of_sub at_point (ended_checks_hold table typed effects input ready state top below more_frames rest named p frames deep stages running awaiting of_sub at_point path views viewed_before kept scope holds placed_before above exact_before y is)
+        | inr going ↦ elim (call_or p.instr) [
+          | inr calls ↦ laid_holds state top named p of_sub at_point (checks_hold table typed effects input ready state top below more_frames rest named p frames deep stages running awaiting of_sub at_point path views viewed_before kept scope holds placed_before above exact_before going calls end)
+          | inl (n, actuals, result, e) ↦ call_holds state top named p of_sub at_point n actuals result e (no_spots n actuals result e)
         ]
       ]
     ]
 
   by_stages : (state : State) (top : Stage) (views : Views) (older : List ViewStage) (fs : List Frame) → state.frames ≡ fs → AreStages (top ∷ stages_of older) fs
-      → IsRunning table typed effects state (record { stage = top; views = views }) older
+      → IsRunning table typed effects state (record { stage = top; views = views }) older → AreAwaited table typed 0 (top ∷ stages_of older)
       → ControlPath (path_points program effects (sub_of program top.frame.sub)) top.before top.frame.next
       → Viewed (home s top.depth) (is_observer s) (known_gone (home s top.depth) (GoneElsewhere program effects older)) views (view_here s state) (facts_of program effects top)
       → Kept s state.memory (waiting_in state)
@@ -139,17 +146,17 @@ module _ (table : Table) (typed : TypedProgram) (effects : Effects) (input : Lis
       → InScope s state.memory top.depth p.scope → HoldsAt s top.depth views state.memory p → ArePlaced program (facts_of program effects top) views p.scope
       → NoneAbove s top.depth state.memory → Told (seen s state.memory [] []) (IsDefiniteOf program effects (record { stage = top; views = views } ∷ older))
       → Holds top state
-  by_stages state top views [] fs is stages running path well kept named of_sub p at_point scope holds there above exact =
+  by_stages state top views [] fs is stages running awaiting path well kept named of_sub p at_point scope holds there above exact =
       package_holds state top named p running.0 of_sub at_point
-  by_stages state top views (below ∷ more) (f ∷ (g ∷ rest)) is (frame, deep, (around_frame, deeper, others)) running path well kept named of_sub p at_point scope holds there above exact =
-      main_holds state top below more rest named p (is ∙ (λ j. sym frame j ∷ (sym around_frame j ∷ rest))) deep (refl, deeper, others) running of_sub at_point path views
+  by_stages state top views (below ∷ more) (f ∷ (g ∷ rest)) is (frame, deep, (around_frame, deeper, others)) running awaiting path well kept named of_sub p at_point scope holds there above exact =
+      main_holds state top below more rest named p (is ∙ (λ j. sym frame j ∷ (sym around_frame j ∷ rest))) deep (refl, deeper, others) running awaiting of_sub at_point path views
       (subst (λ d. Viewed (home s d) (is_observer s) (known_gone (home s d) (GoneElsewhere program effects (below ∷ more))) views (view_here s state) (facts_of program effects top)) deep well) kept
       (subst (λ d. InScope s state.memory d p.scope) deep scope) (subst (λ d. HoldsAt s d views state.memory p) deep holds) there
       (subst (λ d. NoneAbove s d state.memory) deep above) exact
-  by_stages state top views (below ∷ more) [] is stages running path well kept named of_sub p at_point scope holds there above exact = absurd stages
-  by_stages state top views (below ∷ more) (f ∷ []) is stages running path well kept named of_sub p at_point scope holds there above exact = absurd stages.2
+  by_stages state top views (below ∷ more) [] is stages running awaiting path well kept named of_sub p at_point scope holds there above exact = absurd stages
+  by_stages state top views (below ∷ more) (f ∷ []) is stages running awaiting path well kept named of_sub p at_point scope holds there above exact = absurd stages.2
 
   pub excused_hold : ExcusedHold table typed effects input
   excused_hold state sound exact =
-      by_stages state sound.top sound.views sound.older state.frames refl sound.stages sound.running sound.path sound.viewed sound.kept sound.named sound.of_sub
+      by_stages state sound.top sound.views sound.older state.frames refl sound.stages sound.running sound.awaited sound.path sound.viewed sound.kept sound.named sound.of_sub
       sound.point sound.at_point sound.scope sound.holds sound.placed sound.none_above exact

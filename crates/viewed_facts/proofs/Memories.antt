@@ -30,7 +30,8 @@ use Rattle.soundness.proofs.Steps.{alike, stores, takes}
 use Rattle.soundness.proofs.Ends.{declares, drops, new_other}
 use Rattle.soundness.proofs.Moments.{number_part}
 use Rattle.owned_loans.specs.Views.{Around, Views, expand, ExcusedBy, Viewed}
-use Rattle.owned_loans.proofs.Safe.{clean_below}
+use Rattle.owned_loans.proofs.Others.{clean_away}
+use Rattle.place_names.specs.declared.rule.Loan.{Loan}
 use Rattle.owned_loans.proofs.Allowed.{move_unlent, move_unmoved}
 use Rattle.owned_loans.proofs.Moves.{named_way}
 use Rattle.exact_facts.specs.Exact.{IsOfVariable}
@@ -38,14 +39,14 @@ use Rattle.exact_facts.proofs.Steps.{fact_before, Keeps, IsPlaced, no_hand}
 use Rattle.exact_facts.proofs.Parts.{plain_leaf}
 use Rattle.exact_facts.proofs.Memories.{sels_part, named_part, end_plain, Shows, same_told}
 use Rattle.viewed_facts.specs.Exact.{IsDefinite, IsExact}
-use Rattle.viewed_facts.proofs.Steps.{definite_variable, variables_after, told_still, told_put, told_given, told_taken, left_variable, told_ended}
+use Rattle.viewed_facts.proofs.Steps.{IsOthers, definite_variable, variables_after, told_still, told_put, told_given, told_taken, left_variable, told_ended}
 
 marked : (x : machine.Word) (g : Bool) → g ≡ true → owner_at x g ≡ Gone
 marked x true e = refl
 marked x false e = cc
 
 module _ (s : Typing) (settled : IsSettled s.table) (home : ℕ → ℕ) (observer : ℕ → Bool) (other : Around home) (v : Views) (elsewhere : Way → Type 0)
-    (apart : (k w : Way) → Under k w → Named home k → elsewhere w → ⊥) where
+    (apart : (w : Way) → elsewhere w → IsOthers home other w) where
   abbrev Definite : List Fact → Way → Type 0
   Definite facts w = IsDefinite home v elsewhere facts w
 
@@ -110,7 +111,7 @@ module _ (s : Typing) (settled : IsSettled s.table) (home : ℕ → ℕ) (observ
         where
           clean : ExcusedBy home v other facts (along (expand v u) p) → ⊥
           clean (inl moved) =
-              clean_below home observer v (seen s m rest leaks) facts viewed.views viewed.clear u (along (expand v u) p) (named, plain)
+              clean_away home observer other v (seen s m rest leaks) facts viewed u (along (expand v u) p) (named, plain)
               (λ h n. move_unlent facts u (parts s.table k.of) allowed Borrowed h n) (move_unmoved facts u (parts s.table k.of) allowed)
               (under_along (expand v u) (expand v u) p (under_itself (expand v u))) moved
           clean (inr o) = spares (along (expand v u) p) (under_along (expand v u) (expand v u) p (under_itself (expand v u))) o
@@ -191,14 +192,15 @@ module _ (s : Typing) (settled : IsSettled s.table) (home : ℕ → ℕ) (observ
   -- ---- the scope of an object ends, where none of the views that are left begins
 
   pub ended_exact : (m : Memory) (rest : List Waiting) (leaks leaks' : List Leak) (facts : List Fact) (left : Views) (x : ℕ) (borrower : Bool)
-      → Viewed home observer other v (seen s m rest leaks) facts → Checks s.table (content s m rest (OfRoot (OfVariable (home x) x))) [] leaks leaks'
+      → Viewed home observer other v (seen s m rest leaks) facts → ((l : Loan) (n : Name) → other.lent l n → n.root ≡ x → ⊥)
+      → Checks s.table (content s m rest (OfRoot (OfVariable (home x) x))) [] leaks leaks'
       → ((y : ℕ) (w : Way) → left.way y ≡ Some w → (v.way y ≡ Some w) × (number_of w ≡ x → ⊥))
       → ((y : ℕ) (w : Way) (n : ℕ) → v.way y ≡ Some w → (seen s m rest leaks).word (OfRoot (OfVariable (home y) y)) ≡ Held n → ⊥)
       → Exact m facts → IsExact s home left elsewhere (undeclared (home x) x m) (effect (EndScope x borrower) facts)
-  ended_exact m rest leaks leaks' facts left x borrower viewed checks was empty exact =
+  ended_exact m rest leaks leaks' facts left x borrower viewed unlent checks was empty exact =
       same_told s (seen s (undeclared (home x) x m) rest leaks') (seen s (undeclared (home x) x m) [] []) (undeclared (home x) x m) rest []
       (IsDefinite home left elsewhere (effect (EndScope x borrower) facts)) variables (λ z. refl) (λ l. refl)
-      (told_ended home observer other v elsewhere apart (seen s m rest leaks) (seen s (undeclared (home x) x m) rest leaks') left x borrower facts viewed
+      (told_ended home observer other v elsewhere apart (seen s m rest leaks) (seen s (undeclared (home x) x m) rest leaks') left x borrower facts viewed unlent
       (drops s m (home x) x rest leaks leaks' checks) was empty (told_seen m rest leaks facts viewed exact))
     where
       variables : (w : Way) → IsDefinite home left elsewhere (effect (EndScope x borrower) facts) w → IsOfVariable w

@@ -1,5 +1,6 @@
 -- Facts without an element stay exact in releases, and their excused leak checks don't fail.
-use Rattle.std.proofs.Common.{◌≡◌, refl, sym, ap, ◌∙◌, subst, inl, inr, ℕ, suc, Bool, true, false, not, List, [], ◌∷◌, ◌++◌, map, length, arith}
+use Rattle.std.proofs.Common.{◌≡◌, refl, sym, ap, ◌∙◌, subst, inl, inr, ℕ, suc, Bool, true, false, not, List, [], ◌∷◌, ◌++◌, map, length, arith, ◌⊎◌}
+use Rattle.place_names.specs.declared.rule.Loan.TheVariants.{Borrowed}
 use Rattle.spark_base.specs.Lists.{Has}
 use Rattle.spark_base.specs.declared.position.Pos.{Pos}
 use Rattle.place_names.specs.declared.selector.Sel.TheVariants as sel
@@ -14,7 +15,7 @@ use Rattle.type_definitions.specs.Types.{Table, shape_of, parts, view_of as view
 use Rattle.typed_tree.specs.Trees.{TypedTree, Name}
 use Rattle.flow_paths.specs.declared.point.LeakSpot.{LeakSpot}
 use Rattle.flow_paths.specs.Objects.{Typing, object_at, is_observer, designated, designated_of}
-use Rattle.flow_paths.specs.Names.{has_call, name_of}
+use Rattle.flow_paths.specs.Names.{name_of, waiting as waits_in}
 use Rattle.flow_paths.specs.Scopes.{taken}
 use Rattle.flow_paths.specs.Acts.{acts_in, source_acts, spot}
 use Rattle.machine.specs.Words as machine
@@ -43,23 +44,23 @@ use Rattle.soundness.proofs.Frees.{releases}
 use Rattle.soundness.proofs.Owners.{strip}
 use Rattle.soundness.proofs.Steps.{alike}
 use Rattle.soundness.proofs.Scalars.{acts, acts_append, after_append, allows_both, number_along, named_along}
+use Rattle.soundness.proofs.Taking.{Takes}
 use Rattle.soundness.proofs.Stays.{Quiet}
 use Rattle.soundness.proofs.Numbers.{index_law}
-use Rattle.owned_loans.specs.Views.{Around, Views, expand, ExcusedBy}
+use Rattle.owned_loans.specs.Views.{Around, Views, expand, ExcusedBy, IsThrough}
 use Rattle.owned_loans.proofs.Allowed.{free_open}
 use Rattle.owned_loans.proofs.Moves.{IsPlace, named_way}
 use Rattle.viewed_soundness.specs.Holds.{IsNamed, PartsAreNamed}
 use Rattle.viewed_soundness.proofs.Names.{is_place}
-use Rattle.viewed_soundness.proofs.Stays.{Goes, steps_quiet, name_quiet}
+use Rattle.viewed_soundness.proofs.Stays.{Goes, name_quiet, steps_taking}
 use Rattle.viewed_soundness.proofs.Viewing.{expand_down}
-use Rattle.viewed_soundness.proofs.Outcomes.{IsGood, start_is, live}
+use Rattle.viewed_soundness.proofs.Outcomes.{IsGood, live}
 use Rattle.viewed_steps.proofs.Released.{free_clean, Releases}
 use Rattle.exact_facts.specs.Exact.{Knows}
 use Rattle.exact_facts.proofs.Steps.{fact_before}
-use Rattle.exact_facts.proofs.Memories.{clear_names}
 use Rattle.exact_facts.proofs.Instructions.{none_made}
 use Rattle.viewed_facts.specs.Exact.{IsExact}
-use Rattle.viewed_facts.proofs.Steps.{definite_variable, variables_after, told_released, told_fewer}
+use Rattle.viewed_facts.proofs.Steps.{definite_variable, variables_after, told_released, told_fewer, IsOthers, of_others}
 use Rattle.viewed_facts.proofs.Memories.{told_seen, exact_from}
 use Rattle.viewed_facts.proofs.Checks.{place_holds}
 use Rattle.viewed_facts.proofs.Instructions.{ExactOn}
@@ -68,7 +69,7 @@ module _ (t : Turn) (settled : IsSettled (typing t).table) (own_law : OwnsByShap
     (alone : (w : Way) → IsNear (length t.outer) w → other.gone w → ⊥) (no_formals : (x : ℕ) → is_view_formal (typing t) x ≡ false)
     (v : Views) (parts_named : PartsAreNamed (typing t).table) (may : ℕ → ℕ → Type 0)
     (frames : t.state.frames ≡ t.frame ∷ t.outer) (none : taken t.point.instr ≡ 0)
-    (elsewhere : Way → Type 0) (away : (w : Way) → IsNear (length t.outer) w → elsewhere w → ⊥) (Excused : LeakSpot → Type 0) where
+    (elsewhere : Way → Type 0) (away : (w : Way) → elsewhere w → (IsNear (length t.outer) w → ⊥) ⊎ IsThrough (home (typing t) (length t.outer)) other.lent Borrowed w) (Excused : LeakSpot → Type 0) where
   abbrev s : Typing
   s = typing t
 
@@ -96,8 +97,8 @@ module _ (t : Turn) (settled : IsSettled (typing t).table) (own_law : OwnsByShap
   abbrev Does : (Place → Memory → Outcome) → Pos → Type 0
   Does f pos = Releases t settled own_law other alone no_formals v parts_named may frames none f pos
 
-  away_from : (k w : Way) → Under k w → Named (home s depth) k → elsewhere w → ⊥
-  away_from = clear_names s depth elsewhere away
+  away_from : (w : Way) → elsewhere w → IsOthers (home s depth) other w
+  away_from w e = of_others s depth other w (away w e)
 
   abbrev spots_of : PlaceName → Pos → ℕ → ℕ → List LeakSpot
   spots_of name pos count u = map (spot pos (extend name (sel.Deref ∷ [])) count) (parts s.table (designated s.table u))
@@ -233,37 +234,24 @@ module _ (t : Turn) (settled : IsSettled (typing t).table) (own_law : OwnsByShap
     then_released x path plain allowed known (Raises e n) is = none_made Excused (spots_of (name_of x path) pos' count u)
     then_released x path plain allowed known (Traps e n) never = none_made Excused (spots_of (name_of x path) pos' count u)
 
-  released_by : (f : Place → Memory → Outcome) (pos p : Pos) (x u d : ℕ) (path : TypedTree) → Does f pos
-      → shape_of s.table u ≡ shape.Access d false true → Leads s (object_at s x).of path u → has_call path ≡ false → is_observer s x ≡ false
+  -- a release, whose name takes these values
+  pub released_on : (ws : List (List machine.Word)) (f : Place → Memory → Outcome) (pos p : Pos) (x u d : ℕ) (path : TypedTree) → Does f pos
+      → shape_of s.table u ≡ shape.Access d false true → Leads s (object_at s x).of path u → Takes (waits_in path) ws [] → is_observer s x ≡ false
       → (facts : List Fact) → Good facts → AllowsAll facts (acts (source_acts s (Name p x path u) act.Free)) → Exact m facts
       → (pos' : Pos) (count : ℕ) → Knows Excused pos' (extend (name_of x path) (sel.Deref ∷ [])) count (after (acts (acts_in s path)) facts) (parts s.table (designated s.table u))
       → ExactHere (after (acts (source_acts s (Name p x path u) act.Free)) facts) (spots_of (name_of x path) pos' count u)
-      (steps.evaluated t (place_of (here t) (Name p x path u) (start t)) f)
-  released_by f pos p x u d path does access lead calls plain facts good allowed exact pos' count known =
+      (steps.evaluated t (place_of (here t) (Name p x path u) (record { memory = m; waits = ws })) f)
+  released_on ws f pos p x u d path does access lead takes plain facts good allowed exact pos' count known =
       let b : List Act = acts (acts_in s path) in
+      let before : Now = record { memory = m; waits = ws } in
       let whole_acts : acts (source_acts s (Name p x path u) act.Free) ≡ b ++ (act.Free (name_of x path) ∷ []) =
       acts_append (acts_in s path) (record { pos = p; act = act.Free (name_of x path) } ∷ []) in
       let each = allows_both facts b (act.Free (name_of x path) ∷ []) (subst (AllowsAll facts) whole_acts allowed) in
-      let inner = steps_quiet (here t) settled hands t.state.leaks m [] other facts v good.kept good.viewed good.holds alone
-      (live t settled own_law other alone no_formals v parts_named may frames none facts good) index_law own_law parts_named (object_at s x).of u path lead calls each.0 in
+      let inner = steps_taking (here t) settled hands t.state.leaks m [] other facts v good.kept good.viewed good.holds alone
+      (live t settled own_law other alone no_formals v parts_named may frames none facts good) index_law own_law parts_named (object_at s x).of u path lead ws [] takes each.0 in
       let frees : Allows facts (act.Free (name_of x path)) = subst (λ z. Allows z (act.Free (name_of x path))) inner.1 each.1.0 in
       let behind_acts : after (acts (source_acts s (Name p x path u) act.Free)) facts ≡ effect (act.Free (name_of x path)) facts =
       ap (λ z. after z facts) whole_acts ∙ after_append b (act.Free (name_of x path) ∷ []) facts ∙ ap (effect (act.Free (name_of x path))) inner.1 in
       let knows = subst (λ z. Knows Excused pos' (extend (name_of x path) (sel.Deref ∷ [])) count z (parts s.table (designated s.table u))) inner.1 known in
-      subst (λ z. ExactHere z (spots_of (name_of x path) pos' count u) (steps.evaluated t (place_of (here t) (Name p x path u) (start t)) f)) (sym behind_acts)
-      (subst (λ z. ExactHere (effect (act.Free (name_of x path)) facts) (spots_of (name_of x path) pos' count u) (steps.evaluated t (place_of (here t) (Name p x path u) z) f))
-      (sym (start_is t settled own_law other alone no_formals v parts_named may frames none))
-      (then_released f pos does facts good exact pos' count u d access x path plain frees knows (steps_of (here t) path now) inner.0))
-
-  pub release_exact : (p : Pos) (x u d : ℕ) (path : TypedTree) → shape_of s.table u ≡ shape.Access d false true → Leads s (object_at s x).of path u
-      → has_call path ≡ false → is_observer s x ≡ false → (facts : List Fact) → Good facts → AllowsAll facts (acts (source_acts s (Name p x path u) act.Free))
-      → Exact m facts
-      → (pos' : Pos) (count : ℕ) → Knows Excused pos' (extend (name_of x path) (sel.Deref ∷ [])) count (after (acts (acts_in s path)) facts) (parts s.table (designated s.table u))
-      → ExactHere (after (acts (source_acts s (Name p x path u) act.Free)) facts) (spots_of (name_of x path) pos' count u) (release t (Name p x path u))
-  release_exact p x u d path access lead calls plain facts good allowed exact pos' count known =
-      released_by _ p p x u d path (record {
-        at_null = λ k m is. rw is refl;
-        at_whole = λ k m v is. rw is refl;
-        at_listed = λ k m v is. rw is refl;
-        at_cell = λ k m n is alive. rw (is, alive) refl;
-      }) access lead calls plain facts good allowed exact pos' count known
+      subst (λ z. ExactHere z (spots_of (name_of x path) pos' count u) (steps.evaluated t (place_of (here t) (Name p x path u) before) f)) (sym behind_acts)
+      (then_released f pos does facts good exact pos' count u d access x path plain frees knows (steps_of (here t) path before) inner.0)

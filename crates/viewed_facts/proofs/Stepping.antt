@@ -1,6 +1,7 @@
 -- In a step of a procedure that is no call, of a program that is ready: facts of all frames stay exact, and no leak check
 -- fails that is excused.
-use Rattle.std.proofs.Common.{◌≡◌, eqb-true, refl, sym, ap, ◌∙◌, subst, inl, inr, ℕ, suc, Bool, true, false, not, ◌||◌, List, [], ◌∷◌, ◌++◌, map, length, append_assoc, Some, None}
+use Rattle.std.proofs.Common.{◌≡◌, eqb-true, refl, sym, ap, ◌∙◌, subst, inl, inr, ℕ, suc, Bool, true, false, not, ◌||◌, List, [], ◌∷◌, ◌++◌, map, drop, length, append_assoc, append-nil, ◌+◌, Option, Some, None, nat_lt, int_le, ◌&&◌, if◌then◌else◌, ◌⊎◌}
+use Rattle.place_names.specs.declared.rule.Loan.TheVariants.{Borrowed}
 use Rattle.spark_base.specs.Lists.{Has}
 use Rattle.spark_base.specs.declared.position.Pos.{Pos}
 use Rattle.spark_base.proofs.Lists.{Has-append_left, Has-append_right, Has-map_from}
@@ -15,43 +16,56 @@ use Rattle.place_names.specs.Names.{Name as PlaceName, object, extend}
 use Rattle.place_names.specs.Facts.{removes}
 use Rattle.type_definitions.specs.Types.{Table, is_scalar, full, shape_of, parts}
 use Rattle.type_definitions.specs.declared.table.Shape.TheVariants as shape
-use Rattle.typed_tree.specs.Trees.{TypedTree, Name, NoMore, More}
+use Rattle.typed_tree.specs.Trees.{TypedTree, TypedCode, Name, NoMore, More}
+use Rattle.typed_tree.specs.declared.node.ShortCircuit.{ShortCircuit}
 use Rattle.typed_tree.specs.Programs.{TypedProgram}
 use Rattle.flow_paths.specs.declared.report.Effects.{Effects}
 use Rattle.flow_paths.specs.declared.point.LeakSpot.{LeakSpot}
 use Rattle.flow_paths.specs.Instructions.{Instruction, Skip, Declare, Assign, Call, Output, Input, Release, Test, Choose, Start, Next, Evaluate, LeaveLoop, Hold, EndScope, Finish, Fall}
 use Rattle.flow_paths.specs.Objects.{Typing, object_at, is_anonymous, is_package_object, is_borrower, is_observer, view_of, designated}
-use Rattle.flow_paths.specs.Names.{has_call, name_of}
+use Rattle.flow_paths.specs.Names.{has_call, name_of, waiting as waits_in}
 use Rattle.flow_paths.specs.Acts as flow
 use Rattle.flow_paths.specs.Acts.{acts_in, leaks_of, spot, stored_acts}
 use Rattle.flow_paths.specs.Points.{NamedPoint}
-use Rattle.flow_paths.specs.Laid.{FlowProgram, NamedSub, number_in, flow_sub, typing_of, flow_typing, flow_program, flow_named}
+use Rattle.flow_paths.specs.Laid.{FlowSub, FlowProgram, NamedSub, number_in, flow_sub, typing_of, flow_typing, flow_program, flow_named}
 use Rattle.flow_paths.specs.Paths.{PathPoint, path_point, ControlPath, facts_before}
 use Rattle.flow_paths.specs.Effects.{act_writes, path_points, called_acts}
 use Rattle.flow_paths.specs.LeakPlan.{IsExcused}
 use Rattle.flow_paths.specs.Scopes.{taken}
-use Rattle.machine.specs.Memory.{Memory, undeclared}
+use Rattle.machine.specs.Memory.{Memory, Place, undeclared, declared, stored, words_of}
+use Rattle.machine.specs.Words as machine
+use Rattle.machine.specs.Words.{fits_type}
+use Rattle.machine.specs.Calls.{checks_at}
+use Rattle.machine.specs.Evaluate.{Now, Exception, ConstraintError, Trap, Evaluated, Done, Raises, Traps, followed_by, value, place_of, text_of}
+use Rattle.machine.specs.Evaluate as run
+use Rattle.run_values.specs.Items.{next_item}
 use Rattle.machine.specs.States.{Frame, State, Outcome, Goes, Ends, sub_of}
-use Rattle.machine.specs.Step.{Turn, turn}
+use Rattle.machine.specs.Step.{Turn, turn, start, waiting, behind}
+use Rattle.machine.specs.Step as steps
 use Rattle.machine.specs.Owners.{waiting_in}
 use Rattle.machine.specs.Run.{step}
 use Rattle.owned_ways.specs.Ways.{Way, Told, after, AllowsAll}
 use Rattle.soundness.specs.Seen.{home, seen, IsNear, is_view_formal}
 use Rattle.soundness.specs.Typed.{Kept}
-use Rattle.soundness.specs.Sound.{calls_nothing, Stage, facts_of, AreStages, IsProcedure, InScope, Uses, IsNamedSub, IsAtPoint, view_of as view_here}
-use Rattle.typed_laws.specs.Needed.{IsFine, Leads, Source, FirstSource, FirstWrites, FirstStays}
+use Rattle.soundness.specs.Sound.{calls_procedures, Stage, facts_of, AreStages, IsRunnable, AreAwaited, IsNoCall, IsTrap, InScope, Uses, IsNamedSub, IsAtPoint, view_of as view_here}
+use Rattle.typed_laws.specs.Needed.{IsFine, Leads, Source, FirstSource, FirstWrites, FirstStays, Stays, Returns}
 use Rattle.soundness.proofs.Contents.{bool_cases}
 use Rattle.soundness.proofs.Scalars.{acts, acts_append}
 use Rattle.soundness.proofs.Points.{flow_at, path_there}
 use Rattle.soundness.proofs.Successors.{not_true, both_not}
 use Rattle.soundness.proofs.Waits.{or_both}
+use Rattle.soundness.proofs.Taking.{Takes, takes_as, takes_both, TakesPlainly, nothing_more}
+use Rattle.soundness.proofs.Eased.{eased}
+use Rattle.soundness.proofs.Continued.{got_with, released_with, started_with, input_eased, release_eased, start_eased}
+use Rattle.soundness.proofs.Operands.{handed_over, hold_is}
+use Rattle.soundness.specs.Ready.{Fills}
 use Rattle.soundness.proofs.Inherited.{after_splits}
 use Rattle.soundness.proofs.Around.{IsFar}
-use Rattle.owned_loans.specs.Views.{Around, known_gone, Views, Viewed}
+use Rattle.owned_loans.specs.Views.{Around, known_gone, Views, Viewed, IsThrough}
 use Rattle.viewed_soundness.specs.Holds.{IsNamed, AllKeep}
 use Rattle.viewed_soundness.proofs.Names.{plain_named, true_false}
 use Rattle.viewed_soundness.proofs.Evaluated.{keep_both}
-use Rattle.viewed_soundness.proofs.Outcomes.{named_plain, IsGood, assigned_acts}
+use Rattle.viewed_soundness.proofs.Outcomes.{named_plain, IsGood, Leads_on, assigned_acts}
 use Rattle.viewed_steps.specs.Sound.{IsResting, HoldsAt, ArePlaced, NoneAbove, ViewStage, stages_of, GoneElsewhere, AreWaiting, IsStoredAt, AreTurned, AreLeft}
 use Rattle.viewed_steps.specs.Ready.{AreOrderly, IsReady}
 use Rattle.viewed_steps.proofs.Sources.{leads_or}
@@ -61,15 +75,21 @@ use Rattle.viewed_steps.proofs.Standing as standing
 use Rattle.viewed_steps.proofs.Packages as packages
 use Rattle.viewed_steps.proofs.Innermost as innermost
 use Rattle.viewed_steps.proofs.EachInstruction as each
+use Rattle.viewed_steps.proofs.Results as results
+use Rattle.viewed_steps.proofs.Released.{Releases, released_on as sound_released_on}
+use Rattle.viewed_steps.proofs.Read.{Gets, got_on as sound_got_on}
+use Rattle.viewed_steps.proofs.Rounds.{Starts, started_on as sound_started_on}
 use Rattle.exact_facts.specs.Exact.{NoneFails, Knows, checks_of}
 use Rattle.exact_facts.proofs.Frames.{after_more, after_keeps}
 use Rattle.exact_facts.proofs.Stepping.{excused_knows}
+use Rattle.exact_facts.proofs.Spots.{leaks_same, object_same}
+use Rattle.exact_facts.proofs.Instructions.{none_made}
 use Rattle.viewed_facts.specs.Exact.{IsDefiniteBy, IsDefiniteOf, IsExact}
-use Rattle.viewed_facts.proofs.Instructions.{ExactOn, declare_exact, assign_exact, test_exact, choose_exact, leave_loop_exact, skip_exact, end_scope_checked, end_scope_exact, turned_exact}
-use Rattle.viewed_facts.proofs.Viewing.{view_parts, view_declared_exact, view_assigned_exact, reborrow_unmoved}
-use Rattle.viewed_facts.proofs.Releases.{release_exact}
-use Rattle.viewed_facts.proofs.Loops.{next_exact, start_exact, output_exact, line_exact, input_exact}
-use Rattle.viewed_facts.proofs.Frames.{spare_keeps, IsDefiniteHere, beside_told, apart_told}
+use Rattle.viewed_facts.proofs.Instructions.{ExactOn, value_on, waits_exact, source_exact, declare_on, assign_on, skip_exact, end_scope_checked, end_scope_exact, turned_exact}
+use Rattle.viewed_facts.proofs.Viewing.{view_parts, view_declared_on, view_assigned_on, reborrow_unmoved}
+use Rattle.viewed_facts.proofs.Releases.{released_on}
+use Rattle.viewed_facts.proofs.Loops.{next_exact, started_on, output_on, line_exact, got_on}
+use Rattle.viewed_facts.proofs.Frames.{elsewhere as moved_elsewhere, spare_keeps, IsDefiniteHere, beside_told, apart_told}
 
 module _ (table : Table) (typed : TypedProgram) (effects : Effects) (input : List ℕ) (ready : IsReady table typed effects) where
   abbrev program : FlowProgram
@@ -94,7 +114,8 @@ module _ (table : Table) (typed : TypedProgram) (effects : Effects) (input : Lis
   module _ (state : State) (top : Stage) (below : ViewStage) (more_frames : List ViewStage) (rest : List Frame) (named : NamedSub) (p : NamedPoint)
       (frames : state.frames ≡ top.frame ∷ (below.stage.frame ∷ rest)) (deep : top.depth ≡ suc (length rest))
       (stages : AreStages (stages_of (below ∷ more_frames)) (below.stage.frame ∷ rest))
-      (running : IsProcedure table typed top.frame.sub × IsResting s top × AreWaiting table typed effects state top.frame.sub (below ∷ more_frames))
+      (running : IsRunnable table typed top.frame.sub × IsResting s top × AreWaiting table typed effects state top.frame.sub top.frame.returns (below ∷ more_frames))
+      (awaiting : AreAwaited table typed 0 (top ∷ stages_of (below ∷ more_frames)))
       (of_sub : IsNamedSub (flow_named table typed) top.frame.sub named) (at_point : IsAtPoint named.points top.frame.next p)
       (path : ControlPath (path_points program effects (sub_of program top.frame.sub)) top.before top.frame.next) (views : Views)
       (viewed_before : Viewed (home s (suc (length rest))) (is_observer s) (known_gone (home s (suc (length rest))) (GoneElsewhere program effects (below ∷ more_frames))) views
@@ -112,19 +133,20 @@ module _ (table : Table) (typed : TypedProgram) (effects : Effects) (input : Lis
     depth = suc (length rest)
 
     abbrev between : (g : ViewStage) → Has (below ∷ more_frames) g → StandsBetween table typed effects unmoved_stage local state (suc (length rest)) g
-    between = innermost.between table typed effects input ready state top below more_frames rest named p frames deep stages running of_sub at_point path views viewed_before kept scope holds placed_before above
+    between = innermost.between table typed effects input ready state top below more_frames rest named p frames deep stages running awaiting of_sub at_point path views viewed_before kept scope holds placed_before above
 
     abbrev other : Around (home s (suc (length rest)))
     other = beside_them table typed effects unmoved_stage local state (suc (length rest)) (below ∷ more_frames) between
 
     abbrev alone : (w : Way) → IsNear (suc (length rest)) w → IsFar (suc (length rest)) (GoneElsewhere program effects (below ∷ more_frames)) w → ⊥
-    alone = innermost.alone table typed effects input ready state top below more_frames rest named p frames deep stages running of_sub at_point path views viewed_before kept scope holds placed_before above
+    alone = innermost.alone table typed effects input ready state top below more_frames rest named p frames deep stages running awaiting of_sub at_point path views viewed_before kept scope holds placed_before above
 
     abbrev elsewhere : Way → Type 0
-    elsewhere = IsFar (suc (length rest)) (IsDefiniteOf program effects (below ∷ more_frames))
+    elsewhere = moved_elsewhere table typed effects unmoved_stage local state (suc (length rest)) (below ∷ more_frames) between views (innermost.own_views table typed effects input ready state top below more_frames rest named p frames deep stages running awaiting of_sub at_point path views viewed_before kept scope holds placed_before above)
 
-    away : (w : Way) → IsNear (suc (length rest)) w → IsFar (suc (length rest)) (IsDefiniteOf program effects (below ∷ more_frames)) w → ⊥
-    away w near e = e.0 near
+    away : (w : Way) → elsewhere w → (IsNear (suc (length rest)) w → ⊥) ⊎ IsThrough (home s (suc (length rest))) other.lent Borrowed w
+    away w (inl e) = inl e.0
+    away w (inr e) = inr e.0
 
     abbrev at : Turn
     at = standing.t table typed effects input ready state top older outer named p frames of_sub at_point
@@ -141,20 +163,17 @@ module _ (table : Table) (typed : TypedProgram) (effects : Effects) (input : Lis
     abbrev facts_now : List Fact
     facts_now = own_facts ++ around
 
-    abbrev none_takes : taken at.point.instr ≡ 0
-    none_takes = innermost.none_takes table typed effects input ready state top below more_frames rest named p frames deep stages running of_sub at_point path views viewed_before kept scope holds placed_before above
-
     abbrev viewed : Viewed (home s depth) (is_observer s) other views (view_here s state) facts_now
-    viewed = innermost.viewed table typed effects input ready state top below more_frames rest named p frames deep stages running of_sub at_point path views viewed_before kept scope holds placed_before above
+    viewed = innermost.viewed table typed effects input ready state top below more_frames rest named p frames deep stages running awaiting of_sub at_point path views viewed_before kept scope holds placed_before above
 
     abbrev own_views : (x : ℕ) (w : Way) → views.way x ≡ Some w → is_package_object s x ≡ false
-    own_views = innermost.own_views table typed effects input ready state top below more_frames rest named p frames deep stages running of_sub at_point path views viewed_before kept scope holds placed_before above
+    own_views = innermost.own_views table typed effects input ready state top below more_frames rest named p frames deep stages running awaiting of_sub at_point path views viewed_before kept scope holds placed_before above
 
     abbrev home_frame : (x : ℕ) → is_package_object s x ≡ false → home s depth x ≡ depth
-    home_frame = innermost.home_frame table typed effects input ready state top below more_frames rest named p frames deep stages running of_sub at_point path views viewed_before kept scope holds placed_before above
+    home_frame = innermost.home_frame table typed effects input ready state top below more_frames rest named p frames deep stages running awaiting of_sub at_point path views viewed_before kept scope holds placed_before above
 
     abbrev orderly : AreOrderly program p (λ q. (n : ℕ) × Has (map (number_in named.points) p.next) n × IsAtPoint named.points n q)
-    orderly = innermost.orderly table typed effects input ready state top below more_frames rest named p frames deep stages running of_sub at_point path views viewed_before kept scope holds placed_before above
+    orderly = innermost.orderly table typed effects input ready state top below more_frames rest named p frames deep stages running awaiting of_sub at_point path views viewed_before kept scope holds placed_before above
 
     abbrev none_taken : ℕ → ℕ → Type 0
     none_taken a b = ⊥
@@ -191,14 +210,32 @@ module _ (table : Table) (typed : TypedProgram) (effects : Effects) (input : Lis
     abbrev acts_by : Instruction → List Act
     acts_by i = standing.acts_here table typed effects input ready state top older outer named p frames of_sub at_point i
 
-    same : s ≡ own
-    same = standing.same table typed effects input ready
+    agreed : standing.acts_by table typed effects input ready state top older outer named p frames of_sub at_point s p.instr ≡ standing.acts_by table typed effects input ready state top older outer named p frames of_sub at_point own p.instr
+    agreed = standing.acts_agree table typed effects input ready state top older outer named p frames of_sub at_point
+
+    -- ---- what the instruction takes
+
+    abbrev given_words : List (List machine.Word)
+    given_words = (start at).waits
+
+    abbrev takes_of : (i : Instruction) → p.instr ≡ i → Takes (taken i) given_words []
+    takes_of = innermost.takes_of table typed effects input ready state top below more_frames rest named p frames deep stages running awaiting of_sub at_point path views viewed_before kept scope holds placed_before above
+
+    abbrev plainly : (i : Instruction) → p.instr ≡ i → (calls : Bool) → (calls_procedures i ≡ true → calls ≡ false) → TakesPlainly s calls
+    plainly = innermost.plainly table typed effects input ready state top below more_frames rest named p frames deep stages running awaiting of_sub at_point path views viewed_before kept scope holds placed_before above
+
+    -- the step without the values that it takes
+    abbrev easy : Turn
+    easy = eased at
+
+    abbrev viewed_easy : Viewed (home s depth) (is_observer s) other views (view_here s easy.state) facts_now × Kept s state.memory (waiting_in easy.state)
+    viewed_easy = innermost.viewed_easy table typed effects input ready state top below more_frames rest named p frames deep stages running awaiting of_sub at_point path views viewed_before kept scope holds placed_before above
 
     -- the acts of the point are those of its instruction, and then what is called
     split_by : (i : Instruction) → p.instr ≡ i → (path_point points top.frame.next).acts ≡ placed_by i ++ called_acts program effects p.pos p.instr
     split_by i is =
         ap (λ (z : PathPoint). z.acts) (path_there own named top.frame.next p at_point program effects)
-        ∙ ap (λ z. standing.acts_by table typed effects input ready state top older outer named p frames of_sub at_point z p.instr ++ called_acts program effects p.pos p.instr) (sym same)
+        ∙ ap (λ z. z ++ called_acts program effects p.pos p.instr) (sym agreed)
         ∙ ap (λ j. placed_by j ++ called_acts program effects p.pos p.instr) is
 
     -- what spots of a name know, before some acts
@@ -210,46 +247,51 @@ module _ (table : Table) (typed : TypedProgram) (effects : Effects) (input : Lis
         (spot pos name (length front) q) refl excused in
         (known.0, after_more (acts front) facts_now own_facts own_more (Moved (extend name q)) known.1)
 
-    leaks_there : (i : Instruction) → leaks_of (frame_by s) p.pos i ≡ leaks_of (frame_by own) p.pos i
-    leaks_there i = ap (λ z. leaks_of (frame_by z) p.pos i) same
+    fine_here : IsFine s named.sub.result p.instr
+    fine_here = standing.fine table typed effects input ready state top older outer named p frames of_sub at_point
+
+    leaks_there : IsNoCall p.instr → leaks_of (frame_by s) p.pos p.instr ≡ leaks_of (frame_by own) p.pos p.instr
+    leaks_there calls =
+        leaks_same s own (standing.agree table typed effects input ready) named.sub.result (standing.roots table typed effects input ready state top older outer named p frames of_sub at_point) p.pos p.instr calls fine_here
+        (λ x is. object_same table typed x (subst (λ i. Fills s i (drop (taken p.instr) p.scope)) is (standing.supplied table typed effects input ready state top older outer named p frames of_sub at_point).1))
 
     -- what was handed on stays where no act writes it
     writes_none : (name : PlaceName) → (Uses effects top.frame.sub name.root → ⊥) → is_package_object s name.root ≡ true → (a : Placed) → Has (placed_by p.instr) a
         → act_writes name.root a.act ≡ false
     writes_none name spared shared a has = elim (bool_cases (act_writes name.root a.act)) [
       | inr e ↦ e
-      | inl e ↦ absurd (spared (innermost.act_uses table typed effects input ready state top below more_frames rest named p frames deep stages running of_sub at_point path views viewed_before kept scope holds placed_before above name.root shared (flow_at own named p) (standing.in_sub table typed effects input ready state top older outer named p frames of_sub at_point) a
-          (subst (λ z. Has (standing.acts_by table typed effects input ready state top older outer named p frames of_sub at_point z p.instr) a) same has) (inl e)))
+      | inl e ↦ absurd (spared (innermost.act_uses table typed effects input ready state top below more_frames rest named p frames deep stages running awaiting of_sub at_point path views viewed_before kept scope holds placed_before above name.root shared (flow_at own named p) (standing.in_sub table typed effects input ready state top older outer named p frames of_sub at_point) a
+          (subst (λ z. Has z a) agreed has) (inl e)))
     ]
 
     after_around : ((name : PlaceName) → (Uses effects top.frame.sub name.root → ⊥) → is_package_object s name.root ≡ true → (a : Placed) → Has (placed_by p.instr) a
-        → removes a.act (Moved name) ≡ false) → (f : Fact) → Has around f → Has (after (acts_by p.instr) facts_now) f
-    after_around leaves f has =
-        let found = innermost.unused_here table typed effects input ready state top below more_frames rest named p frames deep stages running of_sub at_point path views viewed_before kept scope holds placed_before above f has in
-        after_keeps (acts_by p.instr) facts_now f
+        → removes a.act (Moved name) ≡ false) → (name : PlaceName) → Has around (Moved name) → Has (after (acts_by p.instr) facts_now) (Moved name)
+    after_around leaves name has =
+        let found = innermost.unused_here table typed effects input ready state top below more_frames rest named p frames deep stages running awaiting of_sub at_point path views viewed_before kept scope holds placed_before above name has in
+        after_keeps (acts_by p.instr) facts_now (Moved name)
         (λ a there. (
         let from = Has-map_from (λ (z : Placed). z.act) (placed_by p.instr) a there in
-        ap (λ z. removes z f) (sym from.2) ∙ ap (removes (from.0).act) found.1 ∙ leaves found.0 found.3 found.2 from.0 from.1))
-        (Has-append_right own_facts around f has)
+        ap (λ z. removes z (Moved name)) (sym from.2) ∙ leaves name found.1 found.0 from.0 from.1))
+        (Has-append_right own_facts around (Moved name) has)
 
     -- what the frames have after the step, from what is exact for the innermost one
-    all_told : (next : Memory) (later : Views) → ((x : ℕ) (w : Way) → later.way x ≡ Some w → is_anonymous (view_of s x) ≡ true) → calls_nothing p.instr ≡ true
-        → ((f : Fact) → Has around f → Has (after (acts_by p.instr) facts_now) f)
+    all_told : (next : Memory) (later : Views) → ((x : ℕ) (w : Way) → later.way x ≡ Some w → is_anonymous (view_of s x) ≡ true) → IsNoCall p.instr
+        → ((name : PlaceName) → Has around (Moved name) → Has (after (acts_by p.instr) facts_now) (Moved name))
         → IsExact s (home s depth) later elsewhere next (after (acts_by p.instr) facts_now)
         → Told (seen s next [] []) (IsDefiniteHere table typed effects unmoved_stage local depth later (facts_before points (top.frame.next ∷ top.before)) older)
-    all_told next later only plain_calls kept_around exact_there =
+    all_told next later only no_calls kept_around exact_there =
         subst (λ z. Told (seen s next [] []) (IsDefiniteHere table typed effects unmoved_stage local depth later z older))
-        (sym (standing.facts_on table typed effects input ready state top older outer named p frames of_sub at_point path plain_calls))
+        (sym (standing.facts_on table typed effects input ready state top older outer named p frames of_sub at_point path no_calls))
         (apart_told table typed effects unmoved_stage local state depth older between later (λ x w has. local x (only x w has)) (seen s next [] []) (after (acts_by p.instr) facts_now) (after (acts_by p.instr) own_facts)
         (after_more (acts_by p.instr) facts_now own_facts own_more) kept_around exact_there)
 
     -- ---- an instruction that isn't the end of a scope
 
-    module _ (going : (x : ℕ) → p.instr ≡ EndScope x → ⊥) (plain_calls : calls_nothing p.instr ≡ true) where
-      good : IsGood at ready.accepted.settled ready.owns other alone no_formals views ready.class.parts_named none_taken frames none_takes views facts_now state
+    module _ (going : (x : ℕ) → p.instr ≡ EndScope x → ⊥) (no_calls : IsNoCall p.instr) where
+      good : IsGood easy ready.accepted.settled ready.owns other alone no_formals views ready.class.parts_named none_taken refl refl views facts_now easy.state
       good = record {
-        viewed = viewed;
-        kept = kept;
+        viewed = viewed_easy.0;
+        kept = viewed_easy.1;
         holds = record {
           held = λ x n view e. holds.held x n (λ fading. going fading.0 fading.1) view e;
           only = holds.only;
@@ -257,172 +299,368 @@ module _ (table : Table) (typed : TypedProgram) (effects : Effects) (input : Lis
       }
 
       abbrev ExactAt : List Fact → List LeakSpot → Outcome → Type 0
-      ExactAt facts spots outcome = ExactOn at ready.accepted.settled ready.owns other alone no_formals views ready.class.parts_named none_taken frames none_takes elsewhere away Excused facts spots outcome
+      ExactAt facts spots outcome = ExactOn easy ready.accepted.settled ready.owns other alone no_formals views ready.class.parts_named none_taken refl refl elsewhere away Excused facts spots outcome
 
       abbrev Exacts : Instruction → Type 0
       Exacts i = ExactAt (after (acts_by i) facts_now) (spots_by i) (turn at i)
 
+      -- With these values out of the frame, the step makes the same of memory.
+      eased_on : (facts : List Fact) (spots : List LeakSpot) {A : Type 0} (y : Evaluated A) (f g : A → Memory → Outcome)
+          → ((a : A) (m : Memory) → ExactAt facts spots (f a m) → ExactAt facts spots (g a m))
+          → ExactAt facts spots (steps.evaluated easy y f) → ExactAt facts spots (steps.evaluated at y g)
+      eased_on facts spots (Done a n) f g same on = same a n.memory on
+      eased_on facts spots (Raises e n) f g same on = none_made Excused spots
+      eased_on facts spots (Traps e n) f g same on = none_made Excused spots
+
+      value_taken : (e : TypedTree) → Stays s e → Takes (waits_in e) given_words [] → AllowsAll facts_now (acts (acts_in s e))
+          → (f : List machine.Word → Memory → Outcome) → ((ws : List machine.Word) → ExactAt facts_now [] (f ws state.memory))
+          → ExactAt (after (acts (acts_in s e)) facts_now) [] (steps.evaluated at (value (steps.here at) e (start at)) f)
+      value_taken e stays takes allowed_there f next =
+          eased_on (after (acts (acts_in s e)) facts_now) [] (value (steps.here at) e (start at)) f f (λ ws m on. on)
+          (value_on easy ready.accepted.settled ready.owns other alone no_formals views ready.class.parts_named none_taken refl refl elsewhere away Excused given_words e stays takes facts_now good allowed_there exact f next)
+
+      -- no trap, and exact
+      abbrev NoTrap : Outcome → Type 0
+      NoTrap (Goes t) = Unit {0}
+      NoTrap (Ends e t) = IsTrap e → ⊥
+
+      no_trap : (facts : List Fact) (o : Outcome) → Leads_on easy ready.accepted.settled ready.owns other alone no_formals views ready.class.parts_named none_taken refl refl facts o → NoTrap o
+      no_trap facts (Goes t) leads = tt
+      no_trap facts (Ends e t) leads = leads.0
+
+      abbrev Both : Instruction → Outcome → Type 0
+      Both i outcome = NoTrap outcome × ExactAt (after (acts_by i) facts_now) (spots_by i) outcome
+
+      raising : (i : Instruction) (e : Exception) (m : Memory) → Both i (steps.raised at e m)
+      raising i e m = ((λ trap. trap), none_made Excused (spots_by i))
+
+      -- where nothing is taken, the step is like it is
+      module _ (nothing : taken at.point.instr ≡ 0) where
+        good_there : IsGood at ready.accepted.settled ready.owns other alone no_formals views ready.class.parts_named none_taken frames nothing views facts_now state
+        good_there = record { viewed = viewed; kept = kept; holds = record { held = good.holds.held; only = holds.only } }
+
+        writes_line : (line : Bool) → Exacts (Output NoMore line)
+        unfolding acts_in
+        writes_line line =
+            line_exact at ready.accepted.settled ready.owns other alone no_formals views ready.class.parts_named none_taken frames nothing elsewhere away Excused line facts_now exact
+
+        turns : (x : ℕ) (reversed : Bool) (low high : TypedTree) → is_scalar (full s.table (object_at s x).of) ≡ true → Exacts (Next x reversed low high)
+        turns x reversed low high scalar =
+            next_exact at ready.accepted.settled ready.owns other alone no_formals views ready.class.parts_named none_taken frames nothing elsewhere away Excused
+            x reversed scalar facts_now good_there exact
+
+      skips : Exacts Skip
+      skips = skip_exact easy ready.accepted.settled ready.owns other alone no_formals views ready.class.parts_named none_taken refl refl elsewhere away Excused facts_now exact
+
       -- ---- declarations
 
-      declares : (x : ℕ) (v : TypedTree) → p.instr ≡ Declare x v → FirstSource s (object_at s x).of v → calls_nothing (Declare x v) ≡ true
+      -- a declaration, at these turns
+      declared_main : (facts : List Fact) (x : ℕ) (w : TypedTree)
+          → ExactAt facts [] (steps.evaluated easy (steps.first_value at (object_at s x).of w (start at)) (λ vs m. steps.goes easy (declared depth x vs m) 0))
+          → ExactAt facts [] (steps.evaluated at (steps.first_value at (object_at s x).of w (start at)) (λ vs m. steps.goes at (declared depth x vs m) 0))
+      declared_main facts x w on =
+          eased_on facts [] (steps.first_value at (object_at s x).of w (start at))
+          (λ vs m. steps.goes easy (declared depth x vs m) 0) (λ vs m. steps.goes at (declared depth x vs m) 0) (λ vs m there. there) on
+
+      declares : (x : ℕ) (v : TypedTree) → p.instr ≡ Declare x v → FirstSource s (object_at s x).of v
           → AllowsAll facts_now (acts_by (Declare x v)) → AllKeep (is_observer s) (acts_by (Declare x v)) → Exacts (Declare x v)
-      unfolding has_call
-      declares x v e text calls allowed_there keep = by_view (is_anonymous (view_of s x)) refl
+      unfolding waits_in
+      declares x v e text allowed_there keep = by_view (is_anonymous (view_of s x)) refl
         where
           after_it : (name : PlaceName) → Has (after (acts_by (Declare x v)) facts_now) (Moved name) → name.root ≡ x → depth ≡ home s depth x → ⊥
           after_it name has root at_home =
-              elim (after_splits (acts_by (Declare x v)) facts_now own_facts around (innermost.from_both table typed effects input ready state top below more_frames rest named p frames deep stages running of_sub at_point path views viewed_before kept scope holds placed_before above) (Moved name) has) [
-                | inl mine ↦ packages.new_after table typed effects input ready state top older outer named p frames of_sub at_point path x v e plain_calls name
+              elim (after_splits (acts_by (Declare x v)) facts_now own_facts around (innermost.from_both table typed effects input ready state top below more_frames rest named p frames deep stages running awaiting of_sub at_point path views viewed_before kept scope holds placed_before above) (Moved name) has) [
+                | inl mine ↦ packages.new_after table typed effects input ready state top older outer named p frames of_sub at_point path x v e no_calls name
                     (subst (λ i. Has (after (acts_by i) own_facts) (Moved name)) (sym e) mine) root
-                | inr there ↦ innermost.not_at_home table typed effects input ready state top below more_frames rest named p frames deep stages running of_sub at_point path views viewed_before kept scope holds placed_before above x name there root at_home
+                | inr there ↦ innermost.not_at_home table typed effects input ready state top below more_frames rest named p frames deep stages running awaiting of_sub at_point path views viewed_before kept scope holds placed_before above x name there root at_home
               ]
 
           from_source : (q : Pos) (y u : ℕ) (path_of : TypedTree) → v ≡ More (Name q y path_of u) NoMore → is_anonymous (view_of s x) ≡ true → Exacts (Declare x v)
           from_source q y u path_of here_is view =
               let text_there : FirstSource s (object_at s x).of (More (Name q y path_of u) NoMore) = subst (FirstSource s (object_at s x).of) here_is text in
-              let calls_source : not (has_call (More (Name q y path_of u) NoMore)) ≡ true = subst (λ z. not (has_call z) ≡ true) here_is calls in
+              let takes : Takes (waits_in path_of) given_words [] =
+              takes_as (taken (Declare x (More (Name q y path_of u) NoMore))) (waits_in path_of) given_words [] (nothing_more (waits_in path_of))
+              (subst (λ z. Takes (taken (Declare x z)) given_words []) here_is (takes_of (Declare x v) e)) in
               subst (λ z. Exacts (Declare x z)) (sym here_is)
-              (view_declared_exact at ready.accepted.settled ready.owns other alone no_formals views ready.class.parts_named none_taken frames none_takes elsewhere away Excused q x y u path_of view (ready.orderly.local x view).0 (home_frame x (local x view)) text_there.1
-              (or_both (has_call path_of) (has_call NoMore) (not_true (has_call path_of || has_call NoMore) calls_source)).0 facts_now good
-              (subst (λ z. AllowsAll facts_now (acts_by (Declare x z))) here_is allowed_there) exact)
+              (declared_main (after (acts_by (Declare x (More (Name q y path_of u) NoMore))) facts_now) x (More (Name q y path_of u) NoMore)
+              (view_declared_on easy ready.accepted.settled ready.owns other alone no_formals views ready.class.parts_named none_taken refl refl elsewhere away Excused given_words q x y u path_of view (ready.orderly.local x view).0 (home_frame x (local x view)) text_there.1 takes facts_now good
+              (subst (λ z. AllowsAll facts_now (acts_by (Declare x z))) here_is allowed_there) exact))
 
           by_view : (b : Bool) → is_anonymous (view_of s x) ≡ b → Exacts (Declare x v)
           by_view true view = (let source = orderly.declared x v e view in from_source source.0 source.1 source.3 source.2 source.4 view)
           by_view false owner =
-              declare_exact at ready.accepted.settled ready.owns other alone no_formals views ready.class.parts_named none_taken frames none_takes elsewhere away Excused x v (plain_named s.table (object_at s x).of owner) text (not_true (has_call v) calls) facts_now good allowed_there keep
-              (after_it, each.free table typed effects input ready state top below more_frames rest named p frames deep stages running of_sub at_point path views viewed_before kept scope holds placed_before above going plain_calls x v e) exact
+              declared_main (after (acts_by (Declare x v)) facts_now) x v
+              (declare_on easy ready.accepted.settled ready.owns other alone no_formals views ready.class.parts_named none_taken refl refl elsewhere away Excused given_words x v (plain_named s.table (object_at s x).of owner) text
+              (plainly (Declare x v) e (has_call v) (λ calls. not_true (has_call v) calls)) (takes_of (Declare x v) e) facts_now good allowed_there keep
+              (after_it, each.free table typed effects input ready state top below more_frames rest named p frames deep stages running awaiting of_sub at_point path views viewed_before kept scope holds placed_before above going no_calls x v e) exact)
 
       -- ---- assignments
 
-      assigns : (target e : TypedTree) → p.instr ≡ Assign target e → IsFine s None (Assign target e) → calls_nothing (Assign target e) ≡ true
+      assigned_main : (facts : List Fact) (spots : List LeakSpot) (target : TypedTree) (of : ℕ) (e : TypedTree)
+          → ExactAt facts spots (steps.evaluated easy (followed_by (steps.taken_by at of e (start at))
+          (λ ws now. followed_by (place_of (steps.here at) target now) (λ k now. Done (record { words = ws; place = k }) now)))
+          (λ (st : steps.Stored) m. steps.leaking_goes (checks_at s (steps.target_pos at target) m st.place) (steps.goes easy (stored s st.place st.words m) 0)))
+          → ExactAt facts spots (steps.evaluated at (followed_by (steps.taken_by at of e (start at))
+          (λ ws now. followed_by (place_of (steps.here at) target now) (λ k now. Done (record { words = ws; place = k }) now)))
+          (λ (st : steps.Stored) m. steps.leaking_goes (checks_at s (steps.target_pos at target) m st.place) (steps.goes at (stored s st.place st.words m) 0)))
+      assigned_main facts spots target of e on =
+          eased_on facts spots _
+          (λ (st : steps.Stored) m. steps.leaking_goes (checks_at s (steps.target_pos at target) m st.place) (steps.goes easy (stored s st.place st.words m) 0))
+          (λ (st : steps.Stored) m. steps.leaking_goes (checks_at s (steps.target_pos at target) m st.place) (steps.goes at (stored s st.place st.words m) 0))
+          (λ st m there. there) on
+
+      assigns : (target e : TypedTree) → p.instr ≡ Assign target e → IsFine s None (Assign target e)
           → AllowsAll facts_now (acts_by (Assign target e)) → AllKeep (is_observer s) (acts_by (Assign target e)) → Exacts (Assign target e)
-      unfolding has_call
-      assigns (Name q x steps u) e is (v, (leads, type), source) calls allowed_there keep =
-          by_view (both_not (has_call steps) (has_call e) calls) (subst (λ z. Source s z e) (sym type) source) (is_anonymous (full s.table u)) refl
+      unfolding has_call waits_in
+      assigns (Name q x steps u) e is (v, (leads, type), source) allowed_there keep =
+          by_view (subst (λ z. Source s z e) (sym type) source) (is_anonymous (full s.table u)) refl
         where
           front : List Placed
           front = acts_in s e ++ acts_in s steps
 
-          to_view : has_call e ≡ false → Source s (object_at s x).of e → is_anonymous (view_of s x) ≡ true → p.instr ≡ Assign (Name q x NoMore (object_at s x).of) e
+          to_view : Source s (object_at s x).of e → is_anonymous (view_of s x) ≡ true → p.instr ≡ Assign (Name q x NoMore (object_at s x).of) e
               → AllowsAll facts_now (acts_by (Assign (Name q x NoMore (object_at s x).of) e)) → Exacts (Assign (Name q x NoMore (object_at s x).of) e)
-          to_view no_call source view instr_is allowed_here =
+          to_view source view instr_is allowed_here =
               let found = orderly.assigned q x (object_at s x).of e instr_is view in
               from_name found.0 found.1 found.3 found.2 found.4 found.6
             where
               from_name : (r : Pos) (y w : ℕ) (path_of : TypedTree) → e ≡ Name r y path_of w → (is_observer s x ≡ false → y ≡ x)
                   → Exacts (Assign (Name q x NoMore (object_at s x).of) e)
               from_name r y w path_of here_is itself =
+                  let of : ℕ = (object_at s x).of in
+                  let takes : Takes (waits_in path_of) given_words [] =
+                  takes_as (taken (Assign (Name q x NoMore of) (Name r y path_of w))) (waits_in path_of) given_words [] (nothing_more (waits_in path_of))
+                  (subst (λ z. Takes (taken (Assign (Name q x NoMore of) z)) given_words []) here_is (takes_of (Assign (Name q x NoMore of) e) instr_is)) in
                   subst (λ z. Exacts (Assign (Name q x NoMore (object_at s x).of) z)) (sym here_is)
                   (subst (λ z. ExactAt (after (acts_by (Assign (Name q x NoMore (object_at s x).of) (Name r y path_of w))) facts_now)
                   (map (spot q (name_of x NoMore) (length (acts_in s (Name r y path_of w) ++ acts_in s NoMore))) z)
-                  (turn at (Assign (Name q x NoMore (object_at s x).of) (Name r y path_of w)))) (sym (view_parts at ready.accepted.settled ready.owns other alone no_formals views ready.class.parts_named none_taken frames none_takes elsewhere away Excused x view))
-                  (view_assigned_exact at ready.accepted.settled ready.owns other alone no_formals views ready.class.parts_named none_taken frames none_takes elsewhere away Excused p.pos q r x y w path_of view (ready.orderly.local x view).0 (home_frame x (local x view))
-                  (subst (Source s (object_at s x).of) here_is source) (subst (λ z. has_call z ≡ false) here_is no_call) itself facts_now good
-                  (subst (λ z. AllowsAll facts_now (acts_by (Assign (Name q x NoMore (object_at s x).of) z))) here_is allowed_here) exact))
+                  (turn at (Assign (Name q x NoMore (object_at s x).of) (Name r y path_of w)))) (sym (view_parts easy ready.accepted.settled ready.owns other alone no_formals views ready.class.parts_named none_taken refl refl elsewhere away Excused x view))
+                  (assigned_main (after (acts_by (Assign (Name q x NoMore of) (Name r y path_of w))) facts_now) [] (Name q x NoMore of) of (Name r y path_of w)
+                  (view_assigned_on easy ready.accepted.settled ready.owns other alone no_formals views ready.class.parts_named none_taken refl refl elsewhere away Excused given_words p.pos q r x y w path_of view (ready.orderly.local x view).0 (home_frame x (local x view))
+                  (subst (Source s (object_at s x).of) here_is source) takes itself facts_now good
+                  (subst (λ z. AllowsAll facts_now (acts_by (Assign (Name q x NoMore (object_at s x).of) z))) here_is allowed_here) exact)))
 
-          by_view : ((has_call steps ≡ false) × (has_call e ≡ false)) → Source s u e → (b : Bool) → is_anonymous (full s.table u) ≡ b → Exacts (Assign (Name q x steps u) e)
-          by_view both source (false) owner = elim source [
+          by_view : Source s u e → (b : Bool) → is_anonymous (full s.table u) ≡ b → Exacts (Assign (Name q x steps u) e)
+          by_view source (false) owner = elim source [
             | inl view ↦ absurd (true_false (is_anonymous (full s.table u)) view.0 owner)
             | inr gives ↦ (
                 let own_type : IsNamed s.table u = plain_named s.table u owner in
                 let same_acts = assigned_acts s p.pos x u (Name q x steps u) steps e own_type leads in
+                let two = takes_both (waits_in e) (waits_in steps) given_words [] (takes_of (Assign (Name q x steps u) e) is) in
                 subst (λ z. ExactAt (after (acts z) facts_now) (spots_by (Assign (Name q x steps u) e)) (turn at (Assign (Name q x steps u) e))) (sym same_acts)
-                (assign_exact at ready.accepted.settled ready.owns other alone no_formals views ready.class.parts_named none_taken frames none_takes elsewhere away Excused q x u steps e own_type gives leads both.1 both.0 facts_now good
+                (assigned_main (after (acts (stored_acts s (Name q x steps u) e)) facts_now) (spots_by (Assign (Name q x steps u) e)) (Name q x steps u) u e
+                (assign_on easy ready.accepted.settled ready.owns other alone no_formals views ready.class.parts_named none_taken refl refl elsewhere away Excused given_words two.0 q x u steps e own_type gives leads
+                (plainly (Assign (Name q x steps u) e) is (has_call e) (λ calls. (both_not (has_call steps) (has_call e) calls).1)) two.1 two.2 facts_now good
                 (subst (λ z. AllowsAll facts_now (acts z)) same_acts allowed_there) (subst (λ z. AllKeep (is_observer s) (acts z)) same_acts keep) exact (length front)
-                (knows (Assign (Name q x steps u) e) is front (record { pos = q; act = act.Write (name_of x steps) } ∷ []) same_acts q (name_of x steps) (parts s.table u))))
+                (knows (Assign (Name q x steps u) e) is front (record { pos = q; act = act.Write (name_of x steps) } ∷ []) same_acts q (name_of x steps) (parts s.table u)))))
           ]
-          by_view both source true view = elim (leads_or s ready.class.parts_named steps (object_at s x).of u leads) [
+          by_view source true view = elim (leads_or s ready.class.parts_named steps (object_at s x).of u leads) [
             | inr own_type ↦ absurd (true_false (is_anonymous (full s.table u)) view (named_plain s.table u own_type))
             | inl whole ↦ (
                 let target_is : Name q x steps u ≡ Name q x NoMore (object_at s x).of = (λ j. Name q x (whole.0 j) (sym whole.1 j)) in
                 subst (λ z. Exacts (Assign z e)) (sym target_is)
-                (to_view both.1 (subst (λ z. Source s z e) (sym whole.1) source) (ap (λ z. is_anonymous (full s.table z)) whole.1 ∙ view)
+                (to_view (subst (λ z. Source s z e) (sym whole.1) source) (ap (λ z. is_anonymous (full s.table z)) whole.1 ∙ view)
                 (is ∙ ap (λ z. Assign z e) target_is) (subst (λ z. AllowsAll facts_now (acts_by (Assign z e))) target_is allowed_there)))
           ]
-      assigns target e is (v, never, source) calls allowed_there keep = absurd never
+      assigns target e is (v, never, source) allowed_there keep = absurd never
 
       -- ---- other instructions
 
-      writes : (text : TypedTree) (line : Bool) → FirstWrites s text → calls_nothing (Output text line) ≡ true
+      writes : (text : TypedTree) (line : Bool) → p.instr ≡ Output text line → FirstWrites s text
           → AllowsAll facts_now (acts_by (Output text line)) → Exacts (Output text line)
-      unfolding has_call acts_in
-      writes (More e last) line (none, text) calls allowed_there =
-          output_exact at ready.accepted.settled ready.owns other alone no_formals views ready.class.parts_named none_taken frames none_takes elsewhere away Excused e last line none text (or_both (has_call e) (has_call last) (not_true (has_call e || has_call last) calls)).0 facts_now good allowed_there exact
-      writes NoMore line text calls allowed_there = line_exact at ready.accepted.settled ready.owns other alone no_formals views ready.class.parts_named none_taken frames none_takes elsewhere away Excused line facts_now exact
-      writes other_text line never calls allowed_there = absurd never
+      unfolding acts_in waits_in
+      writes (More e last) line is (none, text) allowed_there =
+          eased_on (after (acts_by (Output (More e last) line)) facts_now) [] (text_of (steps.here at) e (start at))
+          (λ bytes m. Goes (record (behind easy (waiting easy) m 0) { output = state.output ++ bytes ++ (if line then 10 ∷ [] else []) }))
+          (λ bytes m. Goes (record (behind at (waiting at) m 0) { output = state.output ++ bytes ++ (if line then 10 ∷ [] else []) }))
+          (λ bytes m on. on)
+          (output_on easy ready.accepted.settled ready.owns other alone no_formals views ready.class.parts_named none_taken refl refl elsewhere away Excused given_words e last line none text
+          (takes_as (taken (Output (More e last) line)) (waits_in e) given_words [] (ap (λ z. waits_in e + waits_in z) none ∙ nothing_more (waits_in e))
+          (takes_of (Output (More e last) line) is))
+          facts_now good allowed_there exact)
+      writes NoMore line is text allowed_there = writes_line (innermost.none_takes table typed effects input ready state top below more_frames rest named p frames deep stages running awaiting of_sub at_point path views viewed_before kept scope holds placed_before above (Output NoMore line) is refl) line
+      writes other_text line is never allowed_there = absurd never
 
-      reads : (target : TypedTree) → p.instr ≡ Input target → IsFine s None (Input target) → calls_nothing (Input target) ≡ true
+      abbrev gets_here : Place → Memory → Outcome
+      gets_here k m = got_with easy k (next_item input state.at) m
+
+      gets_so : Gets easy ready.accepted.settled ready.owns other alone no_formals views ready.class.parts_named none_taken refl refl gets_here
+      gets_so = record {
+        at_missing = λ k m next. rw next refl;
+        at_bad = λ k m next. rw next refl;
+        at_number = λ k m v end next fits. rw (next, fits) refl;
+        at_outside = λ k m v end next out. rw (next, out) refl;
+      }
+
+      reads : (target : TypedTree) → p.instr ≡ Input target → IsFine s None (Input target)
           → AllowsAll facts_now (acts_by (Input target)) → Exacts (Input target)
-      unfolding has_call
-      reads (Name q x steps u) is (v, (leads, type), scalar) calls allowed_there =
-          input_exact at ready.accepted.settled ready.owns other alone no_formals views ready.class.parts_named none_taken frames none_takes elsewhere away Excused q x u steps (subst (λ z. is_scalar (full s.table z) ≡ true) (sym type) scalar) leads (not_true (has_call steps) calls)
-          (orderly.read q x u steps is) facts_now good allowed_there exact
-      reads target is (v, never, scalar) calls allowed_there = absurd never
+      unfolding waits_in
+      reads (Name q x path_of u) is (v, (leads, type), scalar) allowed_there =
+          let target : TypedTree = Name q x path_of u in
+          let plain : is_scalar (full s.table u) ≡ true = subst (λ z. is_scalar (full s.table z) ≡ true) (sym type) scalar in
+          (input_eased at (Both (Input target)) (raising (Input target)) (λ trap m on. on.0 tt) target (
+            no_trap _ _ (sound_got_on easy ready.accepted.settled ready.owns other alone no_formals views ready.class.parts_named none_taken refl refl given_words
+                gets_here q x u path_of gets_so plain leads (takes_of (Input target) is) (orderly.read q x u path_of is) facts_now good allowed_there),
+            got_on easy ready.accepted.settled ready.owns other alone no_formals views ready.class.parts_named none_taken refl refl elsewhere away Excused given_words
+                gets_here q x u path_of gets_so plain leads (takes_of (Input target) is) (orderly.read q x u path_of is) facts_now good allowed_there exact,
+          )).1
+      reads target is (v, never, scalar) allowed_there = absurd never
 
-      releases : (target : TypedTree) → p.instr ≡ Release target → IsFine s None (Release target) → calls_nothing (Release target) ≡ true
+      abbrev frees_here : Pos → Place → Memory → Outcome
+      frees_here q k m = released_with easy q k (words_of s m k) m
+
+      frees_so : (q : Pos) → Releases easy ready.accepted.settled ready.owns other alone no_formals views ready.class.parts_named none_taken refl refl (frees_here q) q
+      frees_so q = record {
+        at_null = λ k m is. rw is refl;
+        at_whole = λ k m v is. rw is refl;
+        at_listed = λ k m v is. rw is refl;
+        at_cell = λ k m n is alive. rw (is, alive) refl;
+      }
+
+      releases : (target : TypedTree) → p.instr ≡ Release target → IsFine s None (Release target)
           → AllowsAll facts_now (acts_by (Release target)) → AllKeep (is_observer s) (acts_by (Release target)) → Exacts (Release target)
-      unfolding has_call
-      releases (Name q x steps u) is (v, d, (leads, type), access) calls allowed_there keep =
-          release_exact at ready.accepted.settled ready.owns other alone no_formals views ready.class.parts_named none_taken frames none_takes elsewhere away Excused q x u d steps (subst (λ z. shape_of s.table z ≡ shape.Access d false true) (sym type) access) leads (not_true (has_call steps) calls)
-          (last_kept (acts_in s steps) keep) facts_now good allowed_there exact q (length (acts_in s steps))
-          (knows (Release (Name q x steps u)) is (acts_in s steps) (record { pos = q; act = act.Free (name_of x steps) } ∷ []) refl
-          q (extend (name_of x steps) (sel.Deref ∷ [])) (parts s.table (designated s.table u)))
+      unfolding waits_in
+      releases (Name q x path_of u) is (v, d, (leads, type), access) allowed_there keep =
+          let target : TypedTree = Name q x path_of u in
+          let access_there : shape_of s.table u ≡ shape.Access d false true = subst (λ z. shape_of s.table z ≡ shape.Access d false true) (sym type) access in
+          (release_eased at (Both (Release target)) (raising (Release target)) (λ trap m on. on.0 tt) q x u path_of (
+            no_trap _ _ (sound_released_on easy ready.accepted.settled ready.owns other alone no_formals views ready.class.parts_named none_taken refl refl given_words
+                (frees_here q) q q x u d path_of (frees_so q) access_there leads (takes_of (Release target) is) (last_kept (acts_in s path_of) keep) facts_now good allowed_there),
+            released_on easy ready.accepted.settled ready.owns other alone no_formals views ready.class.parts_named none_taken refl refl elsewhere away Excused given_words
+                (frees_here q) q q x u d path_of (frees_so q) access_there leads (takes_of (Release target) is) (last_kept (acts_in s path_of) keep) facts_now good allowed_there exact
+                q (length (acts_in s path_of))
+                (knows (Release target) is (acts_in s path_of) (record { pos = q; act = act.Free (name_of x path_of) } ∷ []) refl
+                q (extend (name_of x path_of) (sel.Deref ∷ [])) (parts s.table (designated s.table u))),
+          )).1
         where
-          last_kept : (before : List Placed) → AllKeep (is_observer s) (acts (before ++ record { pos = q; act = act.Free (name_of x steps) } ∷ [])) → is_observer s x ≡ false
+          last_kept : (before : List Placed) → AllKeep (is_observer s) (acts (before ++ record { pos = q; act = act.Free (name_of x path_of) } ∷ [])) → is_observer s x ≡ false
           last_kept before keep =
-              (keep_both (is_observer s) (acts before) (act.Free (name_of x steps) ∷ [])
-              (subst (AllKeep (is_observer s)) (acts_append before (record { pos = q; act = act.Free (name_of x steps) } ∷ [])) keep)).1.0
-      releases target is (v, d, never, access) calls allowed_there keep = absurd never
+              (keep_both (is_observer s) (acts before) (act.Free (name_of x path_of) ∷ [])
+              (subst (AllKeep (is_observer s)) (acts_append before (record { pos = q; act = act.Free (name_of x path_of) } ∷ [])) keep)).1.0
+      releases target is (v, d, never, access) allowed_there keep = absurd never
 
-      leaves : (e : TypedTree) → FirstStays s e → calls_nothing (LeaveLoop e) ≡ true → AllowsAll facts_now (acts_by (LeaveLoop e)) → Exacts (LeaveLoop e)
-      unfolding has_call acts_in
-      leaves (More e last) (none, stays) calls allowed_there =
-          leave_loop_exact at ready.accepted.settled ready.owns other alone no_formals views ready.class.parts_named none_taken frames none_takes elsewhere away Excused e last none stays (or_both (has_call e) (has_call last) (not_true (has_call e || has_call last) calls)).0 facts_now good allowed_there exact
-      leaves NoMore text calls allowed_there = skip_exact at ready.accepted.settled ready.owns other alone no_formals views ready.class.parts_named none_taken frames none_takes elsewhere away Excused facts_now exact
-      leaves e never calls allowed_there = absurd never
+      chosen_exact : (b : Bool) (k : ℕ) → ExactAt facts_now [] (if b then steps.goes at state.memory k else steps.raised at ConstraintError state.memory)
+      chosen_exact true k = (exact, tt)
+      chosen_exact false k = tt
 
-      holds_nothing : (v : TypedTree) → v ≡ NoMore → Exacts (Hold v)
-      unfolding acts_in
-      holds_nothing v none =
+      chooses : (e : TypedTree) (choices : List TypedCode) → p.instr ≡ Choose e choices → Stays s e
+          → AllowsAll facts_now (acts_by (Choose e choices)) → Exacts (Choose e choices)
+      chooses e choices is stays allowed_there =
+          value_taken e stays (takes_of (Choose e choices) is) allowed_there (λ ws m. steps.chosen at (length choices) (steps.choice choices ws) m)
+          (λ ws. chosen_exact (nat_lt (steps.choice choices ws) (length choices)) (steps.choice choices ws))
+
+      leaves : (e : TypedTree) → p.instr ≡ LeaveLoop e → FirstStays s e → AllowsAll facts_now (acts_by (LeaveLoop e)) → Exacts (LeaveLoop e)
+      unfolding acts_in waits_in
+      leaves (More e last) is (none, stays) allowed_there =
+          let same : acts_in s e ++ acts_in s last ≡ acts_in s e = ap (λ z. acts_in s e ++ acts_in s z) none ∙ append-nil (acts_in s e) in
+          subst (λ z. ExactAt (after (acts z) facts_now) [] (turn at (LeaveLoop (More e last)))) (sym same)
+          (value_taken e stays
+          (takes_as (taken (LeaveLoop (More e last))) (waits_in e) given_words [] (ap (λ z. waits_in e + waits_in z) none ∙ nothing_more (waits_in e))
+          (takes_of (LeaveLoop (More e last)) is))
+          (subst (λ z. AllowsAll facts_now (acts z)) same allowed_there) (λ ws m. steps.goes at m (if run.is_true ws then 0 else 1)) (λ ws. (exact, tt)))
+      leaves NoMore is text allowed_there = skips
+      leaves e is never allowed_there = absurd never
+
+      abbrev starts_here : ℕ → steps.Bounds → Memory → Outcome
+      starts_here x b m = started_with easy x b m
+
+      starts_so : (x : ℕ) → Starts easy ready.accepted.settled ready.owns other alone no_formals views ready.class.parts_named none_taken refl refl x (starts_here x)
+      starts_so x = record {
+        fails = λ b. int_le (steps.number b.low) (steps.number b.high)
+            && not (fits_type s.table (object_at s x).of b.low && fits_type s.table (object_at s x).of b.high);
+        loop = λ b. record { parameter = x; low = steps.number b.low; high = steps.number b.high; first = true };
+        at_fault = λ b m e. rw e refl;
+        at_turn = λ b m e. rw e refl;
+      }
+
+      starts : (x : ℕ) (reversed : Bool) (low high : TypedTree) → p.instr ≡ Start x reversed low high → is_scalar (full s.table (object_at s x).of) ≡ true
+          → Stays s low → Stays s high → AllowsAll facts_now (acts_by (Start x reversed low high)) → Exacts (Start x reversed low high)
+      starts x reversed low high is scalar stays stays' allowed_there =
+          let two = takes_both (waits_in low) (waits_in high) given_words [] (takes_of (Start x reversed low high) is) in
+          (start_eased at (Both (Start x reversed low high)) (raising (Start x reversed low high)) (λ trap m on. on.0 tt) x low high (
+            no_trap _ _ (sound_started_on easy ready.accepted.settled ready.owns other alone no_formals views ready.class.parts_named none_taken refl refl given_words two.0
+                x (starts_here x) low high (starts_so x) scalar stays stays' two.1 two.2 facts_now good allowed_there),
+            started_on easy ready.accepted.settled ready.owns other alone no_formals views ready.class.parts_named none_taken refl refl elsewhere away Excused given_words two.0
+                x (starts_here x) low high (starts_so x) scalar stays stays' two.1 two.2 facts_now good allowed_there exact,
+          )).1
+
+      operates : (temporary : ℕ) (e : TypedTree) (op : Option ShortCircuit) → p.instr ≡ Evaluate temporary e op → Stays s e
+          → AllowsAll facts_now (acts_by (Evaluate temporary e op)) → Exacts (Evaluate temporary e op)
+      operates temporary e (Some o) is stays allowed_there =
+          value_taken e stays (takes_of (Evaluate temporary e (Some o)) is) allowed_there
+          (λ ws m. Goes (behind at (steps.truth_waiting ws ∷ waiting at) m (if run.decides o ws then 1 else 0))) (λ ws. (exact, tt))
+      operates temporary e None is stays allowed_there =
+          value_taken e stays (takes_of (Evaluate temporary e None) is) allowed_there
+          (λ ws m. Goes (behind at (steps.truth_waiting ws ∷ drop 1 (waiting at)) m 0)) (λ ws. (exact, tt))
+
+      -- a return with a value, and one without
+      holds_value : (e : TypedTree) (of : ℕ) → p.instr ≡ Hold (More e NoMore) → named.sub.result ≡ Some of → Source s of e
+          → AllowsAll facts_now (acts_by (Hold (More e NoMore))) → AllKeep (is_observer s) (acts_by (Hold (More e NoMore))) → Exacts (Hold (More e NoMore))
+      unfolding acts_in has_call waits_in
+      holds_value e of is result source allowed_there keep =
+          let type_there : IsNamed s.table of = results.named_result table typed effects input ready state top below more_frames rest named p frames deep stages running awaiting of_sub at_point path views viewed_before kept scope holds placed_before above e NoMore is of result source refl in
+          let same : acts_by (Hold (More e NoMore)) ≡ acts (acts_in s e) =
+          ap (λ r. acts (flow.returned_acts s r (More e NoMore))) result
+          ∙ ap (λ b. acts (if b then flow.source_acts s e (λ m. act.Give m (flow.gives_variable s (Some of))) else acts_in s e ++ []))
+          (named_plain s.table of type_there)
+          ∙ ap acts (append-nil (acts_in s e)) in
+          let sub_result : (sub_of program top.frame.sub).result ≡ Some of =
+          ap (λ (z : FlowSub). z.result) (standing.sub_is table typed effects input ready state top older outer named p frames of_sub at_point) ∙ result in
+          subst (λ z. ExactAt (after z facts_now) [] (turn at (Hold (More e NoMore)))) (sym same)
+          (subst (ExactAt (after (acts (acts_in s e)) facts_now) []) (sym (hold_is program input at.point state top.frame below.stage.frame rest e NoMore of sub_result))
+          (eased_on (after (acts (acts_in s e)) facts_now) [] (steps.taken_by at of e (start at))
+          (λ ws m. Goes (handed_over program input at.point state top.frame below.stage.frame rest of ws m))
+          (λ ws m. Goes (handed_over program input at.point state top.frame below.stage.frame rest of ws m)) (λ ws m on. on)
+          (waits_exact easy ready.accepted.settled ready.owns other alone no_formals views ready.class.parts_named none_taken refl refl elsewhere away Excused
+          (after (acts (acts_in s e)) facts_now) (steps.taken_by at of e (start at))
+          (source_exact easy ready.accepted.settled ready.owns other alone no_formals views ready.class.parts_named none_taken refl refl elsewhere away Excused given_words of e type_there source
+          (plainly (Hold (More e NoMore)) is (has_call e) (λ calls. (or_both (has_call e) (has_call NoMore) (not_true (has_call e || has_call NoMore) calls)).0))
+          (takes_as (taken (Hold (More e NoMore))) (waits_in e) given_words [] (nothing_more (waits_in e)) (takes_of (Hold (More e NoMore)) is))
+          facts_now good (subst (AllowsAll facts_now) same allowed_there) (subst (AllKeep (is_observer s)) same keep) exact)
+          (λ ws m. Goes (handed_over program input at.point state top.frame below.stage.frame rest of ws m)) (λ ws m still. (still, tt)))))
+
+      returns : (v : TypedTree) (r : Option ℕ) → p.instr ≡ Hold v → named.sub.result ≡ r → Returns s r v → AllowsAll facts_now (acts_by (Hold v))
+          → AllKeep (is_observer s) (acts_by (Hold v)) → Exacts (Hold v)
+      unfolding acts_in waits_in
+      returns v None is result none allowed_there keep =
           subst (λ z. Exacts (Hold z)) (sym none)
-          (subst (λ z. ExactAt z [] (turn at (Hold NoMore))) (sym (ap (λ r. after (acts (flow.returned_acts s r NoMore)) facts_now) (innermost.no_result table typed effects input ready state top below more_frames rest named p frames deep stages running of_sub at_point path views viewed_before kept scope holds placed_before above)))
-          (skip_exact at ready.accepted.settled ready.owns other alone no_formals views ready.class.parts_named none_taken frames none_takes elsewhere away Excused facts_now exact))
+          (subst (λ z. ExactAt z [] (turn at (Hold NoMore))) (sym (ap (λ r. after (acts (flow.returned_acts s r NoMore)) facts_now) result)) skips)
+      returns v (Some of) is result (e, same, source) allowed_there keep =
+          subst (λ z. Exacts (Hold z)) (sym same)
+          (holds_value e of (is ∙ ap Hold same) result source (subst (λ z. AllowsAll facts_now (acts_by (Hold z))) same allowed_there)
+          (subst (λ z. AllKeep (is_observer s) (acts_by (Hold z))) same keep))
 
-      each_instruction : (i : Instruction) → p.instr ≡ i → (i ≡ Finish → ⊥) → IsFine s None i → calls_nothing i ≡ true → AllowsAll facts_now (acts_by i)
+      each_instruction : (i : Instruction) → p.instr ≡ i → (i ≡ Finish → ⊥) → IsFine s named.sub.result i → AllowsAll facts_now (acts_by i)
           → AllKeep (is_observer s) (acts_by i) → Exacts i
-      each_instruction Skip is end text calls allowed_there keep = skip_exact at ready.accepted.settled ready.owns other alone no_formals views ready.class.parts_named none_taken frames none_takes elsewhere away Excused facts_now exact
-      each_instruction (Declare x v) is end text calls allowed_there keep = declares x v is text calls allowed_there keep
-      each_instruction (Assign target e) is end text calls allowed_there keep = assigns target e is text calls allowed_there keep
-      each_instruction (Call n actuals result) is end text calls allowed_there keep = cc
-      each_instruction (Output text line) is end writing calls allowed_there keep = writes text line writing calls allowed_there
-      each_instruction (Input target) is end text calls allowed_there keep = reads target is text calls allowed_there
-      each_instruction (Release e) is end text calls allowed_there keep = releases e is text calls allowed_there keep
-      each_instruction (Test e) is end stays calls allowed_there keep = test_exact at ready.accepted.settled ready.owns other alone no_formals views ready.class.parts_named none_taken frames none_takes elsewhere away Excused e stays (not_true (has_call e) calls) facts_now good allowed_there exact
-      each_instruction (Choose e choices) is end stays calls allowed_there keep =
-          choose_exact at ready.accepted.settled ready.owns other alone no_formals views ready.class.parts_named none_taken frames none_takes elsewhere away Excused e choices stays (not_true (has_call e) calls) facts_now good allowed_there exact
-      each_instruction (Start x reversed low high) is end (scalar, stays, stays') calls allowed_there keep =
-          let both = both_not (has_call low) (has_call high) calls in
-          start_exact at ready.accepted.settled ready.owns other alone no_formals views ready.class.parts_named none_taken frames none_takes elsewhere away Excused x low high scalar stays stays' both.0 both.1 facts_now good allowed_there exact
-      each_instruction (Next x reversed low high) is end scalar calls allowed_there keep = next_exact at ready.accepted.settled ready.owns other alone no_formals views ready.class.parts_named none_taken frames none_takes elsewhere away Excused x reversed scalar facts_now good exact
-      each_instruction (Evaluate temporary e left) is end text calls allowed_there keep = cc
-      each_instruction (LeaveLoop e) is end text calls allowed_there keep = leaves e text calls allowed_there
-      each_instruction (Hold v) is end none calls allowed_there keep = holds_nothing v none
-      each_instruction (EndScope x) is end text calls allowed_there keep = absurd (going x is)
-      each_instruction Finish is end text calls allowed_there keep = absurd (end refl)
-      each_instruction Fall is end text calls allowed_there keep = tt
-
-      fine_there : IsFine s None p.instr
-      fine_there = subst (λ r. IsFine s r p.instr) (innermost.no_result table typed effects input ready state top below more_frames rest named p frames deep stages running of_sub at_point path views viewed_before kept scope holds placed_before above) (standing.fine table typed effects input ready state top older outer named p frames of_sub at_point)
+      each_instruction Skip is end text allowed_there keep = skips
+      each_instruction (Declare x v) is end text allowed_there keep = declares x v is text allowed_there keep
+      each_instruction (Assign target e) is end text allowed_there keep = assigns target e is text allowed_there keep
+      each_instruction (Call n actuals result) is end text allowed_there keep = absurd (no_calls n actuals result is)
+      each_instruction (Output text line) is end writing allowed_there keep = writes text line is writing allowed_there
+      each_instruction (Input target) is end text allowed_there keep = reads target is text allowed_there
+      each_instruction (Release e) is end text allowed_there keep = releases e is text allowed_there keep
+      each_instruction (Test e) is end stays allowed_there keep =
+          value_taken e stays (takes_of (Test e) is) allowed_there (λ ws m. steps.goes at m (if run.is_true ws then 0 else 1)) (λ ws. (exact, tt))
+      each_instruction (Choose e choices) is end stays allowed_there keep = chooses e choices is stays allowed_there
+      each_instruction (Start x reversed low high) is end (scalar, stays, stays') allowed_there keep = starts x reversed low high is scalar stays stays' allowed_there
+      each_instruction (Next x reversed low high) is end scalar allowed_there keep =
+          turns (innermost.none_takes table typed effects input ready state top below more_frames rest named p frames deep stages running awaiting of_sub at_point path views viewed_before kept scope holds placed_before above (Next x reversed low high) is refl) x reversed low high scalar
+      each_instruction (Evaluate temporary e op) is end stays allowed_there keep = operates temporary e op is stays allowed_there
+      each_instruction (LeaveLoop e) is end text allowed_there keep = leaves e is text allowed_there
+      each_instruction (Hold v) is end text allowed_there keep = returns v named.sub.result is refl text allowed_there keep
+      each_instruction (EndScope x) is end text allowed_there keep = absurd (going x is)
+      each_instruction Finish is end text allowed_there keep = absurd (end refl)
+      each_instruction Fall is end text allowed_there keep = tt
 
       allowed_there : (p.instr ≡ Finish → ⊥) → AllowsAll facts_now (acts_by p.instr)
-      allowed_there end = innermost.allowed_now table typed effects input ready state top below more_frames rest named p frames deep stages running of_sub at_point path views viewed_before kept scope holds placed_before above (each.spares table typed effects input ready state top below more_frames rest named p frames deep stages running of_sub at_point path views viewed_before kept scope holds placed_before above going plain_calls end) (standing.allowed table typed effects input ready state top older outer named p frames of_sub at_point path plain_calls)
+      allowed_there end = innermost.allowed_now table typed effects input ready state top below more_frames rest named p frames deep stages running awaiting of_sub at_point path views viewed_before kept scope holds placed_before above (each.spares table typed effects input ready state top below more_frames rest named p frames deep stages running awaiting of_sub at_point path views viewed_before kept scope holds placed_before above going no_calls end) (standing.allowed table typed effects input ready state top older outer named p frames of_sub at_point path no_calls)
 
       -- Where the step goes on, facts are exact after its acts; and of the leak checks of the point none fails that is excused.
       main_exact : (p.instr ≡ Finish → ⊥) → ExactAt (after (acts_by p.instr) facts_now) at.point.leaks (step program input state)
       main_exact end =
-          subst (λ z. ExactAt (after (acts_by p.instr) facts_now) z (step program input state)) (leaks_there p.instr)
+          subst (λ z. ExactAt (after (acts_by p.instr) facts_now) z (step program input state)) (leaks_there no_calls)
           (subst (ExactAt (after (acts_by p.instr) facts_now) (spots_by p.instr)) (sym (standing.step_is table typed effects input ready state top older outer named p frames of_sub at_point))
-          (each_instruction p.instr refl end fine_there plain_calls (allowed_there end) (standing.keeps_there table typed effects input ready state top older outer named p frames of_sub at_point)))
+          (each_instruction p.instr refl end fine_here (allowed_there end) (standing.keeps_there table typed effects input ready state top older outer named p frames of_sub at_point)))
 
       pub checks_hold : (p.instr ≡ Finish → ⊥) → NoneFails Excused at.point.leaks (checks_of (step program input state))
       checks_hold end = its_checks (step program input state) (main_exact end)
@@ -433,41 +671,41 @@ module _ (table : Table) (typed : TypedProgram) (effects : Effects) (input : Lis
 
       -- ---- facts of all frames
 
-      kept_around : (p.instr ≡ Finish → ⊥) → (f : Fact) → Has around f → Has (after (acts_by p.instr) facts_now) f
-      kept_around end f has =
+      kept_around : (p.instr ≡ Finish → ⊥) → (name : PlaceName) → Has around (Moved name) → Has (after (acts_by p.instr) facts_now) (Moved name)
+      kept_around end name has =
           after_around (λ name spared shared a there.
-          spare_keeps s name a.act (spare_has s (placed_by p.instr) (each.spares table typed effects input ready state top below more_frames rest named p frames deep stages running of_sub at_point path views viewed_before kept scope holds placed_before above going plain_calls end) a there) (writes_none name spared shared a there)) f has
+          spare_keeps s name a.act (spare_has s (placed_by p.instr) (each.spares table typed effects input ready state top below more_frames rest named p frames deep stages running awaiting of_sub at_point path views viewed_before kept scope holds placed_before above going no_calls end) a there) (writes_none name spared shared a there)) name has
 
       -- no moved name is rooted in a view that is declared or assigned
       assigned_unmoved : (q : Pos) (x u : ℕ) (e : TypedTree) → p.instr ≡ Assign (Name q x NoMore u) e → (p.instr ≡ Finish → ⊥)
           → is_anonymous (view_of s x) ≡ true → is_observer s x ≡ false
           → (n : PlaceName) → Has (after (acts_by p.instr) facts_now) (Moved n) → n.root ≡ x → ⊥
-      unfolding has_call Leads
-      assigned_unmoved q x u e is end view borrows n has root =
-          by_fine (subst (IsFine s None) is fine_there) (ap calls_nothing (sym is) ∙ plain_calls)
+      unfolding Leads waits_in
+      assigned_unmoved q x u e is end view borrows n has root = by_fine (subst (IsFine s named.sub.result) is fine_here)
         where
-          by_fine : IsFine s None (Assign (Name q x NoMore u) e) → calls_nothing (Assign (Name q x NoMore u) e) ≡ true → ⊥
-          by_fine (v, (leads, type), source) calls =
+          by_fine : IsFine s None (Assign (Name q x NoMore u) e) → ⊥
+          by_fine (v, (leads, type), source) =
               let found = orderly.assigned q x u e is view in
-              let no_call : has_call e ≡ false = not_true (has_call e) calls in
-              from_name found.0 found.1 found.3 found.2 found.4 (found.6 borrows) (subst (λ z. Source s z e) (sym (leads ∙ type)) source) no_call leads
+              from_name found.0 found.1 found.3 found.2 found.4 (found.6 borrows) (subst (λ z. Source s z e) (sym (leads ∙ type)) source) leads
             where
-              from_name : (r : Pos) (y w : ℕ) (path_of : TypedTree) → e ≡ Name r y path_of w → y ≡ x → Source s (object_at s x).of e → has_call e ≡ false
-                  → (object_at s x).of ≡ u → ⊥
-              from_name r y w path_of here_is itself source_there no_call of =
+              from_name : (r : Pos) (y w : ℕ) (path_of : TypedTree) → e ≡ Name r y path_of w → y ≡ x → Source s (object_at s x).of e → (object_at s x).of ≡ u → ⊥
+              from_name r y w path_of here_is itself source_there of =
                   let instr_is : p.instr ≡ Assign (Name q x NoMore (object_at s x).of) (Name r y path_of w) =
                   is ∙ (λ j. Assign (Name q x NoMore (sym of j)) (here_is j)) in
-                  reborrow_unmoved at ready.accepted.settled ready.owns other alone no_formals views ready.class.parts_named none_taken frames none_takes elsewhere away Excused p.pos q r x y w path_of view (ready.orderly.local x view).0 (home_frame x (local x view))
-                  (subst (Source s (object_at s x).of) here_is source_there) (subst (λ z. has_call z ≡ false) here_is no_call) borrows itself facts_now good
+                  let takes : Takes (waits_in path_of) given_words [] =
+                  takes_as (taken (Assign (Name q x NoMore (object_at s x).of) (Name r y path_of w))) (waits_in path_of) given_words [] (nothing_more (waits_in path_of))
+                  (takes_of (Assign (Name q x NoMore (object_at s x).of) (Name r y path_of w)) instr_is) in
+                  reborrow_unmoved easy ready.accepted.settled ready.owns other alone no_formals views ready.class.parts_named none_taken refl refl elsewhere away Excused given_words p.pos q r x y w path_of view (ready.orderly.local x view).0 (home_frame x (local x view))
+                  (subst (Source s (object_at s x).of) here_is source_there) takes borrows itself facts_now good
                   (subst (λ i. AllowsAll facts_now (acts_by i)) instr_is (allowed_there end)) n (subst (λ i. Has (after (acts_by i) facts_now) (Moved n)) instr_is has) root
 
       stored_unmoved : (p.instr ≡ Finish → ⊥) → ((n : PlaceName) → Has (after (acts_by p.instr) own_facts) (Moved n) → is_observer s n.root ≡ false)
           → (x : ℕ) → is_anonymous (view_of s x) ≡ true → IsStoredAt p.instr x → (n : PlaceName) → Has (after (acts_by p.instr) facts_now) (Moved n) → n.root ≡ x → ⊥
       stored_unmoved end clear x view stored n has root =
-          elim (after_splits (acts_by p.instr) facts_now own_facts around (innermost.from_both table typed effects input ready state top below more_frames rest named p frames deep stages running of_sub at_point path views viewed_before kept scope holds placed_before above) (Moved n) has) [
-            | inr there ↦ innermost.not_handed table typed effects input ready state top below more_frames rest named p frames deep stages running of_sub at_point path views viewed_before kept scope holds placed_before above n there (ap (is_package_object s) root ∙ local x view)
+          elim (after_splits (acts_by p.instr) facts_now own_facts around (innermost.from_both table typed effects input ready state top below more_frames rest named p frames deep stages running awaiting of_sub at_point path views viewed_before kept scope holds placed_before above) (Moved n) has) [
+            | inr there ↦ innermost.not_handed table typed effects input ready state top below more_frames rest named p frames deep stages running awaiting of_sub at_point path views viewed_before kept scope holds placed_before above n there (ap (is_package_object s) root ∙ local x view)
             | inl mine ↦ elim stored [
-              | inl (v, e) ↦ packages.new_after table typed effects input ready state top older outer named p frames of_sub at_point path x v e plain_calls n mine root
+              | inl (v, e) ↦ packages.new_after table typed effects input ready state top older outer named p frames of_sub at_point path x v e no_calls n mine root
               | inr (q, u, e, is) ↦ elim (bool_cases (is_observer s x)) [
                 | inl sees ↦ true_false (is_observer s x) sees (ap (is_observer s) (sym root) ∙ clear n mine)
                 | inr borrows ↦ assigned_unmoved q x u e is end view borrows n has root
@@ -481,12 +719,12 @@ module _ (table : Table) (typed : TypedProgram) (effects : Effects) (input : Lis
           → ((n : PlaceName) → Has (facts_before points (top.frame.next ∷ top.before)) (Moved n) → is_observer s n.root ≡ false) → AreTurned p.instr views later
           → Told (seen s next.memory [] []) (IsDefiniteHere table typed effects unmoved_stage local depth later (facts_before points (top.frame.next ∷ top.before)) older)
       told_next end next is later only clear turned =
-          all_told next.memory later only plain_calls (kept_around end)
-          (turned_exact at ready.accepted.settled ready.owns other alone no_formals views ready.class.parts_named none_taken frames none_takes elsewhere away Excused next.memory later (after (acts_by p.instr) facts_now) holds.only
+          all_told next.memory later only no_calls (kept_around end)
+          (turned_exact easy ready.accepted.settled ready.owns other alone no_formals views ready.class.parts_named none_taken refl refl elsewhere away Excused next.memory later (after (acts_by p.instr) facts_now) holds.only
           (λ x w has. elim (turned x w has) [
             | inl old ↦ inl old
             | inr stored ↦ inr (λ n moved root.
-                stored_unmoved end (λ m has_it. clear m (subst (λ z. Has z (Moved m)) (sym (standing.facts_on table typed effects input ready state top older outer named p frames of_sub at_point path plain_calls)) has_it)) x (only x w has) stored n moved root)
+                stored_unmoved end (λ m has_it. clear m (subst (λ z. Has z (Moved m)) (sym (standing.facts_on table typed effects input ready state top older outer named p frames of_sub at_point path no_calls)) has_it)) x (only x w has) stored n moved root)
           ])
           (goes_exact (step program input state) is (main_exact end)))
         where
@@ -500,17 +738,20 @@ module _ (table : Table) (typed : TypedProgram) (effects : Effects) (input : Lis
     -- ---- the end of a scope
 
     module _ (y : ℕ) (is : p.instr ≡ EndScope y) where
+      no_call_there : IsNoCall p.instr
+      no_call_there n actuals result same = (let never : EndScope y ≡ Call n actuals result = sym is ∙ same in cc)
+
       not_shared : is_package_object s y ≡ false
-      not_shared = ready.scoped.ends named (innermost.named_there table typed effects input ready state top below more_frames rest named p frames deep stages running of_sub at_point path views viewed_before kept scope holds placed_before above) p (innermost.point_there_now table typed effects input ready state top below more_frames rest named p frames deep stages running of_sub at_point path views viewed_before kept scope holds placed_before above) y is
+      not_shared = ready.scoped.ends named (innermost.named_there table typed effects input ready state top below more_frames rest named p frames deep stages running awaiting of_sub at_point path views viewed_before kept scope holds placed_before above) p (innermost.point_there_now table typed effects input ready state top below more_frames rest named p frames deep stages running awaiting of_sub at_point path views viewed_before kept scope holds placed_before above) y is
 
       scope_checks : NoneFails Excused (spots_by (EndScope y)) (checks_of (turn at (EndScope y)))
       scope_checks =
-          end_scope_checked at ready.accepted.settled ready.owns other alone no_formals views ready.class.parts_named none_taken frames none_takes elsewhere away Excused y facts_now viewed exact p.pos 0
+          end_scope_checked easy ready.accepted.settled ready.owns other alone no_formals views ready.class.parts_named none_taken refl refl elsewhere away Excused y facts_now viewed_easy.0 exact p.pos 0
           (knows (EndScope y) is [] (placed_by (EndScope y)) refl p.pos (object y) (parts s.table (object_at s y).of))
 
       pub ended_checks_hold : NoneFails Excused at.point.leaks (checks_of (step program input state))
       ended_checks_hold =
-          subst (λ z. NoneFails Excused z (checks_of (step program input state))) (leaks_there p.instr)
+          subst (λ z. NoneFails Excused z (checks_of (step program input state))) (leaks_there no_call_there)
           (subst (λ o. NoneFails Excused (spots_by p.instr) (checks_of o)) (sym (standing.step_is table typed effects input ready state top older outer named p frames of_sub at_point))
           (subst (λ i. NoneFails Excused (spots_by i) (checks_of (turn at i))) (sym is) scope_checks))
 
@@ -518,9 +759,9 @@ module _ (table : Table) (typed : TypedProgram) (effects : Effects) (input : Lis
       IsLeft (Goes next) = next.memory ≡ undeclared depth y state.memory
       IsLeft (Ends how next) = Unit {0}
 
-      ended_around : (f : Fact) → Has around f → Has (after (acts_by p.instr) facts_now) f
-      ended_around f has =
-          after_around (λ name spared shared a there. by_act name shared a (subst (λ i. Has (placed_by i) a) is there)) f has
+      ended_around : (name : PlaceName) → Has around (Moved name) → Has (after (acts_by p.instr) facts_now) (Moved name)
+      ended_around name has =
+          after_around (λ name spared shared a there. by_act name shared a (subst (λ i. Has (placed_by i) a) is there)) name has
         where
           by_root : (name : PlaceName) → is_package_object s name.root ≡ true → removes (act.EndScope y (is_borrower s y)) (Moved name) ≡ false
           by_root name shared = elim (bool_cases (removes (act.EndScope y (is_borrower s y)) (Moved name))) [
@@ -536,10 +777,10 @@ module _ (table : Table) (typed : TypedProgram) (effects : Effects) (input : Lis
           → ((x : ℕ) (w : Way) → later.way x ≡ Some w → is_anonymous (view_of s x) ≡ true) → AreLeft y views later
           → Told (seen s next.memory [] []) (IsDefiniteHere table typed effects unmoved_stage local depth later (facts_before points (top.frame.next ∷ top.before)) older)
       told_left next goes later only left =
-          all_told next.memory later only (ap calls_nothing is) ended_around
+          all_told next.memory later only no_call_there ended_around
           (subst (λ z. IsExact s (home s depth) later elsewhere z (after (acts_by p.instr) facts_now)) (sym memory_is)
           (subst (λ i. IsExact s (home s depth) later elsewhere (undeclared depth y state.memory) (after (acts_by i) facts_now)) (sym is)
-          (end_scope_exact at ready.accepted.settled ready.owns other alone no_formals views ready.class.parts_named none_taken frames none_takes elsewhere away Excused later y (is_borrower s y) (home_frame y not_shared) facts_now viewed holds.only left exact)))
+          (end_scope_exact easy ready.accepted.settled ready.owns other alone no_formals views ready.class.parts_named none_taken refl refl elsewhere away Excused later y (is_borrower s y) (home_frame y not_shared) facts_now viewed_easy.0 (innermost.not_lent table typed effects input ready state top below more_frames rest named p frames deep stages running awaiting of_sub at_point path views viewed_before kept scope holds placed_before above y not_shared) holds.only left exact)))
         where
           left_there : IsLeft (step program input state)
           left_there = subst IsLeft (sym (standing.step_is table typed effects input ready state top older outer named p frames of_sub at_point)) (subst (λ i. IsLeft (turn at i)) (sym is) refl)

@@ -15,7 +15,12 @@ use Rattle.owned_ways.proofs.Unique.{one_way}
 use Rattle.owned_ways.proofs.Named.{longer}
 use Rattle.owned_ways.proofs.Moving.{Given}
 use Rattle.owned_ways.proofs.Told.{told_after}
-use Rattle.owned_loans.specs.Views.{Go, Part, Down, on, Views, Around, expand, expand_root, Viewed, Becomes, Unused}
+use Rattle.owned_loans.specs.Views.{Go, Part, Down, on, Views, Around, IsThrough, expand, expand_root, Viewed, Becomes, Unused}
+use Rattle.owned_loans.proofs.Others.{below_through}
+use Rattle.place_names.specs.declared.rule.Loan.{Loan}
+use Rattle.flow_paths.specs.Objects.{Typing}
+use Rattle.soundness.specs.Seen.{IsNear, home as frame_home}
+use Rattle.soundness.proofs.Near.{near_under, named_near}
 use Rattle.owned_loans.proofs.Ways.{flip, under_on, meet_overlaps, root_on, on_named, Lifted, lifts, lifted_root, lifted_way}
 use Rattle.owned_loans.proofs.Meeting.{IsPlain, meeting}
 use Rattle.owned_loans.proofs.Safe.{Unborrowed, loan_of, clean_below}
@@ -60,9 +65,18 @@ expand_other v t b o loan up n c (All (All w)) off = ap All (expand_other v t b 
 
 -- ---- one frame
 
--- What is moved elsewhere begins with no name of the frame.
+-- A way of others begins with no name of the frame, or goes on from a place that they have borrowed.
+abbrev pub IsOthers : (home : ℕ → ℕ) → Around home → Way → Type 0
+IsOthers home other w = ((k : Way) → Under k w → Named home k → ⊥) ⊎ IsThrough home other.lent Borrowed w
+
+pub of_others : (s : Typing) (depth : ℕ) (other : Around (frame_home s depth)) (w : Way) → (IsNear depth w → ⊥) ⊎ IsThrough (frame_home s depth) other.lent Borrowed w
+    → IsOthers (frame_home s depth) other w
+of_others s depth other w (inl far) = inl (λ k under named. far (near_under depth k w under (named_near s depth k named)))
+of_others s depth other w (inr through) = inr through
+
+-- What is moved elsewhere is so.
 module _ (home : ℕ → ℕ) (observer : ℕ → Bool) (other : Around home) (v : Views) (elsewhere : Way → Type 0)
-    (apart : (k w : Way) → Under k w → Named home k → elsewhere w → ⊥) where
+    (apart : (w : Way) → elsewhere w → IsOthers home other w) where
   abbrev Definite : List Fact → Way → Type 0
   Definite facts w = IsDefinite home v elsewhere facts w
 
@@ -94,6 +108,14 @@ module _ (home : ℕ → ℕ) (observer : ℕ → Bool) (other : Around home) (v
 
   rooted : (s : View) (facts : List Fact) (viewed : Viewed home observer other v s facts) (w : Way) → Definite facts w → IsRooted w
   rooted s facts viewed w is = variable_rooted w (definite_variable s facts viewed w is)
+
+  -- a name that no loan overlaps begins none that is moved elsewhere
+  off_elsewhere : (s : View) (facts : List Fact) (viewed : Viewed home observer other v s facts) (k : Way) → IsName s facts viewed k → Unborrowed facts k
+      → (w : Way) → Under (expand v k) w → elsewhere w → ⊥
+  off_elsewhere s facts viewed k name free w under e = elim (apart w e) [
+    | inl far ↦ far (expand v k) under (stands s facts viewed k name)
+    | inr (j, named, begins_it, lent) ↦ below_through home observer other v s facts viewed j named lent k w name free begins_it under
+  ]
 
   -- a hand begins none
   hand_apart : (s : View) (facts : List Fact) (viewed : Viewed home observer other v s facts) (h : ℕ) (w : Way) → Under (Object (OfHand h)) w → Definite facts w → ⊥
@@ -140,7 +162,7 @@ module _ (home : ℕ → ℕ) (observer : ℕ → Bool) (other : Around home) (v
     where
       only : (w : Way) → Definite (effect (Write (name_of k)) facts) w
           → (Definite facts w × (Under (expand v k) w → ⊥)) ⊎ ((p : List Step) × (w ≡ along (Object (OfHand h)) p) × (t.word (part (OfRoot (OfHand h)) p) ≡ Gone))
-      only w (inr e) = inl (inr e, λ under. apart (expand v k) w under (stands s facts viewed k (named, plain)) e.1)
+      only w (inr e) = inl (inr e, λ under. off_elsewhere s facts viewed k (named, plain) (λ n m. write_unlent facts k allowed Borrowed n m) w under e.1)
       only w (inl d) = elim (fact_before (Write (name_of k)) facts (Moved (name_of d.0)) d.1.1) [
         | inl old ↦ inl (
           inl (d.0, (d.1.0, old.0), d.2, d.3),
@@ -174,7 +196,7 @@ module _ (home : ℕ → ℕ) (observer : ℕ → Bool) (other : Around home) (v
       clean w under (inl d) =
           clean_below home observer v s facts viewed.views viewed.clear k w (named, plain) (λ n m. move_unlent facts k parts allowed Borrowed n m)
           (move_unmoved facts k parts allowed) under (d.0, d.1, d.3)
-      clean w under (inr e) = apart (expand v k) w under (stands s facts viewed k (named, plain)) e.1
+      clean w under (inr e) = off_elsewhere s facts viewed k (named, plain) (λ n m. move_unlent facts k parts allowed Borrowed n m) w under e.1
 
       only : (w : Way) → Definite (effect (Move (name_of k) parts) facts) w
           → (Definite facts w × (Under (Object (OfHand h)) w → ⊥)) ⊎ ((p : List Step) × (w ≡ along (expand v k) p) × (t.word (part from p) ≡ Gone))
@@ -211,7 +233,7 @@ module _ (home : ℕ → ℕ) (observer : ℕ → Bool) (other : Around home) (v
           ∙ gone
 
       by : Told t (Definite (effect (Free (name_of k)) facts))
-      by w l (inr e) reach = stays w l (inr e) (λ under. apart (expand v k) w under (stands s facts viewed k (named, plain)) e.1) reach
+      by w l (inr e) reach = stays w l (inr e) (λ under. off_elsewhere s facts viewed k (named, plain) (λ n m. free_unlent facts k allowed Borrowed n m) w under e.1) reach
       by w l (inl d) reach = elim (fact_before (Free (name_of k)) facts (Moved (name_of d.0)) d.1.1) [
         | inr none ↦ absurd none
         | inl old ↦ stays w l (inl (d.0, (d.1.0, old.0), d.2, d.3))
@@ -228,7 +250,7 @@ module _ (home : ℕ → ℕ) (observer : ℕ → Bool) (other : Around home) (v
   told_fewer s facts facts' less told w l (inl d) reach = told w l (inl (d.0, (d.1.0, less (name_of d.0) d.1.1), d.2, d.3)) reach
 
   -- a view gets another way, or none, where no moved name is rooted in it
-  pub told_rebound : (s : View) (t : Views) (b : ℕ) (o : Option Way) (loan up : Way) (n : ℕ) → Becomes v t b o loan up n → (facts facts' : List Fact) → Unused v facts b
+  pub told_rebound : (s : View) (t : Views) (b : ℕ) (o : Option Way) (loan up : Way) (n : ℕ) → Becomes v t b o loan up n → (facts facts' : List Fact) → Unused other.lent v facts b
       → ((m : Name) → Has facts' (Moved m) → Has facts (Moved m)) → Told s (IsDefinite home v elsewhere facts) → Told s (IsDefinite home t elsewhere facts')
   told_rebound s t b o loan up n becomes facts facts' unused less told w l (inr e) reach = told w l (inr e) reach
   told_rebound s t b o loan up n becomes facts facts' unused less told w l (inl d) reach =
@@ -287,11 +309,12 @@ module _ (home : ℕ → ℕ) (observer : ℕ → Bool) (other : Around home) (v
 
   -- none of them begins there
   pub told_ended : (s t : View) (left : Views) (x : ℕ) (borrower : Bool) (facts : List Fact) → Viewed home observer other v s facts
+      → ((l : Loan) (n : Name) → other.lent l n → n.root ≡ x → ⊥)
       → IsDrop s t (OfVariable (home x) x)
       → ((y : ℕ) (w : Way) → left.way y ≡ Some w → (v.way y ≡ Some w) × (number_of w ≡ x → ⊥))
       → ((y : ℕ) (w : Way) (n : ℕ) → v.way y ≡ Some w → s.word (OfRoot (OfVariable (home y) y)) ≡ Held n → ⊥)
       → Told s (Definite facts) → Told t (IsDefinite home left elsewhere (effect (EndScope x borrower) facts))
-  told_ended s t left x borrower facts viewed step was empty told = by
+  told_ended s t left x borrower facts viewed unlent step was empty told = by
     where
       told_left : Told s (IsDefinite home left elsewhere facts)
       told_left = told_turned s left facts (λ y w has. inl (was y w has).0) empty told
@@ -316,7 +339,12 @@ module _ (home : ℕ → ℕ) (observer : ℕ → Bool) (other : Around home) (v
       ]
 
       by : Told t (IsDefinite home left elsewhere (effect (EndScope x borrower) facts))
-      by w l (inr e) reach = stays w l (inr e) (λ under. apart (place x) w under refl e.1) reach
+      by w l (inr e) reach =
+          stays w l (inr e)
+          (λ under. elim (apart w e.1) [
+            | inl far ↦ far (place x) under refl
+            | inr (k, named, begins_it, lent) ↦ unlent Borrowed (name_of k) lent (sym (longer k w begins_it).root ∙ (longer (place x) w under).root)
+          ]) reach
       by w l (inl d) reach = elim (fact_before (EndScope x borrower) facts (Moved (name_of d.0)) d.1.1) [
         | inr none ↦ absurd none
         | inl old ↦ stays w l (inl (d.0, (d.1.0, old.0), d.2, d.3))

@@ -1,5 +1,6 @@
 -- Facts without an element stay exact in an assignment to what isn't a view, and its excused leak checks don't fail.
-use Rattle.std.proofs.Common.{◌≡◌, refl, sym, ap, ◌∙◌, subst, inl, ℕ, suc, false, List, [], ◌∷◌, ◌++◌, map, length, arith, append_assoc}
+use Rattle.std.proofs.Common.{◌≡◌, refl, sym, ap, ◌∙◌, subst, inl, ℕ, suc, false, List, [], ◌∷◌, ◌++◌, map, length, arith, append_assoc, ◌⊎◌}
+use Rattle.place_names.specs.declared.rule.Loan.TheVariants.{Borrowed}
 use Rattle.spark_base.specs.Lists.{Has}
 use Rattle.spark_base.specs.declared.position.Pos.{Pos}
 use Rattle.place_names.specs.declared.act.Act.{Act}
@@ -11,7 +12,7 @@ use Rattle.type_definitions.specs.Types.{shape_of, words, parts}
 use Rattle.typed_tree.specs.Trees.{TypedTree, Name}
 use Rattle.flow_paths.specs.declared.point.LeakSpot.{LeakSpot}
 use Rattle.flow_paths.specs.Objects.{object_at, is_observer}
-use Rattle.flow_paths.specs.Names.{has_call, name_of}
+use Rattle.flow_paths.specs.Names.{has_call, waiting, name_of}
 use Rattle.flow_paths.specs.Acts.{acts_in, stored_acts, spot}
 use Rattle.machine.specs.Words as machine
 use Rattle.machine.specs.Memory.{Memory, Place, stored}
@@ -29,35 +30,35 @@ use Rattle.soundness.specs.Typed.{OwnsByShape}
 use Rattle.typed_laws.specs.Needed.{Leads, Gives, IndexLaw}
 use Rattle.soundness.proofs.Walks.{way_along, Walked}
 use Rattle.soundness.proofs.Scalars.{after_append, allows_both, acts, acts_append, number_along, named_along}
+use Rattle.soundness.proofs.Taking.{Takes, TakesPlainly}
 use Rattle.soundness.proofs.Stays.{Quiet}
 use Rattle.soundness.proofs.Evaluated.{regrouped, Keeps}
-use Rattle.owned_loans.specs.Views.{Around, Views, expand}
+use Rattle.owned_loans.specs.Views.{Around, Views, expand, IsThrough}
 use Rattle.owned_loans.proofs.Allowed.{write_open}
 use Rattle.owned_loans.proofs.Moves.{named_way}
 use Rattle.viewed_soundness.specs.Holds.{IsNamed, PartsAreNamed, AllKeep}
-use Rattle.viewed_soundness.proofs.Stays.{Goes, steps_quiet, name_quiet}
-use Rattle.viewed_soundness.proofs.Evaluated.{keep_both, Ready, Given, live_trunk, checked_given, evaluated}
+use Rattle.viewed_soundness.proofs.Stays.{Goes, steps_taking, name_on}
+use Rattle.viewed_soundness.proofs.Evaluated.{keep_both, Ready, GivenOn, live_trunk, checked_on, evaluated_on}
 use Rattle.exact_facts.specs.Exact.{NoneFails, Knows}
-use Rattle.exact_facts.proofs.Memories.{clear_names}
 use Rattle.viewed_facts.specs.Exact.{IsExact}
-use Rattle.viewed_facts.proofs.Steps.{definite_variable}
+use Rattle.viewed_facts.proofs.Steps.{definite_variable, IsOthers, of_others}
 use Rattle.viewed_facts.proofs.Memories.{stored_exact}
-use Rattle.viewed_facts.proofs.Evaluated.{ExactTo, checked_exact, exact_after}
+use Rattle.viewed_facts.proofs.Evaluated.{ExactTo, checked_exact, exact_on}
 use Rattle.viewed_facts.proofs.Checks.{place_holds}
 
 module _ (h : Here) (settled : IsSettled h.typing.table) (leaks : List Leak) (waits : List (List machine.Word)) (other : Around (home h.typing h.frame))
     (alone : (w : Way) → IsNear h.frame w → other.gone w → ⊥) (keeps : Keeps h.typing)
     (no_formals : (x : ℕ) → is_view_formal h.typing x ≡ false) (index_law : IndexLaw) (own_law : OwnsByShape h.typing.table)
     (v : Views) (parts_named : PartsAreNamed h.typing.table)
-    (elsewhere : Way → Type 0) (away : (w : Way) → IsNear h.frame w → elsewhere w → ⊥) (Excused : LeakSpot → Type 0) where
+    (elsewhere : Way → Type 0) (away : (w : Way) → elsewhere w → (IsNear h.frame w → ⊥) ⊎ IsThrough (home h.typing h.frame) other.lent Borrowed w) (Excused : LeakSpot → Type 0) where
   abbrev ReadyIn : Memory → List Waiting → List Fact → Type 0
   ReadyIn m hands facts = Ready h settled leaks waits other alone keeps no_formals index_law own_law v parts_named m hands facts
 
   abbrev Exact : Memory → List Fact → Type 0
   Exact m facts = IsExact h.typing (home h.typing h.frame) v elsewhere m facts
 
-  apart : (k w : Way) → Under k w → Named (home h.typing h.frame) k → elsewhere w → ⊥
-  apart = clear_names h.typing h.frame elsewhere away
+  apart : (w : Way) → elsewhere w → IsOthers (home h.typing h.frame) other w
+  apart w e = of_others h.typing h.frame other w (away w e)
 
   -- What it comes to: facts are exact once the value is stored, and no check of the place fails that
   -- is excused by the facts before.
@@ -70,15 +71,15 @@ module _ (h : Here) (settled : IsSettled h.typing.table) (leaks : List Leak) (wa
   StoresExact name t before behind (Traps e n) = Unit {0}
 
   -- the place is found, with the value in hand
-  found_exact : (p : Pos) (m : Memory) (hands : List Waiting) (facts : List Fact) (x t : ℕ) (steps : TypedTree) (ws : List machine.Word)
+  found_exact : (on : List (List machine.Word)) (p : Pos) (m : Memory) (hands : List Waiting) (facts : List Fact) (x t : ℕ) (steps : TypedTree) (ws : List machine.Word)
       → ReadyIn m (record { of = t; words = ws } ∷ hands) facts
       → Exact m facts → length ws ≡ words h.typing.table t → is_observer h.typing x ≡ false
       → (way : List run.Step) → Goes h.typing.table (object_at h.typing x).of t steps way → Allows facts (act.Write (name_of x steps))
-      → (y : Evaluated Place) → Walked h.typing settled (record { of = t; words = ws } ∷ hands) leaks m waits (expand v (way_along way (Object (OfVariable (home h.typing h.frame x) x)))) t y
+      → (y : Evaluated Place) → Walked h.typing settled (record { of = t; words = ws } ∷ hands) leaks m on (expand v (way_along way (Object (OfVariable (home h.typing h.frame x) x)))) t y
       → StoresExact (name_of x steps) t facts (effect (act.Write (name_of x steps)) facts) (followed_by y (λ k now. Done (record { words = ws; place = k }) now))
-  found_exact p m hands facts x t steps ws ready exact long sees way goes allowed (Done k n) (l, same, place, reaches, of) =
+  found_exact on p m hands facts x t steps ws ready exact long sees way goes allowed (Done k n) (l, same, place, reaches, of) =
       subst (λ (z : Now). StoresExact (name_of x steps) t facts (effect (act.Write (name_of x steps)) facts) (Done (record { words = ws; place = k }) z)) (sym same)
-      (subst (λ z. StoresExact z t facts (effect (act.Write z) facts) (Done (record { words = ws; place = k }) (record { memory = m; waits = waits }))) called (
+      (subst (λ z. StoresExact z t facts (effect (act.Write z) facts) (Done (record { words = ws; place = k }) (record { memory = m; waits = on }))) called (
         stored_exact h.typing settled (home h.typing h.frame) (is_observer h.typing) other v elsewhere apart m (record { of = t; words = ws }) hands leaks facts k l w p
             ready.viewed ready.kept place named plain reaches
             (live_trunk h settled leaks waits other alone keeps no_formals index_law own_law v parts_named m (record { of = t; words = ws } ∷ hands) ready.viewed.owned (expand v w) l
@@ -108,8 +109,8 @@ module _ (h : Here) (settled : IsSettled h.typing.table) (leaks : List Leak) (wa
         root = number_along way (Object (OfVariable (home h.typing h.frame x) x)) j;
         sels = goes.sels (Object (OfVariable (home h.typing h.frame x) x)) j;
       })
-  found_exact p m hands facts x t steps ws ready exact long sees way goes allowed (Raises e n) is = tt
-  found_exact p m hands facts x t steps ws ready exact long sees way goes allowed (Traps e n) none = tt
+  found_exact on p m hands facts x t steps ws ready exact long sees way goes allowed (Raises e n) is = tt
+  found_exact on p m hands facts x t steps ws ready exact long sees way goes allowed (Traps e n) none = tt
 
   then_found : {A : Type 0} (now : Now) (P : A → Type 0) (name : PlaceName) (t : ℕ) (facts facts' : List Fact) (y : Evaluated A) (f : A → Now → Evaluated Stored)
       → Quiet now P y → ((a : A) → P a → StoresExact name t facts facts' (f a now)) → StoresExact name t facts facts' (followed_by y f)
@@ -118,20 +119,21 @@ module _ (h : Here) (settled : IsSettled h.typing.table) (leaks : List Leak) (wa
   then_found now P name t facts facts' (Traps e n) f none next = tt
 
   -- the value is there
-  then_placed : (p : Pos) (x t : ℕ) (steps : TypedTree) (hands : List Waiting) (facts : List Fact) → is_observer h.typing x ≡ false
+  then_placed : (mid on : List (List machine.Word)) (p : Pos) (x t : ℕ) (steps : TypedTree) (hands : List Waiting) (facts : List Fact) → is_observer h.typing x ≡ false
       → Leads h.typing (object_at h.typing x).of steps t
-      → has_call steps ≡ false → AllowsAll facts (acts (acts_in h.typing steps) ++ act.Write (name_of x steps) ∷ []) → (y : Evaluated (List machine.Word))
-      → Given h settled leaks waits other alone keeps no_formals index_law own_law v parts_named t hands facts y
+      → Takes (waiting steps) mid on → AllowsAll facts (acts (acts_in h.typing steps) ++ act.Write (name_of x steps) ∷ []) → (y : Evaluated (List machine.Word))
+      → GivenOn h settled leaks waits other alone keeps no_formals index_law own_law v parts_named mid t hands facts y
       → ExactTo h settled leaks waits other alone keeps no_formals index_law own_law v parts_named elsewhere away facts y
       → StoresExact (name_of x steps) t (after (acts (acts_in h.typing steps)) facts) (effect (act.Write (name_of x steps)) (after (acts (acts_in h.typing steps)) facts))
       (followed_by y (λ ws now. followed_by (place_of h (Name p x steps t) now) (λ k now. Done (record { words = ws; place = k }) now)))
-  then_placed p x t steps hands facts sees lead calls allowed (Done ws n) (ready, long, same) exact =
-      let now : Now = record { memory = n.memory; waits = waits } in
+  then_placed mid on p x t steps hands facts sees lead takes allowed (Done ws n) (ready, long, same) exact =
+      let now : Now = record { memory = n.memory; waits = mid } in
+      let later : Now = record { memory = n.memory; waits = on } in
       let got : Waiting = record { of = t; words = ws } in
       let each = allows_both facts (acts (acts_in h.typing steps)) (act.Write (name_of x steps) ∷ []) allowed in
       let live = live_trunk h settled leaks waits other alone keeps no_formals index_law own_law v parts_named n.memory (got ∷ hands) ready.viewed.owned in
-      let inner = steps_quiet h settled (got ∷ hands) leaks n.memory waits other facts v ready.kept ready.viewed ready.holds alone live index_law own_law parts_named
-      (object_at h.typing x).of t steps lead calls each.0 in
+      let inner = steps_taking h settled (got ∷ hands) leaks n.memory waits other facts v ready.kept ready.viewed ready.holds alone live index_law own_law parts_named
+      (object_at h.typing x).of t steps lead mid on takes each.0 in
       let writes : Allows facts (act.Write (name_of x steps)) = subst (λ z. Allows z (act.Write (name_of x steps))) inner.1 each.1.0 in
       subst (λ z. StoresExact (name_of x steps) t (after (acts (acts_in h.typing steps)) facts) (effect (act.Write (name_of x steps)) (after (acts (acts_in h.typing steps)) facts))
       (followed_by (place_of h (Name p x steps t) (record { memory = n.memory; waits = z })) (λ k now. Done (record { words = ws; place = k }) now))) (sym same)
@@ -139,27 +141,28 @@ module _ (h : Here) (settled : IsSettled h.typing.table) (leaks : List Leak) (wa
       (followed_by (place_of h (Name p x steps t) now) (λ k now. Done (record { words = ws; place = k }) now))) (sym inner.1)
       (subst (λ z. StoresExact (name_of x steps) t facts (effect (act.Write (name_of x steps)) facts) z)
       (sym (regrouped (steps_of h steps now) (λ way now. walked h.typing way (variable_place h x) now) (λ k now. Done (record { words = ws; place = k }) now)))
-      (then_found now (λ way. Goes h.typing.table (object_at h.typing x).of t steps way) (name_of x steps) t facts (effect (act.Write (name_of x steps)) facts) (steps_of h steps now)
+      (then_found later (λ way. Goes h.typing.table (object_at h.typing x).of t steps way) (name_of x steps) t facts (effect (act.Write (name_of x steps)) facts) (steps_of h steps now)
       (λ way now. followed_by (walked h.typing way (variable_place h x) now) (λ k now. Done (record { words = ws; place = k }) now)) inner.0
-      (λ way goes. found_exact p n.memory hands facts x t steps ws ready exact long sees way goes writes (walked h.typing way (variable_place h x) now)
-      (name_quiet h settled (got ∷ hands) leaks n.memory waits other facts v ready.kept ready.viewed ready.holds alone live index_law own_law parts_named x steps t way goes
+      (λ way goes. found_exact on p n.memory hands facts x t steps ws ready exact long sees way goes writes (walked h.typing way (variable_place h x) later)
+      (name_on h settled (got ∷ hands) leaks n.memory waits other facts v ready.kept ready.viewed ready.holds alone live index_law own_law parts_named on x steps t way goes
       (λ w named same. write_open facts w (subst (λ z. Allows facts (act.Write z)) (sym same) writes)))))))
-  then_placed p x t steps hands facts sees lead calls allowed (Raises e n) given exact = tt
-  then_placed p x t steps hands facts sees lead calls allowed (Traps e n) none exact = tt
+  then_placed mid on p x t steps hands facts sees lead takes allowed (Raises e n) given exact = tt
+  then_placed mid on p x t steps hands facts sees lead takes allowed (Traps e n) none exact = tt
 
   -- k := e, for a target that isn't a borrower or observer
-  pub assigned_exact : (p : Pos) (x t : ℕ) (steps e : TypedTree) → IsNamed h.typing.table t → Gives h.typing t e → Leads h.typing (object_at h.typing x).of steps t
-      → has_call e ≡ false → has_call steps ≡ false → (m : Memory) (hands : List Waiting) (facts : List Fact)
+  pub assigned_exact : (before mid on : List (List machine.Word)) (p : Pos) (x t : ℕ) (steps e : TypedTree) → IsNamed h.typing.table t → Gives h.typing t e
+      → Leads h.typing (object_at h.typing x).of steps t
+      → TakesPlainly h.typing (has_call e) → Takes (waiting e) before mid → Takes (waiting steps) mid on → (m : Memory) (hands : List Waiting) (facts : List Fact)
       → ReadyIn m hands facts
       → AllowsAll facts (acts (stored_acts h.typing (Name p x steps t) e)) → AllKeep (is_observer h.typing) (acts (stored_acts h.typing (Name p x steps t) e))
       → Exact m facts
       → StoresExact (name_of x steps) t (after (acts (acts_in h.typing e ++ acts_in h.typing steps)) facts) (after (acts (stored_acts h.typing (Name p x steps t) e)) facts)
-      (followed_by (followed_by (evaluate h AsValue e (record { memory = m; waits = waits })) (checked h t))
+      (followed_by (followed_by (evaluate h AsValue e (record { memory = m; waits = before })) (checked h t))
       (λ ws now. followed_by (place_of h (Name p x steps t) now) (λ k now. Done (record { words = ws; place = k }) now)))
-  assigned_exact p x t steps e own gives lead calls calls' m hands facts ready allowed keep exact =
+  assigned_exact before mid on p x t steps e own gives lead calls takes takes' m hands facts ready allowed keep exact =
       let a : List Act = acts (acts_in h.typing e) in
       let b : List Act = acts (acts_in h.typing steps) in
-      let now : Now = record { memory = m; waits = waits } in
+      let now : Now = record { memory = m; waits = before } in
       let front : acts (acts_in h.typing e ++ acts_in h.typing steps) ≡ a ++ b = acts_append (acts_in h.typing e) (acts_in h.typing steps) in
       let whole : acts (stored_acts h.typing (Name p x steps t) e) ≡ a ++ (b ++ act.Write (name_of x steps) ∷ []) =
       acts_append (acts_in h.typing e ++ acts_in h.typing steps) (record { pos = p; act = act.Write (name_of x steps) } ∷ [])
@@ -168,16 +171,16 @@ module _ (h : Here) (settled : IsSettled h.typing.table) (leaks : List Leak) (wa
       let each = allows_both facts a (b ++ act.Write (name_of x steps) ∷ []) (subst (AllowsAll facts) whole allowed) in
       let names = keep_both (is_observer h.typing) a (b ++ act.Write (name_of x steps) ∷ []) (subst (AllKeep (is_observer h.typing)) whole keep) in
       let last = keep_both (is_observer h.typing) b (act.Write (name_of x steps) ∷ []) names.1 in
-      let given = checked_given h settled leaks waits other alone keeps no_formals index_law own_law v parts_named t t hands (after a facts)
+      let given = checked_on h settled leaks waits other alone keeps no_formals index_law own_law v parts_named mid t t hands (after a facts)
       (evaluate h AsValue e now)
-      (evaluated h settled leaks waits other alone keeps no_formals index_law own_law v parts_named e t gives calls m hands facts ready each.0 own names.0) in
+      (evaluated_on h settled leaks waits other alone keeps no_formals index_law own_law v parts_named e t gives calls before mid takes m hands facts ready each.0 own names.0) in
       let told = checked_exact h settled leaks waits other alone keeps no_formals index_law own_law v parts_named elsewhere away t (after a facts) (evaluate h AsValue e now)
-      (exact_after h settled leaks waits other alone keeps no_formals index_law own_law v parts_named elsewhere away e t gives calls m hands facts ready each.0 own names.0 exact) in
+      (exact_on h settled leaks waits other alone keeps no_formals index_law own_law v parts_named elsewhere away e t gives calls before mid takes m hands facts ready each.0 own names.0 exact) in
       let acted : after (acts (acts_in h.typing e ++ acts_in h.typing steps)) facts ≡ after b (after a facts) = ap (λ z. after z facts) front ∙ after_append a b facts in
       let behind : after (acts (stored_acts h.typing (Name p x steps t) e)) facts ≡ effect (act.Write (name_of x steps)) (after b (after a facts)) =
       ap (λ z. after z facts) whole ∙ after_append a (b ++ act.Write (name_of x steps) ∷ []) facts
       ∙ after_append b (act.Write (name_of x steps) ∷ []) (after a facts) in
-      let result = then_placed p x t steps hands (after a facts) last.1.0 lead calls' each.1 (followed_by (evaluate h AsValue e now) (checked h t)) given told in
+      let result = then_placed mid on p x t steps hands (after a facts) last.1.0 lead takes' each.1 (followed_by (evaluate h AsValue e now) (checked h t)) given told in
       subst (λ z. StoresExact (name_of x steps) t z (after (acts (stored_acts h.typing (Name p x steps t) e)) facts)
       (followed_by (followed_by (evaluate h AsValue e now) (checked h t))
       (λ ws now. followed_by (place_of h (Name p x steps t) now) (λ k now. Done (record { words = ws; place = k }) now)))) (sym acted)

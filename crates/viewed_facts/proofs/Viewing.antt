@@ -1,6 +1,7 @@
 -- Facts without an element stay exact where a borrower or observer is declared or assigned. What is exact is said with the
 -- ways that views had before.
-use Rattle.std.proofs.Common.{◌≡◌, refl, sym, ap, ◌∙◌, subst, inl, inr, ℕ, Bool, true, false, List, [], ◌∷◌, ◌++◌, length, Some, if◌then◌else◌}
+use Rattle.std.proofs.Common.{◌≡◌, refl, sym, ap, ◌∙◌, subst, inl, inr, ℕ, Bool, true, false, List, [], ◌∷◌, ◌++◌, length, Some, if◌then◌else◌, ◌⊎◌}
+use Rattle.place_names.specs.declared.rule.Loan.TheVariants.{Borrowed}
 use Rattle.spark_base.specs.Lists.{Has}
 use Rattle.spark_base.specs.declared.position.Pos.{Pos}
 use Rattle.place_names.specs.declared.act.Act.{Act}
@@ -13,16 +14,16 @@ use Rattle.type_definitions.specs.Types.{shape_of, parts, parts_of, view_of as v
 use Rattle.typed_tree.specs.Trees.{TypedTree, Name, NoMore, More}
 use Rattle.flow_paths.specs.declared.point.LeakSpot.{LeakSpot}
 use Rattle.flow_paths.specs.Objects.{Typing, object_at, is_anonymous, is_borrowing, is_observing, is_observer, is_variable, view_of}
-use Rattle.flow_paths.specs.Names.{has_call, name_of, written, source}
+use Rattle.flow_paths.specs.Names.{name_of, written, source, waiting as waits_in}
 use Rattle.flow_paths.specs.Scopes.{taken}
 use Rattle.flow_paths.specs.Acts.{acts_in, index_acts, source_acts, declared_acts, observe, reborrow, assigned_to, stored_acts, target_pos as acts_target_pos}
 use Rattle.machine.specs.Words as machine
 use Rattle.machine.specs.Memory.{Memory, Place, declared, stored}
-use Rattle.machine.specs.Evaluate.{Now, AsView, Evaluated, Done, Raises, Traps, followed_by, evaluate, checked, value, viewed, place_of}
+use Rattle.machine.specs.Evaluate.{Now, AsView, Evaluated, Done, Raises, Traps, followed_by, evaluate, checked, value, viewed, place_of, initial}
 use Rattle.machine.specs.Evaluate as run
 use Rattle.machine.specs.Calls.{checks_at}
 use Rattle.machine.specs.States.{Waiting, Outcome}
-use Rattle.machine.specs.Step.{Turn, typing, here, start, Stored, taken_by, declare, assign, goes, leaking_goes, target_pos}
+use Rattle.machine.specs.Step.{Turn, typing, here, Stored, taken_by, goes, leaking_goes, target_pos, first_value}
 use Rattle.machine.specs.Step as steps
 use Rattle.machine.specs.Owners.{waiting_in}
 use Rattle.owned_ways.specs.Ways.{Way, Allows, after, AllowsAll}
@@ -32,15 +33,17 @@ use Rattle.soundness.specs.Seen.{home, seen, IsNear, is_view_formal}
 use Rattle.soundness.specs.Typed.{OwnsByShape}
 use Rattle.typed_laws.specs.Needed.{Source}
 use Rattle.soundness.proofs.Scalars.{acts, acts_append, after_append, allows_both}
+use Rattle.soundness.proofs.Taking.{Takes}
 use Rattle.soundness.proofs.Stays.{Quiet}
 use Rattle.soundness.proofs.Numbers.{index_law}
-use Rattle.owned_loans.specs.Views.{Around, Views}
+use Rattle.owned_loans.specs.Views.{Around, Views, IsThrough}
 use Rattle.owned_loans.proofs.Allowed.{Cleared, borrow_clears, observe_clears, reborrow_clears}
 use Rattle.owned_loans.proofs.Taken.{reborrow_unused}
 use Rattle.viewed_soundness.specs.Holds.{PartsAreNamed}
-use Rattle.viewed_soundness.proofs.Stays.{steps_quiet}
-use Rattle.viewed_soundness.proofs.Sources.{source_quiet}
-use Rattle.viewed_soundness.proofs.Outcomes.{IsGood, Observes, Puts, start_is, live, put_at, stored_is, no_parts}
+use Rattle.viewed_soundness.proofs.Stays.{steps_taking}
+use Rattle.viewed_soundness.proofs.Sources.{source_on}
+use Rattle.viewed_soundness.proofs.Outcomes.{IsGood, live}
+use Rattle.viewed_soundness.proofs.Lends.{Observes, Puts, put_at, stored_is, no_parts}
 use Rattle.viewed_steps.proofs.Ended.{view_kinds}
 use Rattle.viewed_steps.proofs.Sources.{view_shape, observes, observer_only}
 use Rattle.exact_facts.proofs.Steps.{fact_before}
@@ -55,7 +58,7 @@ module _ (t : Turn) (settled : IsSettled (typing t).table) (own_law : OwnsByShap
     (alone : (w : Way) → IsNear (length t.outer) w → other.gone w → ⊥) (no_formals : (x : ℕ) → is_view_formal (typing t) x ≡ false)
     (v : Views) (parts_named : PartsAreNamed (typing t).table) (may : ℕ → ℕ → Type 0)
     (frames : t.state.frames ≡ t.frame ∷ t.outer) (none : taken t.point.instr ≡ 0)
-    (elsewhere : Way → Type 0) (away : (w : Way) → IsNear (length t.outer) w → elsewhere w → ⊥) (Excused : LeakSpot → Type 0) where
+    (elsewhere : Way → Type 0) (away : (w : Way) → elsewhere w → (IsNear (length t.outer) w → ⊥) ⊎ IsThrough (home (typing t) (length t.outer)) other.lent Borrowed w) (Excused : LeakSpot → Type 0) where
   abbrev s : Typing
   s = typing t
 
@@ -70,6 +73,10 @@ module _ (t : Turn) (settled : IsSettled (typing t).table) (own_law : OwnsByShap
 
   abbrev now : Now
   now = record { memory = t.state.memory; waits = [] }
+
+  -- before these values are taken
+  abbrev at : List (List machine.Word) → Now
+  at ws = record { memory = t.state.memory; waits = ws }
 
   abbrev Good : List Fact → Type 0
   Good facts = IsGood t settled own_law other alone no_formals v parts_named may frames none v facts t.state
@@ -93,10 +100,10 @@ module _ (t : Turn) (settled : IsSettled (typing t).table) (own_law : OwnsByShap
   -- ---- what the source gives
 
   -- after the acts of its indexes the act of the source is allowed, and the source changes no memory
-  record IsShown (y u : ℕ) (p : Pos) (path : TypedTree) (a : Act) (facts : List Fact) (done : List Act) : Type 0 where
+  record IsShown (ws : List (List machine.Word)) (y u : ℕ) (p : Pos) (path : TypedTree) (a : Act) (facts : List Fact) (done : List Act) : Type 0 where
     behind : after done facts ≡ effect a facts
     mine : Allows facts a
-    quiet_there : Quiet now (λ ws. (z : machine.Word) × (ws ≡ z ∷ [])) (evaluate (here t) AsView (Name p y path u) now)
+    quiet_there : Quiet now (λ ws. (z : machine.Word) × (ws ≡ z ∷ [])) (evaluate (here t) AsView (Name p y path u) (at ws))
 
   one_word : (P : List machine.Word → Type 0) → ((ws : List machine.Word) → P ws → (z : machine.Word) × (ws ≡ z ∷ [])) → (e : Evaluated (List machine.Word)) → Quiet now P e
       → Quiet now (λ ws. (z : machine.Word) × (ws ≡ z ∷ [])) e
@@ -104,53 +111,56 @@ module _ (t : Turn) (settled : IsSettled (typing t).table) (own_law : OwnsByShap
   one_word P one (Raises e n) is = is
   one_word P one (Traps e n) never = never
 
-  is_shown : (x y u d : ℕ) (p r : Pos) (path : TypedTree) (a : PlaceName → Act) → Observes_here x y u d path → has_call path ≡ false
+  is_shown : (ws : List (List machine.Word)) (x y u d : ℕ) (p r : Pos) (path : TypedTree) (a : PlaceName → Act) → Observes_here x y u d path
+      → Takes (waits_in path) ws []
       → (facts : List Fact) → Good facts → AllowsAll facts (acts (acts_in s path ++ record { pos = r; act = a (name_of y path) } ∷ []))
       → ((w : Way) → ways.name_of w ≡ name_of y path → is_observer s y ≡ false → Allows facts (a (name_of y path)) → Cleared facts w)
-      → IsShown y u p path (a (name_of y path)) facts (acts (acts_in s path ++ record { pos = r; act = a (name_of y path) } ∷ []))
-  is_shown x y u d p r path a observes calls facts good allowed clears =
+      → IsShown ws y u p path (a (name_of y path)) facts (acts (acts_in s path ++ record { pos = r; act = a (name_of y path) } ∷ []))
+  is_shown ws x y u d p r path a observes takes facts good allowed clears =
       let b : List Act = acts (acts_in s path) in
       let whole_acts : acts (acts_in s path ++ record { pos = r; act = a (name_of y path) } ∷ []) ≡ b ++ (a (name_of y path) ∷ []) =
       acts_append (acts_in s path) (record { pos = r; act = a (name_of y path) } ∷ []) in
       let each = allows_both facts b (a (name_of y path) ∷ []) (subst (AllowsAll facts) whole_acts allowed) in
       let alive = live t settled own_law other alone no_formals v parts_named may frames none facts good in
-      let inner = steps_quiet (here t) settled hands t.state.leaks m [] other facts v good.kept good.viewed good.holds alone alive
-      index_law own_law parts_named (object_at s y).of u path observes.lead calls each.0 in
+      let inner = steps_taking (here t) settled hands t.state.leaks m [] other facts v good.kept good.viewed good.holds alone alive
+      index_law own_law parts_named (object_at s y).of u path observes.lead ws [] takes each.0 in
       let mine : Allows facts (a (name_of y path)) = subst (λ z. Allows z (a (name_of y path))) inner.1 each.1.0 in
       record {
         behind = ap (λ z. after z facts) whole_acts ∙ after_append b (a (name_of y path) ∷ []) facts ∙ ap (effect (a (name_of y path))) inner.1;
         mine = mine;
-        quiet_there = one_word _ (λ ws shown. (shown.3.word, shown.3.is)) (evaluate (here t) AsView (Name p y path u) now)
-            (source_quiet (here t) settled hands t.state.leaks m [] other facts v good.kept good.viewed good.holds alone alive
-            index_law own_law parts_named p y u d observes.c observes.n path observes.lead observes.source calls each.0 (λ w called plain. clears w called plain mine));
+        quiet_there = one_word _ (λ vs shown. (shown.3.word, shown.3.is)) (evaluate (here t) AsView (Name p y path u) (at ws))
+            (source_on (here t) settled hands t.state.leaks m [] other facts v good.kept good.viewed good.holds alone alive
+            index_law own_law parts_named ws [] p y u d observes.c observes.n path observes.lead observes.source takes each.0 (λ w called plain. clears w called plain mine));
       }
 
   -- ---- declarations
 
-  view_exact : (x y u d : ℕ) (p : Pos) (path : TypedTree) (a : PlaceName → Act) → Observes_here x y u d path → has_call path ≡ false
+  abbrev Declares_here : List (List machine.Word) → ℕ → TypedTree → Outcome
+  Declares_here ws x e = steps.evaluated t (first_value t (object_at s x).of e (at ws)) (λ vs n. goes t (declared depth x vs n) 0)
+
+  view_exact : (ws : List (List machine.Word)) (x y u d : ℕ) (p : Pos) (path : TypedTree) (a : PlaceName → Act) → Observes_here x y u d path → Takes (waits_in path) ws []
       → (facts : List Fact) → Good facts → AllowsAll facts (acts (source_acts s (Name p y path u) a))
       → ((w : Way) → ways.name_of w ≡ name_of y path → is_observer s y ≡ false → Allows facts (a (name_of y path)) → Cleared facts w)
       → ((n : PlaceName) → Has (adds (a (name_of y path))) (Moved n) → ⊥) → Exact m facts
-      → ExactHere (after (acts (source_acts s (Name p y path u) a)) facts) (declare t x (More (Name p y path u) NoMore))
-  view_exact x y u d p path a observes calls facts good allowed clears none_moved exact =
-      let shown = is_shown x y u d p p path a observes calls facts good allowed clears in
+      → ExactHere (after (acts (source_acts s (Name p y path u) a)) facts) (Declares_here ws x (More (Name p y path u) NoMore))
+  unfolding initial
+  view_exact ws x y u d p path a observes takes facts good allowed clears none_moved exact =
+      let shown = is_shown ws x y u d p p path a observes takes facts good allowed clears in
       let e : TypedTree = Name p y path u in
-      subst (λ z. ExactHere z (declare t x (More e NoMore))) (sym shown.behind)
-      (subst (λ z. ExactHere (effect (a (name_of y path)) facts) (steps.evaluated t (taken_by t (object_at s x).of e z) (λ ws m. goes t (declared depth x ws m) 0)))
-      (sym (start_is t settled own_law other alone no_formals v parts_named may frames none))
+      subst (λ z. ExactHere z (Declares_here ws x (More e NoMore))) (sym shown.behind)
       (subst (λ c. ExactHere (effect (a (name_of y path)) facts)
-      (steps.evaluated t (if c then viewed (here t) e now else followed_by (value (here t) e now) (checked (here t) (object_at s x).of)) (λ ws m. goes t (declared depth x ws m) 0)))
+      (steps.evaluated t (if c then viewed (here t) e (at ws) else followed_by (value (here t) e (at ws)) (checked (here t) (object_at s x).of)) (λ ws m. goes t (declared depth x ws m) 0)))
       (sym observes.anonymous)
       (view_declared t settled own_law other alone no_formals v parts_named may frames none elsewhere away Excused
       (λ ws. (z : machine.Word) × (ws ≡ z ∷ [])) x observes.anonymous facts (effect (a (name_of y path)) facts) good
-      (moves_nothing (a (name_of y path)) facts none_moved) exact (evaluate (here t) AsView e now) shown.quiet_there)))
+      (moves_nothing (a (name_of y path)) facts none_moved) exact (evaluate (here t) AsView e (at ws)) shown.quiet_there))
 
   -- a view is declared
-  pub view_declared_exact : (q : Pos) (x y u : ℕ) (path : TypedTree) → is_anonymous (view_of s x) ≡ true → is_variable (object_at s x).kind ≡ true
-      → home s depth x ≡ depth → Source s (object_at s x).of (Name q y path u) → has_call path ≡ false → (facts : List Fact) → Good facts
+  pub view_declared_on : (ws : List (List machine.Word)) (q : Pos) (x y u : ℕ) (path : TypedTree) → is_anonymous (view_of s x) ≡ true → is_variable (object_at s x).kind ≡ true
+      → home s depth x ≡ depth → Source s (object_at s x).of (Name q y path u) → Takes (waits_in path) ws [] → (facts : List Fact) → Good facts
       → AllowsAll facts (acts (declared_acts s x (More (Name q y path u) NoMore))) → Exact m facts
-      → ExactHere (after (acts (declared_acts s x (More (Name q y path u) NoMore))) facts) (declare t x (More (Name q y path u) NoMore))
-  view_declared_exact q x y u path view variable mine source_there calls facts good allowed exact =
+      → ExactHere (after (acts (declared_acts s x (More (Name q y path u) NoMore))) facts) (Declares_here ws x (More (Name q y path u) NoMore))
+  view_declared_on ws q x y u path view variable mine source_there takes facts good allowed exact =
       let from_it = observes t settled own_law other alone no_formals v parts_named may frames none q x y u path view mine source_there in
       by_kind from_it.0 from_it.1 (is_observer s x) refl
     where
@@ -158,14 +168,14 @@ module _ (t : Turn) (settled : IsSettled (typing t).table) (own_law : OwnsByShap
       e = Name q y path u
 
       by_kind : (d : ℕ) → Observes_here x y u d path → (b : Bool) → is_observer s x ≡ b
-          → ExactHere (after (acts (declared_acts s x (More (Name q y path u) NoMore))) facts) (declare t x (More (Name q y path u) NoMore))
+          → ExactHere (after (acts (declared_acts s x (More (Name q y path u) NoMore))) facts) (Declares_here ws x (More (Name q y path u) NoMore))
       by_kind d found true sees =
           let same : declared_acts s x (More (Name q y path u) NoMore) ≡ source_acts s (Name q y path u) (observe s x) =
           ap (λ b. if b then source_acts s (Name q y path u) (act.Borrow x)
           else (if is_observer s x then source_acts s (Name q y path u) (observe s x) else acts_in s (More (Name q y path u) NoMore))) (observer_only s x sees)
           ∙ ap (λ b. if b then source_acts s (Name q y path u) (observe s x) else acts_in s (More (Name q y path u) NoMore)) sees in
-          subst (λ z. ExactHere (after (acts z) facts) (declare t x (More (Name q y path u) NoMore))) (sym same)
-          (view_exact x y u d q path (observe s x) found calls facts good (subst (λ z. AllowsAll facts (acts z)) same allowed)
+          subst (λ z. ExactHere (after (acts z) facts) (Declares_here ws x (More (Name q y path u) NoMore))) (sym same)
+          (view_exact ws x y u d q path (observe s x) found takes facts good (subst (λ z. AllowsAll facts (acts z)) same allowed)
           (λ w called plain goes_by. observe_clears facts x (is_observer s y) w (subst (λ n. Allows facts (act.Observe x n (is_observer s y))) (sym called) goes_by))
           (observes_none (is_observer s y)) exact)
         where
@@ -177,8 +187,8 @@ module _ (t : Turn) (settled : IsSettled (typing t).table) (own_law : OwnsByShap
           let same : declared_acts s x (More (Name q y path u) NoMore) ≡ source_acts s (Name q y path u) (act.Borrow x) =
           ap (λ b. if b then source_acts s (Name q y path u) (act.Borrow x)
           else (if is_observer s x then source_acts s (Name q y path u) (observe s x) else acts_in s (More (Name q y path u) NoMore))) is in
-          subst (λ z. ExactHere (after (acts z) facts) (declare t x (More (Name q y path u) NoMore))) (sym same)
-          (view_exact x y u d q path (act.Borrow x) found calls facts good (subst (λ z. AllowsAll facts (acts z)) same allowed)
+          subst (λ z. ExactHere (after (acts z) facts) (Declares_here ws x (More (Name q y path u) NoMore))) (sym same)
+          (view_exact ws x y u d q path (act.Borrow x) found takes facts good (subst (λ z. AllowsAll facts (acts z)) same allowed)
           (λ w called plain goes_by. borrow_clears facts x w (subst (λ n. Allows facts (act.Borrow x n)) (sym called) goes_by))
           (λ n has. elim has [ inl is ↦ cc | inr never ↦ absurd never ]) exact)
 
@@ -199,38 +209,40 @@ module _ (t : Turn) (settled : IsSettled (typing t).table) (own_law : OwnsByShap
   then_put pos q x y u w d path facts facts' good observes less exact (Raises e n) is = tt
   then_put pos q x y u w d path facts facts' good observes less exact (Traps e n) never = tt
 
-  put_exact : (pos q p r : Pos) (x y u d : ℕ) (path : TypedTree) (a : PlaceName → Act) → Observes_here x y u d path → has_call path ≡ false
+  put_exact : (ws : List (List machine.Word)) (pos q p r : Pos) (x y u d : ℕ) (path : TypedTree) (a : PlaceName → Act) → Observes_here x y u d path → Takes (waits_in path) ws []
       → (facts : List Fact) → Good facts → AllowsAll facts (acts (acts_in s path ++ record { pos = r; act = a (name_of y path) } ∷ []))
       → ((w : Way) → ways.name_of w ≡ name_of y path → is_observer s y ≡ false → Allows facts (a (name_of y path)) → Cleared facts w)
       → ((n : PlaceName) → Has (adds (a (name_of y path))) (Moved n) → ⊥) → Exact m facts
       → ExactHere (after (acts (acts_in s path ++ record { pos = r; act = a (name_of y path) } ∷ [])) facts)
-      (Puts t settled own_law other alone no_formals v parts_named may frames none pos q x (object_at s x).of (taken_by t (object_at s x).of (Name p y path u) (start t)))
-  put_exact pos q p r x y u d path a observes calls facts good allowed clears none_moved exact =
-      let shown = is_shown x y u d p r path a observes calls facts good allowed clears in
+      (Puts t settled own_law other alone no_formals v parts_named may frames none pos q x (object_at s x).of (taken_by t (object_at s x).of (Name p y path u) (at ws)))
+  put_exact ws pos q p r x y u d path a observes takes facts good allowed clears none_moved exact =
+      let shown = is_shown ws x y u d p r path a observes takes facts good allowed clears in
       let e : TypedTree = Name p y path u in
       let of : ℕ = (object_at s x).of in
-      subst (λ z. ExactHere z (Puts t settled own_law other alone no_formals v parts_named may frames none pos q x of (taken_by t of e (start t)))) (sym shown.behind)
-      (subst (λ z. ExactHere (effect (a (name_of y path)) facts) (Puts t settled own_law other alone no_formals v parts_named may frames none pos q x of (taken_by t of e z)))
-      (sym (start_is t settled own_law other alone no_formals v parts_named may frames none))
+      subst (λ z. ExactHere z (Puts t settled own_law other alone no_formals v parts_named may frames none pos q x of (taken_by t of e (at ws)))) (sym shown.behind)
       (subst (λ c. ExactHere (effect (a (name_of y path)) facts) (Puts t settled own_law other alone no_formals v parts_named may frames none pos q x of
-      (if c then viewed (here t) e now else followed_by (value (here t) e now) (checked (here t) of)))) (sym observes.anonymous)
+      (if c then viewed (here t) e (at ws) else followed_by (value (here t) e (at ws)) (checked (here t) of)))) (sym observes.anonymous)
       (then_put pos q x y u of d path facts (effect (a (name_of y path)) facts) good observes (moves_nothing (a (name_of y path)) facts none_moved) exact
-      (evaluate (here t) AsView e now) shown.quiet_there)))
+      (evaluate (here t) AsView e (at ws)) shown.quiet_there))
 
   -- a view is assigned; its type has no access parts
-  pub view_assigned_exact : (pos r q : Pos) (x y u : ℕ) (path : TypedTree) → is_anonymous (view_of s x) ≡ true → is_variable (object_at s x).kind ≡ true
-      → home s depth x ≡ depth → Source s (object_at s x).of (Name q y path u) → has_call path ≡ false → (is_observer s x ≡ false → y ≡ x)
+  abbrev Puts_here : List (List machine.Word) → TypedTree → Pos → ℕ → TypedTree → Outcome
+  Puts_here ws target r x e =
+      Puts t settled own_law other alone no_formals v parts_named may frames none (target_pos t target) r x (object_at s x).of (taken_by t (object_at s x).of e (at ws))
+
+  pub view_assigned_on : (ws : List (List machine.Word)) (pos r q : Pos) (x y u : ℕ) (path : TypedTree) → is_anonymous (view_of s x) ≡ true → is_variable (object_at s x).kind ≡ true
+      → home s depth x ≡ depth → Source s (object_at s x).of (Name q y path u) → Takes (waits_in path) ws [] → (is_observer s x ≡ false → y ≡ x)
       → (facts : List Fact) → Good facts
       → AllowsAll facts (acts (assigned_to s pos (Some x) (Name r x NoMore (object_at s x).of) (Name q y path u))) → Exact m facts
       → ExactHere (after (acts (assigned_to s pos (Some x) (Name r x NoMore (object_at s x).of) (Name q y path u))) facts)
-      (assign t (Name r x NoMore (object_at s x).of) (Name q y path u))
-  view_assigned_exact pos r q x y u path view variable mine source_there calls itself facts good allowed exact =
+      (Puts_here ws (Name r x NoMore (object_at s x).of) r x (Name q y path u))
+  view_assigned_on ws pos r q x y u path view variable mine source_there takes itself facts good allowed exact =
       let from_it = observes t settled own_law other alone no_formals v parts_named may frames none q x y u path view mine source_there in
       by_kind from_it.0 from_it.1 (is_observer s x) refl
     where
       by_kind : (d : ℕ) → Observes_here x y u d path → (b : Bool) → is_observer s x ≡ b
           → ExactHere (after (acts (assigned_to s pos (Some x) (Name r x NoMore (object_at s x).of) (Name q y path u))) facts)
-          (assign t (Name r x NoMore (object_at s x).of) (Name q y path u))
+          (Puts_here ws (Name r x NoMore (object_at s x).of) r x (Name q y path u))
       by_kind d found true sees =
           let e : TypedTree = Name q y path u in
           let target : TypedTree = Name r x NoMore (object_at s x).of in
@@ -238,8 +250,8 @@ module _ (t : Turn) (settled : IsSettled (typing t).table) (own_law : OwnsByShap
           ap (λ b. if b then index_acts s e ++ reborrow (acts_target_pos pos (written target)) x (source e)
           else (if is_observer s x then source_acts s e (observe s x) else stored_acts s target e)) (observer_only s x sees)
           ∙ ap (λ b. if b then source_acts s e (observe s x) else stored_acts s target e) sees in
-          subst (λ z. ExactHere (after (acts z) facts) (assign t target e)) (sym same)
-          (put_exact (target_pos t target) r q q x y u d path (observe s x) found calls facts good (subst (λ z. AllowsAll facts (acts z)) same allowed)
+          subst (λ z. ExactHere (after (acts z) facts) (Puts_here ws target r x e)) (sym same)
+          (put_exact ws (target_pos t target) r q q x y u d path (observe s x) found takes facts good (subst (λ z. AllowsAll facts (acts z)) same allowed)
           (λ w called plain goes_by. observe_clears facts x (is_observer s y) w (subst (λ n. Allows facts (act.Observe x n (is_observer s y))) (sym called) goes_by))
           (observes_none (is_observer s y)) exact)
         where
@@ -253,18 +265,18 @@ module _ (t : Turn) (settled : IsSettled (typing t).table) (own_law : OwnsByShap
           let same : assigned_to s pos (Some x) target e ≡ acts_in s path ++ record { pos = r; act = act.Reborrow x (name_of y path) } ∷ [] =
           ap (λ b. if b then index_acts s e ++ reborrow (acts_target_pos pos (written target)) x (source e)
           else (if is_observer s x then source_acts s e (observe s x) else stored_acts s target e)) is in
-          subst (λ z. ExactHere (after (acts z) facts) (assign t target e)) (sym same)
-          (put_exact (target_pos t target) r q r x y u d path (act.Reborrow x) found calls facts good (subst (λ z. AllowsAll facts (acts z)) same allowed)
+          subst (λ z. ExactHere (after (acts z) facts) (Puts_here ws target r x e)) (sym same)
+          (put_exact ws (target_pos t target) r q r x y u d path (act.Reborrow x) found takes facts good (subst (λ z. AllowsAll facts (acts z)) same allowed)
           (λ w called plain goes_by. reborrow_clears facts x w (ap (λ (n : PlaceName). n.root) called ∙ itself borrows)
           (subst (λ n. Allows facts (act.Reborrow x n)) (sym called) goes_by))
           (λ n has. absurd has) exact)
 
   -- where a borrower goes on, no moved name is rooted in it
-  pub reborrow_unmoved : (pos r q : Pos) (x y u : ℕ) (path : TypedTree) → is_anonymous (view_of s x) ≡ true → is_variable (object_at s x).kind ≡ true
-      → home s depth x ≡ depth → Source s (object_at s x).of (Name q y path u) → has_call path ≡ false → is_observer s x ≡ false → y ≡ x
+  pub reborrow_unmoved : (ws : List (List machine.Word)) (pos r q : Pos) (x y u : ℕ) (path : TypedTree) → is_anonymous (view_of s x) ≡ true → is_variable (object_at s x).kind ≡ true
+      → home s depth x ≡ depth → Source s (object_at s x).of (Name q y path u) → Takes (waits_in path) ws [] → is_observer s x ≡ false → y ≡ x
       → (facts : List Fact) → Good facts → AllowsAll facts (acts (assigned_to s pos (Some x) (Name r x NoMore (object_at s x).of) (Name q y path u)))
       → (n : PlaceName) → Has (after (acts (assigned_to s pos (Some x) (Name r x NoMore (object_at s x).of) (Name q y path u))) facts) (Moved n) → n.root ≡ x → ⊥
-  reborrow_unmoved pos r q x y u path view variable mine source_there calls borrows itself facts good allowed n has root =
+  reborrow_unmoved ws pos r q x y u path view variable mine source_there takes borrows itself facts good allowed n has root =
       let e : TypedTree = Name q y path u in
       let target : TypedTree = Name r x NoMore (object_at s x).of in
       let from_it = observes t settled own_law other alone no_formals v parts_named may frames none q x y u path view mine source_there in
@@ -272,7 +284,7 @@ module _ (t : Turn) (settled : IsSettled (typing t).table) (own_law : OwnsByShap
       let same : assigned_to s pos (Some x) target e ≡ acts_in s path ++ record { pos = r; act = act.Reborrow x (name_of y path) } ∷ [] =
       ap (λ b. if b then index_acts s e ++ reborrow (acts_target_pos pos (written target)) x (source e)
       else (if is_observer s x then source_acts s e (observe s x) else stored_acts s target e)) is in
-      let shown = is_shown x y u from_it.0 q r path (act.Reborrow x) from_it.1 calls facts good (subst (λ z. AllowsAll facts (acts z)) same allowed)
+      let shown = is_shown ws x y u from_it.0 q r path (act.Reborrow x) from_it.1 takes facts good (subst (λ z. AllowsAll facts (acts z)) same allowed)
       (λ w called plain goes_by. reborrow_clears facts x w (ap (λ (n : PlaceName). n.root) called ∙ itself) (subst (λ n. Allows facts (act.Reborrow x n)) (sym called) goes_by)) in
       (reborrow_unused (home s depth) (is_observer s) other v v (seen s m hands t.state.leaks) facts good.viewed x (name_of y path) shown.mine).unmoved n
       (moves_nothing (act.Reborrow x (name_of y path)) facts (λ k none_there. absurd none_there) n

@@ -1,6 +1,6 @@
 -- Borrowers and observers of files that break no rule are in order, and the runs of their program are sound where
--- nothing is reported: without formals and calls, or where procedures are called.
-use Rattle.std.proofs.Common.{◌≡◌, refl, sym, ap, ◌∙◌, subst, inl, inr, ℕ, Bool, true, false, List, [], ◌∷◌, Option, Some, None}
+-- nothing is reported and formals and results are of scalar types.
+use Rattle.std.proofs.Common.{◌≡◌, refl, sym, ◌∙◌, subst, ◌⊎◌, ℕ, Bool, true, false, List, [], ◌∷◌, Some, None}
 use Rattle.spark_base.specs.Lists.{Has}
 use Rattle.ada_lexer.specs.Tokens.{Cut}
 use Rattle.ada_tree.specs.declared.unit.SourceUnit.{SourceUnit}
@@ -15,19 +15,16 @@ use Rattle.type_definitions.specs.declared.table.Shape.{Shape}
 use Rattle.type_definitions.specs.declared.table.Shape.TheVariants as shape
 use Rattle.type_definitions.specs.declared.judgement.View.{View}
 use Rattle.type_definitions.specs.declared.judgement.View.TheVariants as view
-use Rattle.type_definitions.specs.Types.{Table, full, shape_of, words, words_of}
+use Rattle.type_definitions.specs.Types.{Table, full, is_scalar, shape_of, words, words_of}
 use Rattle.type_definitions.specs.Entries.{integer, boolean, marked}
 use Rattle.type_definitions.specs.Expressions.{is_anonymous}
 use Rattle.type_definitions.specs.Whole.{outside, known_of, type_fault}
 use Rattle.type_rules.proofs.Formed.{files_formed}
-use Rattle.typed_tree.specs.Trees.{TypedTree}
 use Rattle.typed_tree.specs.Programs.{TypedSub, site_of, elaboration, typed_program}
 use Rattle.flow_paths.specs.declared.report.Effects.{Effects}
 use Rattle.flow_paths.specs.Effects.{AreEffects}
 use Rattle.flow_paths.specs.Objects as flow
-use Rattle.flow_paths.specs.Instructions.{Call}
-use Rattle.flow_paths.specs.Points.{FlowPoint}
-use Rattle.flow_paths.specs.Laid.{FlowSub, FlowProgram, flow_typing, flow_program}
+use Rattle.flow_paths.specs.Laid.{FlowProgram, flow_typing, flow_program}
 use Rattle.flow_paths.specs.Reports.{AreReports}
 use Rattle.settled_types.specs.Orderly.{at_start, IsOrderly as IsInOrderText}
 use Rattle.orderly_files.specs.Apart.{AreApart}
@@ -47,17 +44,15 @@ use Rattle.typed_laws.specs.Fine.{Laws, counts, lists}
 use Rattle.typed_steps.specs.Steps.{AreTyped as AreStepsTyped}
 use Rattle.typed_points.specs.Meant.{AreMeantUnits, typing_meant}
 use Rattle.soundness.specs.Typed.{OwnsByShape}
-use Rattle.soundness.specs.Sound.{Accepted, calls_nothing, RunIsSound}
-use Rattle.soundness.proofs.Points.{flow_table, typing_same}
-use Rattle.soundness.proofs.Successors.{nothing_procedures}
+use Rattle.soundness.specs.Sound.{Accepted, ArePlainResults, RunIsSound}
+use Rattle.soundness.proofs.Points.{flow_table}
 use Rattle.viewed_soundness.specs.Holds.{PartsAreNamed}
-use Rattle.ready_laws.specs.InOrder.{IsInOrder, AreCallees, ArePassed}
-use Rattle.ready_laws.proofs.Temporaries.{few_temporaries}
-use Rattle.ready_laws.proofs.Actuals.{scalar_passed, formless_passed}
+use Rattle.ready_laws.specs.InOrder.{IsInOrder, AreAnswered, AreStill, ArePassed}
+use Rattle.ready_laws.proofs.Actuals.{scalar_passed}
 use Rattle.order_laws.specs.Orderly.{typed_of, typing_in, bodies_of, IsOrderly}
+use Rattle.order_laws.proofs.Accepted.{is_in_order}
 use Rattle.order_laws.proofs.Faults.{units_faultless}
-use Rattle.order_laws.proofs.Unmoved.{package_values}
-use Rattle.order_laws.proofs.Whole.{in_order}
+use Rattle.package_values.proofs.Main.{packages_still}
 use Rattle.seen_files.specs.Reached.{IsObjectIn}
 use Rattle.seen_files.proofs.Files.{files_fit}
 use Rattle.seen_files.proofs.Entries.{known_keeps}
@@ -66,19 +61,19 @@ use Rattle.meant_files.specs.Typed.{AreTyped}
 use Rattle.meant_files.proofs.Main.{files_denote}
 use Rattle.meant_files.proofs.Main as meant
 use Rattle.meant_files.proofs.Codes as codes
-use Rattle.sound_files.specs.Class.{CallsNothing, CallsProcedures, HasNoFunction, HasScalarFormals, CopiesToVariables}
-use Rattle.sound_files.proofs.Formals.{no_formals}
-use Rattle.sound_files.proofs.Fine.{table_laws, files_declared, procedures_fine}
-use Rattle.sound_files.proofs.Procedures.{callees, files_bodies}
+use Rattle.sound_files.specs.Class.{CallsProcedures, CallsFunctions}
+use Rattle.sound_files.proofs.Laws.{table_laws, files_declared, integers_scalar, truths_scalar}
+use Rattle.sound_files.proofs.Called.{files_bodies}
+use Rattle.sound_files.proofs.Classes.{scalar_formals, copies, are_answered, plain_results, temporaries_plain}
+use Rattle.typed_files.proofs.Main.{files_fine, files_steps}
 use Rattle.sound_files.proofs.Main.{files_orderly}
-use Rattle.view_laws.specs.InOrder.{AreViewsInOrder}
-use Rattle.view_laws.specs.Program.{IsViewProgram}
-use Rattle.view_laws.proofs.Spared.{owners_spared}
 use Rattle.viewed_steps.specs.Ready.{IsReady}
 use Rattle.viewed_steps.proofs.Main.{ready_sound}
-use Rattle.view_laws.proofs.Ready.{uncalled_spared, views_ready}
-use Rattle.viewed_files.specs.Class.{IsFormlessText, SparePackages}
+use Rattle.view_laws.specs.InOrder.{AreViewsInOrder}
+use Rattle.view_laws.specs.Program.{IsViewProgram}
+use Rattle.view_laws.proofs.Ready.{views_ready}
 use Rattle.viewed_files.proofs.Sources.{scalar_plain}
+use Rattle.viewed_files.proofs.Named.{named_sources}
 use Rattle.viewed_files.proofs.Main.{IsGiven, views_in_order}
 
 heads : (x y : TypedSub) (xs ys : List TypedSub) → x ∷ xs ≡ y ∷ ys → x ≡ y
@@ -179,124 +174,92 @@ module _ (files : List (List SourceUnit)) where
     unfolding typed_program
     subs_are = refl
 
-    -- Procedures alone are called, and their formals are of scalar types.
+    -- Formals are of scalar types, and so are results, or procedures alone are called. Then the program is ready,
     module _ (main : ℕ) (is_main : (typed_of p).main ≡ Some main) (effects : Effects) (are : AreEffects flow_of_files effects) (none : AreReports flow_of_files effects [])
-        (calls : CallsProcedures flow_of_files) (formals : HasScalarFormals flow_of_files) where
-      same_objects : flow_of_files.objects ≡ (typed_of p).objects
-      same_objects = few_temporaries table (typed_of p) calls
-
-      same_typing : flow_typing flow_of_files ≡ typing_in p
-      same_typing = typing_same table (typed_of p) same_objects
-
+        (calls : CallsFunctions p) where
       formals_plain : (x : ℕ) → flow.is_formal (typing_in p) x ≡ true → flow.is_anonymous (flow.view_of (typing_in p) x) ≡ false
-      formals_plain x is =
-          subst (λ z. flow.is_anonymous (flow.view_of z x) ≡ false) same_typing
-          (scalar_plain (flow.view_of (flow_typing flow_of_files) x) (formals x (ap (λ z. flow.is_formal z x) same_typing ∙ is)))
+      formals_plain x is = scalar_plain (flow.view_of (typing_in p) x) (calls.formals x is)
 
       accepted : Accepted table (typed_of p) effects
       accepted = record {
         no_reports = none;
         effects_are = are;
         settled = files_settled files apart ended no_fault (typed_of p);
-        fine = procedures_fine files apart ended up named no_fault files_views calls;
+        fine = files_fine files apart ended up named no_fault;
       }
+
+      owns : OwnsByShape flow_of_files.table
+      owns = files_own files apart ended no_fault (typed_of p)
 
       text_orderly : IsOrderly p
       text_orderly = files_orderly files apart ended up named no_fault files_views main is_main
 
       order : IsInOrder table (typed_of p)
-      order =
-          in_order table (known_of p) p.units text_orderly.written text_orderly.once (subst OwnsByShape (flow_table table (typed_of p)) (files_own files apart ended no_fault (typed_of p)))
-          accepted.fine text_orderly.formals text_orderly.seen
-          (package_values (known_of p) p.units text_orderly.whole text_orderly.written (units_faultless p no_fault)) (units_faultless p no_fault) main is_main
+      order = is_in_order p effects no_fault accepted (subst OwnsByShape (flow_table table (typed_of p)) owns) text_orderly
 
       rest_is : bodies_of p ≡ order.rest
       rest_is = tails _ _ _ _ (sym subs_are ∙ order.subs)
 
+      first_is : elaboration (site_of (known_of p) p.units) p.units ≡ order.first
+      first_is = heads _ _ _ _ (sym subs_are ∙ order.subs)
+
       views_here : AreViewsInOrder table (typed_of p) order.first order.rest
       views_here =
-          subst (λ first. AreViewsInOrder table (typed_of p) first order.rest) (heads _ _ _ _ (sym subs_are ∙ order.subs))
+          subst (λ first. AreViewsInOrder table (typed_of p) first order.rest) first_is
           (subst (λ rest. AreViewsInOrder table (typed_of p) (elaboration (site_of (known_of p) p.units) p.units) rest) rest_is (files_views_in_order main is_main formals_plain))
 
-      called_ready : AreCallees table (typed_of p) (bodies_of p) → CopiesToVariables flow_of_files → ArePassed flow_of_files → SparePackages flow_of_files effects
-          → IsReady table (typed_of p) effects
-      called_ready callees copied passed spare =
-          views_ready table (typed_of p) effects view_program
-          (elim spare [
-            | inl nothing ↦ owners_spared table (typed_of p) effects view_program nothing
-            | inr spared ↦ spared
-          ])
-        where
-          view_program : IsViewProgram table (typed_of p) effects
-          view_program = record {
-            accepted = accepted;
-            owns = files_own files apart ended no_fault (typed_of p);
-            parts_named = subst PartsAreNamed (sym (flow_table table (typed_of p))) parts_named;
-            calls = calls;
-            formals = formals;
-            copied = λ sub has q there n actuals result is known. copied sub has q there n actuals result is;
-            order = order;
-            callees = subst (AreCallees table (typed_of p)) rest_is callees;
-            passed = passed;
-            views = views_here;
-          }
+      same_table : table ≡ flow_of_files.table
+      same_table = sym (flow_table table (typed_of p))
 
-      -- Where procedures are called that have bodies, and no package object owns, or no part of one is lent then, the
-      -- program is ready: each moment of each run is well owned, and none is a trap.
-      pub files_called_ready : HasNoFunction p → AreStepsTyped flow_of_files → CopiesToVariables flow_of_files → SparePackages flow_of_files effects
-          → IsReady table (typed_of p) effects
-      files_called_ready procedures typed copied =
-          let same : table ≡ flow_of_files.table = sym (flow_table table (typed_of p)) in
-          called_ready (callees p (files_bodies files up named) procedures) copied
-          (scalar_passed flow_of_files formals (subst (λ (rows : Table). counts (shape_of rows integer) ≡ true) same laws.whole)
-          (subst (λ (rows : Table). lists (shape_of rows boolean) ≡ true) same laws.listed)
-          (subst (λ (rows : Table). (t : ℕ) → words rows t ≡ words_of (words rows) (shape_of rows t)) same laws.word_law) typed)
+      typed : AreStepsTyped flow_of_files
+      typed = files_steps files apart ended up named no_fault
 
-      pub files_called_sound : HasNoFunction p → AreStepsTyped flow_of_files → CopiesToVariables flow_of_files → SparePackages flow_of_files effects
-          → (input : List ℕ) → RunIsSound table (typed_of p) input
-      files_called_sound procedures typed copied spare input = ready_sound table (typed_of p) effects input (files_called_ready procedures typed copied spare)
+      truths : is_scalar (full table boolean) ≡ true
+      truths = truths_scalar files apart ended up named no_fault files_views
 
-    -- So it is where there are no formals and nothing is called.
-    module _ (text : IsFormlessText p) (effects : Effects) (are : AreEffects flow_of_files effects) (none : AreReports flow_of_files effects []) (calls : CallsNothing flow_of_files) where
-      calls_procedures : CallsProcedures flow_of_files
-      calls_procedures sub has q there = nothing_procedures q.instr (calls sub has q there)
+      integers : is_scalar (full table integer) ≡ true
+      integers = integers_scalar files apart ended up named no_fault files_views
 
-      unformed : (x : ℕ) → flow.is_formal (flow_typing flow_of_files) x ≡ false
-      unformed x = ap (λ z. flow.is_formal z x) (typing_same table (typed_of p) (few_temporaries table (typed_of p) calls_procedures)) ∙ no_formals p text.formless x
+      results : CallsProcedures flow_of_files ⊎ ArePlainResults (flow_typing flow_of_files)
+      results = plain_results p calls truths
 
-      no_call : (sub : FlowSub) → Has flow_of_files.subs sub → (q : FlowPoint) → Has sub.points q → (n : ℕ) (actuals : TypedTree) (result : Option ℕ) → q.instr ≡ Call n actuals result → ⊥
-      no_call sub has q there n actuals result is = (let never : false ≡ true = sym (ap calls_nothing is) ∙ calls sub has q there in cc)
+      passed : ArePassed flow_of_files
+      passed =
+          scalar_passed flow_of_files (scalar_formals p calls.formals) (subst (λ (rows : Table). counts (shape_of rows integer) ≡ true) same_table laws.whole)
+          (subst (λ (rows : Table). lists (shape_of rows boolean) ≡ true) same_table laws.listed)
+          (subst (λ (rows : Table). (t : ℕ) → words rows t ≡ words_of (words rows) (shape_of rows t)) same_table laws.word_law) typed
 
-      pub files_views_ready : IsReady table (typed_of p) effects
-      files_views_ready =
-          called_ready text.main text.is_main effects are none calls_procedures (λ x is. (let no : true ≡ false = sym is ∙ unformed x in cc))
-          (λ sub has q there n actuals result is. absurd (no_call sub has q there n actuals result is))
-          (λ sub has q there n actuals result is. absurd (no_call sub has q there n actuals result is))
-          (formless_passed flow_of_files unformed) (inr (uncalled_spared flow_of_files effects calls))
+      view_program : IsViewProgram table (typed_of p) effects
+      view_program = record {
+        accepted = accepted;
+        owns = owns;
+        parts_named = subst PartsAreNamed same_table parts_named;
+        results = results;
+        temporaries = temporaries_plain p calls truths integers order.lasting;
+        formals = scalar_formals p calls.formals;
+        copied = λ sub has q there n actuals result is known. copies p calls.copied sub has q there n actuals result is;
+        sources = named_sources flow_of_files typed results;
+        order = order;
+        answered = subst (AreAnswered table (typed_of p)) rest_is (are_answered p (files_bodies files up named) typed);
+        passed = passed;
+        still = subst (AreStill table (typed_of p)) first_is (packages_still p no_fault text_orderly.written);
+        views = views_here;
+      }
 
-      pub files_views_sound : (input : List ℕ) → RunIsSound table (typed_of p) input
-      files_views_sound input = ready_sound table (typed_of p) effects input files_views_ready
+      pub files_called_ready : IsReady table (typed_of p) effects
+      files_called_ready = views_ready table (typed_of p) effects view_program
+
+      -- so each moment of each run is well owned, and none is a trap.
+      pub files_called_sound : (input : List ℕ) → RunIsSound table (typed_of p) input
+      files_called_sound input = ready_sound table (typed_of p) effects input files_called_ready
 
   -- So it is if the files are parsed from texts: then their positions are as in a text.
-  pub parsed_views_ready : (texts : List (List Cut)) → AreParsed 0 texts files → name_fault files ≡ None → type_fault p ≡ None → IsFormlessText p
-      → (effects : Effects) → AreEffects flow_of_files effects → AreReports flow_of_files effects [] → CallsNothing flow_of_files → IsReady table (typed_of p) effects
-  parsed_views_ready texts parsed named no_fault =
-      files_views_ready (files_apart texts files parsed) (files_ended (identified files) texts files parsed) (events_ascend texts files parsed) named no_fault
-
-  pub parsed_views_sound : (texts : List (List Cut)) → AreParsed 0 texts files → name_fault files ≡ None → type_fault p ≡ None → IsFormlessText p
-      → (effects : Effects) → AreEffects flow_of_files effects → AreReports flow_of_files effects [] → CallsNothing flow_of_files
-      → (input : List ℕ) → RunIsSound table (typed_of p) input
-  parsed_views_sound texts parsed named no_fault =
-      files_views_sound (files_apart texts files parsed) (files_ended (identified files) texts files parsed) (events_ascend texts files parsed) named no_fault
-
   pub parsed_called_ready : (texts : List (List Cut)) → AreParsed 0 texts files → name_fault files ≡ None → type_fault p ≡ None → (main : ℕ) → (typed_of p).main ≡ Some main
-      → (effects : Effects) → AreEffects flow_of_files effects → AreReports flow_of_files effects [] → CallsProcedures flow_of_files → HasScalarFormals flow_of_files
-      → HasNoFunction p → AreStepsTyped flow_of_files → CopiesToVariables flow_of_files → SparePackages flow_of_files effects → IsReady table (typed_of p) effects
+      → (effects : Effects) → AreEffects flow_of_files effects → AreReports flow_of_files effects [] → CallsFunctions p → IsReady table (typed_of p) effects
   parsed_called_ready texts parsed named no_fault =
       files_called_ready (files_apart texts files parsed) (files_ended (identified files) texts files parsed) (events_ascend texts files parsed) named no_fault
 
   pub parsed_called_sound : (texts : List (List Cut)) → AreParsed 0 texts files → name_fault files ≡ None → type_fault p ≡ None → (main : ℕ) → (typed_of p).main ≡ Some main
-      → (effects : Effects) → AreEffects flow_of_files effects → AreReports flow_of_files effects [] → CallsProcedures flow_of_files → HasScalarFormals flow_of_files
-      → HasNoFunction p → AreStepsTyped flow_of_files → CopiesToVariables flow_of_files → SparePackages flow_of_files effects → (input : List ℕ) → RunIsSound table (typed_of p) input
+      → (effects : Effects) → AreEffects flow_of_files effects → AreReports flow_of_files effects [] → CallsFunctions p → (input : List ℕ) → RunIsSound table (typed_of p) input
   parsed_called_sound texts parsed named no_fault =
       files_called_sound (files_apart texts files parsed) (files_ended (identified files) texts files parsed) (events_ascend texts files parsed) named no_fault

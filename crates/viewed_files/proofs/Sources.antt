@@ -41,7 +41,7 @@ use Rattle.typed_tree.specs.Programs.{DeclaredObject, Home, object_of, formals_o
 use Rattle.flow_paths.specs.Instructions.{Declare}
 use Rattle.flow_paths.specs.Objects.{Typing, Signature, object_at, is_variable as is_variable_object}
 use Rattle.flow_paths.specs.Objects as flow
-use Rattle.flow_paths.specs.Names.{whole, whole_object, has_call}
+use Rattle.flow_paths.specs.Names.{first, whole, whole_object}
 use Rattle.typed_laws.specs.Fine.{Laws, IsMeant, Denotes, AreSuffixes, counts}
 use Rattle.typed_laws.proofs.Agreeing.{holds, nil_left, nil_right}
 use Rattle.typed_points.specs.Meant.{AreDeclared, AreNumbers}
@@ -49,7 +49,7 @@ use Rattle.typed_points.proofs.Flags.{flagged, reading_same}
 use Rattle.seen_files.specs.Uses.{Uses}
 use Rattle.meant_files.specs.Typed.{AreIndicated, AreOf, IsGroupTyped, AreGroupsTyped, IsFrontTyped, AreIntegers}
 use Rattle.scope_laws.proofs.Lists.{all_both}
-use Rattle.view_laws.specs.InOrder.{is_name_of, is_one_name_of, is_any, stores_name}
+use Rattle.view_laws.specs.InOrder.{is_call, is_name_of, is_one_name_of, is_any, stores_name}
 use Rattle.viewed_files.specs.Sources.{has_source, all_fit}
 
 or_left : (a b : Bool) → a ≡ true → a || b ≡ true
@@ -111,10 +111,10 @@ module _ (s : Site) (objects : List Object) (subs : List Signature) (made : ℕ 
 
   -- What is read or called.
   abbrev IsNameOrCall : TypedTree → Type 0
-  IsNameOrCall e = is_name_of is_any e || has_call e ≡ true
+  IsNameOrCall e = is_name_of is_any e || is_call e ≡ true
 
   source_fit : (looped starts : Bool) (want given : ℕ) (e : Tree) → source_faults (flagged looped starts s.context) want e ≡ [] → IsNameOrCall (typed_expression s given e)
-  unfolding typed_expression inside has_call
+  unfolding typed_expression inside
   source_fit looped starts want given (Named p d rest) none =
       let c : Context = flagged looped starts s.context in
       let steps : TypedTree = typed_steps s (object_type (entry_of known d)) rest in
@@ -152,7 +152,7 @@ module _ (s : Site) (objects : List Object) (subs : List Signature) (made : ℕ 
   -- ---- declarations
 
   named_source : (x : ℕ) (v : TypedTree) → flow.is_anonymous (full table (object_at y x).of) ≡ false → has_source y (Declare x v) ≡ true
-  named_source x v plain = or_left (not (flow.is_anonymous (full table (object_at y x).of))) (is_one_name_of is_any v || has_call v) (not_false (flow.is_anonymous (full table (object_at y x).of)) plain)
+  named_source x v plain = or_left (not (flow.is_anonymous (full table (object_at y x).of))) (is_one_name_of is_any v || is_call (first v)) (not_false (flow.is_anonymous (full table (object_at y x).of)) plain)
 
   each_named : (ids i : Code) (v : TypedTree) → AreDeclared s y made i ids → ((d : ℕ) → flow.is_anonymous (full table (indicated known d i)) ≡ false)
       → Fits (map (typed_object s v) (code_items ids))
@@ -178,20 +178,19 @@ module _ (s : Site) (objects : List Object) (subs : List Signature) (made : ℕ 
   numbers_plain (More d rest) v h = (ap (λ t. flow.is_anonymous (full table t)) h.0 ∙ integer_plain, numbers_plain rest v h.1)
   numbers_plain ids v h = tt
 
-  each_sourced : (v : TypedTree) → is_one_name_of is_any v || has_call v ≡ true → (ids : List Code) → Fits (map (typed_object s v) ids)
+  each_sourced : (v : TypedTree) → is_one_name_of is_any v || is_call (first v) ≡ true → (ids : List Code) → Fits (map (typed_object s v) ids)
   unfolding all_fit
   each_sourced v source [] = tt
   each_sourced v source (d ∷ ids) = (right (not (flow.is_anonymous (full table (object_at y (object_number s (declared_number d))).of))) source, each_sourced v source ids)
     where
-      right : (a : Bool) → is_one_name_of is_any v || has_call v ≡ true → a || (is_one_name_of is_any v || has_call v) ≡ true
+      right : (a : Bool) → is_one_name_of is_any v || is_call (first v) ≡ true → a || (is_one_name_of is_any v || is_call (first v)) ≡ true
       right true e = refl
       right false e = e
 
-  listed_source : (e : TypedTree) → IsNameOrCall e → is_one_name_of is_any (typed.More e nothing_more) || has_call (typed.More e nothing_more) ≡ true
-  unfolding has_call
-  listed_source e h = by (is_name_of is_any e) (has_call e) h
+  listed_source : (e : TypedTree) → IsNameOrCall e → is_one_name_of is_any (typed.More e nothing_more) || is_call (first (typed.More e nothing_more)) ≡ true
+  listed_source e h = by (is_name_of is_any e) (is_call e) h
     where
-      by : (a b : Bool) → a || b ≡ true → (a && true) || (b || false) ≡ true
+      by : (a b : Bool) → a || b ≡ true → (a && true) || b ≡ true
       by true b h = refl
       by false true h = refl
       by false false h = cc
@@ -221,7 +220,7 @@ module _ (s : Site) (objects : List Object) (subs : List Signature) (made : ℕ 
         (nil_right (indication_faults known i) _ none))
 
     first_source : (v : Tree) (t : ℕ) → has_one v ≡ true → initial_faults (starting c) true t v ≡ []
-        → is_one_name_of is_any (typed_optional s t v) || has_call (typed_optional s t v) ≡ true
+        → is_one_name_of is_any (typed_optional s t v) || is_call (first (typed_optional s t v)) ≡ true
     first_source (More e rest) t one none = listed_source (typed_expression s t e) (source_fit looped (in_package s.context) t t e none)
     first_source v t one none = cc
 
@@ -418,7 +417,7 @@ module _ (s : Site) (objects : List Object) (subs : List Signature) (made : ℕ 
 
     object_stored : (p : Pos) (d t : ℕ) (o : ObjectInfo) (value : TypedTree) (e : Tree) → IsRootPlain d → Denotes s y d → entry_of known d ≡ entry.Object o → o.of ≡ t
         → ((want : ℕ) → source_faults z want e ≡ [] → IsNameOrCall value) → assigned z true (entry_of known d) e (reading.Place t) ≡ []
-        → stores_name y (Some (object_number s d)) value || has_call value ≡ true
+        → stores_name y (Some (object_number s d)) value || is_call value ≡ true
     object_stored p d t o value e root denotes is of source none = by (flow.is_anonymous (full table t)) refl
       where
         object_is : flow.is_anonymous (full table (object_at y (object_number s d)).of) ≡ flow.is_anonymous (full table t)
@@ -446,10 +445,10 @@ module _ (s : Site) (objects : List Object) (subs : List Signature) (made : ℕ 
         unfolded true f h g view k = k
         unfolded false f h g view k = cc
 
-        by : (b : Bool) → flow.is_anonymous (full table t) ≡ b → stores_name y (Some (object_number s d)) value || has_call value ≡ true
-        by false plain = named (flow.is_anonymous (full table (object_at y (object_number s d)).of)) (is_name_of is_any value) (has_call value) (object_is ∙ plain)
+        by : (b : Bool) → flow.is_anonymous (full table t) ≡ b → stores_name y (Some (object_number s d)) value || is_call value ≡ true
+        by false plain = named (flow.is_anonymous (full table (object_at y (object_number s d)).of)) (is_name_of is_any value) (is_call value) (object_is ∙ plain)
         by true view =
-            either (flow.is_anonymous (full table (object_at y (object_number s d)).of)) (is_name_of is_any value) (has_call value)
+            either (flow.is_anonymous (full table (object_at y (object_number s d)).of)) (is_name_of is_any value) (is_call value)
             (within (is_formal (entry_of known d)) (sym known_formal) view
             (unfolded (is_anonymous (full table t)) (is_formal (entry_of known d)) refl refl (other_anonymous (full table t) view) none))
 
@@ -458,17 +457,17 @@ module _ (s : Site) (objects : List Object) (subs : List Signature) (made : ℕ 
     assign_fit (Named p d rest) e uses meant none stored =
         let read = target_read p d rest none in
         let value : TypedTree = typed_expression s (type_read (reading_of s.context d rest)) e in
-        subst (λ w. stores_name y w value || has_call value ≡ true) (sym (whole_named p d read.1 rest read.3))
+        subst (λ w. stores_name y w value || is_call value ≡ true) (sym (whole_named p d read.1 rest read.3))
         (by rest read.0 read.1 value meant.1 read.2 read.3 (subst (λ r. assigned z (is_end rest) (entry_of known d) e r ≡ []) (reading_same looped starts s.context d rest ∙ read.3) stored)
         (λ want h. source_fit looped starts want (type_read (reading_of s.context d rest)) e h))
       where
         by : (rest : Tree) (o : ObjectInfo) (t : ℕ) (value : TypedTree) → AreSuffixes s y rest → entry_of known d ≡ entry.Object o → reading_of s.context d rest ≡ reading.Place t
             → assigned z (is_end rest) (entry_of known d) e (reading.Place t) ≡ [] → ((want : ℕ) → source_faults z want e ≡ [] → IsNameOrCall value)
-            → stores_name y (whole_object (object_number s d) (typed_steps s (object_type (entry_of known d)) rest)) value || has_call value ≡ true
+            → stores_name y (whole_object (object_number s d) (typed_steps s (object_type (entry_of known d)) rest)) value || is_call value ≡ true
         by NoMore o t value suffixes is place h source =
             object_stored p d t o value e uses.0 meant.0 is (one_place o.of t (sym (read_along d o NoMore is) ∙ place)) source h
         by (More a more) o t value suffixes is place h source =
-            subst (λ w. stores_name y w value || has_call value ≡ true)
+            subst (λ w. stores_name y w value || is_call value ≡ true)
             (sym (ap (λ k. whole_object (object_number s d) (typed_steps s k (More a more))) (ap object_type is)
             ∙ part_named o.of t a more (laws.object d o is) (sym (read_along d o (More a more) is) ∙ place) (object_number s d)))
             refl

@@ -68,7 +68,7 @@ matches_named table t u (inl e) named d c n is = named d c n (e ∙ is)
 matches_named table t u (inr both) named d c n is = absurd (scalar_access (shape_of table u) d c n is both.1)
 
 -- the types of the parts of an aggregate aren't anonymous
-part_named : (table : Table) → PartsAreNamed table → (t i : ℕ) (sh : Shape) → shape_of table t ≡ sh → is_record sh || is_array sh ≡ true → IsNamed table (part_type sh i)
+pub part_named : (table : Table) → PartsAreNamed table → (t i : ℕ) (sh : Shape) → shape_of table t ≡ sh → is_record sh || is_array sh ≡ true → IsNamed table (part_type sh i)
 part_named table named t i (shape.Fields cs) e made = subst (IsNamed table) (ap (λ z. (get_or (components_of z) i machine.no_component).of) e) (named.component t i)
 part_named table named t i (shape.Elements low high el) e made = subst (IsNamed table) (ap machine.element_of e) (named.element t)
 part_named table named t i (shape.Whole a b) e made = cc

@@ -196,34 +196,46 @@ module _ (h : Here) (settled : IsSettled h.typing.table) (hands : List Waiting) 
   abbrev pub Opens : ℕ → Way → Type 0
   Opens x u = is_observer h.typing x ≡ false → Open facts u
 
-  -- a name that isn't rooted in a view
-  owner_walked : (x t : ℕ) (way : List run.Step) → is_anonymous (view_of s x) ≡ false → Starts s.table (object_at s x).of way t
-      → Opens x (way_along way (variable x))
-      → Walked s settled hands leaks m waits (expand v (way_along way (variable x))) t (walked s way (variable_place h x) here_now)
-  owner_walked x t way plain starts opens =
-      let u : Way = way_along way (variable x) in
-      let named : Named (home s h.frame) u = named_along (home s h.frame) way (variable x) refl in
-      let root : number_of u ≡ x = number_along way (variable x) in
-      let itself = stands_itself (home s h.frame) (is_observer s) other v u named (ap v.way root ∙ no_way (v.way x) refl) in
-      let seen_not = plain_observer s x plain in
-      let name : IsPlain (home s h.frame) (is_observer s) v view_here facts viewed.views u = (named, ap (is_observer s) root ∙ seen_not) in
-      subst (λ z. Walked s settled hands leaks m waits z t (walked s way (variable_place h x) here_now)) (sym itself)
-      (walk s settled hands leaks m waits excused kept viewed.owned viewed.known live way (variable_place h x)
-      (OfRoot (OfVariable (home s h.frame x) x)) (variable x) t
-      (record { base = refl; made = tt; at = refl; there = refl; of = inl refl }) tt refl
-      (starts_leads s.table (object_at s x).of t way (plain_named s.table (object_at s x).of plain) starts)
-      (λ w past moved. elim moved [
-        | inr o ↦ alone w (past_near h.frame w u past (named_near s h.frame u named)) o
-        | inl by ↦ open_away (home s h.frame) (is_observer s) other v view_here facts viewed u w name (opens seen_not)
-            (subst (Past w) (sym itself) past) by
-      ]))
+  -- an object that isn't a view has no way
+  owner_way : (x : ℕ) → is_anonymous (view_of s x) ≡ false → v.way x ≡ None
+  owner_way x plain = no_way (v.way x) refl
     where
       no_way : (o : Option Way) → v.way x ≡ o → v.way x ≡ None
       no_way None e = e
       no_way (Some w) e = absurd (true_false (is_anonymous (view_of s x)) (holds.only x w e) plain)
 
+  -- a name that isn't rooted in a view stands for itself
+  owner_itself : (x : ℕ) (way : List run.Step) → is_anonymous (view_of s x) ≡ false → expand v (way_along way (variable x)) ≡ way_along way (variable x)
+  owner_itself x way plain =
+      stands_itself (home s h.frame) (is_observer s) other v (way_along way (variable x)) (named_along (home s h.frame) way (variable x) refl)
+      (ap v.way (number_along way (variable x)) ∙ owner_way x plain)
+
+  -- nothing was moved on its way
+  pub owner_clean : (x : ℕ) (way : List run.Step) → is_anonymous (view_of s x) ≡ false → Opens x (way_along way (variable x))
+      → (w : Way) → Past w (way_along way (variable x)) → excused w → ⊥
+  owner_clean x way plain opens w past moved =
+      let u : Way = way_along way (variable x) in
+      let named : Named (home s h.frame) u = named_along (home s h.frame) way (variable x) refl in
+      let seen_not = plain_observer s x plain in
+      let name : IsPlain (home s h.frame) (is_observer s) v view_here facts viewed.views u = (named, ap (is_observer s) (number_along way (variable x)) ∙ seen_not) in
+      elim moved [
+        | inr o ↦ alone w (past_near h.frame w u past (named_near s h.frame u named)) o
+        | inl by ↦ open_away (home s h.frame) (is_observer s) other v view_here facts viewed u w name (opens seen_not)
+            (subst (Past w) (sym (owner_itself x way plain)) past) by
+      ]
+
+  owner_walked : (x t : ℕ) (way : List run.Step) → is_anonymous (view_of s x) ≡ false → Starts s.table (object_at s x).of way t
+      → Opens x (way_along way (variable x))
+      → Walked s settled hands leaks m waits (expand v (way_along way (variable x))) t (walked s way (variable_place h x) here_now)
+  owner_walked x t way plain starts opens =
+      subst (λ z. Walked s settled hands leaks m waits z t (walked s way (variable_place h x) here_now)) (sym (owner_itself x way plain))
+      (walk s settled hands leaks m waits excused kept viewed.owned viewed.known live way (variable_place h x)
+      (OfRoot (OfVariable (home s h.frame x) x)) (variable x) t
+      (record { base = refl; made = tt; at = refl; there = refl; of = inl refl }) tt refl
+      (starts_leads s.table (object_at s x).of t way (plain_named s.table (object_at s x).of plain) starts) (owner_clean x way plain opens))
+
   -- nothing was moved on the way through a view
-  view_clean : (x : ℕ) (rest : List run.Step) (w : Way) → v.way x ≡ Some w → Opens x (way_along rest (All (variable x)))
+  pub view_clean : (x : ℕ) (rest : List run.Step) (w : Way) → v.way x ≡ Some w → Opens x (way_along rest (All (variable x)))
       → (z : Way) → Past z (way_along rest w) → excused z → ⊥
   view_clean x rest w has opens z past (inr o) =
       alone z (past_near h.frame z (way_along rest w) past (named_near s h.frame (way_along rest w)

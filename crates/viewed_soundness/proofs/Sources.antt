@@ -80,7 +80,7 @@ module _ (h : Here) (settled : IsSettled h.typing.table) (hands : List Waiting) 
   Clears x u = is_observer h.typing x ≡ false → Cleared facts u
 
   -- what a name stands for is rooted in an owner
-  stands_named : (x : ℕ) (u : Way) → Named (home s h.frame) u → number_of u ≡ x → (is_observer s x ≡ true → Lifted v u) → Named (home s h.frame) (expand v u)
+  pub stands_named : (x : ℕ) (u : Way) → Named (home s h.frame) u → number_of u ≡ x → (is_observer s x ≡ true → Lifted v u) → Named (home s h.frame) (expand v u)
   stands_named x u named root lifted = by_kind (is_observer s x) refl
     where
       whole : (w : Way) → Named (home s h.frame) w → is_observer s (number_of w) ≡ false → Named (home s h.frame) (expand v w)

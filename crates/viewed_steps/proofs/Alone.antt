@@ -41,7 +41,7 @@ use Rattle.owned_ways.specs.Ways.{Step, OfVariable, OfRoot, Way, Held, after, Al
 use Rattle.soundness.specs.Seen.{IsNear, is_view_formal, content, word_in, home, seen}
 use Rattle.soundness.specs.Typed.{Kept, Matches}
 use Rattle.typed_laws.specs.Needed.{IsFine, Source, Gives, Leads}
-use Rattle.soundness.specs.Sound.{IsNoCall, Stage, facts_of, AreStages, IsRunnable, IsResting, returns_value, InScope, IsNamedSub, IsAtPoint, view_of as view_here, is_temporary_object, temporaries_in}
+use Rattle.soundness.specs.Sound.{IsNoCall, Stage, facts_of, AreStages, IsRunnable, returns_value, InScope, IsNamedSub, IsAtPoint, view_of as view_here, is_temporary_object, temporaries_in}
 use Rattle.soundness.proofs.Scalars.{acts, acts_append, after_append}
 use Rattle.soundness.proofs.Scoped.{Inside}
 use Rattle.soundness.proofs.Around.{IsFar}
@@ -55,7 +55,7 @@ use Rattle.viewed_soundness.specs.Holds.{IsNamed, AllKeep}
 use Rattle.viewed_soundness.proofs.Outcomes.{named_plain, Leads_on, stored_goes, not_views, assigned_acts}
 use Rattle.viewed_steps.specs.Awaited.{AreFor, AreValues, temporaries_of, lasting_of, AreAwaited, TakesAlone}
 use Rattle.viewed_steps.proofs.Waited.{temporary_first, Shares, others_only}
-use Rattle.viewed_steps.specs.Sound.{HoldsAt, ArePlaced, NoneAbove, ViewStage, stages_of, GoneElsewhere, AreWaiting, IsStoredAt, LeadsAlong}
+use Rattle.viewed_steps.specs.Sound.{IsResting, HoldsAt, ArePlaced, NoneAbove, ViewStage, stages_of, GoneElsewhere, AreWaiting, IsStoredAt, LeadsAlong}
 use Rattle.viewed_steps.specs.Ready.{IsReady, AreOrderly}
 use Rattle.viewed_steps.proofs.Lent.{Spare}
 use Rattle.viewed_steps.proofs.Placed.{MayBe}
@@ -102,7 +102,7 @@ module _ (table : Table) (typed : TypedProgram) (effects : Effects) (input : Lis
   module _ (state : State) (top : Stage) (below : ViewStage) (more_frames : List ViewStage) (rest : List Frame) (named : NamedSub) (p : NamedPoint)
       (frames : state.frames ≡ top.frame ∷ (below.stage.frame ∷ rest)) (deep : top.depth ≡ suc (length rest))
       (stages : AreStages (stages_of (below ∷ more_frames)) (below.stage.frame ∷ rest))
-      (running : IsRunnable table typed top.frame.sub × IsResting s top × AreWaiting table typed effects state top.frame.sub (below ∷ more_frames))
+      (running : IsRunnable table typed top.frame.sub × IsResting s top × AreWaiting table typed effects state top.frame.sub top.frame.returns (below ∷ more_frames))
       (awaiting : AreAwaited table typed None (top ∷ stages_of (below ∷ more_frames)))
       (of_sub : IsNamedSub (flow_named table typed) top.frame.sub named) (at_point : IsAtPoint named.points top.frame.next p)
       (path : ControlPath (path_points program effects (sub_of program top.frame.sub)) top.before top.frame.next) (views : Views)

@@ -14,7 +14,7 @@ use Rattle.flow_paths.specs.Objects.{Typing, is_package_object}
 use Rattle.flow_paths.specs.Laid.{FlowSub, FlowProgram, NamedSub, flow_sub, typing_of, flow_typing, flow_program, flow_named}
 use Rattle.flow_paths.specs.Paths.{facts_before}
 use Rattle.flow_paths.specs.Effects.{flow_sub_at, path_points, AreEffects, written_by}
-use Rattle.machine.specs.States.{State}
+use Rattle.machine.specs.States.{Return, State}
 use Rattle.soundness.specs.Sound.{Stage, facts_of, Uses, IsNamedSub}
 use Rattle.soundness.proofs.Points.{sub_there, sub_at_number, sub_in_range}
 use Rattle.soundness.proofs.Used.{writes_used, reads_used, fact_added}
@@ -87,74 +87,74 @@ module _ (table : Table) (typed : TypedProgram) (effects : Effects) (are : AreEf
   -- ---- frames that wait
 
   -- none of what they lend is disturbed by the innermost one
-  pub spared_there : (state : State) (callee : ℕ) (older : List ViewStage) → AreWaiting table typed effects state callee older → (g : ViewStage) → Has older g
+  pub spared_there : (state : State) (callee : ℕ) (backs : List Return) (older : List ViewStage) → AreWaiting table typed effects state callee backs older → (g : ViewStage) → Has older g
       → 0 < g.stage.depth → (l : Loan) (h : ℕ) (n : Name) → Has (facts_of program effects g.stage) (Lent l h n) → is_package_object s n.root ≡ true
       → Disturbs effects l callee n.root → ⊥
-  spared_there state callee [] waiting g has some l h n lent shared disturbs = absurd has
-  spared_there state callee (e ∷ []) waiting g (inl same) some l h n lent shared disturbs =
-      let first = waiting.3 in
+  spared_there state callee backs [] waiting g has some l h n lent shared disturbs = absurd has
+  spared_there state callee backs (e ∷ []) waiting g (inl same) some l h n lent shared disturbs =
+      let first = (waiting.0).3 in
       let depths = ap (λ (z : ViewStage). z.stage.depth) same in
       omega (arith, some, first, depths)
-  spared_there state callee (e ∷ []) waiting g (inr never) some l h n lent shared disturbs = absurd never
-  spared_there state callee (k ∷ (j ∷ older)) waiting g (inl same) some l h n lent shared disturbs =
+  spared_there state callee backs (e ∷ []) waiting g (inr never) some l h n lent shared disturbs = absurd never
+  spared_there state callee backs (k ∷ (j ∷ older)) waiting g (inl same) some l h n lent shared disturbs =
       (waiting.0).lends l h n (subst (λ (z : ViewStage). Has (facts_of program effects z.stage) (Lent l h n)) (sym same) lent) shared disturbs
-  spared_there state callee (k ∷ (j ∷ older)) waiting g (inr has) some l h n lent shared disturbs =
-      spared_there state k.stage.frame.sub (j ∷ older) waiting.1 g has some l h n lent shared
+  spared_there state callee backs (k ∷ (j ∷ older)) waiting g (inr has) some l h n lent shared disturbs =
+      spared_there state k.stage.frame.sub k.stage.frame.returns (j ∷ older) waiting.1 g has some l h n lent shared
       (disturbs_on l callee k.stage.frame.sub n.root ((waiting.0).uses n.root) ((waiting.0).writes n.root) disturbs)
 
   module _ (unmoved : (e : Stage) → e.frame.sub ≡ 0 → (name : Name) → Has (facts_of (flow_program table typed) effects e) (Moved name) → ⊥)
-      (unused : (state : State) (callee : ℕ) (older : List ViewStage) → AreWaiting table typed effects state callee older → (g : ViewStage) → Has older g
+      (unused : (state : State) (callee : ℕ) (backs : List Return) (older : List ViewStage) → AreWaiting table typed effects state callee backs older → (g : ViewStage) → Has older g
       → (name : Name) → Has (facts_of (flow_program table typed) effects g.stage) (Moved name)
       → is_package_object (flow_typing (flow_program table typed)) name.root ≡ true → Uses effects callee name.root → ⊥) where
     -- what one has moved isn't lent by another
-    pub moved_apart : (state : State) (callee : ℕ) (older : List ViewStage) → AreWaiting table typed effects state callee older → (g k : ViewStage) → Has older g → Has older k
+    pub moved_apart : (state : State) (callee : ℕ) (backs : List Return) (older : List ViewStage) → AreWaiting table typed effects state callee backs older → (g k : ViewStage) → Has older g → Has older k
         → 0 < k.stage.depth → (n : Name) → Has (facts_of program effects g.stage) (Moved n) → is_package_object s n.root ≡ true
         → (l : Loan) (h : ℕ) (m : Name) → Has (facts_of program effects k.stage) (Lent l h m) → overlaps n m ≡ true → ⊥
-    moved_apart state callee [] waiting g k has rests some n moved shared l h m lent over = absurd has
-    moved_apart state callee (e ∷ []) waiting g k (inl same) rests some n moved shared l h m lent over =
-        unmoved e.stage waiting.0 n (subst (λ (z : ViewStage). Has (facts_of program effects z.stage) (Moved n)) (sym same) moved)
-    moved_apart state callee (e ∷ []) waiting g k (inr never) rests some n moved shared l h m lent over = absurd never
-    moved_apart state callee (e ∷ (j ∷ older)) waiting g k (inl same) (inl also) some n moved shared l h m lent over =
+    moved_apart state callee backs [] waiting g k has rests some n moved shared l h m lent over = absurd has
+    moved_apart state callee backs (e ∷ []) waiting g k (inl same) rests some n moved shared l h m lent over =
+        unmoved e.stage (waiting.0).0 n (subst (λ (z : ViewStage). Has (facts_of program effects z.stage) (Moved n)) (sym same) moved)
+    moved_apart state callee backs (e ∷ []) waiting g k (inr never) rests some n moved shared l h m lent over = absurd never
+    moved_apart state callee backs (e ∷ (j ∷ older)) waiting g k (inl same) (inl also) some n moved shared l h m lent over =
         (waiting.0).clear.moved l h n m (subst (λ (z : ViewStage). Has (facts_of program effects z.stage) (Moved n)) (sym same) moved)
         (subst (λ (z : ViewStage). Has (facts_of program effects z.stage) (Lent l h m)) (sym also) lent) over
-    moved_apart state callee (e ∷ (j ∷ older)) waiting g k (inl same) (inr rests) some n moved shared l h m lent over =
+    moved_apart state callee backs (e ∷ (j ∷ older)) waiting g k (inl same) (inr rests) some n moved shared l h m lent over =
         let root = same_root n m over in
         let own_fact = subst (λ (z : ViewStage). Has (facts_of program effects z.stage) (Moved n)) (sym same) moved in
-        spared_there state e.stage.frame.sub (j ∷ older) waiting.1 k rests some l h m lent (ap (is_package_object s) (sym root) ∙ shared)
+        spared_there state e.stage.frame.sub e.stage.frame.returns (j ∷ older) waiting.1 k rests some l h m lent (ap (is_package_object s) (sym root) ∙ shared)
         (written_disturbs l e.stage.frame.sub m.root
         (subst (Has (written_by effects e.stage.frame.sub)) root (moved_written e.stage (waiting.0).named (waiting.0).of_sub n own_fact shared)))
-    moved_apart state callee (e ∷ (j ∷ older)) waiting g k (inr has) (inl also) some n moved shared l h m lent over =
+    moved_apart state callee backs (e ∷ (j ∷ older)) waiting g k (inr has) (inl also) some n moved shared l h m lent over =
         let root = same_root n m over in
         let own_fact = subst (λ (z : ViewStage). Has (facts_of program effects z.stage) (Lent l h m)) (sym also) lent in
-        unused state e.stage.frame.sub (j ∷ older) waiting.1 g has n moved shared
+        unused state e.stage.frame.sub e.stage.frame.returns (j ∷ older) waiting.1 g has n moved shared
         (subst (Uses effects e.stage.frame.sub) (sym root)
         (lent_used e.stage (waiting.0).named (waiting.0).of_sub l h m own_fact (ap (is_package_object s) (sym root) ∙ shared)))
-    moved_apart state callee (e ∷ (j ∷ older)) waiting g k (inr has) (inr rests) some n moved shared l h m lent over =
-        moved_apart state e.stage.frame.sub (j ∷ older) waiting.1 g k has rests some n moved shared l h m lent over
+    moved_apart state callee backs (e ∷ (j ∷ older)) waiting g k (inr has) (inr rests) some n moved shared l h m lent over =
+        moved_apart state e.stage.frame.sub e.stage.frame.returns (j ∷ older) waiting.1 g k has rests some n moved shared l h m lent over
 
     -- nor is what one has borrowed observed by another
-    pub seen_apart : (state : State) (callee : ℕ) (older : List ViewStage) → AreWaiting table typed effects state callee older → (g k : ViewStage) → Has older g → Has older k
+    pub seen_apart : (state : State) (callee : ℕ) (backs : List Return) (older : List ViewStage) → AreWaiting table typed effects state callee backs older → (g k : ViewStage) → Has older g → Has older k
         → 0 < g.stage.depth → 0 < k.stage.depth → (b : ℕ) (n : Name) → Has (facts_of program effects g.stage) (Lent Borrowed b n) → is_package_object s n.root ≡ true
         → (h : ℕ) (m : Name) → Has (facts_of program effects k.stage) (Lent Observed h m) → overlaps n m ≡ true → ⊥
-    seen_apart state callee [] waiting g k has rests deep some b n lends shared h m lent over = absurd has
-    seen_apart state callee (e ∷ []) waiting g k (inl same) rests deep some b n lends shared h m lent over =
-        let first = waiting.3 in
+    seen_apart state callee backs [] waiting g k has rests deep some b n lends shared h m lent over = absurd has
+    seen_apart state callee backs (e ∷ []) waiting g k (inl same) rests deep some b n lends shared h m lent over =
+        let first = (waiting.0).3 in
         let depths = ap (λ (z : ViewStage). z.stage.depth) same in
         omega (arith, deep, first, depths)
-    seen_apart state callee (e ∷ []) waiting g k (inr never) rests deep some b n lends shared h m lent over = absurd never
-    seen_apart state callee (e ∷ (j ∷ older)) waiting g k (inl same) (inl also) deep some b n lends shared h m lent over =
+    seen_apart state callee backs (e ∷ []) waiting g k (inr never) rests deep some b n lends shared h m lent over = absurd never
+    seen_apart state callee backs (e ∷ (j ∷ older)) waiting g k (inl same) (inl also) deep some b n lends shared h m lent over =
         (waiting.0).clear.seen b h n m (subst (λ (z : ViewStage). Has (facts_of program effects z.stage) (Lent Borrowed b n)) (sym same) lends)
         (subst (λ (z : ViewStage). Has (facts_of program effects z.stage) (Lent Observed h m)) (sym also) lent) over
-    seen_apart state callee (e ∷ (j ∷ older)) waiting g k (inl same) (inr rests) deep some b n lends shared h m lent over =
+    seen_apart state callee backs (e ∷ (j ∷ older)) waiting g k (inl same) (inr rests) deep some b n lends shared h m lent over =
         let root = same_root n m over in
         let own_fact = subst (λ (z : ViewStage). Has (facts_of program effects z.stage) (Lent Borrowed b n)) (sym same) lends in
-        spared_there state e.stage.frame.sub (j ∷ older) waiting.1 k rests some Observed h m lent (ap (is_package_object s) (sym root) ∙ shared)
+        spared_there state e.stage.frame.sub e.stage.frame.returns (j ∷ older) waiting.1 k rests some Observed h m lent (ap (is_package_object s) (sym root) ∙ shared)
         (subst (Has (written_by effects e.stage.frame.sub)) root (lent_written e.stage (waiting.0).named (waiting.0).of_sub b n own_fact shared))
-    seen_apart state callee (e ∷ (j ∷ older)) waiting g k (inr has) (inl also) deep some b n lends shared h m lent over =
+    seen_apart state callee backs (e ∷ (j ∷ older)) waiting g k (inr has) (inl also) deep some b n lends shared h m lent over =
         let root = same_root n m over in
         let own_fact = subst (λ (z : ViewStage). Has (facts_of program effects z.stage) (Lent Observed h m)) (sym also) lent in
-        spared_there state e.stage.frame.sub (j ∷ older) waiting.1 g has deep Borrowed b n lends shared
+        spared_there state e.stage.frame.sub e.stage.frame.returns (j ∷ older) waiting.1 g has deep Borrowed b n lends shared
         (subst (Uses effects e.stage.frame.sub) (sym root)
         (lent_used e.stage (waiting.0).named (waiting.0).of_sub Observed h m own_fact (ap (is_package_object s) (sym root) ∙ shared)))
-    seen_apart state callee (e ∷ (j ∷ older)) waiting g k (inr has) (inr rests) deep some b n lends shared h m lent over =
-        seen_apart state e.stage.frame.sub (j ∷ older) waiting.1 g k has rests deep some b n lends shared h m lent over
+    seen_apart state callee backs (e ∷ (j ∷ older)) waiting g k (inr has) (inr rests) deep some b n lends shared h m lent over =
+        seen_apart state e.stage.frame.sub e.stage.frame.returns (j ∷ older) waiting.1 g k has rests deep some b n lends shared h m lent over

@@ -20,12 +20,14 @@ use Rattle.machine.specs.Calls.{checks_at}
 use Rattle.machine.specs.States.{Loop, Leak, State, Outcome, Goes}
 use Rattle.machine.specs.Step.{Turn, turn, typing, here, start, waiting, Stored, taken_by, first_value, goes, behind, leaking_goes}
 use Rattle.machine.specs.Step as steps
+use Rattle.owned_ways.specs.Ways.{Step, OfRoot, Empty, Gone, Held}
 use Rattle.owned_ways.specs.Ways as ways
-use Rattle.soundness.specs.Seen.{home}
+use Rattle.part_offsets.specs.Parts.{offset_in, is_leaf}
+use Rattle.soundness.specs.Seen.{content, owner_at, owner_word, word_in, home, is_view_formal}
 use Rattle.typed_laws.specs.Needed.{IsFine, FirstStays, Returns}
 use Rattle.soundness.proofs.Contents.{bool_cases}
 use Rattle.soundness.proofs.Memories.{put_other, removed_other}
-use Rattle.soundness.proofs.Fading.{FadesTo, Fades, still, then_fades, if_fades, checked_fades, fades, steps_fade}
+use Rattle.soundness.proofs.Fading.{Fainter, FadesTo, Fades, still, then_fades, if_fades, checked_fades, fades, steps_fade}
 use Rattle.soundness.proofs.Following.{Each}
 use Rattle.soundness.proofs.Onward.{Gets}
 use Rattle.soundness.proofs.Scoped.{IsFrom, LeadsFrom, walked_from}
@@ -39,11 +41,33 @@ IsOther (Hold (More e rest)) = ⊥
 IsOther Finish = ⊥
 IsOther i = Unit {0}
 
--- The first words of the variables of other frames stay.
+-- The words of the variables of other frames stay, and what is gone there stays gone.
 abbrev pub OthersKept : Typing → ℕ → Memory → Memory → Type 0
 OthersKept s depth m n =
-    (f y : ℕ) → (f ≡ 0 → ⊥) → (f ≡ depth → ⊥)
-    → (get_or (variable_slots s f y n.variables) 0 no_slot).word ≡ (get_or (variable_slots s f y m.variables) 0 no_slot).word
+    (f y : ℕ) → (f ≡ 0 → ⊥) → (f ≡ depth → ⊥) → (o : ℕ)
+    → Fainter (get_or (variable_slots s f y m.variables) o no_slot) (get_or (variable_slots s f y n.variables) o no_slot)
+
+same_faint : (a b : Slot) → b ≡ a → Fainter a b
+same_faint a b e = record { word = ap (λ (x : Slot). x.word) e; gone = λ g. ap (λ (x : Slot). x.gone) e ∙ g }
+
+-- what has a number there had it before
+faint_owner : (a b : Slot) → Fainter a b → (own : Bool) (c : ℕ) → (if own then owner_word b else Empty) ≡ Held c → (if own then owner_word a else Empty) ≡ Held c
+faint_owner a b faint false c held = held
+faint_owner a b faint true c held = by_gone b.gone a.gone refl refl
+  where
+    by_gone : (g h : Bool) → b.gone ≡ g → a.gone ≡ h → owner_word a ≡ Held c
+    by_gone true h e f = (let no : Gone ≡ Held c = sym (ap (owner_at b.word) e) ∙ held in cc)
+    by_gone false true e f = (let no : true ≡ false = sym (faint.gone f) ∙ e in cc)
+    by_gone false false e f = (λ j. owner_at (sym faint.word j) (f j)) ∙ sym (ap (owner_at b.word) e) ∙ held
+
+pub faint_held : (s : Typing) (m n : Memory) (f y : ℕ)
+    → ((o : ℕ) → Fainter (get_or (variable_slots s f y m.variables) o no_slot) (get_or (variable_slots s f y n.variables) o no_slot))
+    → (p : List Step) (c : ℕ) → word_in s.table (content s n [] (OfRoot (ways.OfVariable f y))) p ≡ Held c
+    → word_in s.table (content s m [] (OfRoot (ways.OfVariable f y))) p ≡ Held c
+faint_held s m n f y faint p c held =
+    faint_owner (get_or (variable_slots s f y m.variables) (offset_in s.table (object_at s y).of p) no_slot)
+    (get_or (variable_slots s f y n.variables) (offset_in s.table (object_at s y).of p) no_slot)
+    (faint (offset_in s.table (object_at s y).of p)) (not (is_view_formal s y) && is_leaf s.table (object_at s y).of p) c held
 
 same_base : (f x g y : ℕ) → ways.OfVariable f x ≡ ways.OfVariable g y → memory.OfVariable f x ≡ memory.OfVariable g y
 same_base f x g y e = (let a : f ≡ g = cc in let b : x ≡ y = cc in cc)
@@ -63,10 +87,13 @@ module _ (s : Typing) (depth : ℕ) where
       by_package false = inr refl
 
   kept_then : (a b c : Memory) → OthersKept s depth a b → OthersKept s depth b c → OthersKept s depth a c
-  kept_then a b c first second f y some other = second f y some other ∙ first f y some other
+  kept_then a b c first second f y some other o =
+      let one = first f y some other o in
+      let two = second f y some other o in
+      record { word = two.word ∙ one.word; gone = λ g. two.gone (one.gone g) }
 
   by_fading : (m n : Memory) → Fades s m n → OthersKept s depth m n
-  by_fading m n faint f y some other = (faint f y 0).word
+  by_fading m n faint f y some other o = faint f y o
 
   pub put_beside : (b : Base) (slots : List Slot) (m : Memory) (f y : ℕ) → (b ≡ memory.OfVariable f y → ⊥)
       → variable_slots s f y (memory.put b slots m).variables ≡ variable_slots s f y m.variables
@@ -74,9 +101,9 @@ module _ (s : Typing) (depth : ℕ) where
   put_beside (memory.OfVariable g z) slots m f y ne = put_other s g z f y (λ e. ne (same_base g z f y e)) slots m.variables
 
   stored_beside : (x : ℕ) (k : Place) (ws : List machine.Word) (m : Memory) → IsFrom (memory.OfVariable (home s depth x) x) k → OthersKept s depth m (stored s k ws m)
-  stored_beside x k ws m from f y some other =
-      ap (λ z. (get_or z 0 no_slot).word)
-      (put_beside k.base (take k.at (slots_at s m k.base) ++ fresh ws ++ drop (k.at + length (fresh ws)) (slots_at s m k.base)) m f y (elsewhere from))
+  stored_beside x k ws m from f y some other o =
+      same_faint _ _ (ap (λ z. get_or z o no_slot)
+      (put_beside k.base (take k.at (slots_at s m k.base) ++ fresh ws ++ drop (k.at + length (fresh ws)) (slots_at s m k.base)) m f y (elsewhere from)))
     where
       elsewhere : IsFrom (memory.OfVariable (home s depth x) x) k → k.base ≡ memory.OfVariable f y → ⊥
       elsewhere (inl is) e =
@@ -85,14 +112,14 @@ module _ (s : Typing) (depth : ℕ) where
       elsewhere (inr (c, is)) e = no_cell c f y (sym is ∙ e)
 
   declared_beside : (x : ℕ) (ws : List machine.Word) (m : Memory) → OthersKept s depth m (declared depth x ws m)
-  declared_beside x ws m f y some other =
-      ap (λ z. (get_or z 0 no_slot).word)
-      (put_other s depth x f y (λ e. other (sym (same_frame depth x f y (same_base depth x f y e)))) (fresh ws) m.variables)
+  declared_beside x ws m f y some other o =
+      same_faint _ _ (ap (λ z. get_or z o no_slot)
+      (put_other s depth x f y (λ e. other (sym (same_frame depth x f y (same_base depth x f y e)))) (fresh ws) m.variables))
 
   removed_beside : (x : ℕ) (m : Memory) → OthersKept s depth m (undeclared depth x m)
-  removed_beside x m f y some other =
-      ap (λ z. (get_or z 0 no_slot).word)
-      (removed_other s depth x f y (λ e. other (sym (same_frame depth x f y (same_base depth x f y e)))) m.variables)
+  removed_beside x m f y some other o =
+      same_faint _ _ (ap (λ z. get_or z o no_slot)
+      (removed_other s depth x f y (λ e. other (sym (same_frame depth x f y (same_base depth x f y e)))) m.variables))
 
 module _ (t : Turn) where
   abbrev s : Typing
@@ -112,7 +139,7 @@ module _ (t : Turn) where
   Keeps outcome = Each (λ (state : State). OthersKept (typing t) (length t.outer) t.state.memory state.memory) outcome
 
   same_memory : Stays before
-  same_memory f y some other = refl
+  same_memory f y some other o = same_faint _ _ refl
 
   after_that : {A : Type 0} (Q : A → Memory → Type 0) (y : Evaluated A) (f : A → Memory → Outcome) → Gets Q y
       → ((a : A) (m : Memory) → Q a m → Keeps (f a m)) → Keeps (steps.evaluated t y f)

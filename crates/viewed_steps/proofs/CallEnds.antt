@@ -13,49 +13,54 @@ use Rattle.typed_tree.specs.declared.object.ObjectKind.TheVariants as object_kin
 use Rattle.typed_tree.specs.Programs.{TypedProgram}
 use Rattle.flow_paths.specs.declared.report.Effects.{Effects}
 use Rattle.flow_paths.specs.Instructions.{Instruction, Call, Finish}
-use Rattle.flow_paths.specs.Objects.{Typing, object_at, is_anonymous, is_package_object, is_observer, is_formal_kind, view_of}
+use Rattle.flow_paths.specs.Objects.{Typing, object_at, is_anonymous, is_package_object, is_observer, is_formal_kind, view_of, Signature, sub_at, is_formal}
 use Rattle.flow_paths.specs.Points.{NamedPoint}
-use Rattle.flow_paths.specs.Laid.{FlowProgram, NamedSub, typing_of, flow_typing, flow_program, flow_named}
+use Rattle.flow_paths.specs.Laid.{FlowProgram, NamedSub, typing_of, flow_typing, flow_program, flow_named, FlowSub}
 use Rattle.flow_paths.specs.Paths.{ControlPath}
 use Rattle.flow_paths.specs.Effects.{path_points}
 use Rattle.flow_paths.specs.Scopes.{is_temporary, is_within}
 use Rattle.machine.specs.Words as machine
 use Rattle.machine.specs.Memory.{Memory, no_slot, variable_slots, without_frame}
 use Rattle.machine.specs.Evaluate.{Exception}
-use Rattle.machine.specs.States.{Waiting, Frame, State, sub_of, Outcome, Goes}
+use Rattle.machine.specs.States.{Waiting, Frame, State, sub_of, Outcome, Goes, Return, Normal, Ends}
 use Rattle.machine.specs.Run.{no_point}
 use Rattle.machine.specs.Step.{Turn, turn, counted}
 use Rattle.machine.specs.Step as steps
 use Rattle.machine.specs.Owners.{waiting_in}
 use Rattle.owned_ways.specs.Ways.{Step, OfVariable, OfRoot, Way, Held, AllowsAll, number_of}
 use Rattle.owned_ways.specs.Ways as ways
-use Rattle.soundness.specs.Seen.{content, word_in, seen, home}
+use Rattle.soundness.specs.Seen.{content, word_in, seen, home, is_view_formal}
 use Rattle.soundness.specs.Typed.{Kept}
-use Rattle.soundness.specs.Sound.{Stage, facts_of, AreStages, IsRunnable, IsResting, is_temporary_object, has_returned, InScope, IsNamedSub, IsAtPoint, AreSameWords, view_of as view_here}
+use Rattle.soundness.specs.Sound.{Stage, facts_of, AreStages, IsRunnable, is_temporary_object, has_returned, InScope, IsNamedSub, IsAtPoint, AreSameWords, view_of as view_here, temporaries_in}
 use Rattle.soundness.proofs.Contents.{bool_cases, word_no}
 use Rattle.soundness.proofs.Steps.{no_leaf}
-use Rattle.soundness.proofs.Typings.{package_same}
+use Rattle.soundness.proofs.Typings.{package_same, formal_same}
 use Rattle.soundness.proofs.Used.{returns_whole}
 use Rattle.soundness.proofs.Around.{same_or_not}
-use Rattle.soundness.proofs.Returning.{returned_kept, left_same, left_held, returns_lead, ends_lead, left_waits, ended_owned}
-use Rattle.owned_loans.specs.Views.{known_gone, Views, IsMovedBy, Viewed, ExcusedBy}
-use Rattle.owned_loans.proofs.Moves.{view_on, same_viewed}
+use Rattle.soundness.proofs.Returning.{returned_kept, left_same, left_held, returns_lead, ends_lead, left_waits, ended_owned, Backs}
+use Rattle.owned_loans.specs.Views.{known_gone, Views, IsMovedBy, Viewed, ExcusedBy, Around, IsAway}
+use Rattle.owned_loans.proofs.Moves.{view_on}
 use Rattle.owned_loans.proofs.Ended.{stands_itself}
 use Rattle.viewed_soundness.proofs.Names.{true_false}
 use Rattle.viewed_soundness.proofs.Outcomes.{named_plain}
 use Rattle.viewed_steps.specs.Awaited.{AreFor, AreValues, temporaries_of, lasting_of, awaited, AreAwaited}
 use Rattle.viewed_steps.proofs.Waited.{others_only, lasting_within}
-use Rattle.viewed_steps.specs.Sound.{HoldsAt, ArePlaced, NoneAbove, ViewStage, stages_of, GoneElsewhere, IsWaiting, AreWaiting, ends_one, LeadsAlong}
+use Rattle.viewed_steps.specs.Sound.{HoldsAt, ArePlaced, NoneAbove, ViewStage, stages_of, GoneElsewhere, IsWaiting, AreWaiting, ends_one, LeadsAlong, IsResting, IsKindOfFormal, AreScalarFormals}
 use Rattle.viewed_steps.specs.Ready.{IsReady}
 use Rattle.viewed_steps.proofs.Read.{scalar_named}
-use Rattle.viewed_steps.proofs.Ended.{none_some}
-use Rattle.viewed_steps.proofs.Waiting.{StandsBetween, all_between, handed, all_on, all_same}
-use Rattle.viewed_steps.proofs.Left.{cells_same, owned_left, covered_left, reach_left, reach_before, gone_before, own_whole, other_word, no_word}
-use Rattle.viewed_steps.proofs.Called.{Enters, all_back}
+use Rattle.viewed_steps.proofs.Waiting.{StandsBetween, all_between, handed, all_on, gone_low, kept_low, far}
+use Rattle.viewed_steps.proofs.Left.{owned_left, covered_left, reach_left, reach_before, gone_before, other_word, no_word, whole_there}
 use Rattle.viewed_steps.proofs.Standing.{or_right}
 use Rattle.viewed_steps.proofs.Standing as standing
 use Rattle.viewed_steps.proofs.Packages as packages
 use Rattle.viewed_steps.proofs.Innermost as innermost
+use Rattle.soundness.proofs.Passing.{signature_is}
+use Rattle.owned_ways.proofs.Dropped.{named_base}
+use Rattle.viewed_soundness.specs.Holds.{IsNamed}
+use Rattle.viewed_steps.specs.Taken.{TakenBy}
+use Rattle.viewed_steps.proofs.Between.{base_under, same_variable}
+use Rattle.viewed_steps.proofs.Backed.{AwayBy, ViewedAway, IsBack, all_given_back}
+use Rattle.viewed_steps.proofs.Whole.{leaves_whole}
 
 smaller : (f b low : ℕ) → f < suc b → (f ≡ low → ⊥) → low ≡ b → f < low
 smaller f b low less ne is =
@@ -80,13 +85,16 @@ module _ (table : Table) (typed : TypedProgram) (effects : Effects) (input : Lis
   abbrev local : (x : ℕ) → is_anonymous (view_of s x) ≡ true → is_package_object s x ≡ false
   local = standing.local table typed effects input ready
 
+  abbrev no_in_formals : (x : ℕ) → is_view_formal s x ≡ false
+  no_in_formals = standing.no_in_formals table typed effects input ready
+
   abbrev unmoved_stage : (e : Stage) → e.frame.sub ≡ 0 → (name : PlaceName) → Has (facts_of program effects e) (Moved name) → ⊥
   unmoved_stage = packages.unmoved_stage table typed effects input ready
 
   module _ (state : State) (top : Stage) (below : ViewStage) (more_frames : List ViewStage) (rest : List Frame) (named : NamedSub) (p : NamedPoint)
       (frames : state.frames ≡ top.frame ∷ (below.stage.frame ∷ rest)) (deep : top.depth ≡ suc (length rest))
       (stages : AreStages (stages_of (below ∷ more_frames)) (below.stage.frame ∷ rest))
-      (running : IsRunnable table typed top.frame.sub × IsResting s top × AreWaiting table typed effects state top.frame.sub (below ∷ more_frames))
+      (running : IsRunnable table typed top.frame.sub × IsResting s top × AreWaiting table typed effects state top.frame.sub top.frame.returns (below ∷ more_frames))
       (awaiting : AreAwaited table typed None (top ∷ stages_of (below ∷ more_frames)))
       (of_sub : IsNamedSub (flow_named table typed) top.frame.sub named) (at_point : IsAtPoint named.points top.frame.next p)
       (path : ControlPath (path_points program effects (sub_of program top.frame.sub)) top.before top.frame.next) (views : Views)
@@ -148,16 +156,29 @@ module _ (table : Table) (typed : TypedProgram) (effects : Effects) (input : Lis
 
     -- ---- the end of a call
 
-    nothing_left : p.instr ≡ Finish → (x : ℕ) (q : List Step) (n : ℕ)
-        → word_in s.table (content s state.memory (waiting_in state) (OfRoot (OfVariable depth x))) q ≡ Held n → ⊥
-    nothing_left is x q n held = elim (scope depth x q n held) [
-      | inl less ↦ omega (arith, less)
+    abbrev backs : List Return
+    backs = top.frame.returns
+
+    -- a formal that has a number is copied back
+    left_formal : p.instr ≡ Finish → (x : ℕ) (q : List Step) (n : ℕ)
+        → word_in s.table (content s state.memory [] (OfRoot (OfVariable depth x))) q ≡ Held n → (r : Return) × Has top.frame.returns r × (r.formal ≡ x)
+    left_formal is x q n held = elim (scope depth x q n held) [
+      | inl less ↦ absurd (omega (arith, less))
       | inr mine ↦ (
-          let formal = ready.scoped.finishes named named_there p point_there_now is x (lasting_within s x p.scope mine.1).0 in
-          let none = word_no s.table (content s state.memory (waiting_in state) (OfRoot (OfVariable depth x))) q
-          (no_leaf s.table ready.accepted.settled (object_at s x).of (ready.class.formals x formal) q) in
-          let no_number : ways.Empty ≡ Held n = sym none ∙ held in cc)
+          let own_formal = ready.passing.finishes named named_there p point_there_now is x (lasting_within s x p.scope mine.1).0 in
+          elim ((running.1).0 x (subst (λ z. Has z x) (sym formals_are) own_formal)) [
+            | inr copied ↦ copied
+            | inl plain_type ↦ (
+                let none = word_no s.table (content s state.memory [] (OfRoot (OfVariable depth x))) q
+                (no_leaf s.table ready.accepted.settled (object_at s x).of plain_type q) in
+                let no_number : ways.Empty ≡ Held n = sym none ∙ held in cc)
+          ])
     ]
+      where
+        formals_are : (sub_at s top.frame.sub).formals ≡ named.sub.formals
+        formals_are =
+            ap (λ (z : Signature). z.formals) (signature_is program top.frame.sub)
+            ∙ ap (λ (z : FlowSub). z.formals) (standing.sub_is table typed effects input ready state top older outer named p frames of_sub at_point)
 
     -- nothing waits in the frame then
     pub nothing_waits : p.instr ≡ Finish → top.frame.waits ≡ []
@@ -197,224 +218,321 @@ module _ (table : Table) (typed : TypedProgram) (effects : Effects) (input : Lis
     no_view_left : p.instr ≡ Finish → (x : ℕ) → views.way x ≡ None
     no_view_left is x = by_way (views.way x) refl
       where
+        named_formal : IsKindOfFormal s x → IsNamed s.table (object_at s x).of
+        named_formal (inl plain_type) = scalar_named s.table (object_at s x).of plain_type
+        named_formal (inr (in_out, own_type)) = own_type
+
         by_way : (o : Option Way) → views.way x ≡ o → views.way x ≡ None
         by_way None e = e
         by_way (Some w) e =
             let formal = ready.scoped.finishes named named_there p point_there_now is x (placed x w e).within in
-            absurd (true_false (is_anonymous (view_of s x)) (holds.only x w e)
-            (named_plain s.table (object_at s x).of (scalar_named s.table (object_at s x).of (ready.class.formals x formal))))
+            absurd (true_false (is_anonymous (view_of s x)) (holds.only x w e) (named_plain s.table (object_at s x).of (named_formal (ready.class.formals x formal))))
 
-    -- no part of a package object is moved then
-    whole_packages : p.instr ≡ Finish → (name : PlaceName) → Has own_facts (Moved name) → is_package_object s name.root ≡ true → ⊥
-    whole_packages is name has shared =
+    -- no part of a formal or package object is moved then
+    whole_roots : p.instr ≡ Finish → (name : PlaceName) → Has own_facts (Moved name) → is_formal s name.root || is_package_object s name.root ≡ true → ⊥
+    whole_roots is name has shared =
         let finishing : AllowsAll own_facts (acts_of_main Finish) =
         subst (λ i. AllowsAll own_facts (acts_of_main i)) is (standing.allowed table typed effects input ready state top older outer named p frames of_sub at_point path (λ k actuals result call. (let never : Finish ≡ Call k actuals result = sym is ∙ call in cc))) in
-        returns_whole program effects ready.accepted.effects_are own named top.before finishing.0 name has
-        (sym (package_same s own (standing.agree table typed effects input ready) name.root) ∙ shared)
+        leaves_whole program effects ready.accepted.effects_are own named top.before finishing.0 name has
+        (sym (λ j. formal_same s own (standing.agree table typed effects input ready) name.root j || package_same s own (standing.agree table typed effects input ready) name.root j) ∙ shared)
 
     module _ (h : ViewStage) (others : List ViewStage) (stages_there : AreStages (stages_of (below ∷ (h ∷ others))) (below.stage.frame ∷ rest))
-        (waiting : AreWaiting table typed effects state top.frame.sub (below ∷ (h ∷ others)))
+        (waiting : AreWaiting table typed effects state top.frame.sub top.frame.returns (below ∷ (h ∷ others)))
         (well : Viewed (home s depth) (is_observer s) (known_gone (home s depth) (GoneElsewhere program effects (below ∷ (h ∷ others)))) views (view_here s state) own_facts)
         (still_awaited : AreAwaited table typed (awaited (sub_of program top.frame.sub) top.before) (stages_of (below ∷ (h ∷ others))))
-        (is : p.instr ≡ Finish) (mid : Memory)
-        (on : Enters s ready.accepted.settled ready.owns (waiting_in state) state.leaks state.memory mid) where
-      abbrev mid_state : State
-      mid_state = record state { memory = mid }
-
-      abbrev left_state : State
-      left_state = counted (record state { frames = below.stage.frame ∷ rest; memory = without_frame depth mid })
-
-      nothing_mid : (x : ℕ) (q : List Step) (n : ℕ) → word_in s.table (content s mid (waiting_in state) (OfRoot (OfVariable depth x))) q ≡ Held n → ⊥
-      nothing_mid x q n held = nothing_left is x q n (sym (on.hold depth x q) ∙ held)
-
-      well_mid : Viewed (home s depth) (is_observer s) (known_gone (home s depth) (GoneElsewhere program effects (below ∷ (h ∷ others)))) views (view_here s mid_state) own_facts
-      well_mid =
-          same_viewed (home s depth) (is_observer s) (known_gone (home s depth) (GoneElsewhere program effects (below ∷ (h ∷ others)))) views
-          (view_here s state) (view_here s mid_state) own_facts on.same well
-
-      scope_mid : InScope s mid depth (lasting_of s p.scope)
-      scope_mid f x q n held = scope f x q n (sym (on.hold f x q) ∙ held)
-
-      above_mid : NoneAbove s depth mid
-      above_mid f x n less view e = above f x n less view (sym (on.views f x view) ∙ e)
-
-      waiting_mid : AreWaiting table typed effects mid_state top.frame.sub (below ∷ (h ∷ others))
-      waiting_mid =
-          all_same table typed effects unmoved_stage local state mid_state depth (λ f x q n some less held. (q, n, sym (on.hold f x q) ∙ held))
-          (λ f x some less view. on.views f x view) on.same top.frame.sub (below ∷ (h ∷ others)) (below.stage.frame ∷ rest) stages_there (omega arith) waiting
-
-      abbrev left_memory : Memory
-      left_memory = without_frame depth mid
-
-      abbrev waits : IsWaiting table typed effects mid_state top.frame.sub below
-      waits = waiting_mid.0
-
-      hands_left : waiting_in left_state ≡ waiting_in state
-      hands_left = left_waits state top.frame outer left_memory frames (nothing_waits is)
-
-      abbrev left_view : ways.View
-      left_view = seen s left_memory (waiting_in state) state.leaks
-
-      view_left : left_view ≡ view_here s left_state
-      view_left = ap (λ z. seen s left_memory z state.leaks) (sym hands_left)
-
-      reach_on : (w : Way) (n : ℕ) → ways.Reaches (view_here s mid_state) w (ways.OfCell n) → ways.Reaches (view_here s left_state) w (ways.OfCell n)
-      reach_on w n reach =
-          subst (λ z. ways.Reaches z w (ways.OfCell n)) view_left
-          (reach_left s mid depth (waiting_in state) state.leaks nothing_mid w (ways.OfCell n) reach)
-
-      -- what is in a variable of another frame was there before
-      held_before : (f x : ℕ) (q : List Step) (n : ℕ) → word_in s.table (content s left_memory [] (OfRoot (OfVariable f x))) q ≡ Held n
-          → (f ≡ depth → ⊥) × (word_in s.table (content s mid [] (OfRoot (OfVariable f x))) q ≡ Held n)
-      held_before f x q n held = left_held s mid depth (waiting_in state) state.leaks nothing_mid f x q n held
-
-      -- and views have there what they had
-      words_before : (f x : ℕ) → (f ≡ depth → ⊥)
-          → (get_or (variable_slots s f x left_memory.variables) 0 no_slot).word ≡ (get_or (variable_slots s f x mid.variables) 0 no_slot).word
-      words_before f x ne = other_word s mid depth f x ne
-
+        (is : p.instr ≡ Finish) where
       abbrev low : ℕ
       low = below.stage.depth
 
       low_is : below.stage.depth ≡ length rest
       low_is = stages_there.1
 
-      scope_left : (f x : ℕ) (q : List Step) (n : ℕ) → word_in s.table (content s left_memory [] (OfRoot (OfVariable f x))) q ≡ Held n
-          → (f < low) ⊎ ((f ≡ low) × (is_within x (lasting_of s (waits.point).scope) ≡ true))
-      scope_left f x q n held =
-          let before = held_before f x q n held in
-          elim (same_or_not f low) [
-            | inl e ↦ inr (e, waits.scope x q n (subst (λ z. word_in s.table (content s mid [] (OfRoot (OfVariable z x))) q ≡ Held n) e before.1))
-            | inr other_low ↦ inl (elim (scope_mid f x q n before.1) [
-              | inr mine ↦ absurd (before.0 mine.0)
-              | inl less ↦ smaller f (length rest) low less other_low low_is
+      abbrev waits : IsWaiting table typed effects state top.frame.sub top.frame.returns below
+      waits = waiting.0
+
+      abbrev their_facts : List Fact
+      their_facts = facts_of program effects below.stage
+
+      between_low : (g : ViewStage) → Has (h ∷ others) g → StandsBetween table typed effects unmoved_stage local state below.stage.depth g
+      between_low g has =
+          all_between table typed effects unmoved_stage local state below.stage.frame.sub below.stage.depth below.stage.frame.returns (h ∷ others) rest stages_there.2
+          (let same_depth = low_is in omega (arith, same_depth)) waiting.1 g has
+
+      -- what concerns the frame below
+      abbrev around_low : Around (home s below.stage.depth)
+      around_low = known_gone (home s below.stage.depth) (GoneElsewhere program effects (h ∷ others))
+
+      free_low : (k : ℕ) (w : Way) → ways.Under (ways.Object (ways.OfHand k)) w → GoneElsewhere program effects (h ∷ others) w → ⊥
+      free_low k w under away_there =
+          let root = gone_low table typed effects unmoved_stage local state below.stage.depth (h ∷ others) between_low w away_there in
+          hand_base (sym (base_under (ways.Object (ways.OfHand k)) w under) ∙ root.2)
+        where
+          hand_base : {k f x : ℕ} → OfRoot (ways.OfHand k) ≡ OfRoot (OfVariable f x) → ⊥
+          hand_base e = cc
+
+      whole_low : (x : ℕ) (w : Way) → ways.base_of w ≡ OfRoot (OfVariable (suc below.stage.depth) x) → GoneElsewhere program effects (h ∷ others) w → ⊥
+      whole_low x w base away_there =
+          let root = gone_low table typed effects unmoved_stage local state below.stage.depth (h ∷ others) between_low w away_there in
+          let frames_same = (same_variable root.0 root.1 (suc below.stage.depth) x (sym root.2 ∙ base)).0 in
+          let less = root.3 in omega (arith, frames_same, less)
+
+      none_kept : (w : Way) (n : ℕ) → around_low.kept w n → ⊥
+      none_kept w n keeps_it = keeps_it
+
+      deep_low : length (below.stage.frame ∷ rest) ≡ suc below.stage.depth
+      deep_low = ap suc (sym low_is)
+
+      -- the state as the frame below sees it
+      abbrev ViewedLow : List Return → List Way → Memory → Type 0
+      ViewedLow returns ways_left m =
+          ViewedAway main_turn ready.accepted.settled ready.owns no_in_formals (waiting_in state) state.leaks below.stage.depth deep_low below.views their_facts
+          (lasting_of s waits.point.scope) around_low free_low whole_low none_kept returns ways_left m
+
+      abbrev Away : Way → Type 0
+      Away w =
+          AwayBy main_turn ready.accepted.settled ready.owns no_in_formals (waiting_in state) state.leaks below.stage.depth deep_low below.views their_facts
+          (lasting_of s waits.point.scope) around_low free_low whole_low none_kept top.frame.returns below.stage.returns w
+
+      known_low : (w : Way) (l : ways.Loc) → ways.IsRooted w → ways.Reaches (view_here s state) w l → (view_here s state).word l ≡ ways.Gone
+          → IsAway (home s below.stage.depth) below.views around_low their_facts w ⊎ Away w
+      known_low w l rooted r gone = elim (well.known w l rooted r gone) [
+        | inl (inr none) ↦ absurd none
+        | inr (g, inl same_stage, inl moved) ↦ inl (inl (subst (λ (z : ViewStage). IsMovedBy (home s z.stage.depth) z.views (facts_of program effects z.stage) w) (sym same_stage) moved))
+        | inr (g, inl same_stage, inr taken) ↦ inr (inr (inl (subst (λ (z : ViewStage). TakenBy z.stage.returns w) (sym same_stage) taken)))
+        | inr (g, inr has, what) ↦ inr (inl (g, has, what))
+        | inl (inl (u, moved, leads)) ↦ (
+            let same_way : u ≡ w =
+            sym (stands_itself (home s depth) (is_observer s) (known_gone (home s depth) (λ z. ⊥)) views u moved.0 (no_view_left is (number_of u))) ∙ leads in
+            elim (bool_cases (is_formal s (number_of u) || is_package_object s (number_of u))) [
+              | inl shared ↦ absurd (whole_roots is (ways.name_of u) moved.1 shared)
+              | inr neither ↦ inr (inr (inr (
+                number_of w,
+                own_base w (subst (ways.Named (home s depth)) same_way moved.0)
+                    (second (is_formal s (number_of w)) (is_package_object s (number_of w)) (ap (λ z. is_formal s (number_of z) || is_package_object s (number_of z)) (sym same_way) ∙ neither)),
+                λ r has formal. true_false (is_formal s r.formal) ((running.1).1 r has)
+                    (ap (is_formal s) formal
+                    ∙ first (is_formal s (number_of w)) (is_package_object s (number_of w)) (ap (λ z. is_formal s (number_of z) || is_package_object s (number_of z)) (sym same_way) ∙ neither)),
+              )))
             ])
-          ]
+      ]
+        where
+          first : (a b : Bool) → a || b ≡ false → a ≡ false
+          first true b e = e
+          first false b e = refl
 
-      -- what is gone is known to those that are left
-      known_left : (w : Way) (l : ways.Loc) → ways.IsRooted w → ways.Reaches left_view w l → left_view.word l ≡ ways.Gone
-          → ExcusedBy (home s low) below.views (known_gone (home s low) (GoneElsewhere program effects (h ∷ others))) (facts_of program effects below.stage) w
-      known_left w l rooted r gone =
-          elim (well_mid.known w l rooted (reach_before s mid depth (waiting_in state) state.leaks nothing_mid w l r)
-          (gone_before s mid depth (waiting_in state) state.leaks nothing_mid l gone)) [
-            | inl (inr none) ↦ absurd none
-            | inr (g, inl same_stage, what) ↦ inl (inl (subst (λ (z : ViewStage). IsMovedBy (home s z.stage.depth) z.views (facts_of program effects z.stage) w) (sym same_stage) what))
-            | inr (g, inr has, what) ↦ inr (g, has, what)
-            | inl (inl (u, moved, leads)) ↦ absurd (
-                let same_way : u ≡ w =
-                sym (stands_itself (home s depth) (is_observer s) (known_gone (home s depth) (λ z. ⊥)) views u moved.0 (no_view_left is (number_of u))) ∙ leads in
-                elim (bool_cases (is_package_object s (number_of u))) [
-                  | inl shared ↦ whole_packages is (ways.name_of u) moved.1 shared
-                  | inr mine ↦ own_whole s mid depth (waiting_in state) state.leaks nothing_mid w l
-                      (subst (ways.Named (home s depth)) same_way moved.0) (ap (λ z. is_package_object s (number_of z)) (sym same_way) ∙ mine) r gone
-                ])
-          ]
+          second : (a b : Bool) → a || b ≡ false → b ≡ false
+          second true b e = cc
+          second false b e = e
 
-      viewed_left : Viewed (home s low) (is_observer s) (known_gone (home s low) (GoneElsewhere program effects (h ∷ others))) below.views left_view
-          (facts_of program effects below.stage)
-      viewed_left = record {
-        owned = owned_left s mid depth (waiting_in state) state.leaks nothing_mid well_mid.owned;
-        covered = covered_left s mid depth (waiting_in state) state.leaks nothing_mid well_mid.covered;
-        known = known_left;
+          own_base : (w : Way) → ways.Named (home s depth) w → is_package_object s (number_of w) ≡ false → ways.base_of w ≡ OfRoot (OfVariable (suc below.stage.depth) (number_of w))
+          own_base w at_home own_object =
+              named_base (home s depth) w at_home
+              ∙ ap (λ f. OfRoot (OfVariable f (number_of w))) (ap (λ z. if z then 0 else depth) own_object ∙ deep_low)
+
+      viewed_low : ViewedLow top.frame.returns below.stage.returns state.memory
+      viewed_low = record {
+        owned = well.owned;
+        covered = well.covered;
+        known = known_low;
         clear = waits.clear;
-        views = λ x w has.
-            view_on (home s low) (is_observer s) (known_gone (home s low) (λ z. ⊥)) below.views (view_here s mid_state) left_view
-            (facts_of program effects below.stage) (facts_of program effects below.stage) x w (waits.views x w has) (λ b n loan. loan)
-            (reach_left s mid depth (waiting_in state) state.leaks nothing_mid w (ways.OfCell (below.views.cell x)) (waits.views x w has).reaches);
+        views = waits.views;
         lends = λ l n none. absurd none;
         far = λ w n none. absurd none;
       }
 
-      holds_there : HoldsAt s low below.views left_memory waits.point
-      holds_there = record {
-        held = λ x n lasts view e. waits.holds.held x n lasts view (word_there x n view e);
-        within = λ x n view e. waits.holds.within x n view (word_there x n view e);
-        only = waits.holds.only;
-      }
-        where
-          word_there : (x n : ℕ) → is_anonymous (view_of s x) ≡ true
-              → (get_or (variable_slots s (home s low x) x left_memory.variables) 0 no_slot).word ≡ machine.Cell n
-              → (get_or (variable_slots s (home s low x) x mid.variables) 0 no_slot).word ≡ machine.Cell n
-          word_there x n view e =
-              let at_low : home s low x ≡ low = ap (λ b. if b then 0 else low) (local x view) in
-              let below_it = low_is in
-              sym (words_before (home s low x) x (λ same_depth. omega (arith, at_low, below_it, same_depth))) ∙ e
+      abbrev Backed : Memory → Type 0
+      Backed m =
+          IsBack main_turn ready.accepted.settled ready.owns no_in_formals (waiting_in state) state.leaks below.stage.depth deep_low below.views their_facts
+          (lasting_of s waits.point.scope) around_low free_low whole_low none_kept top.frame.returns state.memory m
 
-      above_left : NoneAbove s low left_memory
-      above_left f x n less view e = elim (same_or_not f depth) [
-        | inl same_depth ↦ no_word s mid depth x n
-            (subst (λ z. (get_or (variable_slots s z x left_memory.variables) 0 no_slot).word ≡ machine.Cell n) same_depth e)
-        | inr ne ↦ above_mid f x n (higher f low (length rest) less low_is ne) view (sym (words_before f x ne) ∙ e)
-      ]
+      given_back : Backs Backed (steps.copied_back main_turn top.frame.returns (steps.start main_turn))
+      given_back =
+          all_given_back main_turn ready.accepted.settled ready.owns no_in_formals (waiting_in state) state.leaks below.stage.depth deep_low below.views their_facts
+          (lasting_of s waits.point.scope) around_low free_low whole_low none_kept top.frame.returns below.stage.returns (steps.start main_turn) waits.taken kept viewed_low
 
-      others_left : AreWaiting table typed effects left_state below.stage.frame.sub (h ∷ others)
-      others_left =
-          all_on table typed effects unmoved_stage local mid_state left_state depth
-          (λ f x q n some less held. (q, n, (held_before f x q n held).1))
-          (λ f x some less view. words_before f x (λ same_depth. omega (arith, less, same_depth)))
-          below.stage.frame.sub (h ∷ others) rest stages_there.2 (omega arith)
-          (λ g has x w there. elim (all_between table typed effects unmoved_stage local mid_state below.stage.frame.sub depth (h ∷ others) rest stages_there.2 (omega arith) waiting_mid.1 g has) [
-            | inl first ↦ absurd (none_some w (sym (first.2 x) ∙ there))
-            | inr (some, less, under, waits_there) ↦ reach_on w (g.views.cell x) (waits_there.views x w there).reaches
-          ]) waiting_mid.1
+      module _ (mid : Memory) (on : Backed mid) where
+        abbrev left_state : State
+        left_state = counted (record state { frames = below.stage.frame ∷ rest; memory = without_frame depth mid })
 
-      -- owners see the same of the frames that are left
-      left_words : AreSameWords s (λ f. f ≡ top.depth → ⊥) state.memory left_memory
-      left_words =
-          let left_there = left_same s mid depth (waiting_in state) state.leaks nothing_mid in (
-            λ f x q other_frame. left_there.0 f x q (λ e. other_frame (e ∙ sym deep)) ∙ on.hold f x q,
-            λ c q. left_there.1 c q ∙ cells_same s state.memory mid (waiting_in state) state.leaks on.same c q,
-          )
+        depths : suc below.stage.depth ≡ depth
+        depths = sym deep_low
 
-      -- the frame below goes on
-      returns_to : more_frames ≡ h ∷ others → Along (Goes left_state)
-      returns_to same_more = (
-        record {
-          top = below.stage;
-          views = below.views;
-          older = h ∷ others;
-          stages = stages_there;
-          running = (waits.runs, waits.plain, others_left);
-          awaited = subst (λ n. AreAwaited table typed n (stages_of (below ∷ (h ∷ others)))) (returned_then is) still_awaited;
-          path = waits.path;
-          viewed = subst (λ z. Viewed (home s low) (is_observer s) (known_gone (home s low) (GoneElsewhere program effects (h ∷ others))) below.views z
-              (facts_of program effects below.stage)) view_left viewed_left;
-          kept = subst (Kept s left_memory) (sym hands_left)
-              (returned_kept s mid depth (waiting_in state) state.leaks nothing_mid on.typed);
-          named = waits.named;
-          of_sub = waits.of_sub;
-          point = waits.point;
-          at_point = waits.at_point;
-          scope = scope_left;
-          holds = holds_there;
-          placed = waits.placed;
-          none_above = above_left;
-        },
-        ends_one (ap (λ z. below ∷ z) same_more) left_words,
-      )
+        nothing_mid : (x : ℕ) (q : List Step) (n : ℕ) → word_in s.table (content s mid (waiting_in state) (OfRoot (OfVariable depth x))) q ≡ Held n → ⊥
+        nothing_mid x q n held = elim (on.held depth x q n held) [
+          | inr same_low ↦ (let a = same_low.0 in let b = low_is in omega (arith, a, b))
+          | inl before ↦ (
+              let copied = left_formal is x q n before in
+              on.empty copied.0 copied.1 q n
+              (subst (λ f. word_in s.table (content s mid [] (OfRoot (OfVariable f (copied.0).formal))) q ≡ Held n) (sym depths)
+              (subst (λ y. word_in s.table (content s mid [] (OfRoot (OfVariable depth y))) q ≡ Held n) (sym copied.2) held)))
+        ]
+
+        abbrev left_memory : Memory
+        left_memory = without_frame depth mid
+
+        hands_left : waiting_in left_state ≡ waiting_in state
+        hands_left = left_waits state top.frame outer left_memory frames (nothing_waits is)
+
+        abbrev left_view : ways.View
+        left_view = seen s left_memory (waiting_in state) state.leaks
+
+        abbrev mid_view : ways.View
+        mid_view = seen s mid (waiting_in state) state.leaks
+
+        view_left : left_view ≡ view_here s left_state
+        view_left = ap (λ z. seen s left_memory z state.leaks) (sym hands_left)
+
+        reach_on : (w : Way) (n : ℕ) → ways.Reaches mid_view w (ways.OfCell n) → ways.Reaches (view_here s left_state) w (ways.OfCell n)
+        reach_on w n reach =
+            subst (λ z. ways.Reaches z w (ways.OfCell n)) view_left
+            (reach_left s mid depth (waiting_in state) state.leaks nothing_mid w (ways.OfCell n) reach)
+
+        -- what is in a variable of another frame was there before
+        held_before : (f x : ℕ) (q : List Step) (n : ℕ) → word_in s.table (content s left_memory [] (OfRoot (OfVariable f x))) q ≡ Held n
+            → (f ≡ depth → ⊥) × (word_in s.table (content s mid [] (OfRoot (OfVariable f x))) q ≡ Held n)
+        held_before f x q n held = left_held s mid depth (waiting_in state) state.leaks nothing_mid f x q n held
+
+        -- and views have there what they had
+        words_before : (f x : ℕ) → (f ≡ depth → ⊥) → is_anonymous (view_of s x) ≡ true
+            → (get_or (variable_slots s f x left_memory.variables) 0 no_slot).word ≡ (get_or (variable_slots s f x state.memory.variables) 0 no_slot).word
+        words_before f x ne view = other_word s mid depth f x ne ∙ on.views f x view
+
+        scope_left : (f x : ℕ) (q : List Step) (n : ℕ) → word_in s.table (content s left_memory [] (OfRoot (OfVariable f x))) q ≡ Held n
+            → (f < low) ⊎ ((f ≡ low) × (is_within x (lasting_of s (waits.point).scope) ≡ true))
+        scope_left f x q n held =
+            let before = held_before f x q n held in
+            elim (on.held f x q n before.1) [
+              | inr mine ↦ inr mine
+              | inl first ↦ elim (same_or_not f low) [
+                | inl e ↦ inr (e, waits.scope x q n (subst (λ z. word_in s.table (content s state.memory [] (OfRoot (OfVariable z x))) q ≡ Held n) e first))
+                | inr other_low ↦ inl (elim (scope f x q n first) [
+                  | inr mine ↦ absurd (before.0 mine.0)
+                  | inl less ↦ smaller f (length rest) low less other_low low_is
+                ])
+              ]
+            ]
+
+        -- what is gone is known to those that are left
+        known_left : (w : Way) (l : ways.Loc) → ways.IsRooted w → ways.Reaches left_view w l → left_view.word l ≡ ways.Gone
+            → ExcusedBy (home s low) below.views (known_gone (home s low) (GoneElsewhere program effects (h ∷ others))) (facts_of program effects below.stage) w
+        known_left w l rooted r gone =
+            elim (on.viewed.known w l rooted (reach_before s mid depth (waiting_in state) state.leaks nothing_mid w l r)
+            (gone_before s mid depth (waiting_in state) state.leaks nothing_mid l gone)) [
+              | inl moved ↦ inl moved
+              | inr (inl away_there) ↦ inr away_there
+              | inr (inr (inl taken)) ↦ absurd taken.1
+              | inr (inr (inr (x, base, none))) ↦ absurd (
+                  whole_there s mid depth (waiting_in state) state.leaks nothing_mid w l x (base ∙ ap (λ f. OfRoot (OfVariable f x)) depths) r gone)
+            ]
+
+        viewed_left : Viewed (home s low) (is_observer s) (known_gone (home s low) (GoneElsewhere program effects (h ∷ others))) below.views left_view
+            (facts_of program effects below.stage)
+        viewed_left = record {
+          owned = owned_left s mid depth (waiting_in state) state.leaks nothing_mid on.viewed.owned;
+          covered = covered_left s mid depth (waiting_in state) state.leaks nothing_mid on.viewed.covered;
+          known = known_left;
+          clear = waits.clear;
+          views = λ x w has.
+              view_on (home s low) (is_observer s) (known_gone (home s low) (λ z. ⊥)) below.views mid_view left_view
+              (facts_of program effects below.stage) (facts_of program effects below.stage) x w (on.viewed.views x w has) (λ b n loan. loan)
+              (reach_left s mid depth (waiting_in state) state.leaks nothing_mid w (ways.OfCell (below.views.cell x)) (on.viewed.views x w has).reaches);
+          lends = λ l n none. absurd none;
+          far = λ w n none. absurd none;
+        }
+
+        holds_there : HoldsAt s low below.views left_memory waits.point
+        holds_there = record {
+          held = λ x n lasts view e. waits.holds.held x n lasts view (word_there x n view e);
+          within = λ x n view e. waits.holds.within x n view (word_there x n view e);
+          only = waits.holds.only;
+        }
+          where
+            word_there : (x n : ℕ) → is_anonymous (view_of s x) ≡ true
+                → (get_or (variable_slots s (home s low x) x left_memory.variables) 0 no_slot).word ≡ machine.Cell n
+                → (get_or (variable_slots s (home s low x) x state.memory.variables) 0 no_slot).word ≡ machine.Cell n
+            word_there x n view e =
+                let at_low : home s low x ≡ low = ap (λ b. if b then 0 else low) (local x view) in
+                let below_it = low_is in
+                sym (words_before (home s low x) x (λ same_depth. omega (arith, at_low, below_it, same_depth)) view) ∙ e
+
+        above_left : NoneAbove s low left_memory
+        above_left f x n less view e = elim (same_or_not f depth) [
+          | inl same_depth ↦ no_word s mid depth x n
+              (subst (λ z. (get_or (variable_slots s z x left_memory.variables) 0 no_slot).word ≡ machine.Cell n) same_depth e)
+          | inr ne ↦ above f x n (higher f low (length rest) less low_is ne) view (sym (words_before f x ne view) ∙ e)
+        ]
+
+        others_left : AreWaiting table typed effects left_state below.stage.frame.sub below.stage.frame.returns (h ∷ others)
+        others_left =
+            all_on table typed effects unmoved_stage local state left_state low
+            (λ f x q n some less held. elim (on.held f x q n (held_before f x q n held).1) [
+              | inl before ↦ before
+              | inr mine ↦ (let same_low = mine.0 in absurd (omega (arith, less, same_low)))
+            ])
+            (λ f x some less view. words_before f x (λ same_depth. (let below_it = low_is in omega (arith, less, same_depth, below_it))) view)
+            below.stage.frame.sub below.stage.frame.returns (h ∷ others) rest stages_there.2 (let same_depth = low_is in omega (arith, same_depth))
+            (λ g has x w there. (let root = kept_low table typed effects unmoved_stage local state below.stage.depth (h ∷ others) between_low w (g.views.cell x) (g, has, x, there, refl) in
+            reach_on w (g.views.cell x) (on.low w root.0 root.1 root.2 root.3 (g.views.cell x)
+            (far table typed effects unmoved_stage local state below.stage.depth (h ∷ others) between_low w (g.views.cell x) (g, has, x, there, refl))))) waiting.1
+
+        -- owners see the same of the frames that are left, if formals are scalar
+        left_words : AreScalarFormals program → AreSameWords s (λ f. f ≡ top.depth → ⊥) state.memory left_memory
+        left_words scalars =
+            let left_there = left_same s mid depth (waiting_in state) state.leaks nothing_mid in
+            let on_there = on.words (λ r has. scalars r.formal ((running.1).1 r has)) in (
+              λ f x q other_frame. left_there.0 f x q (λ e. other_frame (e ∙ sym deep)) ∙ on_there.0 f x q tt,
+              λ c q. left_there.1 c q ∙ on_there.1 c q,
+            )
+
+        -- the frame below goes on
+        returns_to : more_frames ≡ h ∷ others → Along (Goes left_state)
+        returns_to same_more = (
+          record {
+            top = below.stage;
+            views = below.views;
+            older = h ∷ others;
+            stages = stages_there;
+            running = (waits.runs, waits.plain, others_left);
+            awaited = subst (λ n. AreAwaited table typed n (stages_of (below ∷ (h ∷ others)))) (returned_then is) still_awaited;
+            path = waits.path;
+            viewed = subst (λ z. Viewed (home s low) (is_observer s) (known_gone (home s low) (GoneElsewhere program effects (h ∷ others))) below.views z
+                (facts_of program effects below.stage)) view_left viewed_left;
+            kept = subst (Kept s left_memory) (sym hands_left)
+                (returned_kept s mid depth (waiting_in state) state.leaks nothing_mid on.typed);
+            named = waits.named;
+            of_sub = waits.of_sub;
+            point = waits.point;
+            at_point = waits.at_point;
+            scope = scope_left;
+            holds = holds_there;
+            placed = waits.placed;
+            none_above = above_left;
+          },
+          ends_one (ap (λ z. below ∷ z) same_more) left_words,
+        )
 
     pub ends_call : p.instr ≡ Finish → Along (turn main_turn Finish)
     ends_call is = by_rest rest more_frames refl refl stages running.2 viewed_own awaiting.1
       where
         by_rest : (r : List Frame) (m : List ViewStage) → rest ≡ r → more_frames ≡ m → AreStages (stages_of (below ∷ m)) (below.stage.frame ∷ r)
-            → AreWaiting table typed effects state top.frame.sub (below ∷ m)
+            → AreWaiting table typed effects state top.frame.sub top.frame.returns (below ∷ m)
             → Viewed (home s depth) (is_observer s) (known_gone (home s depth) (GoneElsewhere program effects (below ∷ m))) views (view_here s state) own_facts
             → AreAwaited table typed (awaited (sub_of program top.frame.sub) top.before) (stages_of (below ∷ m)) → Along (turn main_turn Finish)
         by_rest [] [] same_rest same_more stages_there waiting well still =
-            ends_lead main_turn Along (λ m. Enters s ready.accepted.settled ready.owns (waiting_in state) state.leaks state.memory m)
+            ends_lead main_turn Along (λ m. m ≡ state.memory)
             ends_raised below.stage.frame (ap (λ z. below.stage.frame ∷ z) same_rest)
-            (λ m on. (
-            let well_then = same_viewed (home s depth) (is_observer s) (known_gone (home s depth) (GoneElsewhere program effects (below ∷ []))) views
-            (view_here s state) (view_here s (record state { memory = m })) own_facts on.same well in (
+            (λ m on. subst (λ z. Along (Ends Normal (counted (record state { frames = outer; memory = without_frame depth z })))) (sym on) (
               (λ trap. trap),
-              ended_owned s ready.accepted.settled ready.owns (record state { memory = m }) top.frame outer depth frames (nothing_waits is)
-                  (λ x q n held. nothing_left is x q n (sym (on.hold depth x q) ∙ held)) well_then.owned well_then.covered,
-            )))
-            (all_back main_turn ready.accepted.settled ready.owns (waiting_in state) state.leaks top.frame.returns running.1.0 (steps.start main_turn) kept)
+              ended_owned s ready.accepted.settled ready.owns state top.frame outer depth frames (nothing_waits is)
+                  (λ x q n held. (let copied = left_formal is x q n held in subst (λ z. Has z copied.0) waiting.1 copied.1)) well.owned well.covered,
+            ))
+            (subst (λ z. Backs (λ m. m ≡ state.memory) (steps.copied_back main_turn z (steps.start main_turn))) (sym waiting.1) refl)
         by_rest [] (h ∷ m) same_rest same_more stages_there waiting well still = absurd stages_there.2
         by_rest (k ∷ r) [] same_rest same_more stages_there waiting well still = absurd stages_there.2
         by_rest (k ∷ r) (h ∷ m) same_rest same_more stages_there waiting well still =
-            returns_lead main_turn Along (λ m. Enters s ready.accepted.settled ready.owns (waiting_in state) state.leaks state.memory m)
+            let there : AreStages (stages_of (below ∷ (h ∷ m))) (below.stage.frame ∷ rest) =
+            subst (λ z. AreStages (stages_of (below ∷ (h ∷ m))) (below.stage.frame ∷ z)) (sym same_rest) stages_there in
+            returns_lead main_turn Along (λ mid. Backed h m there waiting well still is mid)
             ends_raised below.stage.frame k r (ap (λ z. below.stage.frame ∷ z) same_rest)
-            (λ mid on. returns_to h m (subst (λ z. AreStages (stages_of (below ∷ (h ∷ m))) (below.stage.frame ∷ z)) (sym same_rest) stages_there) waiting well still is mid on same_more)
-            (all_back main_turn ready.accepted.settled ready.owns (waiting_in state) state.leaks top.frame.returns running.1.0 (steps.start main_turn) kept)
+            (λ mid on. returns_to h m there waiting well still is mid on same_more)
+            (given_back h m there waiting well still is)

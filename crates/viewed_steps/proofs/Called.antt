@@ -1,61 +1,61 @@
--- Calls with formals of scalar types: actuals are values of one word, or scalar places in variables; and
--- owners see nothing of the formals, nor of what is copied back.
-use Rattle.std.proofs.Common.{◌≡◌, refl, sym, ap, ◌∙◌, subst, inl, inr, ℕ, ◌+◌, Bool, true, false, List, [], ◌∷◌, ◌++◌, map, take, drop, length, get_or, Option, Some, None, if◌then◌else◌}
-use Rattle.std.proofs.lemmas.List.{length-map}
+-- Calls: what the actuals are, and how they are passed. Each is a value of one word, a scalar place in a
+-- variable, or another place in a variable of the caller.
+use Rattle.std.proofs.Common.{◌≡◌, refl, ◌&&◌, not, is_some, sym, ap, ◌∙◌, subst, ◌⊎◌, inl, inr, ℕ, append-nil, Bool, true, false, List, [], ◌∷◌, ◌++◌, map, Option, Some, None, if◌then◌else◌}
 use Rattle.spark_base.specs.Lists.{Has}
+use Rattle.spark_base.proofs.Lists.{Has-append_cases}
 use Rattle.spark_base.specs.declared.position.Pos.{Pos}
+use Rattle.place_names.specs.declared.act.Act.{Act}
 use Rattle.place_names.specs.declared.act.Act.TheVariants as act
 use Rattle.place_names.specs.declared.act.Mode.{Mode}
 use Rattle.place_names.specs.declared.act.Mode.TheVariants as mode
 use Rattle.place_names.specs.declared.act.Placed.{Placed}
 use Rattle.place_names.specs.declared.fact.Fact.{Fact}
-use Rattle.place_names.specs.Facts.{effect}
-use Rattle.type_definitions.specs.Types.{Table, shape_of, words, full, is_scalar}
-use Rattle.typed_tree.specs.Trees.{TypedTree, Name, Component as IntoComponent, Designated, Element, More}
-use Rattle.flow_paths.specs.Objects.{Typing, object_at, is_anonymous, is_observer, view_of, Passing, ByValue}
-use Rattle.flow_paths.specs.Names.{Written, written, waiting as waits_in, name_of}
-use Rattle.flow_paths.specs.Acts.{naming, acts_in, index_acts, actual_act, actual_acts, actual_values}
+use Rattle.place_names.specs.Names.{Name as PlaceName}
+use Rattle.place_names.specs.Facts.{adds, effect}
+use Rattle.type_definitions.specs.Types.{Table, full, is_scalar, is_owning, parts}
+use Rattle.typed_tree.specs.Trees.{TypedTree, Number, Literal, Text, Name, Component as IntoComponent, Designated, Element, Call, EndOfFile, Parens, Image, Unary, Binary, Short, IsNull, Aggregate, Alike, New, NoMore, More}
+use Rattle.typed_tree.specs.Trees as typed
+use Rattle.flow_paths.specs.Objects.{Typing, Signature, object_at, sub_at, is_anonymous, is_observer, is_named_access, is_package_object, view_of, traverses, first_traversed, Passing, ByValue, passing, passing_by, passings}
+use Rattle.flow_paths.specs.Objects as objects
+use Rattle.flow_paths.specs.Names.{Written, written, is_empty, has_call, waiting as waits_in, name_of}
+use Rattle.flow_paths.specs.Laid.{FlowProgram, flow_typing}
+use Rattle.flow_paths.specs.Acts.{placed, naming, used, acts_in, index_acts, actual_act, actual_acts, actual_values}
 use Rattle.machine.specs.Words.{access_offsets, fits_type}
 use Rattle.machine.specs.Words as machine
 use Rattle.machine.specs.Memory.{Slot, Memory, Base, Place, fresh, no_slot, variable_slots, slots_at, slots_of, words_of, gone_at, with_slots, stored, moved_out, declared}
 use Rattle.machine.specs.Memory as memory
 use Rattle.machine.specs.Evaluate.{Here, Now, AsValue, AsView, Evaluated, Done, Raises, Traps, ConstraintError, followed_by, evaluate, indexed, steps_of, walked, place_of, variable_place, component_place, element_place, checked, value, viewed}
 use Rattle.machine.specs.Evaluate as run
-use Rattle.machine.specs.Calls.{Passed, Value, From, To, type_of, value_passed, passed, all_passed, with_formal, with_formals}
-use Rattle.machine.specs.States.{Waiting, Leak, Return}
-use Rattle.machine.specs.Step.{Turn, typing, here, copied_back}
+use Rattle.machine.specs.Calls.{Passed, Value, From, To, type_of, value_passed, passed, all_passed}
+use Rattle.machine.specs.States.{Waiting, Leak, sub_of}
 use Rattle.machine.specs.Owners.{is_in}
-use Rattle.owned_ways.specs.Ways.{Step, Component, OfVariable, Loc, OfRoot, Way, Object, Into, Empty, Named, Past, IsRooted, Reaches, IsSame, AllowsAll, after, part}
+use Rattle.owned_ways.specs.Ways.{Step, Root, Component, OfVariable, Loc, OfRoot, Way, Object, Into, Empty, Named, Past, IsRooted, Reaches, IsSame, AllowsAll, after, part, along}
 use Rattle.owned_ways.specs.Ways as ways
 use Rattle.part_offsets.specs.Parts.{type_in, offset_in, has_part, IsSettled}
-use Rattle.soundness.specs.Seen.{IsNear, Content, content, trunk, steps_in, word_in, seen, home}
+use Rattle.soundness.specs.Seen.{IsNear, Content, content, trunk, steps_in, seen, home}
 use Rattle.soundness.specs.Typed.{Matches, OwnsByShape, Kept, Spot, IsFixed, loc_of}
-use Rattle.soundness.specs.Sound.{goes_through_none, AreCopied, IsCopied}
-use Rattle.soundness.specs.Ready.{IsActualBy, AreActuals}
-use Rattle.typed_laws.specs.Needed.{Stays, IndexLaw, IsPlace as IsPlaceOf}
-use Rattle.soundness.proofs.Contents.{word_no, word_part}
-use Rattle.soundness.proofs.Joined.{leaf_join}
-use Rattle.soundness.proofs.Memories.{put_other, marked_length}
-use Rattle.soundness.proofs.Steps.{no_leaf, plain_end, room, taken_slots}
-use Rattle.soundness.proofs.Keeping.{scalar}
-use Rattle.soundness.proofs.Lasting.{lengths, less_kept, put_away, declared_kept, keeps}
-use Rattle.soundness.proofs.Fixed.{matches_scalar, plain_word, fixed_at, fixed_spot, fixed_one, put_word, put_same_view}
-use Rattle.soundness.proofs.Loops.{same_word, scalar_same}
+use Rattle.soundness.specs.Sound.{goes_through_none, AreCopied}
+use Rattle.typed_laws.specs.Needed.{Stays, Leads, IndexLaw, IsPlace as IsPlaceOf}
+use Rattle.soundness.proofs.Contents.{bool_cases, word_no, word_part}
+use Rattle.soundness.proofs.Joined.{leaf_join, steps_part}
+use Rattle.soundness.proofs.Steps.{no_leaf}
+use Rattle.soundness.proofs.Fixed.{matches_scalar}
 use Rattle.soundness.proofs.Scalars.{acts, acts_append, after_append, allows_both, read_effect, number_along, named_along}
 use Rattle.soundness.proofs.Stays.{One, Quiet, quiet_then, quiet_from}
 use Rattle.soundness.proofs.Taking.{Takes}
 use Rattle.soundness.proofs.Walks.{Lead, way_along, Walked, walk}
-use Rattle.soundness.proofs.Passing.{IsRead, AreReads, IsValue, IsLaid, AreLaid, TakesAll, way_by, way_of, reads_keep, head_acts, head_values, head_reads}
-use Rattle.soundness.proofs.Returning.{Backs, copied_is, formal_fixed}
+use Rattle.soundness.proofs.Passing.{IsRead, AreReads, AddNone, IsValue, TakesAll, plain_type, reads_keep, read_adds_none, signature_is}
 use Rattle.owned_loans.specs.Views.{Around, Views, expand, ExcusedBy, Viewed}
 use Rattle.owned_loans.proofs.Moves.{IsPlace}
-use Rattle.viewed_soundness.specs.Holds.{PartsAreNamed, Holds}
-use Rattle.viewed_soundness.proofs.Names.{Starts, true_false, view_access, is_place}
+use Rattle.viewed_soundness.specs.Holds.{IsNamed, PartsAreNamed, Holds}
+use Rattle.viewed_soundness.proofs.Names.{Starts, true_false, is_place}
 use Rattle.viewed_soundness.proofs.Stays.{Goes as GoesAlong, taking, steps_taking}
-use Rattle.viewed_soundness.proofs.Outcomes.{named_plain}
+use Rattle.viewed_soundness.proofs.Evaluated.{matches_named}
+use Rattle.viewed_steps.specs.Taken.{IsInside}
+use Rattle.viewed_steps.specs.Sound.{IsScalarObject, IsKindOfFormal}
+use Rattle.viewed_steps.specs.Ready.{IsOwnPlace, IsActualTo, AreActualsTo}
 use Rattle.viewed_steps.proofs.Read.{scalar_named}
 use Rattle.viewed_steps.proofs.Released.{nothing_written}
-use Rattle.viewed_steps.proofs.Beside.{put_beside}
 use Rattle.viewed_steps.proofs.Lent.{ends, Spare, spare_both, spare_naming}
 
 -- ---- names that go through no access value
@@ -131,6 +131,224 @@ both_quiet now P (Done way n) is direct = (is.0, (is.1, direct))
 both_quiet now P (Raises e n) is direct = is
 both_quiet now P (Traps t n) is direct = is
 
+-- the ways of such names are parts of variables
+direct_part : (r : Root) (way : List run.Step) → IsDirect way → (p : List Step) → (q : List Step) × (way_along way (along (Object r) p) ≡ along (Object r) q)
+direct_part r [] direct p = (p, refl)
+direct_part r (run.ToComponent i ∷ way) direct p = direct_part r way direct (Component i ∷ p)
+direct_part r (run.ToElement n ∷ way) direct p = direct_part r way direct (ways.Element n ∷ p)
+direct_part r (run.ToDesignated ∷ way) direct p = absurd direct
+
+part_reached : (view : ways.View) (r : Root) (q : List Step) (l : Loc) → Reaches view (along (Object r) q) l → l ≡ part (OfRoot r) q
+part_reached view r [] l is = is
+part_reached view r (i ∷ q) l (m, reach, is) = is ∙ ap (λ z. ways.Inside z i) (part_reached view r q m reach)
+
+-- ---- acts that read
+
+no_reads : AreReads []
+no_reads p has = absurd has
+
+one_read : (p : Placed) → IsRead p → AreReads (p ∷ [])
+one_read p read q (inl e) = subst IsRead e read
+one_read p read q (inr never) = absurd never
+
+both_reads : (ps qs : List Placed) → AreReads ps → AreReads qs → AreReads (ps ++ qs)
+both_reads ps qs h g p has = elim (Has-append_cases ps qs p has) [ inl l ↦ h p l | inr r ↦ g p r ]
+
+if_reads : (b : Bool) (ps : List Placed) → AreReads ps → AreReads (if b then [] else ps)
+if_reads true ps h = no_reads
+if_reads false ps h = h
+
+naming_adds : (w : Option Written) (act_of : PlaceName → Act) → ((m : PlaceName) → adds (act_of m) ≡ []) → AddNone (naming w act_of)
+naming_adds None act_of none p has f new = has
+naming_adds (Some w) act_of none p (inl e) f new = subst (λ z. Has z f) (ap (λ (z : Placed). adds z.act) (sym e) ∙ none w.name) new
+naming_adds (Some w) act_of none p (inr never) f new = never
+
+module _ (s : Typing) (own_law : OwnsByShape s.table) where
+  used_read : (m : PlaceName) (t : ℕ) → is_scalar (full s.table t) ≡ true → used s m t ≡ act.Read m
+  used_read m t e = ap (λ b. if b then act.Move m (parts s.table t) else act.Read m) (plain_type s own_law t e)
+
+  mutual
+    unfolding Stays Leads acts_in
+
+    reads_in : (e : TypedTree) → Stays s e → AreReads (acts_in s e)
+    reads_in (Name p x steps t) (leads, plain) =
+        both_reads (acts_in s steps) (placed p (used s (name_of x steps) t) ∷ []) (steps_read (object_at s x).of t steps leads)
+        (one_read (placed p (used s (name_of x steps) t)) (name_of x steps, inl (used_read (name_of x steps) t plain)))
+    reads_in (Parens e) stays = reads_in e stays
+    reads_in (Unary op e) stays = reads_in e stays
+    reads_in (Binary op a b) stays = both_reads (acts_in s a) (acts_in s b) (reads_in a stays.0) (reads_in b stays.1)
+    reads_in (Short op p a q b) stays =
+        if_reads (has_call b) (acts_in s a ++ acts_in s b) (both_reads (acts_in s a) (acts_in s b) (reads_in a stays.0) (reads_in b stays.1))
+    reads_in (IsNull equal (Name p x steps t)) leads =
+        both_reads (acts_in s steps) (placed p (act.Look (name_of x steps)) ∷ []) (steps_read (object_at s x).of t steps leads)
+        (one_read (placed p (act.Look (name_of x steps))) (name_of x steps, inr refl))
+    reads_in (IsNull equal (Call p sub actuals)) stays = no_reads
+    reads_in (IsNull equal e) stays = absurd stays
+    reads_in (Call p sub actuals) stays = no_reads
+    reads_in (Number v) stays = no_reads
+    reads_in (Literal n) stays = no_reads
+    reads_in typed.Null stays = no_reads
+    reads_in EndOfFile stays = no_reads
+    reads_in (Text b) stays = absurd stays
+    reads_in (Image t e) stays = absurd stays
+    reads_in NoMore stays = absurd stays
+    reads_in (More e rest) stays = absurd stays
+    reads_in (Aggregate t es) stays = absurd stays
+    reads_in (Alike t e) stays = absurd stays
+    reads_in (New t v) stays = absurd stays
+    reads_in (IntoComponent i rest) stays = absurd stays
+    reads_in (Designated rest) stays = absurd stays
+    reads_in (Element index low high rest) stays = absurd stays
+
+    steps_read : (t u : ℕ) (steps : TypedTree) → Leads s t steps u → AreReads (acts_in s steps)
+    steps_read t u (IntoComponent i rest) (less, leads) = steps_read _ u rest leads
+    steps_read t u (Designated rest) (d, c, n, is, leads) = steps_read d u rest leads
+    steps_read t u (Element index low high rest) (e, is, stays, leads) =
+        both_reads (acts_in s index) (acts_in s rest) (reads_in index stays) (steps_read e u rest leads)
+    steps_read t u NoMore leads = no_reads
+    steps_read t u steps leads = absurd leads
+
+  index_reads : (e : TypedTree) (t : ℕ) → IsPlaceOf s e t → AreReads (index_acts s e)
+  index_reads (Name p x path u) t place = steps_read (object_at s x).of u path place.0
+  index_reads e t place = absurd place
+
+-- ---- how actuals are passed to a procedure
+
+-- By the mode: those of mode `in` by value.
+abbrev pub ByModeFor : Mode → Bool → Type 0
+ByModeFor m owning = m ≡ mode.In → owning ≡ false
+
+module _ (s : Typing) (own_law : OwnsByShape s.table) (procedure : Bool) where
+  abbrev pub way_to : ℕ → Passing
+  way_to x = passing s procedure x
+
+  -- a formal of mode `in` is of a scalar type
+  pub in_plain : (x : ℕ) → IsKindOfFormal s x → ByModeFor (object_at s x).mode (is_owning s.table (object_at s x).of)
+  in_plain x (inl plain) is = plain_type s own_law (object_at s x).of plain
+  in_plain x (inr (in_out, own)) is = (let no : mode.InOut ≡ mode.In = sym in_out ∙ is in cc)
+
+  abbrev pub head_of : Mode → TypedTree → List Placed
+  head_of mode.In e = acts_in s e
+  head_of m e = index_acts s e
+
+  head_is : (m : Mode) (owning access : Bool) → ByModeFor m owning → (e : TypedTree) (ways : List Passing) (rest : TypedTree)
+      → actual_values s (passing_by m owning access ∷ ways) (More e rest) ≡ head_of m e ++ actual_values s ways rest
+  head_is mode.In owning access fits e ways rest =
+      ap (λ b. actual_values s ((if b then objects.Place mode.In b access else ByValue) ∷ ways) (More e rest)) (fits refl)
+  head_is mode.Out owning access fits e ways rest = refl
+  head_is mode.InOut owning access fits e ways rest = refl
+
+  pub head_values_are : (x : ℕ) → IsKindOfFormal s x → (e : TypedTree) (ways : List Passing) (rest : TypedTree)
+      → actual_values s (way_to x ∷ ways) (More e rest) ≡ head_of (object_at s x).mode e ++ actual_values s ways rest
+  head_values_are x kind e ways rest =
+      head_is (object_at s x).mode (is_owning s.table (object_at s x).of) (procedure && is_named_access (view_of s x)) (in_plain x kind) e ways rest
+
+  pub head_of_reads : (x : ℕ) (m : Mode) (e : TypedTree) → IsActualTo s x m e → AreReads (head_of m e)
+  head_of_reads x mode.In e stays = reads_in s own_law e stays
+  head_of_reads x mode.Out e place = index_reads s own_law e place.0 place.1
+  head_of_reads x mode.InOut e place = index_reads s own_law e place.0 place.1
+
+  none_of : (m : Mode) (owning access : Bool) → ByModeFor m owning → (ways : List Passing) (actuals : TypedTree) → is_empty actuals ≡ true
+      → AreReads (actual_values s (passing_by m owning access ∷ ways) actuals)
+  none_of mode.In owning access fits ways actuals none =
+      subst (λ b. AreReads (actual_values s ((if b then objects.Place mode.In b access else ByValue) ∷ ways) actuals)) (sym (fits refl)) (by_value ways actuals none)
+    where
+      by_value : (ways : List Passing) (actuals : TypedTree) → is_empty actuals ≡ true → AreReads (actual_values s (ByValue ∷ ways) actuals)
+      by_value ways (More e rest) none = cc
+      by_value ways actuals none = λ p has. absurd has
+  none_of mode.Out owning access fits ways (More e rest) none = cc
+  none_of mode.Out owning access fits ways actuals none = λ p has. absurd has
+  none_of mode.InOut owning access fits ways (More e rest) none = cc
+  none_of mode.InOut owning access fits ways actuals none = λ p has. absurd has
+
+  pub values_are_read : (formals : List ℕ) (actuals : TypedTree) → ((x : ℕ) → Has formals x → IsKindOfFormal s x) → AreActualsTo s formals actuals
+      → AreReads (actual_values s (map way_to formals) actuals)
+  values_are_read [] actuals kinds stay = λ p has. absurd has
+  values_are_read (x ∷ formals) (More e rest) kinds stay =
+      subst AreReads (sym (head_values_are x (kinds x (inl refl)) e (map way_to formals) rest))
+      (both_reads (head_of (object_at s x).mode e) (actual_values s (map way_to formals) rest)
+      (head_of_reads x (object_at s x).mode e stay.0) (values_are_read formals rest (λ y has. kinds y (inr has)) stay.1))
+  values_are_read (x ∷ formals) actuals kinds stay =
+      none_of (object_at s x).mode (is_owning s.table (object_at s x).of) (procedure && is_named_access (view_of s x)) (in_plain x (kinds x (inl refl))) (map way_to formals) actuals refl
+
+  -- those of places that are copied back to add no fact, and end no scope
+  copy_adds : (m : Mode) (owning access : Bool) (e : TypedTree) → AddNone (actual_act (passing_by m owning access) e)
+  copy_adds mode.In true access e = naming_adds (written e) (λ k. act.Actual k mode.In true access) (λ n. refl)
+  copy_adds mode.In false access e = λ p has f new. has
+  copy_adds mode.Out owning access e = naming_adds (written e) (λ k. act.Actual k mode.Out owning access) (λ n. refl)
+  copy_adds mode.InOut owning access e = naming_adds (written e) (λ k. act.Actual k mode.InOut owning access) (λ n. refl)
+
+  pub copies_add : (formals : List ℕ) (actuals : TypedTree) → AddNone (actual_acts (map way_to formals) actuals)
+  copies_add [] actuals p has f new = has
+  copies_add (x ∷ formals) (More e rest) p has f new =
+      elim (Has-append_cases (actual_act (way_to x) e) (actual_acts (map way_to formals) rest) p has) [
+        | inl l ↦ copy_adds (object_at s x).mode (is_owning s.table (object_at s x).of) (procedure && is_named_access (view_of s x)) e p l f new
+        | inr r ↦ copies_add formals rest p r f new
+      ]
+  copies_add (x ∷ formals) actuals p has f new = has
+
+  pub call_adds_none : (formals : List ℕ) (actuals : TypedTree) → ((x : ℕ) → Has formals x → IsKindOfFormal s x) → AreActualsTo s formals actuals
+      → AddNone (actual_values s (map way_to formals) actuals ++ actual_acts (map way_to formals) actuals)
+  call_adds_none formals actuals kinds stay p has f new =
+      elim (Has-append_cases (actual_values s (map way_to formals) actuals) (actual_acts (map way_to formals) actuals) p has) [
+        | inl l ↦ read_adds_none p (values_are_read formals actuals kinds stay p l) f new
+        | inr r ↦ copies_add formals actuals p r f new
+      ]
+
+  spare_copy : (m : Mode) (owning access : Bool) (e : TypedTree) → Spare s (actual_act (passing_by m owning access) e)
+  spare_copy mode.In true access e = spare_naming s (written e) (λ k. act.Actual k mode.In true access) (λ n. refl)
+  spare_copy mode.In false access e = tt
+  spare_copy mode.Out owning access e = spare_naming s (written e) (λ k. act.Actual k mode.Out owning access) (λ n. refl)
+  spare_copy mode.InOut owning access e = spare_naming s (written e) (λ k. act.Actual k mode.InOut owning access) (λ n. refl)
+
+  pub spare_copies : (formals : List ℕ) (actuals : TypedTree) → Spare s (actual_acts (map way_to formals) actuals)
+  spare_copies [] actuals = tt
+  spare_copies (x ∷ formals) (More e rest) =
+      spare_both s (actual_act (way_to x) e) (actual_acts (map way_to formals) rest)
+      (spare_copy (object_at s x).mode (is_owning s.table (object_at s x).of) (procedure && is_named_access (view_of s x)) e) (spare_copies formals rest)
+  spare_copies (x ∷ formals) actuals = tt
+
+-- all formals are passed so, where the result isn't of an anonymous access type
+pub passes_to : (program : FlowProgram) (n : ℕ) → traverses (flow_typing program).table (sub_of program n).result ≡ false
+    → passings (flow_typing program) (sub_at (flow_typing program) n)
+    ≡ map (passing (flow_typing program) (not (is_some (sub_of program n).result))) (sub_of program n).formals
+passes_to program n plain =
+    ap (passings (flow_typing program)) (signature_is program n) ∙ by_result (sub_of program n).result (sub_of program n).formals plain
+  where
+    by_result : (r : Option ℕ) (formals : List ℕ) → traverses (flow_typing program).table r ≡ false
+        → passings (flow_typing program) (record { formals = formals; result = r }) ≡ map (passing (flow_typing program) (not (is_some r))) formals
+    by_result r formals plain =
+        ap (λ b. if b then first_traversed (map (passing (flow_typing program) (not (is_some r))) formals) else map (passing (flow_typing program) (not (is_some r))) formals) plain
+
+pub spare_reads : (s : Typing) (ps : List Placed) → AreReads ps → Spare s ps
+spare_reads s [] reads = tt
+spare_reads s (p ∷ ps) reads = (one p (reads p (inl refl)), spare_reads s ps (λ q has. reads q (inr has)))
+  where
+    one : (p : Placed) → IsRead p → ends s p.act ≡ false
+    one p (m, inl e) = ap (ends s) e
+    one p (m, inr e) = ap (ends s) e
+
+-- ---- what is passed
+
+-- A place in a variable of a frame: the way of the name.
+abbrev pub IsOwnPut : Typing → ℕ → ℕ → TypedTree → Place → Type 0
+IsOwnPut s depth x (Name p y path u) k =
+    (to : Way) × (inside : IsInside s depth k to) × (ways.name_of to ≡ name_of y path) × (inside.object ≡ y) × Matches s.table k.of (object_at s x).of
+IsOwnPut s depth x e k = ⊥
+
+-- By the mode: a scalar value, a scalar place in a variable, or another place in a variable of the frame.
+abbrev pub IsLaidOne : Typing → ℕ → ℕ → Mode → TypedTree → Passed → Type 0
+IsLaidOne s depth x mode.In e (Value ws) = One ws
+IsLaidOne s depth x mode.Out e (To k) = IsFixed s k
+IsLaidOne s depth x mode.InOut e (From k) =
+    (IsScalarObject s x × IsFixed s k) ⊎ ((is_scalar (full s.table (object_at s x).of) ≡ false) × IsOwnPut s depth x e k)
+IsLaidOne s depth x m e a = ⊥
+
+abbrev pub AreLaidOut : Typing → ℕ → List ℕ → TypedTree → List Passed → Type 0
+AreLaidOut s depth (x ∷ formals) (More e rest) (a ∷ passed) = IsLaidOne s depth x (object_at s x).mode e a × AreLaidOut s depth formals rest passed
+AreLaidOut s depth (x ∷ formals) (More e rest) [] = ⊥
+AreLaidOut s depth formals actuals passed = passed ≡ []
+
 -- ---- the actuals
 
 module _ (h : Here) (settled : IsSettled h.typing.table) (hands : List Waiting) (leaks : List Leak) (m : Memory) (waits : List (List machine.Word))
@@ -142,12 +360,15 @@ module _ (h : Here) (settled : IsSettled h.typing.table) (hands : List Waiting) 
     (live : (w : Way) (l : Loc) → IsRooted w → Reaches (seen h.typing m hands leaks) w l → (content h.typing m hands (trunk l)).owns ≡ true)
     (index_law : IndexLaw)
     (own_law : OwnsByShape h.typing.table)
-    (parts_named : PartsAreNamed h.typing.table) where
+    (parts_named : PartsAreNamed h.typing.table) (procedure : Bool) where
   abbrev at : List (List machine.Word) → Now
   at ws = record { memory = m; waits = ws }
 
   abbrev ways_of : List ℕ → List Passing
-  ways_of formals = map (way_of h.typing own_law) formals
+  ways_of formals = map (way_to h.typing own_law procedure) formals
+
+  abbrev IsKind : ℕ → Type 0
+  IsKind x = IsKindOfFormal h.typing x
 
   -- ---- values
 
@@ -236,81 +457,183 @@ module _ (h : Here) (settled : IsSettled h.typing.table) (hands : List Waiting) 
       (λ way both. walk_given on p x u path way (subst (λ z. is_scalar (full h.typing.table z) ≡ true) (sym type) plain) both.0 both.1)
   place_given before on e t place plain takes direct allowed = absurd place
 
+  own_walked : (on : List (List machine.Word)) (p : Pos) (x y u : ℕ) (path : TypedTree) (q : List Step) (w : Way) → IsNamed h.typing.table u → Matches h.typing.table u (object_at h.typing x).of
+      → is_package_object h.typing y ≡ false → w ≡ along (Object (OfVariable (home h.typing h.frame y) y)) q
+      → ways.name_of w ≡ name_of y path → (z : Evaluated Place) → Walked h.typing settled hands leaks m on w u z
+      → IsIn (memory.OfVariable (home h.typing h.frame y) y) z → Quiet (at on) (λ k. IsOwnPut h.typing h.frame x (Name p y path u) k) z
+  own_walked on p x y u path q w own fits local is called (Done k n) (l, same, spot, reaches, of) base =
+      let root : Root = OfVariable (home h.typing h.frame y) y in
+      let b : trunk l ≡ OfRoot root = spot.base ∙ ap loc_of base in
+      let at_home : home h.typing h.frame y ≡ h.frame = ap (λ z. if z then 0 else h.frame) local in
+      let stands : l ≡ part (OfRoot root) q = part_reached (seen h.typing m hands leaks) root q l (subst (λ z. Reaches (seen h.typing m hands leaks) z l) is reaches) in
+      let steps_are : steps_in l ≡ q = ap steps_in stands ∙ steps_part (OfRoot root) q ∙ append-nil q in (
+        same,
+        (
+          w,
+          record {
+            object = y;
+            steps = steps_in l;
+            way = is ∙ (λ j. along (Object (OfVariable (at_home j) y)) (sym steps_are j));
+            base = base ∙ ap (λ z. memory.OfVariable z y) at_home;
+            own = local;
+            there = ap (λ z. has_part h.typing.table (content h.typing m hands z).of (steps_in l)) (sym b) ∙ spot.there;
+            at = spot.at ∙ ap (λ z. offset_in h.typing.table (content h.typing m hands z).of (steps_in l)) b;
+            of = subst (λ z. Matches h.typing.table k.of (type_in h.typing.table (content h.typing m hands z).of (steps_in l))) b spot.of;
+            named = subst (IsNamed h.typing.table) (sym of) own;
+          },
+          called,
+          refl,
+          subst (λ z. Matches h.typing.table z (object_at h.typing x).of) (sym of) fits,
+        ),
+      )
+  own_walked on p x y u path q w own fits local is called (Raises e n) there base = there
+  own_walked on p x y u path q w own fits local is called (Traps t n) never base = absurd never
+
+  own_given : (on : List (List machine.Word)) (x : ℕ) (p : Pos) (y u : ℕ) (path : TypedTree) (way : List run.Step) → IsNamed h.typing.table u → Matches h.typing.table u (object_at h.typing x).of
+      → is_package_object h.typing y ≡ false → GoesAlong h.typing.table (object_at h.typing y).of u path way → IsDirect way
+      → Quiet (at on) (λ k. IsOwnPut h.typing h.frame x (Name p y path u) k) (walked h.typing way (variable_place h y) (at on))
+  own_given on x p y u path way own fits local goes direct =
+      let root : Way = Object (OfVariable (home h.typing h.frame y) y) in
+      let flat = direct_part (OfVariable (home h.typing h.frame y) y) way direct [] in
+      own_walked on p x y u path flat.0 (way_along way root) own fits local flat.1
+      (λ j. record { root = number_along way root j; sels = goes.sels root j })
+      (walked h.typing way (variable_place h y) (at on))
+      (walk h.typing settled hands leaks m on (ExcusedBy (home h.typing h.frame) v other facts) kept well.owned well.known live way (variable_place h y)
+      (OfRoot (OfVariable (home h.typing h.frame y) y)) root u
+      (record { base = refl; made = tt; at = refl; there = refl; of = inl refl }) tt refl (direct_leads h.typing.table (object_at h.typing y).of u way direct goes.lead)
+      (λ z past moved. past_none way direct root (λ y never. never) z past))
+      (walked_in h.typing way direct (variable_place h y) (at on))
+
+  own_place_given : (before on : List (List machine.Word)) (x : ℕ) (e : TypedTree) (t : ℕ) → IsPlaceOf h.typing e t → IsNamed h.typing.table t → Matches h.typing.table t (object_at h.typing x).of
+      → IsOwnPlace h.typing e → Takes (waits_in e) before on → goes_through_none e ≡ true
+      → AllowsAll facts (acts (index_acts h.typing e)) → Quiet (at on) (λ k. IsOwnPut h.typing h.frame x e k) (place_of h e (at before))
+  unfolding waits_in goes_through_none
+  own_place_given before on x (Name p y path u) t (leads, type) own fits local takes direct allowed =
+      let inner = steps_taking h settled hands leaks m waits other facts v kept well holds alone live index_law own_law parts_named (object_at h.typing y).of u path leads before on takes allowed in
+      quiet_then (at on) (λ way. GoesAlong h.typing.table (object_at h.typing y).of u path way × IsDirect way) (λ k. IsOwnPut h.typing h.frame x (Name p y path u) k) (steps_of h path (at before))
+      (λ way now. walked h.typing way (variable_place h y) now)
+      (both_quiet (at on) (λ way. GoesAlong h.typing.table (object_at h.typing y).of u path way) (steps_of h path (at before)) inner.0 (steps_direct h path direct (at before)))
+      (λ way both. own_given on x p y u path way (subst (IsNamed h.typing.table) (sym type) own) (subst (λ z. Matches h.typing.table z (object_at h.typing x).of) (sym type) fits)
+      (local y (inl refl)) both.0 both.1)
+  own_place_given before on x e t place own fits local takes direct allowed = absurd place
+
   -- ---- all of them
 
-  -- What is passed for an actual, by the mode.
-  abbrev pub IsGiven : Mode → TypedTree → Passed → Type 0
-  IsGiven mode.In e (Value ws) = One ws
-  IsGiven mode.Out e (To k) = IsPut e k
-  IsGiven mode.InOut e (From k) = IsPut e k
-  IsGiven m' e a = ⊥
+  -- What is passed for an actual, by the mode: a scalar value, a scalar place in a variable, or another
+  -- place in a variable of the frame.
+  abbrev pub IsGiven : ℕ → Mode → TypedTree → Passed → Type 0
+  IsGiven x mode.In e (Value ws) = One ws
+  IsGiven x mode.Out e (To k) = IsPut e k
+  IsGiven x mode.InOut e (From k) =
+      (IsScalarObject h.typing x × IsPut e k) ⊎ ((is_scalar (full h.typing.table (object_at h.typing x).of) ≡ false) × IsOwnPut h.typing h.frame x e k)
+  IsGiven x m' e a = ⊥
 
   abbrev pub AreGiven : List ℕ → TypedTree → List Passed → Type 0
-  AreGiven (x ∷ formals) (More e rest) (a ∷ passed) = IsGiven (object_at h.typing x).mode e a × AreGiven formals rest passed
+  AreGiven (x ∷ formals) (More e rest) (a ∷ passed) = IsGiven x (object_at h.typing x).mode e a × AreGiven formals rest passed
   AreGiven (x ∷ formals) (More e rest) [] = ⊥
   AreGiven formals actuals passed = passed ≡ []
 
-  value_is : (on : List (List machine.Word)) (e : TypedTree) (y : Evaluated Passed) → Quiet (at on) (λ a. IsValue a) y → Quiet (at on) (λ a. IsGiven mode.In e a) y
-  value_is on e (Done (Value ws) n) is = is
-  value_is on e (Done (From k) n) is = absurd is.1
-  value_is on e (Done (To k) n) is = absurd is.1
-  value_is on e (Raises x n) is = is
-  value_is on e (Traps x n) is = is
+  value_is : (on : List (List machine.Word)) (x : ℕ) (e : TypedTree) (y : Evaluated Passed) → Quiet (at on) (λ a. IsValue a) y → Quiet (at on) (λ a. IsGiven x mode.In e a) y
+  value_is on x e (Done (Value ws) n) is = is
+  value_is on x e (Done (From k) n) is = absurd is.1
+  value_is on x e (Done (To k) n) is = absurd is.1
+  value_is on x e (Raises y n) is = is
+  value_is on x e (Traps y n) is = is
 
   abbrev IsCopiedName : Mode → TypedTree → Type 0
   IsCopiedName m' e = is_in m' ≡ false → goes_through_none e ≡ true
 
-  one_given : (before on : List (List machine.Word)) (mode_of : Mode) (x : ℕ) (e : TypedTree) → IsActualBy h.typing mode_of e → IsCopiedName mode_of e → Takes (waits_in e) before on
-      → AllowsAll facts (acts (head_acts h.typing own_law mode_of e)) → Quiet (at on) (λ a. IsGiven mode_of e a) (passed h (way_by h.typing own_law mode_of) x e (at before))
-  one_given before on mode.In x e actual copied takes allowed = value_is on e (passed h ByValue x e (at before)) (value_given before on x e actual takes allowed)
-  one_given before on mode.Out x e actual copied takes allowed =
-      quiet_then (at on) (λ k. IsPut e k) (λ a. IsGiven mode.Out e a) (place_of h e (at before)) (λ k now. Done (To k) now)
-      (place_given before on e actual.0 actual.1 actual.2 takes (copied refl) allowed) (λ k put. (refl, put))
-  one_given before on mode.InOut x e actual copied takes allowed =
-      quiet_then (at on) (λ k. IsPut e k) (λ a. IsGiven mode.InOut e a) (place_of h e (at before))
-      (λ k now. followed_by (checked h (type_of h x) (words_of h.typing now.memory k) now) (λ ws now. Done (From k) now))
-      (place_given before on e actual.0 actual.1 actual.2 takes (copied refl) allowed)
-      (λ k put. quiet_then (at on) (λ (ws : List machine.Word). Unit {0}) (λ a. IsGiven mode.InOut e a) (checked h (type_of h x) (words_of h.typing m k) (at on))
-      (λ ws now. Done (From k) now) (checked_quiet on (λ ws. Unit {0}) (type_of h x) (words_of h.typing m k) tt) (λ ws any. (refl, put)))
+  abbrev from_place : ℕ → Place → Now → Evaluated Passed
+  from_place x k now = followed_by (checked h (type_of h x) (words_of h.typing now.memory k) now) (λ ws now. Done (From k) now)
 
-  pub all_given : (before on : List (List machine.Word)) (formals : List ℕ) (actuals : TypedTree) → AreActuals h.typing formals actuals → AreCopied h.typing formals actuals
-      → TakesAll formals actuals before on
+  from_given : (before on : List (List machine.Word)) (x : ℕ) (e : TypedTree) (P : Place → Type 0) → ((k : Place) → P k → IsGiven x mode.InOut e (From k)) → Quiet (at on) P (place_of h e (at before))
+      → Quiet (at on) (λ a. IsGiven x mode.InOut e a) (followed_by (place_of h e (at before)) (from_place x))
+  from_given before on x e P gives there =
+      quiet_then (at on) P (λ a. IsGiven x mode.InOut e a) (place_of h e (at before)) (from_place x) there
+      (λ k put. quiet_then (at on) (λ (ws : List machine.Word). Unit {0}) (λ a. IsGiven x mode.InOut e a) (checked h (type_of h x) (words_of h.typing m k) (at on))
+      (λ ws now. Done (From k) now) (checked_quiet on (λ ws. Unit {0}) (type_of h x) (words_of h.typing m k) tt) (λ ws any. (refl, gives k put)))
+
+  scalar_type : (t u : ℕ) → Matches h.typing.table t u → is_scalar (full h.typing.table u) ≡ true → is_scalar (full h.typing.table t) ≡ true
+  scalar_type t u (inl e) plain = matches_scalar h.typing u t (inl (sym e)) plain
+  scalar_type t u (inr both) plain = both.0
+
+  in_out_given : (before on : List (List machine.Word)) (x : ℕ) (e : TypedTree) → IsKind x → IsActualTo h.typing x mode.InOut e → goes_through_none e ≡ true
+      → Takes (waits_in e) before on
+      → AllowsAll facts (acts (index_acts h.typing e)) → Quiet (at on) (λ a. IsGiven x mode.InOut e a) (followed_by (place_of h e (at before)) (from_place x))
+  in_out_given before on x e kind (t, place, fits, which) direct takes allowed = elim (bool_cases (is_scalar (full h.typing.table (object_at h.typing x).of))) [
+    | inl plain ↦ from_given before on x e (λ k. IsPut e k) (λ k put. inl (plain, put))
+        (place_given before on e t place (scalar_type t (object_at h.typing x).of fits plain) takes direct allowed)
+    | inr other_type ↦ from_given before on x e (λ k. IsOwnPut h.typing h.frame x e k) (λ k put. inr (other_type, put))
+        (own_place_given before on x e t place
+        (matches_named h.typing.table (object_at h.typing x).of t (matches_flip t (object_at h.typing x).of fits) (named_there kind other_type)) fits (own_there which other_type) takes direct allowed)
+  ]
+    where
+      matches_flip : (t u : ℕ) → Matches h.typing.table t u → Matches h.typing.table u t
+      matches_flip t u (inl e) = inl (sym e)
+      matches_flip t u (inr (a, b)) = inr (b, a)
+
+      named_there : IsKind x → is_scalar (full h.typing.table (object_at h.typing x).of) ≡ false → IsNamed h.typing.table (object_at h.typing x).of
+      named_there (inl plain) other_type = absurd (true_false (is_scalar (full h.typing.table (object_at h.typing x).of)) plain other_type)
+      named_there (inr (in_out, own)) other_type = own
+
+      own_there : (is_scalar (full h.typing.table t) ≡ true) ⊎ IsOwnPlace h.typing e → is_scalar (full h.typing.table (object_at h.typing x).of) ≡ false → IsOwnPlace h.typing e
+      own_there (inl plain) other_type = absurd (true_false (is_scalar (full h.typing.table (object_at h.typing x).of))
+          (matches_scalar h.typing t (object_at h.typing x).of fits plain) other_type)
+      own_there (inr own) other_type = own
+
+  one_given : (before on : List (List machine.Word)) (mode_of : Mode) (owning access : Bool) (x : ℕ) (e : TypedTree) → ByModeFor mode_of owning → IsKind x → IsActualTo h.typing x mode_of e
+      → IsCopiedName mode_of e → Takes (waits_in e) before on
+      → AllowsAll facts (acts (head_of h.typing own_law procedure mode_of e)) → Quiet (at on) (λ a. IsGiven x mode_of e a) (passed h (passing_by mode_of owning access) x e (at before))
+  one_given before on mode.In owning access x e fits kind actual copied takes allowed =
+      subst (λ b. Quiet (at on) (λ a. IsGiven x mode.In e a) (passed h (if b then objects.Place mode.In b access else ByValue) x e (at before))) (sym (fits refl))
+      (value_is on x e (passed h ByValue x e (at before)) (value_given before on x e actual takes allowed))
+  one_given before on mode.Out owning access x e fits kind actual copied takes allowed =
+      quiet_then (at on) (λ k. IsPut e k) (λ a. IsGiven x mode.Out e a) (place_of h e (at before)) (λ k now. Done (To k) now)
+      (place_given before on e actual.0 actual.1 actual.2 takes (copied refl) allowed) (λ k put. (refl, put))
+  one_given before on mode.InOut owning access x e fits kind actual copied takes allowed = in_out_given before on x e kind actual (copied refl) takes allowed
+
+  pub all_given : (before on : List (List machine.Word)) (formals : List ℕ) (actuals : TypedTree) → ((x : ℕ) → Has formals x → IsKind x) → AreActualsTo h.typing formals actuals
+      → AreCopied h.typing formals actuals → TakesAll formals actuals before on
       → AllowsAll facts (acts (actual_values h.typing (ways_of formals) actuals))
       → Quiet (at on) (λ passed. AreGiven formals actuals passed) (all_passed h (ways_of formals) formals actuals (at before))
-  all_given before on [] actuals stay copied takes allowed = ((ap at takes), refl)
-  all_given before on (x ∷ formals) (More e rest) stay copied (mid, takes, more) allowed =
+  all_given before on [] actuals kinds stay copied takes allowed = ((ap at takes), refl)
+  all_given before on (x ∷ formals) (More e rest) kinds stay copied (mid, takes, more) allowed =
       let mode_of : Mode = (object_at h.typing x).mode in
-      let both : AllowsAll facts (acts (head_acts h.typing own_law mode_of e ++ actual_values h.typing (ways_of formals) rest)) =
-      subst (λ z. AllowsAll facts (acts z)) (head_values h.typing own_law mode_of e (ways_of formals) rest) allowed in
-      let each = allows_both facts (acts (head_acts h.typing own_law mode_of e)) (acts (actual_values h.typing (ways_of formals) rest))
-      (subst (AllowsAll facts) (acts_append (head_acts h.typing own_law mode_of e) (actual_values h.typing (ways_of formals) rest)) both) in
-      let same : after (acts (head_acts h.typing own_law mode_of e)) facts ≡ facts =
-      reads_keep (head_acts h.typing own_law mode_of e) (head_reads h.typing own_law mode_of e stay.0) facts in
-      quiet_from (at mid) (at on) (λ a. IsGiven mode_of e a) (λ passed. AreGiven (x ∷ formals) (More e rest) passed) refl (passed h (way_by h.typing own_law mode_of) x e (at before))
+      let kind = kinds x (inl refl) in
+      let both : AllowsAll facts (acts (head_of h.typing own_law procedure mode_of e ++ actual_values h.typing (ways_of formals) rest)) =
+      subst (λ z. AllowsAll facts (acts z)) (head_values_are h.typing own_law procedure x kind e (ways_of formals) rest) allowed in
+      let each = allows_both facts (acts (head_of h.typing own_law procedure mode_of e)) (acts (actual_values h.typing (ways_of formals) rest))
+      (subst (AllowsAll facts) (acts_append (head_of h.typing own_law procedure mode_of e) (actual_values h.typing (ways_of formals) rest)) both) in
+      let same : after (acts (head_of h.typing own_law procedure mode_of e)) facts ≡ facts =
+      reads_keep (head_of h.typing own_law procedure mode_of e) (head_of_reads h.typing own_law procedure x mode_of e stay.0) facts in
+      quiet_from (at mid) (at on) (λ a. IsGiven x mode_of e a) (λ passed. AreGiven (x ∷ formals) (More e rest) passed) refl (passed h (way_to h.typing own_law procedure x) x e (at before))
       (λ a now. followed_by (all_passed h (ways_of formals) formals rest now) (λ more now. Done (a ∷ more) now))
-      (one_given before mid mode_of x e stay.0 copied.0 takes each.0)
+      (one_given before mid mode_of (is_owning h.typing.table (object_at h.typing x).of) (procedure && is_named_access (view_of h.typing x)) x e
+      (in_plain h.typing own_law procedure x kind) kind stay.0 copied.0 takes each.0)
       (λ a is. quiet_then (at on) (λ passed. AreGiven formals rest passed) (λ passed. AreGiven (x ∷ formals) (More e rest) passed)
       (all_passed h (ways_of formals) formals rest (at mid)) (λ more now. Done (a ∷ more) now)
-      (all_given mid on formals rest stay.1 copied.1 more (subst (λ z. AllowsAll z (acts (actual_values h.typing (ways_of formals) rest))) same each.1))
+      (all_given mid on formals rest (λ y has. kinds y (inr has)) stay.1 copied.1 more
+      (subst (λ z. AllowsAll z (acts (actual_values h.typing (ways_of formals) rest))) same each.1))
       (λ more are. (refl, (is, are))))
-  all_given before on (x ∷ formals) actuals stay copied takes allowed = ((ap at takes), refl)
+  all_given before on (x ∷ formals) actuals kinds stay copied takes allowed = ((ap at takes), refl)
 
-  given_laid : (mode_of : Mode) (e : TypedTree) (a : Passed) → IsGiven mode_of e a → IsLaid h.typing a
-  given_laid mode.In e (Value ws) is = is
-  given_laid mode.In e (From k) is = absurd is
-  given_laid mode.In e (To k) is = absurd is
-  given_laid mode.Out e (Value ws) is = absurd is
-  given_laid mode.Out e (From k) is = absurd is
-  given_laid mode.Out e (To k) is = is.0
-  given_laid mode.InOut e (Value ws) is = absurd is
-  given_laid mode.InOut e (From k) is = is.0
-  given_laid mode.InOut e (To k) is = absurd is
+  laid_one : (x : ℕ) (mode_of : Mode) (e : TypedTree) (a : Passed) → IsGiven x mode_of e a → IsLaidOne h.typing h.frame x mode_of e a
+  laid_one x mode.In e (Value ws) is = is
+  laid_one x mode.In e (From k) is = absurd is
+  laid_one x mode.In e (To k) is = absurd is
+  laid_one x mode.Out e (Value ws) is = absurd is
+  laid_one x mode.Out e (From k) is = absurd is
+  laid_one x mode.Out e (To k) is = is.0
+  laid_one x mode.InOut e (Value ws) is = absurd is
+  laid_one x mode.InOut e (From k) (inl (plain, put)) = inl (plain, put.0)
+  laid_one x mode.InOut e (From k) (inr own) = inr own
+  laid_one x mode.InOut e (To k) is = absurd is
 
-  pub all_laid : (formals : List ℕ) (actuals : TypedTree) (passed : List Passed) → AreGiven formals actuals passed → AreLaid h.typing passed
-  all_laid (x ∷ formals) (More e rest) (a ∷ passed) are = (given_laid (object_at h.typing x).mode e a are.0, all_laid formals rest passed are.1)
-  all_laid (x ∷ formals) (More e rest) [] are = absurd are
-  all_laid [] actuals passed are = subst (AreLaid h.typing) (sym are) tt
-  all_laid (x ∷ formals) actuals passed are = subst (AreLaid h.typing) (sym are) tt
+  pub all_laid_out : (formals : List ℕ) (actuals : TypedTree) (passed : List Passed) → AreGiven formals actuals passed → AreLaidOut h.typing h.frame formals actuals passed
+  all_laid_out (x ∷ formals) (More e rest) (a ∷ passed) are = (laid_one x (object_at h.typing x).mode e a are.0, all_laid_out formals rest passed are.1)
+  all_laid_out (x ∷ formals) (More e rest) [] are = absurd are
+  all_laid_out [] actuals passed are = are
+  all_laid_out (x ∷ formals) actuals passed are = are
 
   -- ---- what the facts say then
 
@@ -326,213 +649,33 @@ module _ (h : Here) (settled : IsSettled h.typing.table) (hands : List Waiting) 
       (leaf_join h.typing.table c.of (steps_in l) p spot.there
       ∙ no_leaf h.typing.table settled (type_in h.typing.table c.of (steps_in l)) (matches_scalar h.typing k.of (type_in h.typing.table c.of (steps_in l)) spot.of plain) p)
 
-  naming_keeps : (w : Option Written) (known : List Fact) → after (acts (naming w (λ k. act.Actual k mode.InOut false false))) known ≡ known
-  naming_keeps None known = refl
-  naming_keeps (Some w) known = read_effect w.name known
+  naming_keeps : (w : Option Written) (owning access : Bool) (known : List Fact) → after (acts (naming w (λ k. act.Actual k mode.InOut owning access))) known ≡ known
+  naming_keeps None owning access known = refl
+  naming_keeps (Some w) owning access known = read_effect w.name known
 
-  head_acted : (mode_of : Mode) (e : TypedTree) (a : Passed) (known : List Fact) → IsGiven mode_of e a → ViewedWith known
-      → ViewedWith (after (acts (actual_act (way_by h.typing own_law mode_of) e)) known)
-  head_acted mode.In e a known is there = there
-  head_acted mode.InOut e a known is there = subst ViewedWith (sym (naming_keeps (written e) known)) there
-  head_acted mode.Out (Name p x path u) (To k) known (fixed, (w, l, named, called, place, reaches, spot)) there =
+  head_acted : (mode_of : Mode) (owning access : Bool) (x : ℕ) (e : TypedTree) (a : Passed) (known : List Fact) → ByModeFor mode_of owning → IsGiven x mode_of e a → ViewedWith known
+      → ViewedWith (after (acts (actual_act (passing_by mode_of owning access) e)) known)
+  head_acted mode.In owning access x e a known fits is there =
+      subst (λ b. ViewedWith (after (acts (actual_act (if b then objects.Place mode.In b access else ByValue) e)) known)) (sym (fits refl)) there
+  head_acted mode.InOut owning access x e a known fits is there = subst ViewedWith (sym (naming_keeps (written e) owning access known)) there
+  head_acted mode.Out owning access x (Name p y path u) (To k) known fits (fixed, (w, l, named, called, place, reaches, spot)) there =
       subst (λ z. ViewedWith (effect (act.Write z) known)) called
       (nothing_written (home h.typing h.frame) (is_observer h.typing) other v (seen h.typing m hands leaks) known there w l named place reaches
       (plain_there k l spot fixed.scalar))
-  head_acted mode.Out e (To k) known is there = absurd is.1
-  head_acted mode.Out e (Value ws) known is there = absurd is
-  head_acted mode.Out e (From k) known is there = absurd is
+  head_acted mode.Out owning access x e (To k) known fits is there = absurd is.1
+  head_acted mode.Out owning access x e (Value ws) known fits is there = absurd is
+  head_acted mode.Out owning access x e (From k) known fits is there = absurd is
 
-  pub all_acted : (formals : List ℕ) (actuals : TypedTree) (passed : List Passed) (known : List Fact) → AreGiven formals actuals passed → ViewedWith known
+  pub all_acted : (formals : List ℕ) (actuals : TypedTree) (passed : List Passed) (known : List Fact) → ((x : ℕ) → Has formals x → IsKind x)
+      → AreGiven formals actuals passed → ViewedWith known
       → ViewedWith (after (acts (actual_acts (ways_of formals) actuals)) known)
-  all_acted (x ∷ formals) (More e rest) (a ∷ passed) known are there =
-      let first : List Placed = actual_act (way_of h.typing own_law x) e in
+  all_acted (x ∷ formals) (More e rest) (a ∷ passed) known kinds are there =
+      let first : List Placed = actual_act (way_to h.typing own_law procedure x) e in
       let others : List Placed = actual_acts (ways_of formals) rest in
       subst ViewedWith (sym (ap (λ z. after z known) (acts_append first others) ∙ after_append (acts first) (acts others) known))
-      (all_acted formals rest passed (after (acts first) known) are.1 (head_acted (object_at h.typing x).mode e a known are.0 there))
-  all_acted (x ∷ formals) (More e rest) [] known are there = absurd are
-  all_acted [] actuals passed known are there = there
-  all_acted (x ∷ formals) actuals passed known are there = there
-
--- no act of a call ends a scope
-module _ (s : Typing) (own_law : OwnsByShape s.table) where
-  spare_copy : (m : Mode) (e : TypedTree) → Spare s (actual_act (way_by s own_law m) e)
-  spare_copy mode.In e = tt
-  spare_copy mode.Out e = spare_naming s (written e) (λ k. act.Actual k mode.Out false false) (λ n. refl)
-  spare_copy mode.InOut e = spare_naming s (written e) (λ k. act.Actual k mode.InOut false false) (λ n. refl)
-
-  pub spare_copies : (formals : List ℕ) (actuals : TypedTree) → Spare s (actual_acts (map (way_of s own_law) formals) actuals)
-  spare_copies [] actuals = tt
-  spare_copies (x ∷ formals) (More e rest) =
-      spare_both s (actual_act (way_of s own_law x) e) (actual_acts (map (way_of s own_law) formals) rest) (spare_copy (object_at s x).mode e) (spare_copies formals rest)
-  spare_copies (x ∷ formals) actuals = tt
-
-pub spare_reads : (s : Typing) (ps : List Placed) → AreReads ps → Spare s ps
-spare_reads s [] reads = tt
-spare_reads s (p ∷ ps) reads = (one p (reads p (inl refl)), spare_reads s ps (λ q has. reads q (inr has)))
-  where
-    one : (p : Placed) → IsRead p → ends s p.act ≡ false
-    one p (m, inl e) = ap (ends s) e
-    one p (m, inr e) = ap (ends s) e
-
--- ---- memories that owners see alike
-
--- a scalar place isn't in the variable of a view
-no_view_fixed : (s : Typing) (settled : IsSettled s.table) (k : Place) → IsFixed s k → (g y : ℕ) → is_anonymous (view_of s y) ≡ true
-    → k.base ≡ memory.OfVariable g y → ⊥
-no_view_fixed s settled k fixed g y view base =
-    let same : fixed.object ≡ y = same_variable fixed.frame fixed.object g y (sym fixed.base ∙ base) in
-    let access = view_access (shape_of s.table (object_at s y).of) view in
-    let there : has_part s.table (object_at s y).of fixed.steps ≡ true = subst (λ z. has_part s.table (object_at s z).of fixed.steps ≡ true) same fixed.there in
-    let none = plain_end s.table settled (object_at s y).of access.0 access.1 fixed.steps there in
-    let fits : Matches s.table k.of (object_at s y).of =
-    subst (λ p. Matches s.table k.of (type_in s.table (object_at s y).of p)) none
-    (subst (λ z. Matches s.table k.of (type_in s.table (object_at s z).of fixed.steps)) same fixed.of) in
-    true_false (is_anonymous (view_of s y)) view
-    (named_plain s.table (object_at s y).of (scalar_named s.table (object_at s y).of (matches_scalar s k.of (object_at s y).of fits fixed.scalar)))
-  where
-    same_variable : (f x g y : ℕ) → memory.OfVariable f x ≡ memory.OfVariable g y → x ≡ y
-    same_variable f x g y e = cc
-
-module _ (s : Typing) (settled : IsSettled s.table) (own_law : OwnsByShape s.table) (hands : List Waiting) (leaks : List Leak) where
-  abbrev Scalar : ℕ → Type 0
-  Scalar x = is_scalar (full s.table (object_at s x).of) ≡ true
-
-  -- Owners see the same, words are typed, and the variables of views keep their words.
-  pub record Enters (m n : Memory) : Type 0 where
-    pub same : IsSame (seen s m hands leaks) (seen s n hands leaks)
-    pub typed : Kept s n hands
-    pub hold : (g y : ℕ) (p : List Step) → word_in s.table (content s n [] (OfRoot (OfVariable g y))) p ≡ word_in s.table (content s m [] (OfRoot (OfVariable g y))) p
-    pub views : (g y : ℕ) → is_anonymous (view_of s y) ≡ true
-        → (get_or (variable_slots s g y n.variables) 0 no_slot).word ≡ (get_or (variable_slots s g y m.variables) 0 no_slot).word
-
-  nothing : (m : Memory) → Kept s m hands → Enters m m
-  nothing m typed = record {
-    same = record { word = λ l. refl; made = refl; freed = λ n. refl; leaked = λ n. refl };
-    typed = typed;
-    hold = λ g y p. refl;
-    views = λ g y view. refl;
-  }
-
-  one_then : (a b c : Memory) → Enters a b → Enters b c → Enters a c
-  one_then a b c first second = record {
-    same = record {
-      word = λ l. second.same.word l ∙ first.same.word l;
-      made = second.same.made ∙ first.same.made;
-      freed = λ n. second.same.freed n ∙ first.same.freed n;
-      leaked = λ n. second.same.leaked n ∙ first.same.leaked n;
-    };
-    typed = second.typed;
-    hold = λ g y p. second.hold g y p ∙ first.hold g y p;
-    views = λ g y view. second.views g y view ∙ first.views g y view;
-  }
-
-  -- ---- scalar places in variables
-
-  -- what has other slots there
-  put_there : (k : Place) (fixed : IsFixed s k) (slots : List Slot) (m : Memory) → length slots ≡ words s.table k.of → Kept s m hands
-      → Kept s (with_slots s k slots m) hands → Enters m (with_slots s k slots m)
-  put_there k fixed slots m long typed typed_then =
-      let l : Loc = fixed_at s settled k fixed in
-      let spot : Spot s m hands k l = fixed_spot s settled k fixed m hands in
-      record {
-        same = put_same_view s settled m hands k l spot typed fixed.scalar slots long leaks;
-        typed = typed_then;
-        hold = λ g y p. put_word s settled m hands k l spot typed fixed.scalar slots long (OfRoot (OfVariable g y)) p refl;
-        views = λ g y view. ap (λ z. (get_or z 0 no_slot).word)
-            (put_beside s 0 k.base (take k.at (slots_at s m k.base) ++ slots ++ drop (k.at + length slots) (slots_at s m k.base)) m g y
-            (no_view_fixed s settled k fixed g y view));
-      }
-
-  moved_there : (k : Place) → IsFixed s k → (m : Memory) → Kept s m hands → Enters m (moved_out s k m)
-  moved_there k fixed m typed =
-      let l : Loc = fixed_at s settled k fixed in
-      let spot : Spot s m hands k l = fixed_spot s settled k fixed m hands in
-      let marks : List Slot = gone_at (access_offsets s.table k.of) (slots_of s m k) in
-      let long : length marks ≡ words s.table k.of =
-      marked_length (access_offsets s.table k.of) (slots_of s m k) ∙ (taken_slots s settled m k (room s settled m hands typed k l spot)).0 in
-      put_there k fixed marks m long typed
-      (less_kept s settled (moved_out s k m) (record { of = k.of; words = words_of s m k }) hands ((keeps s settled own_law).moved m hands k l spot typed))
-
-  stored_there : (k : Place) → IsFixed s k → (ws : List machine.Word) → length ws ≡ 1 → (m : Memory) → Kept s m hands → Enters m (stored s k ws m)
-  stored_there k fixed ws one m typed =
-      let got : Waiting = record { of = k.of; words = ws } in
-      put_there k fixed (fresh ws) m (length-map ws (λ w. record { word = w; gone = false }) ∙ one ∙ sym (plain_word s settled k.of fixed.scalar)) typed
-      (put_away s settled m got hands k (fixed_at s settled k fixed) (scalar s settled m got hands fixed.scalar typed) (fixed_spot s settled k fixed m (got ∷ hands))
-      (one ∙ sym (plain_word s settled k.of fixed.scalar)) (inl refl))
-
-  -- ---- the formals
-
-  same_object : (g x h y : ℕ) → OfVariable g x ≡ OfVariable h y → x ≡ y
-  same_object g x h y e = cc
-
-  one_formal : (f x : ℕ) (ws : List machine.Word) (m : Memory) → Scalar x → One ws → Kept s m hands → Enters m (declared f x ws m)
-  one_formal f x ws m plain one typed =
-      let u : ℕ = (object_at s x).of in
-      let got : Waiting = record { of = u; words = ws } in
-      let long : length ws ≡ words s.table u = one ∙ sym (plain_word s settled u plain) in
-      let others : (g y : ℕ) → (OfVariable f x ≡ OfVariable g y → ⊥) → variable_slots s g y (declared f x ws m).variables ≡ variable_slots s g y m.variables =
-      λ g y ne. put_other s f x g y ne (fresh ws) m.variables in
-      record {
-        same = scalar_same s settled m hands leaks f x plain (declared f x ws m).variables others;
-        typed = declared_kept s settled m f x got hands (scalar s settled m got hands plain typed) long (inl refl);
-        hold = λ g y p. same_word s settled m [] [] f x plain (declared f x ws m).variables others (OfRoot (OfVariable g y)) p refl;
-        views = λ g y view. ap (λ z. (get_or z 0 no_slot).word) (others g y (λ e.
-            true_false (is_anonymous (view_of s y)) view
-            (ap (λ z. is_anonymous (view_of s z)) (sym (same_object f x g y e)) ∙ named_plain s.table u (scalar_named s.table u plain))));
-      }
-
-  with_one : (f x : ℕ) (a : Passed) (m : Memory) → Scalar x → IsLaid s a → Kept s m hands → Enters m (with_formal s f x a m)
-  with_one f x (Value ws) m plain laid typed = one_formal f x ws m plain laid typed
-  with_one f x (From k) m plain laid typed =
-      let first = moved_there k laid m typed in
-      one_then m (moved_out s k m) (declared f x (words_of s m k) (moved_out s k m)) first
-      (one_formal f x (words_of s m k) (moved_out s k m) plain (fixed_one s settled k laid m hands typed) first.typed)
-  with_one f x (To k) m plain laid typed =
-      let first = moved_there k laid m typed in
-      one_then m (moved_out s k m) (declared f x (machine.default s.table (object_at s x).of) (moved_out s k m)) first
-      (one_formal f x (machine.default s.table (object_at s x).of) (moved_out s k m) plain
-      (lengths s.table (object_at s x).of ∙ plain_word s settled (object_at s x).of plain) first.typed)
-
-  pub all_entered : (f : ℕ) (formals : List ℕ) (passed : List Passed) (m : Memory) → ((x : ℕ) → Has formals x → Scalar x) → AreLaid s passed → Kept s m hands
-      → Enters m (with_formals s f formals passed m)
-  all_entered f [] passed m plain are typed = nothing m typed
-  all_entered f (x ∷ formals) [] m plain are typed = nothing m typed
-  all_entered f (x ∷ formals) (a ∷ rest) m plain are typed =
-      let first = with_one f x a m (plain x (inl refl)) are.0 typed in
-      one_then m (with_formal s f x a m) (with_formals s f formals rest (with_formal s f x a m)) first
-      (all_entered f formals rest (with_formal s f x a m) (λ y has. plain y (inr has)) are.1 first.typed)
-
--- ---- formals are copied back
-
-backs_on : (Q R : Memory → Type 0) → ((m : Memory) → Q m → R m) → (y : Evaluated Memory) → Backs Q y → Backs R y
-backs_on Q R on (Done m n) q = on m q
-backs_on Q R on (Raises e n) q = tt
-backs_on Q R on (Traps trap n) never = never
-
-if_back : (Q : Memory → Type 0) (b : Bool) (ws : List machine.Word) (begun : Now) (f : List machine.Word → Now → Evaluated Memory)
-    → Backs Q (f ws begun) → Backs Q (followed_by (if b then Done ws begun else Raises ConstraintError begun) f)
-if_back Q true ws begun f q = q
-if_back Q false ws begun f q = tt
-
-module _ (t : Turn) (settled : IsSettled (typing t).table) (own_law : OwnsByShape (typing t).table) (hands : List Waiting) (leaks : List Leak) where
-  abbrev On : Memory → Memory → Type 0
-  On m n = Enters (typing t) settled own_law hands leaks m n
-
-  pub all_back : (returns : List Return) → ((r : Return) → Has returns r → IsCopied (typing t) r) → (begun : Now)
-      → Kept (typing t) begun.memory hands → Backs (λ m. On begun.memory m) (copied_back t returns begun)
-  all_back [] copied begun typed = nothing (typing t) settled own_law hands leaks begun.memory typed
-  all_back (r ∷ rest) copied begun typed =
-      let is : IsCopied (typing t) r = copied r (inl refl) in
-      let formal : Place = variable_place (here t) r.formal in
-      let ws : List machine.Word = words_of (typing t) begun.memory formal in
-      let fixed : IsFixed (typing t) formal = formal_fixed t r.formal is.0 in
-      let mid : Memory = moved_out (typing t) formal begun.memory in
-      let next : Memory = stored (typing t) r.to ws mid in
-      let first = moved_there (typing t) settled own_law hands leaks formal fixed begun.memory typed in
-      let second = stored_there (typing t) settled own_law hands leaks r.to is.1 ws (fixed_one (typing t) settled formal fixed begun.memory hands typed) mid first.typed in
-      subst (Backs (λ m. On begun.memory m)) (sym (copied_is t r rest begun is.1))
-      (if_back (λ m. On begun.memory m) (fits_type (typing t).table r.to.of ws) ws begun
-      (λ us n. copied_back t rest (record n { memory = stored (typing t) r.to us (moved_out (typing t) formal n.memory) }))
-      (backs_on (λ m. On next m) (λ m. On begun.memory m)
-      (λ m on. one_then (typing t) settled own_law hands leaks begun.memory next m (one_then (typing t) settled own_law hands leaks begun.memory mid next first second) on)
-      (copied_back t rest (record begun { memory = next })) (all_back rest (λ q has. copied q (inr has)) (record begun { memory = next }) second.typed)))
+      (all_acted formals rest passed (after (acts first) known) (λ y has. kinds y (inr has)) are.1
+      (head_acted (object_at h.typing x).mode (is_owning h.typing.table (object_at h.typing x).of) (procedure && is_named_access (view_of h.typing x)) x e a known
+      (in_plain h.typing own_law procedure x (kinds x (inl refl))) are.0 there))
+  all_acted (x ∷ formals) (More e rest) [] known kinds are there = absurd are
+  all_acted [] actuals passed known kinds are there = there
+  all_acted (x ∷ formals) actuals passed known kinds are there = there

@@ -1,10 +1,13 @@
 -- A call leads on, in the frame of what is called.
+use Rattle.typed_tree.specs.declared.object.ObjectKind.{ObjectKind}
+use Rattle.typed_tree.specs.declared.object.ObjectKind.TheVariants as object_kind
 use Rattle.place_names.specs.Facts.{adds}
 use Rattle.spark_base.proofs.Lists.{Has-map_from}
 use Rattle.viewed_steps.proofs.Left.{cells_same}
-use Rattle.std.proofs.Common.{◌≡◌, refl, sym, ap, ◌∙◌, subst, ◌⊎◌, inl, inr, ℕ, suc, ◌<◌, true, false, ◌==◌, List, [], ◌∷◌, ◌++◌, map, take, drop, length, get_or, arith, append-nil, Option, Some, None, if◌then◌else◌, is_some}
+use Rattle.std.proofs.Common.{◌≡◌, refl, sym, ap, ◌∙◌, subst, ◌⊎◌, inl, inr, ℕ, suc, ◌<◌, true, false, ◌==◌, List, [], ◌∷◌, ◌++◌, map, take, drop, length, get_or, arith, append-nil, Option, Some, None, if◌then◌else◌, is_some, Bool, not, ◌||◌, ◌&&◌, flat_map}
 use Rattle.std.specs.Prelude.{is_some}
 use Rattle.spark_base.specs.Lists.{Has}
+use Rattle.spark_base.proofs.Lists.{Has-append_left, Has-map_from}
 use Rattle.place_names.specs.declared.act.Act.{Act}
 use Rattle.place_names.specs.declared.act.Act.TheVariants as act
 use Rattle.place_names.specs.declared.act.Placed.{Placed}
@@ -13,18 +16,22 @@ use Rattle.place_names.specs.declared.fact.Fact.TheVariants.{Moved, Lent}
 use Rattle.place_names.specs.declared.rule.Loan.{Loan}
 use Rattle.place_names.specs.declared.rule.Loan.TheVariants.{Observed}
 use Rattle.place_names.specs.Names.{Name as PlaceName}
-use Rattle.type_definitions.specs.Types.{Table, is_scalar, full}
+use Rattle.type_definitions.specs.Types.{Table, is_scalar, full, is_owning}
 use Rattle.typed_tree.specs.Trees.{TypedTree, Name, NoMore, More}
 use Rattle.typed_tree.specs.Programs.{TypedProgram}
 use Rattle.flow_paths.specs.declared.report.Effects.{Effects}
 use Rattle.flow_paths.specs.Instructions.{Instruction, Call, EndScope, Declare, Assign, Hold}
-use Rattle.flow_paths.specs.Objects.{Typing, object_at, sub_at, is_anonymous, is_package_object, is_observer, view_of, traverses, passings, Passing}
+use Rattle.flow_paths.specs.Objects.{Typing, object_at, sub_at, is_anonymous, is_package_object, is_observer, view_of, traverses, passings, Passing, Signature, passing, is_formal_kind}
+use Rattle.place_names.specs.Facts.{adds}
+use Rattle.place_names.specs.Reports.{Report}
+use Rattle.flow_paths.specs.Aliases.{overlap_reports, passed_reports, call_reports}
+use Rattle.flow_paths.specs.Aliases as alias
 use Rattle.flow_paths.specs.Acts as flow
 use Rattle.flow_paths.specs.Points.{NamedPoint}
 use Rattle.flow_paths.specs.Laid.{FlowSub, FlowProgram, NamedSub, flow_sub, typing_of, flow_typing, flow_program, flow_named}
 use Rattle.flow_paths.specs.Paths.{PathPoint, is_some_point, ControlPath, begins, goes_on, facts_before}
 use Rattle.flow_paths.specs.Effects.{flow_sub_at, path_points, globals_of, called_acts}
-use Rattle.flow_paths.specs.Scopes.{taken, brought, scope_behind, is_within, Leads}
+use Rattle.flow_paths.specs.Scopes.{taken, brought, scope_behind, is_within, Leads, is_temporary}
 use Rattle.machine.specs.Words as machine
 use Rattle.machine.specs.Memory.{Memory, no_slot, variable_slots}
 use Rattle.machine.specs.Evaluate.{Now, Exception}
@@ -34,15 +41,17 @@ use Rattle.machine.specs.Step as steps
 use Rattle.machine.specs.Typed.{successors}
 use Rattle.machine.specs.Calls.{Passed, all_passed, with_formals, returns_of}
 use Rattle.machine.specs.Owners.{waiting_in}
-use Rattle.owned_ways.specs.Ways.{Way, after, AllowsAll}
+use Rattle.owned_ways.specs.Ways.{Step, Way, after, AllowsAll}
 use Rattle.owned_ways.specs.Ways as ways
-use Rattle.soundness.specs.Seen.{IsNear, is_view_formal, content, word_in, seen, home, trunk}
+use Rattle.owned_ways.proofs.Locations.{reaches_along, named_along as rooted_along}
+use Rattle.soundness.specs.Seen.{IsNear, is_view_formal, content, seen, home, trunk, word_in}
+use Rattle.soundness.proofs.Contents.{word_root, word_no}
 use Rattle.soundness.specs.Typed.{Kept}
-use Rattle.soundness.specs.Sound.{Stage, facts_of, AreStages, AreCopied, Uses, IsRunnable, IsResting, returns_value, InScope, IsNamedSub, IsAtPoint, view_of as view_here, AreSameWords}
+use Rattle.soundness.specs.Sound.{Stage, facts_of, AreStages, AreCopied, Uses, IsRunnable, returns_value, InScope, IsNamedSub, IsAtPoint, view_of as view_here, AreSameWords, calls_procedures, temporaries_in}
 use Rattle.soundness.proofs.Stays.{Quiet}
 use Rattle.soundness.proofs.Numbers.{index_law}
 use Rattle.soundness.proofs.Lasting.{keeps}
-use Rattle.soundness.proofs.Passing.{way_of, AreReads, reads_keep, values_read, AreLaid, returns_copied, entered, TakesAll, takes_each, call_on, passed_by, call_adds}
+use Rattle.soundness.proofs.Passing.{way_of, AreReads, reads_keep, values_read, AreLaid, returns_copied, entered, TakesAll, takes_each, call_on, passed_by, call_adds, signature_is}
 use Rattle.soundness.proofs.Scalars.{acts, acts_append, after_append, allows_both}
 use Rattle.soundness.proofs.Points.{sub_in_range, path_there}
 use Rattle.soundness.proofs.Inherited.{AreGlobal, global_after, global_allowed, global_apart}
@@ -55,19 +64,26 @@ use Rattle.soundness.proofs.Scoped.{Inside}
 use Rattle.soundness.proofs.Beginning.{one_named, one_point}
 use Rattle.soundness.proofs.Successors.{below_one, successor_there}
 use Rattle.owned_loans.specs.Views.{Around, known_gone, Views, IsMovedBy, AreClear, AreViews, Viewed}
-use Rattle.owned_loans.proofs.Moves.{same_viewed}
+use Rattle.owned_loans.proofs.Moves.{named_way}
+use Rattle.viewed_soundness.proofs.Names.{true_false}
 use Rattle.viewed_soundness.specs.Holds.{Holds}
 use Rattle.viewed_soundness.proofs.Evaluated.{live_trunk}
-use Rattle.soundness.specs.Ready.{IsCalled, IsSupplied, Fills}
+use Rattle.soundness.specs.Ready.{IsSupplied, Fills}
 use Rattle.viewed_steps.specs.Awaited.{AreFor, AreValuesBut, temporaries_of, lasting_of, awaited, WaitsAt, AreAwaited, AreScalar, FillsTyped, TakesScalars, IsTakenBy}
-use Rattle.viewed_steps.proofs.Waited.{temporary_first, leads_temporaries, lasting_more, Shares}
-use Rattle.viewed_steps.specs.Sound.{HoldsAt, ArePlaced, NoneAbove, ViewStage, stages_of, GoneElsewhere, Disturbs, IsWaiting, AreWaiting, calls_one, LeadsAlong}
-use Rattle.viewed_steps.specs.Ready.{IsReady}
+use Rattle.viewed_steps.proofs.Waited.{temporary_first, leads_temporaries, within_lasting, lasting_more, Shares, plain_unheld}
+use Rattle.viewed_steps.specs.Sound.{HoldsAt, ArePlaced, NoneAbove, ViewStage, stages_of, GoneElsewhere, Disturbs, IsWaiting, AreWaiting, calls_one, LeadsAlong, IsResting, IsKindOfFormal, IsScalarObject, AreReturned}
+use Rattle.viewed_steps.specs.Ready.{IsReady, roots_passed, IsCalled}
+use Rattle.viewed_soundness.proofs.Outcomes.{named_plain}
+use Rattle.viewed_steps.proofs.Read.{scalar_named}
+use Rattle.viewed_steps.specs.Taken.{TakenBy, AreTaken}
 use Rattle.viewed_steps.proofs.Lent.{Spare, spare_both, loans_stay}
-use Rattle.viewed_steps.proofs.Placed.{lasts_more, scope_on, placed_on}
+use Rattle.viewed_steps.proofs.Placed.{within_on, lasts_more, scope_on, placed_on}
 use Rattle.viewed_steps.proofs.Ended.{none_some}
-use Rattle.viewed_steps.proofs.Waiting.{StandsBetween, beside_them, handed, all_on}
-use Rattle.viewed_steps.proofs.Called.{AreGiven, all_given, all_laid as all_laid_out, all_acted, spare_reads, spare_copies, Enters, all_entered}
+use Rattle.viewed_steps.proofs.Waiting.{StandsBetween, gone_low, kept_low, beside_them, handed, all_on}
+use Rattle.viewed_steps.proofs.Between.{gone_also, base_along, base_under, same_variable, not_named}
+use Rattle.viewed_steps.proofs.Called.{AreGiven, AreLaidOut, all_laid_out, all_given, all_acted, values_are_read, call_adds_none, passes_to, spare_reads, spare_copies}
+use Rattle.viewed_steps.proofs.Entered.{ArePassedOn, IsOpen, AreBlank, AreDeclared, Enter, not_above, passed_base, formals_of_returns, all_declared}
+use Rattle.viewed_steps.proofs.Passed.{IsNamedBy, no_call_reports, all_passed_on, no_out_checks, all_returned, call_goes}
 use Rattle.viewed_steps.proofs.Standing.{or_right}
 use Rattle.viewed_steps.proofs.Uses.{called_writes, lent_spared}
 use Rattle.viewed_steps.proofs.Standing as standing
@@ -103,7 +119,7 @@ module _ (table : Table) (typed : TypedProgram) (effects : Effects) (input : Lis
   module _ (state : State) (top : Stage) (below : ViewStage) (more_frames : List ViewStage) (rest : List Frame) (named : NamedSub) (p : NamedPoint)
       (frames : state.frames ≡ top.frame ∷ (below.stage.frame ∷ rest)) (deep : top.depth ≡ suc (length rest))
       (stages : AreStages (stages_of (below ∷ more_frames)) (below.stage.frame ∷ rest))
-      (running : IsRunnable table typed top.frame.sub × IsResting s top × AreWaiting table typed effects state top.frame.sub (below ∷ more_frames))
+      (running : IsRunnable table typed top.frame.sub × IsResting s top × AreWaiting table typed effects state top.frame.sub top.frame.returns (below ∷ more_frames))
       (awaiting : AreAwaited table typed None (top ∷ stages_of (below ∷ more_frames)))
       (of_sub : IsNamedSub (flow_named table typed) top.frame.sub named) (at_point : IsAtPoint named.points top.frame.next p)
       (path : ControlPath (path_points program effects (sub_of program top.frame.sub)) top.before top.frame.next) (views : Views)
@@ -233,8 +249,8 @@ module _ (table : Table) (typed : TypedProgram) (effects : Effects) (input : Lis
       abbrev formals : List ℕ
       formals = (sub_of program n).formals
 
-      pub scalar_formals : (x : ℕ) → Has formals x → is_scalar (full s.table (object_at s x).of) ≡ true
-      scalar_formals x has = ready.class.formals x (called.formals x has)
+      pub kinds : (x : ℕ) → Has formals x → IsKindOfFormal s x
+      kinds x has = ready.class.formals x (called.formals x has)
 
       pub copied_there : AreCopied s formals actuals
       copied_there =
@@ -259,11 +275,14 @@ module _ (table : Table) (typed : TypedProgram) (effects : Effects) (input : Lis
         | inr (inr is) ↦ (let never : Call n actuals result ≡ Hold (More call NoMore) = sym e ∙ is in cc)
       ])
 
+      abbrev procedure : Bool
+      procedure = not (is_some (sub_of program n).result)
+
       abbrev ways_there : List Passing
-      ways_there = map (way_of s ready.owns) formals
+      ways_there = map (passing s (not (is_some (sub_of program n).result))) formals
 
       pub ways_are : passings s (sub_at s n) ≡ ways_there
-      ways_are = passed_by program ready.owns n no_traversal scalar_formals
+      ways_are = passes_to program n no_traversal
 
       -- the acts: actuals are read, or their indexes are; then come those of what is copied back, and
       -- those on package objects
@@ -279,7 +298,7 @@ module _ (table : Table) (typed : TypedProgram) (effects : Effects) (input : Lis
           ∙ ap (λ z. flow.actual_values s z actuals ++ flow.actual_acts z actuals) ways_are
 
       pub reads_there : AreReads values
-      reads_there = values_read s ready.owns formals actuals called.actuals_stay
+      reads_there = values_are_read s ready.owns procedure formals actuals kinds called.actuals_stay
 
       call_acts : standing.whole_acts table typed effects input ready state top older outer named p frames of_sub at_point p.instr ≡ acts (values ++ copies) ++ globals_of program effects n
       call_acts =
@@ -300,7 +319,7 @@ module _ (table : Table) (typed : TypedProgram) (effects : Effects) (input : Lis
           (subst (AllowsAll own_facts) call_acts (standing.allowed_whole table typed effects input ready state top older outer named p frames of_sub at_point path))
 
       spare_call : Spare s (values ++ copies)
-      spare_call = spare_both s values copies (spare_reads s values reads_there) (spare_copies s ready.owns formals actuals)
+      spare_call = spare_both s values copies (spare_reads s values reads_there) (spare_copies s ready.owns procedure formals actuals)
 
       pub values_allowed : AllowsAll facts_now (acts values)
       values_allowed =
@@ -326,7 +345,7 @@ module _ (table : Table) (typed : TypedProgram) (effects : Effects) (input : Lis
       abbrev pub Given : List Passed → Type 0
       Given passed =
           AreGiven (steps.here main_turn) ready.accepted.settled (waiting_in easy.state) state.leaks state.memory [] other facts_now views (viewed_easy plain_there.0).1 (viewed_easy plain_there.0).0 holds_now alone live_now
-          index_law ready.owns ready.class.parts_named formals actuals passed
+          index_law ready.owns ready.class.parts_named procedure formals actuals passed
 
       -- the values that the actuals take
       pub taken_there : (on : List (List machine.Word)) × TakesAll formals actuals given_words on
@@ -338,12 +357,12 @@ module _ (table : Table) (typed : TypedProgram) (effects : Effects) (input : Lis
       pub passed_quiet : Quiet then_now Given (all_passed (steps.here main_turn) ways_there formals actuals (start main_turn))
       passed_quiet =
           all_given (steps.here main_turn) ready.accepted.settled (waiting_in easy.state) state.leaks state.memory [] other facts_now views (viewed_easy plain_there.0).1 (viewed_easy plain_there.0).0 holds_now alone live_now
-          index_law ready.owns ready.class.parts_named given_words taken_there.0 formals actuals called.actuals_stay copied_there taken_there.1 values_allowed
+          index_law ready.owns ready.class.parts_named procedure given_words taken_there.0 formals actuals kinds called.actuals_stay copied_there taken_there.1 values_allowed
 
-      given_laid : (passed : List Passed) → Given passed → AreLaid s passed
+      given_laid : (passed : List Passed) → Given passed → AreLaidOut s depth formals actuals passed
       given_laid passed given =
           all_laid_out (steps.here main_turn) ready.accepted.settled (waiting_in easy.state) state.leaks state.memory [] other facts_now views (viewed_easy plain_there.0).1 (viewed_easy plain_there.0).0 holds_now alone live_now
-          index_law ready.owns ready.class.parts_named formals actuals passed given
+          index_law ready.owns ready.class.parts_named procedure formals actuals passed given
 
       -- the state is sound with views under the facts after the acts
       acted_now : (passed : List Passed) → Given passed → Viewed (home s depth) (is_observer s) other views (view_here s easy.state) called_beside
@@ -352,7 +371,7 @@ module _ (table : Table) (typed : TypedProgram) (effects : Effects) (input : Lis
           (sym (ap (λ z. after z facts_now) (acts_append values copies) ∙ after_append (acts values) (acts copies) facts_now
           ∙ ap (after (acts copies)) (reads_keep values reads_there facts_now)))
           (all_acted (steps.here main_turn) ready.accepted.settled (waiting_in easy.state) state.leaks state.memory [] other facts_now views (viewed_easy plain_there.0).1 (viewed_easy plain_there.0).0 holds_now alone live_now
-          index_law ready.owns ready.class.parts_named formals actuals passed facts_now given (viewed_easy plain_there.0).0)
+          index_law ready.owns ready.class.parts_named procedure formals actuals passed facts_now kinds given (viewed_easy plain_there.0).0)
 
       -- loans stay
       loans_called : (h : ℕ) (m : PlaceName) → Has own_facts (Lent Observed h m) → Has facts_called (Lent Observed h m)
@@ -365,18 +384,15 @@ module _ (table : Table) (typed : TypedProgram) (effects : Effects) (input : Lis
       call_point : (k : ℕ) × (successor main_turn 0 ≡ Some k) × Has main_turn.point.next k
       call_point = successor_there main_turn 0 (subst (λ z. 0 < z) (sym (successors_there ∙ ap successors e)) below_one)
 
-      abbrev waits_stage : Stage
-      waits_stage = record {
+      abbrev waits_with : List Way → Stage
+      waits_with ways_taken = record {
         frame = record top.frame { waits = steps.waiting main_turn; next = call_point.0 };
         depth = top.depth;
         before = top.frame.next ∷ top.before;
-        returns = top.returns;
+        returns = ways_taken;
       }
 
-      abbrev waits_there : ViewStage
-      waits_there = record { stage = waits_stage; views = views }
-
-      facts_there : facts_of program effects waits_stage ≡ facts_called
+      facts_there : facts_before (path_points program effects (sub_of program top.frame.sub)) (top.frame.next ∷ top.before) ≡ facts_called
       facts_there =
           ap (λ (z : FlowSub). facts_before (path_points program effects z) (top.frame.next ∷ top.before)) (standing.sub_is table typed effects input ready state top older outer named p frames of_sub at_point)
           ∙ standing.facts_whole table typed effects input ready state top older outer named p frames of_sub at_point path
@@ -384,14 +400,14 @@ module _ (table : Table) (typed : TypedProgram) (effects : Effects) (input : Lis
           ∙ global_after (globals_of program effects n) facts_called globals
 
       -- nothing is moved by the call
-      none_new : (f : Fact) → Has (facts_of program effects waits_stage) f → Has (facts_of program effects top) f
+      none_new : (f : Fact) → Has (facts_before (path_points program effects (sub_of program top.frame.sub)) (top.frame.next ∷ top.before)) f → Has (facts_of program effects top) f
       none_new f has =
           subst (λ z. Has z f) (sym (standing.facts_are table typed effects input ready state top older outer named p frames of_sub at_point path))
           (elim (added_after program effects ready.accepted.effects_are (acts (values ++ copies)) own_facts f (subst (λ z. Has z f) facts_there has)) [
             | inl was ↦ was
             | inr (a, there, new) ↦ (
                 let from = Has-map_from (λ (z : Placed). z.act) (values ++ copies) a there in
-                absurd (call_adds s ready.owns formals actuals called.actuals_stay from.0 from.1 f (subst (λ z. Has (adds z) f) (sym from.2) new)))
+                absurd (call_adds_none s ready.owns procedure formals actuals kinds called.actuals_stay from.0 from.1 f (subst (λ z. Has (adds z) f) (sym from.2) new)))
           ])
 
       -- what the callee uses isn't moved
@@ -405,7 +421,7 @@ module _ (table : Table) (typed : TypedProgram) (effects : Effects) (input : Lis
       callee_less = sub_in_range table typed n called.runs.named called.runs.stands
 
       -- nor is it disturbed where a part is lent
-      lends_there : (l : Loan) (h : ℕ) (name : PlaceName) → Has (facts_of program effects waits_stage) (Lent l h name) → is_package_object s name.root ≡ true
+      lends_there : (l : Loan) (h : ℕ) (name : PlaceName) → Has (facts_before (path_points program effects (sub_of program top.frame.sub)) (top.frame.next ∷ top.before)) (Lent l h name) → is_package_object s name.root ≡ true
           → Disturbs effects l n name.root → ⊥
       lends_there l h name has shared disturbs =
           lent_spared program effects ready.accepted.effects_are n called.text_io facts_called each_allowed.1 l h name
@@ -453,21 +469,134 @@ module _ (table : Table) (typed : TypedProgram) (effects : Effects) (input : Lis
       abbrev late : Option ℕ
       late = awaited (sub_of program n) []
 
-      waits_late : WaitsAt table typed late waits_stage
-      waits_late other_named other_stands q at_q =
+      waits_late : (ways_taken : List Way) → WaitsAt table typed late (waits_with ways_taken)
+      waits_late ways_taken other_named other_stands q at_q =
           let same_sub : other_named ≡ named = one_named (flow_named table typed) top.frame.sub other_named named other_stands of_sub in
           let same_point : at_successor.0 ≡ q =
           one_point named.points call_point.0 (at_successor.0) q at_successor.1 (subst (λ (z : NamedSub). IsAtPoint z.points call_point.0 q) same_sub at_q) in
           subst (λ (z : NamedPoint). AreValuesBut s late (steps.waiting main_turn) (temporaries_of s z.scope)) same_point
           (late_scope result (subst (λ i. Fills s i left_scope) e supplied_here.1)
-          (subst (λ i. FillsTyped program i left_scope) e (ready.taken.fills named named_there p point_there_now)) late refl called.answers (at_successor.0).scope
+          (subst (λ i. FillsTyped program i left_scope) e (ready.valued.fills named named_there p point_there_now)) late refl called.answers (at_successor.0).scope
           (subst (λ i. Leads s (brought i left_scope) (at_successor.0).scope) e at_successor.2))
 
       -- ---- what is passed
 
+      abbrev next_there : List ℕ
+      next_there = lasting_of s (at_successor.0).scope
+
+      -- the state is sound with views under the facts after the acts, and so it is beside the others
       module _ (passed : List Passed) (given : Given passed) where
+        abbrev other_all : Around (home s depth)
+        other_all = known_gone (home s depth) (GoneElsewhere program effects older)
+
+        well_all : Viewed (home s depth) (is_observer s) other_all views (view_here s easy.state) facts_called
+        well_all = apart_from_them (acts (values ++ copies)) views (view_here s easy.state) holds.only (acted_now passed given)
+
+        -- what is taken
+        no_overlap : ((r : Report) → Has (overlap_reports s (alias.passed formals actuals)) r → ⊥) ⊎ ((x : ℕ) → Has formals x → IsScalarObject s x)
+        no_overlap = by_result (sub_of program n).result refl
+          where
+            reports_are : (o : Option ℕ) → is_some o ≡ false → call_reports s effects (Call n actuals o)
+                ≡ (if is_some (sub_at s n).result then [] else passed_reports s effects n (alias.passed (sub_at s n).formals actuals))
+            reports_are None none = refl
+            reports_are (Some of) none = cc
+
+            by_result : (o : Option ℕ) → (sub_of program n).result ≡ o
+                → ((r : Report) → Has (overlap_reports s (alias.passed formals actuals)) r → ⊥) ⊎ ((x : ℕ) → Has formals x → IsScalarObject s x)
+            by_result (Some of) answers = inr (λ x has. ready.class.functions n of
+                (ap (λ (z : Signature). z.result) (signature_is program n) ∙ answers) x (subst (λ z. Has z x) (sym (ap (λ (z : Signature). z.formals) (signature_is program n))) has))
+            by_result None none = inl (λ r has.
+                no_call_reports program effects ready.accepted.no_reports (flow_sub own named)
+                (standing.in_program table typed effects input ready state top older outer named p frames of_sub at_point) main_turn.point
+                (standing.in_sub table typed effects input ready state top older outer named p frames of_sub at_point) r
+                (subst (λ i. Has (call_reports s effects i) r) (sym e)
+                (subst (λ z. Has z r) (sym (reports_are result (sym called.answers ∙ ap is_some none)))
+                (subst (λ z. Has (if is_some z.result then [] else passed_reports s effects n (alias.passed z.formals actuals)) r) (sym (signature_is program n))
+                (subst (λ z. Has (if is_some z then [] else passed_reports s effects n (alias.passed formals actuals)) r) (sym none)
+                (Has-append_left (overlap_reports s (alias.passed formals actuals)) (flat_map (alias.global_reports s effects n) (alias.passed formals actuals)) r has))))))
+
+        within_next : (y : ℕ) → Has (roots_passed actuals) y → is_package_object s y ≡ false → is_owning s.table (object_at s y).of ≡ true → is_within y next_there ≡ true
+        within_next y has mine owns =
+            within_lasting s y (at_successor.0).scope
+            (within_on s (scope_behind p) (at_successor.0).scope y at_successor.2 (ap (λ b. b || is_anonymous (view_of s y)) owns)
+            (more y (elim (ready.passing.passed named (standing.named_in table typed effects input ready state top older outer named p frames of_sub at_point) p
+            (standing.point_in_named table typed effects input ready state top older outer named p frames of_sub at_point) n actuals result e y has) [
+              | inr within ↦ within
+              | inl shared_object ↦ absurd (true_false (is_package_object s y) shared_object mine)
+            ])))
+            (ready.passing.lasting named (standing.named_in table typed effects input ready state top older outer named p frames of_sub at_point) p
+            (standing.point_in_named table typed effects input ready state top older outer named p frames of_sub at_point) n actuals result e y has)
+
+        all_passed_ways : (ways_taken : List Way) × ArePassedOn s depth facts_called next_there formals passed ways_taken
+            × ((k : Way) → Has ways_taken k → IsNamedBy s formals actuals k)
+        all_passed_ways =
+            all_passed_on s ready.owns depth facts_called next_there procedure formals actuals passed own_facts (given_laid passed given) kinds
+            called.local called.differ
+            within_next no_overlap
+            (ap (λ z. after z own_facts) (acts_append values copies) ∙ after_append (acts values) (acts copies) own_facts
+            ∙ ap (after (acts copies)) (reads_keep values reads_there own_facts))
+            (subst (λ z. AllowsAll z (acts copies)) (reads_keep values reads_there own_facts)
+            (allows_both own_facts (acts values) (acts copies) (subst (AllowsAll own_facts) (acts_append values copies) each_allowed.0)).1)
+
+        abbrev ways_taken : List Way
+        ways_taken = all_passed_ways.0
+
+        open_there : IsOpen s ready.accepted.settled ready.owns no_in_formals (waiting_in easy.state) state.leaks depth views facts_called next_there other_all ways_taken
+        open_there = record {
+          free = λ k w under gone. (let root = gone_low table typed effects unmoved_stage local state depth older between w gone in
+              hand_base (sym (base_under (ways.Object (ways.OfHand k)) w under) ∙ root.2));
+          whole = λ to has w under gone. (
+              let root = gone_low table typed effects unmoved_stage local state depth older between w gone in
+              let base = passed_base s depth facts_called next_there formals passed ways_taken all_passed_ways.1 to has in
+              let frames_same = (same_variable root.0 root.1 depth base.0 (sym root.2 ∙ base_under to w under ∙ base.1)).0 in
+              let less = root.3 in omega (arith, frames_same, less));
+          none = λ w k keeps_it. keeps_it;
+        }
+          where
+            hand_base : {k f x : ℕ} → ways.OfRoot (ways.OfHand k) ≡ ways.OfRoot (ways.OfVariable f x) → ⊥
+            hand_base is = cc
+
+        -- the formals have nothing yet
+        blank_formals : AreBlank s ready.accepted.settled ready.owns no_in_formals (waiting_in easy.state) state.leaks depth views facts_called next_there state.memory formals
+        blank_formals x has q = by_word (word_in s.table (content s state.memory [] (ways.OfRoot (ways.OfVariable (suc depth) x))) q) refl
+          where
+            by_word : (w : ways.Word) → word_in s.table (content s state.memory [] (ways.OfRoot (ways.OfVariable (suc depth) x))) q ≡ w
+                → word_in s.table (content s state.memory [] (ways.OfRoot (ways.OfVariable (suc depth) x))) q ≡ ways.Empty
+            by_word ways.Empty is = is
+            by_word (ways.Held k) is = absurd (elim (scope (suc depth) x q k is) [
+              | inl less ↦ omega (arith, less)
+              | inr mine ↦ (let frames_same = mine.0 in omega (arith, frames_same))
+            ])
+            by_word ways.Gone is =
+                let root : ways.Root = ways.OfVariable (suc depth) x in
+                let w : Way = ways.along (ways.Object root) q in
+                absurd (elim (well_all.known w (ways.part (ways.OfRoot root) q) (rooted_along (ways.Object root) q tt)
+                (reaches_along (view_here s easy.state) (ways.Object root) (ways.OfRoot root) q refl)
+                (word_root s.table (content s state.memory (waiting_in easy.state)) root q ∙ is)) [
+                  | inr gone ↦ (
+                      let there = gone_low table typed effects unmoved_stage local state depth older between w gone in
+                      let frames_same = (same_variable there.0 there.1 (suc depth) x (sym there.2 ∙ base_along (ways.Object root) q)).0 in
+                      let less = there.3 in omega (arith, frames_same, less))
+                  | inl (inr none) ↦ absurd none
+                  | inl (inl (u, moved, leads)) ↦ not_named (home s depth) (suc depth) x
+                      (not_above s ready.accepted.settled ready.owns no_in_formals (waiting_in easy.state) state.leaks depth views facts_called next_there) w
+                      (subst (ways.Named (home s depth)) leads
+                      (named_way (home s depth) (is_observer s) other_all views (view_here s easy.state) facts_called well_all.views (suc (ways.number_of u)) u (omega arith)
+                      (moved.0, well_all.clear.owned (ways.name_of u) moved.1))) (base_along (ways.Object root) q)
+                ])
+
         abbrev with_all : Memory
         with_all = with_formals s (suc depth) formals passed state.memory
+
+        enters : Enter s ready.accepted.settled ready.owns no_in_formals (waiting_in easy.state) state.leaks depth views facts_called next_there other_all formals passed ways_taken
+            state.memory with_all
+        enters =
+            all_declared s ready.accepted.settled ready.owns no_in_formals (waiting_in easy.state) state.leaks depth views facts_called next_there other_all formals passed ways_taken
+            state.memory all_passed_ways.1 open_there (viewed_easy plain_there.0).1 well_all blank_formals
+
+        abbrev declared_there : AreDeclared s ready.accepted.settled ready.owns no_in_formals (waiting_in easy.state) state.leaks depth views facts_called next_there formals
+            state.memory with_all
+        declared_there = enters.0
 
         abbrev after_call : State
         after_call = steps.leaking [] (entered main_turn ready.accepted.settled n actuals passed)
@@ -475,8 +604,11 @@ module _ (table : Table) (typed : TypedProgram) (effects : Effects) (input : Lis
         abbrev called_stage : Stage
         called_stage = record { frame = frame_at_start n (returns_of formals passed); depth = suc depth; before = []; returns = [] }
 
-        enters : Enters s ready.accepted.settled ready.owns (waiting_in easy.state) state.leaks state.memory with_all
-        enters = all_entered s ready.accepted.settled ready.owns (waiting_in easy.state) state.leaks (suc depth) formals passed state.memory scalar_formals (given_laid passed given) (viewed_easy plain_there.0).1
+        abbrev waits_stage : Stage
+        waits_stage = waits_with all_passed_ways.0
+
+        abbrev waits_there : ViewStage
+        waits_there = record { stage = waits_with all_passed_ways.0; views = views }
 
         frames_there : after_call.frames ≡ frame_at_start n (returns_of formals passed) ∷ (waits_stage.frame ∷ outer)
         frames_there =
@@ -491,15 +623,17 @@ module _ (table : Table) (typed : TypedProgram) (effects : Effects) (input : Lis
         view_called : called_view ≡ view_here s after_call
         view_called = (λ j. seen s with_all (sym hands_there j) (sym (append-nil state.leaks) j))
 
-        well_beside : Viewed (home s depth) (is_observer s) other views (view_here s after_call) called_beside
-        well_beside =
-            subst (λ z. Viewed (home s depth) (is_observer s) other views z called_beside) view_called
-            (same_viewed (home s depth) (is_observer s) other views (view_here s easy.state) called_view called_beside enters.same (acted_now passed given))
+        abbrev around_taken : Around (home s depth)
+        around_taken = gone_also (home s depth) other_all (λ w. GoneElsewhere program effects older w ⊎ TakenBy all_passed_ways.0 w)
 
-        well_called : Viewed (home s depth) (is_observer s) (known_gone (home s depth) (GoneElsewhere program effects older)) views (view_here s after_call) facts_called
-        well_called = apart_from_them (acts (values ++ copies)) views (view_here s after_call) holds.only well_beside
+        well_called : Viewed (home s depth) (is_observer s) around_taken views (view_here s after_call) facts_called
+        well_called = subst (λ z. Viewed (home s depth) (is_observer s) around_taken views z facts_called) view_called enters.1
 
-        is_waiting : IsWaiting table typed effects after_call n waits_there
+        held_called : (f x : ℕ) (q : List Step) (k : ℕ) → (f ≡ suc depth → ⊥) → word_in s.table (content s with_all [] (ways.OfRoot (ways.OfVariable f x))) q ≡ ways.Held k
+            → word_in s.table (content s state.memory [] (ways.OfRoot (ways.OfVariable f x))) q ≡ ways.Held k
+        held_called f x q k off held = elim (declared_there.held f x q k held) [ inl before ↦ before | inr mine ↦ absurd (off mine.0) ]
+
+        is_waiting : IsWaiting table typed effects after_call n (returns_of formals passed) waits_there
         is_waiting = record {
           runs = running.0;
           plain = running.1;
@@ -511,7 +645,7 @@ module _ (table : Table) (typed : TypedProgram) (effects : Effects) (input : Lis
           of_sub = of_sub;
           point = at_successor.0;
           at_point = at_successor.1;
-          scope = λ x q k held. elim (next_scope top.depth x q k (sym (enters.hold top.depth x q) ∙ held)) [
+          scope = λ x q k held. elim (next_scope top.depth x q k (held_called top.depth x q k (λ above_it. (let d = deep in omega (arith, above_it, d))) held)) [
             | inl less ↦ absurd (omega (arith, less, deep))
             | inr mine ↦ mine.1
           ];
@@ -525,39 +659,50 @@ module _ (table : Table) (typed : TypedProgram) (effects : Effects) (input : Lis
           views = subst (λ z. AreViews (home s top.depth) (is_observer s) views (view_here s after_call) z) (sym facts_there)
               (subst (λ d. AreViews (home s d) (is_observer s) views (view_here s after_call) facts_called) (sym deep) well_called.views);
           holds = subst (λ d. HoldsAt s d views with_all at_successor.0) (sym deep) (record {
-            held = λ x k lasts view at. holds_now.held x k view (sym (enters.views (home s depth x) x view) ∙ at);
+            held = λ x k lasts view at. holds_now.held x k view (sym (declared_there.views (home s depth x) x view) ∙ at);
             within = λ x k view at. (
-                let own_way = holds_now.held x k view (sym (enters.views (home s depth x) x view) ∙ at) in
+                let own_way = holds_now.held x k view (sym (declared_there.views (home s depth x) x view) ∙ at) in
                 (next_placed x own_way.0 own_way.1).within);
             only = holds.only;
           });
           placed = subst (λ z. ArePlaced program z views (at_successor.0).scope) (sym facts_there) next_placed;
+          taken = subst (λ z. AreTaken s with_all top.depth z next_there (returns_of formals passed) all_passed_ways.0) (sym facts_there)
+              (subst (λ d. AreTaken s with_all d facts_called next_there (returns_of formals passed) all_passed_ways.0) (sym deep) enters.2);
         }
 
-        others_wait : AreWaiting table typed effects after_call top.frame.sub older
+        others_wait : AreWaiting table typed effects after_call top.frame.sub top.frame.returns older
         others_wait =
             all_on table typed effects unmoved_stage local state after_call depth
-            (λ f x q k some less held. (q, k, sym (enters.hold f x q) ∙ held))
-            (λ f x some less view. enters.views f x view)
-            top.frame.sub older outer stages (omega arith) (λ g has x w is. well_beside.far w (g.views.cell x) (g, has, x, is, refl)) running.2
+            (λ f x q k some less held. held_called f x q k (λ above_it. omega (arith, less, above_it)) held)
+            (λ f x some less view. declared_there.views f x view)
+            top.frame.sub top.frame.returns older outer stages (omega arith)
+            (λ g has x w is. (let root = kept_low table typed effects unmoved_stage local state depth older between w (g.views.cell x) (g, has, x, is, refl) in
+            subst (λ z. ways.Reaches z w (ways.OfCell (g.views.cell x))) view_called
+            (declared_there.low w root.0 root.1 root.2 root.3 (g.views.cell x)
+            (((viewed_easy plain_there.0).0).far w (g.views.cell x) (g, has, x, is, refl))))) running.2
 
         -- what is gone then is known to those that wait
         known_called : (w : Way) (l : ways.Loc) → ways.IsRooted w → ways.Reaches (view_here s after_call) w l → (view_here s after_call).word l ≡ ways.Gone
             → GoneElsewhere program effects (waits_there ∷ older) w
         known_called w l rooted r gone = elim (well_called.known w l rooted r gone) [
-          | inr (g, has, what) ↦ (g, inr has, what)
+          | inr (inl (g, has, what)) ↦ (g, inr has, what)
+          | inr (inr taken_there) ↦ (waits_there, inl refl, inr taken_there)
           | inl (inr none) ↦ absurd none
           | inl (inl moved) ↦ (
             waits_there,
             inl refl,
-            subst (λ d. IsMovedBy (home s d) views (facts_of program effects waits_stage) w) (sym deep)
-                (subst (λ z. IsMovedBy (home s depth) views z w) (sym facts_there) moved),
+            inl (subst (λ d. IsMovedBy (home s d) views (facts_of program effects waits_stage) w) (sym deep)
+                (subst (λ z. IsMovedBy (home s depth) views z w) (sym facts_there) moved)),
           )
         ]
 
-        -- owners see nothing of the formals
-        called_words : AreSameWords s (λ f. Unit {0}) state.memory with_all
-        called_words = (λ f x q on. enters.hold f x q, λ c q. cells_same s state.memory with_all (waiting_in easy.state) state.leaks enters.same c q)
+        returned_there : AreReturned s (frame_at_start n (returns_of formals passed))
+        returned_there = (
+          λ x has. all_returned s ready.accepted.settled depth formals actuals passed (given_laid passed given) called.actuals_stay kinds x
+              (subst (λ z. Has z x) (ap (λ (z : Signature). z.formals) (signature_is program n)) has),
+          λ r has. called.formals r.formal
+              (formals_of_returns s ready.accepted.settled ready.owns no_in_formals (waiting_in easy.state) state.leaks depth views facts_called next_there formals passed r has),
+        )
 
         entered_sound : Along (Goes after_call)
         entered_sound = (
@@ -566,15 +711,11 @@ module _ (table : Table) (typed : TypedProgram) (effects : Effects) (input : Lis
             views = blank_views;
             older = waits_there ∷ older;
             stages = subst (AreStages (called_stage ∷ stages_of (waits_there ∷ older))) (sym frames_there) (refl, refl, (refl, deep, stages));
-            running = (
-              called.runs,
-              (returns_copied s ready.accepted.settled formals passed scalar_formals (given_laid passed given), refl),
-              (is_waiting, others_wait),
-            );
+            running = (called.runs, returned_there, (is_waiting, others_wait));
             awaited = (
               packages.first_waits table typed effects input ready (suc depth) n (returns_of formals passed) called.runs.named called.runs.stands called.runs.point
                   called.runs.points called.runs.begins,
-              (waits_late, others_await (ap returns_value e)),
+              (waits_late all_passed_ways.0, others_await (ap returns_value e)),
             );
             path = begins (first_point n called.runs.named called.runs.stands called.runs.point called.runs.points called.runs.begins);
             viewed = record {
@@ -591,14 +732,21 @@ module _ (table : Table) (typed : TypedProgram) (effects : Effects) (input : Lis
               lends = λ l k none. absurd none;
               far = λ w k none. absurd none;
             };
-            kept = subst (Kept s with_all) (sym hands_there) enters.typed;
+            kept = subst (Kept s with_all) (sym hands_there) declared_there.typed;
             named = called.runs.named;
             of_sub = called.runs.stands;
             point = called.runs.point;
             at_point = ([], called.runs.points, called.runs.begins, refl);
-            scope = λ f x q k held. elim (scope f x q k (sym (enters.hold f x q) ∙ held)) [
-              | inl less ↦ inl (omega (arith, less))
-              | inr mine ↦ (let is = mine.0 in inl (omega (arith, is)))
+            scope = λ f x q k held. elim (declared_there.held f x q k held) [
+              | inl before ↦ elim (scope f x q k before) [
+                | inl less ↦ inl (omega (arith, less))
+                | inr mine ↦ (let is = mine.0 in inl (omega (arith, is)))
+              ]
+              | inr mine ↦ inr (
+                mine.0,
+                within_lasting s x called.runs.point.scope (called.begins x mine.1 (owning_there f x q k held))
+                    (plain_unheld s x (formal_lasts (object_at s x).kind (called.formals x mine.1))),
+              )
             ];
             holds = record {
               held = λ x k lasts view at. absurd (no_view x k view at);
@@ -606,18 +754,39 @@ module _ (table : Table) (typed : TypedProgram) (effects : Effects) (input : Lis
               only = λ x w has. absurd (none_some w has);
             };
             placed = λ x w has. absurd (none_some w has);
-            none_above = λ f x k less view at. above f x k (omega (arith, less)) view (sym (enters.views f x view) ∙ at);
+            none_above = λ f x k less view at. above f x k (omega (arith, less)) view (sym (declared_there.views f x view) ∙ at);
           },
-          calls_one waits_stage refl (refl, refl, refl) refl none_new called_words,
+          calls_one waits_stage refl (refl, refl, refl) refl none_new (λ scalars. declared_there.words (λ x has. scalars x (called.formals x has))),
         )
           where
+            formal_lasts : (k : ObjectKind) → is_formal_kind k ≡ true → is_temporary k ≡ false
+            formal_lasts object_kind.Formal is = refl
+            formal_lasts k is = cc
+
+            -- what has a number owns
+            owning_there : (f x : ℕ) (q : List Step) (k : ℕ) → word_in s.table (content s with_all [] (ways.OfRoot (ways.OfVariable f x))) q ≡ ways.Held k
+                → is_owning s.table (object_at s x).of ≡ true
+            owning_there f x q k held = by_type (is_owning s.table (object_at s x).of) refl
+              where
+                by_type : (b : Bool) → is_owning s.table (object_at s x).of ≡ b → b ≡ true
+                by_type true is = refl
+                by_type false is =
+                    let none = word_no s.table (content s with_all [] (ways.OfRoot (ways.OfVariable f x))) q
+                    ((keeps s ready.accepted.settled ready.owns).ownerless (object_at s x).of is q) in
+                    absurd (no_number (sym none ∙ held))
+                  where
+                    no_number : ways.Empty ≡ ways.Held k → ⊥
+                    no_number same_word = cc
+
             no_view : (x k : ℕ) → is_anonymous (view_of s x) ≡ true
                 → (get_or (variable_slots s (home s (suc depth) x) x with_all.variables) 0 no_slot).word ≡ machine.Cell k → ⊥
             no_view x k view at =
                 let up : home s (suc depth) x ≡ suc depth = ap (λ b. if b then 0 else suc depth) (local x view) in
-                above (home s (suc depth) x) x k (omega (arith, up)) view (sym (enters.views (home s (suc depth) x) x view) ∙ at)
+                above (home s (suc depth) x) x k (omega (arith, up)) view (sym (declared_there.views (home s (suc depth) x) x view) ∙ at)
 
       pub calls_it : Along (turn main_turn (Call n actuals result))
       calls_it =
-          call_on main_turn ready.accepted.settled n actuals Along ends_raised Given given_laid entered_sound ways_there ways_are
+          call_goes main_turn ready.accepted.settled n actuals Along ends_raised Given
+          (λ passed given. no_out_checks s ready.accepted.settled depth main_turn.point.pos state.memory formals actuals passed (given_laid passed given))
+          entered_sound ways_there ways_are
           (start main_turn) then_now refl refl passed_quiet

@@ -119,6 +119,14 @@ far_off s t f x g y same (Into w i) l base off (m, reach, e) = (m, far_off s t f
 far_off s t f x g y same (All w) l base off (m, c, reach, held, e) =
     (m, c, far_off s t f x g y same w m base off reach, same m (far_there s f x g y w m base off reach) ∙ held, e)
 
+-- a way from another variable reaches what it reached
+pub declared_low : (s : Typing) (m : Memory) (got : Waiting) (rest : List Waiting) (leaks : List Leak) (f x : ℕ) (w : Way) (g y : ℕ)
+    → base_of w ≡ OfRoot (OfVariable g y) → (OfVariable f x ≡ OfVariable g y → ⊥) → (n : ℕ)
+    → Reaches (seen s m (got ∷ rest) leaks) w (OfCell n) → Reaches (seen s (declared f x got.words m) rest leaks) w (OfCell n)
+declared_low s m got rest leaks f x w g y base off n reach =
+    far_off (seen s m (got ∷ rest) leaks) (seen s (declared f x got.words m) rest leaks) f x g y
+    (λ l there. word_off s m (got ∷ rest) rest leaks f x got.words l there) w (OfCell n) base off reach
+
 -- A variable isn't one that a way of others begins at.
 abbrev pub IsApart : (home : ℕ → ℕ) → Around home → ℕ → ℕ → Type 0
 IsApart home other f x = (w : Way) (n : ℕ) → other.kept w n → base_of w ≡ OfRoot (OfVariable f x) → ⊥

@@ -38,7 +38,7 @@ use Rattle.owned_ways.specs.Ways.{Step, OfVariable, OfRoot, Way, Held, after, Al
 use Rattle.owned_ways.specs.Ways as ways
 use Rattle.soundness.specs.Seen.{IsNear, content, word_in, home}
 use Rattle.soundness.specs.Typed.{Kept}
-use Rattle.soundness.specs.Sound.{Stage, facts_of, AreStages, Uses, IsRunnable, IsResting, is_temporary_object, returns_value, has_returned, InScope, IsNamedSub, IsAtPoint, view_of as view_here, IsPlainValue}
+use Rattle.soundness.specs.Sound.{Stage, facts_of, AreStages, Uses, IsRunnable, is_temporary_object, returns_value, has_returned, InScope, IsNamedSub, IsAtPoint, view_of as view_here, IsPlainValue, calls_procedures}
 use Rattle.soundness.specs.Ready.{stored_at, IsSupplied}
 use Rattle.soundness.proofs.Contents.{bool_cases, word_no}
 use Rattle.machine.specs.Run.{no_point}
@@ -56,11 +56,12 @@ use Rattle.owned_loans.specs.Views.{Around, known_gone, Views, Viewed}
 use Rattle.viewed_soundness.proofs.Names.{true_false}
 use Rattle.viewed_steps.specs.Awaited.{AreFor, AreValues, temporaries_of, is_held, lasting_of, awaited, AreAwaited, AreScalar, TakesScalars, IsTakenBy, IsTaken}
 use Rattle.viewed_steps.proofs.Waited.{plain_unheld, ended_held, lasting_within, within_lasting, lasting_more, brought_temporaries, Shares, shares, scalar_values}
-use Rattle.viewed_steps.specs.Sound.{HoldsAt, ArePlaced, NoneAbove, Lasts, ViewStage, stages_of, GoneElsewhere, Disturbs, AreWaiting, LeadsOn}
-use Rattle.viewed_steps.specs.Ready.{AreOrderly, IsReady}
+use Rattle.viewed_steps.specs.Sound.{HoldsAt, ArePlaced, NoneAbove, Lasts, ViewStage, stages_of, GoneElsewhere, Disturbs, AreWaiting, LeadsOn, IsResting}
+use Rattle.viewed_steps.specs.Ready.{AreOrderly, IsReady, IsCalled}
+use Rattle.viewed_soundness.proofs.Outcomes.{named_plain}
 use Rattle.viewed_steps.proofs.Lent.{ends, Spare, spare_has}
 use Rattle.viewed_steps.proofs.Inherited.{after_more, apart_act, lending_uses, apart_borrowed, apart_seen}
-use Rattle.viewed_steps.proofs.Beside.{OthersKept}
+use Rattle.viewed_steps.proofs.Beside.{OthersKept, faint_held}
 use Rattle.viewed_steps.proofs.Waiting.{StandsBetween, all_between, KeptElsewhere, LentElsewhere, unused_there, beside_them, handed, handed_cases, moved_handed, lent_handed, AreApart, with_them, without_them, far, all_on}
 use Rattle.viewed_steps.proofs.Uses.{writes_there, borrowing_writes, moving_writes}
 use Rattle.viewed_steps.proofs.Apart.{spared_there, written_disturbs, moved_apart, seen_apart}
@@ -112,7 +113,7 @@ module _ (table : Table) (typed : TypedProgram) (effects : Effects) (input : Lis
   module _ (state : State) (top : Stage) (below : ViewStage) (more_frames : List ViewStage) (rest : List Frame) (named : NamedSub) (p : NamedPoint)
       (frames : state.frames ≡ top.frame ∷ (below.stage.frame ∷ rest)) (deep : top.depth ≡ suc (length rest))
       (stages : AreStages (stages_of (below ∷ more_frames)) (below.stage.frame ∷ rest))
-      (running : IsRunnable table typed top.frame.sub × IsResting s top × AreWaiting table typed effects state top.frame.sub (below ∷ more_frames))
+      (running : IsRunnable table typed top.frame.sub × IsResting s top × AreWaiting table typed effects state top.frame.sub top.frame.returns (below ∷ more_frames))
       (awaiting : AreAwaited table typed None (top ∷ stages_of (below ∷ more_frames)))
       (of_sub : IsNamedSub (flow_named table typed) top.frame.sub named) (at_point : IsAtPoint named.points top.frame.next p)
       (path : ControlPath (path_points program effects (sub_of program top.frame.sub)) top.before top.frame.next) (views : Views)
@@ -130,7 +131,7 @@ module _ (table : Table) (typed : TypedProgram) (effects : Effects) (input : Lis
     depth = suc (length rest)
 
     pub between : (g : ViewStage) → Has (below ∷ more_frames) g → StandsBetween table typed effects unmoved_stage local state (suc (length rest)) g
-    between g has = all_between table typed effects unmoved_stage local state top.frame.sub (suc (length rest)) (below ∷ more_frames) (below.stage.frame ∷ rest) stages (omega arith) running.2 g has
+    between g has = all_between table typed effects unmoved_stage local state top.frame.sub (suc (length rest)) top.frame.returns (below ∷ more_frames) (below.stage.frame ∷ rest) stages (omega arith) running.2 g has
 
     -- what concerns it of them, with their facts on package objects beside its own
     abbrev pub other : Around (home s (suc (length rest)))
@@ -173,7 +174,7 @@ module _ (table : Table) (typed : TypedProgram) (effects : Effects) (input : Lis
     unused_here name has =
         let found = moved_handed table typed effects unmoved_stage local state (suc (length rest)) (below ∷ more_frames) between name has in (
           found.3,
-          λ uses. unused_there table typed effects unmoved_stage local state top.frame.sub older running.2 found.0 found.1 name found.2 found.3 uses,
+          λ uses. unused_there table typed effects unmoved_stage local state top.frame.sub top.frame.returns older running.2 found.0 found.1 name found.2 found.3 uses,
         )
 
     abbrev pub LentAround : Loan → PlaceName → Type 0
@@ -182,7 +183,7 @@ module _ (table : Table) (typed : TypedProgram) (effects : Effects) (input : Lis
     -- and it disturbs none that one has lent
     pub spared_here : (l : Loan) (name : PlaceName) → LentAround l name → Disturbs effects l top.frame.sub name.root → ⊥
     spared_here l name (g, has, some, h, fact, shared_object) disturbs =
-        spared_there table typed effects ready.accepted.effects_are state top.frame.sub older running.2 g has some l h name fact shared_object disturbs
+        spared_there table typed effects ready.accepted.effects_are state top.frame.sub top.frame.returns older running.2 g has some l h name fact shared_object disturbs
 
     pub act_uses : (x : ℕ) → is_package_object s x ≡ true → (q : FlowPoint) → Has (flow_sub own named).points q → (a : Placed) → Has q.acts a
         → (act_writes x a.act ≡ true) ⊎ (act_reads x a.act ≡ true) → Uses effects top.frame.sub x
@@ -217,10 +218,10 @@ module _ (table : Table) (typed : TypedProgram) (effects : Effects) (input : Lis
     apart = record {
       moved = λ n has l m (k, there, some, h, fact, shared) over. (
           let found = moved_handed table typed effects unmoved_stage local state (suc (length rest)) (below ∷ more_frames) between n has in
-          moved_apart table typed effects ready.accepted.effects_are unmoved_stage (unused_there table typed effects unmoved_stage local) state top.frame.sub older running.2
+          moved_apart table typed effects ready.accepted.effects_are unmoved_stage (unused_there table typed effects unmoved_stage local) state top.frame.sub top.frame.returns older running.2
           found.0 k found.1 there some n found.2 found.3 l h m fact over);
       seen = λ n m (g, has, deep_there, b, lends, shared) (k, there, some, h, fact, also) over.
-          seen_apart table typed effects ready.accepted.effects_are unmoved_stage (unused_there table typed effects unmoved_stage local) state top.frame.sub older running.2
+          seen_apart table typed effects ready.accepted.effects_are unmoved_stage (unused_there table typed effects unmoved_stage local) state top.frame.sub top.frame.returns older running.2
           g k has there deep_there some b n lends shared h m fact over;
       own_lent = λ n has l h m lends root. (
           let found = unused_here n has in
@@ -433,7 +434,7 @@ module _ (table : Table) (typed : TypedProgram) (effects : Effects) (input : Lis
     viewed_easy plain = eased_viewed main_turn ready.accepted.settled (home s depth) (is_observer s) other views facts_now frames (plain_values plain) viewed kept
 
     pub taken_there : IsTaken s p
-    taken_there = ready.taken.takes named named_there p point_there_now
+    taken_there = ready.valued.takes named named_there p point_there_now
 
     -- and so it is, where a call alone isn't taken
     pub plain_here : ((call : TypedTree) → IsTakenBy p.instr call → ⊥) → Plain × TakesScalars s p.instr
@@ -535,14 +536,12 @@ module _ (table : Table) (typed : TypedProgram) (effects : Effects) (input : Lis
     pub in_scope : (m : Memory) (after_scope : List ℕ) → Inside s IsOld m depth after_scope → InScope s m depth after_scope
     in_scope m after_scope in_there f x q n held = elim (in_there f x q n held) [ inl old ↦ inl old.0 | inr mine ↦ inr mine ]
 
-    pub still : (m : Memory) (after_scope : List ℕ) → Inside s IsOld m depth after_scope → (f x : ℕ) (q : List Step) (n : ℕ) → 0 < f → f < depth
+    -- what has a number in them had it before
+    pub still : (m : Memory) → OthersKept s depth state.memory m → (f x : ℕ) (q : List Step) (n : ℕ) → 0 < f → f < depth
         → word_in s.table (content s m [] (OfRoot (OfVariable f x))) q ≡ Held n
-        → (r : List Step) × (k : ℕ) × (word_in s.table (content s state.memory [] (OfRoot (OfVariable f x))) r ≡ Held k)
-    still m after_scope in_there f x q n some less held = elim (in_there f x q n held) [
-      | inr mine ↦ (let is = mine.0 in absurd (omega (arith, less, is)))
-      | inl (below_it, inl none) ↦ absurd (omega (arith, some, none))
-      | inl (below_it, inr before) ↦ before
-    ]
+        → word_in s.table (content s state.memory [] (OfRoot (OfVariable f x))) q ≡ Held n
+    still m stay f x q n some less held =
+        faint_held s state.memory m f x (λ o. stay f x (λ first. omega (arith, some, first)) (λ same_depth. omega (arith, less, same_depth)) o) q n held
 
     pub home_frame : (x : ℕ) → is_package_object s x ≡ false → home s depth x ≡ depth
     home_frame x own_frame = ap (λ b. if b then 0 else depth) own_frame
@@ -562,16 +561,16 @@ module _ (table : Table) (typed : TypedProgram) (effects : Effects) (input : Lis
     -- the variables of views above stay without numbers
     pub still_above : (m : Memory) → OthersKept s depth state.memory m → NoneAbove s depth m
     still_above m stay f x n less view e =
-        above f x n less view (sym (stay f x (λ first. omega (arith, less, first)) (λ same_depth. omega (arith, less, same_depth))) ∙ e)
+        above f x n less view (sym (stay f x (λ first. omega (arith, less, first)) (λ same_depth. omega (arith, less, same_depth)) 0).word ∙ e)
 
     -- those that wait do so still
     pub wait_still : (next : State) (after_scope : List ℕ) → Inside s IsOld next.memory depth after_scope → OthersKept s depth state.memory next.memory
         → ((w : Way) (n : ℕ) → KeptElsewhere table typed effects unmoved_stage local older w n → ways.Reaches (view_here s next) w (ways.OfCell n))
-        → AreWaiting table typed effects next top.frame.sub older
+        → AreWaiting table typed effects next top.frame.sub top.frame.returns older
     wait_still next after_scope in_there stay reach =
-        all_on table typed effects unmoved_stage local state next depth (still next.memory after_scope in_there)
-        (λ f x some less view. stay f x (λ first. omega (arith, some, first)) (λ same_depth. omega (arith, less, same_depth)))
-        top.frame.sub older outer stages (omega arith) (λ g has x w is. reach w (g.views.cell x) (g, has, x, is, refl)) running.2
+        all_on table typed effects unmoved_stage local state next depth (still next.memory stay)
+        (λ f x some less view. (stay f x (λ first. omega (arith, some, first)) (λ same_depth. omega (arith, less, same_depth)) 0).word)
+        top.frame.sub top.frame.returns older outer stages (omega arith) (λ g has x w is. reach w (g.views.cell x) (g, has, x, is, refl)) running.2
 
     pub with_successors : (i : Instruction) (n : ℕ) → p.instr ≡ i → n < successors i → n < successors main_turn.point.instr
     with_successors i n e less = subst (λ z. n < successors z) (sym e) less
@@ -594,7 +593,7 @@ module _ (table : Table) (typed : TypedProgram) (effects : Effects) (input : Lis
     pub stored_there : (i : Instruction) → p.instr ≡ i → (x : ℕ) → Has (stored_at i) x → MayHold s IsOld depth (lasting_of s left_scope) (home s depth x) x
     stored_there i e x has = may_hold x (lasting_of s left_scope) (elim (stored_which i e x has) [
       | inl shared_object ↦ inl shared_object
-      | inr within ↦ inr (within_lasting s x left_scope within (ready.taken.lasting named named_there p point_there_now x (subst (λ z. Has (stored_at z) x) (sym e) has)))
+      | inr within ↦ inr (within_lasting s x left_scope within (ready.valued.lasting named named_there p point_there_now x (subst (λ z. Has (stored_at z) x) (sym e) has)))
     ])
 
     pub ready_there : (i : Instruction) → p.instr ≡ i → is_ready p i ≡ true

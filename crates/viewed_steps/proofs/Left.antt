@@ -86,7 +86,7 @@ module _ (s : Typing) (m : Memory) (f : ℕ) (hands : List Waiting) (leaks : Lis
       absurd (left_blank s m f hands leaks nothing x (steps_in k) c
       (subst (λ z. word_in s.table (content s left hands z) (steps_in k) ≡ Held c) (stays_there w k x base r) held))
 
-  whole_there : (w : Way) (l : Loc) (x : ℕ) → base_of w ≡ OfRoot (OfVariable f x) → Reaches now w l → now.word l ≡ Gone → ⊥
+  pub whole_there : (w : Way) (l : Loc) (x : ℕ) → base_of w ≡ OfRoot (OfVariable f x) → Reaches now w l → now.word l ≡ Gone → ⊥
   whole_there w l x base r gone =
       let there : word_in s.table (content s left hands (OfRoot (OfVariable f x))) (steps_in l) ≡ Gone =
       subst (λ z. word_in s.table (content s left hands z) (steps_in l) ≡ Gone) (stays_there w l x base r) gone in

@@ -14,8 +14,15 @@ pub mod Roots
 pub mod Waiting
 pub mod Apart
 pub mod Left
+pub mod Between
+pub mod Carried
 pub mod Called
 pub mod Waited
+pub mod Alike
+pub mod Entered
+pub mod Backed
+pub mod Whole
+pub mod Passed
 pub mod Eased
 pub mod Standing
 pub mod Packages

@@ -118,7 +118,11 @@ module _ (table : Table) (typed : TypedProgram) (effects : Effects) (input : Lis
       views = no_views;
       older = record { stage = stage_of 0 0; views = no_views } ∷ [];
       stages = (refl, refl, (refl, refl, tt));
-      running = (main_runs table typed effects input ready, ((λ r has. absurd has), refl), (refl, (refl, refl, refl), (λ x. refl), refl));
+      running = (
+        main_runs table typed effects input ready,
+        ((λ x has. inl (ready.main_plain x has)), (λ r has. absurd has)),
+        ((refl, (refl, refl, refl), (λ x. refl), refl), refl),
+      );
       awaited = (
         first_waits table typed effects input ready 1 ready.main [] ready.main_there.named ready.main_there.stands ready.main_there.point
             ready.main_there.points ready.main_there.begins,

@@ -200,7 +200,7 @@ module _ (table : Table) (typed : TypedProgram) (effects : Effects) (input : Lis
       views = views;
       older = below ∷ [];
       stages = subst (AreStages (stage ready.main 1 ∷ (below.stage ∷ []))) (sym begins_main) (refl, refl, (refl, deep, tt));
-      running = (main_runs, ((λ r has. absurd has), refl), first);
+      running = (main_runs, ((λ x has. inl (ready.main_plain x has)), (λ r has. absurd has)), (first, refl));
       awaited = (
         first_waits 1 ready.main [] ready.main_there.named ready.main_there.stands ready.main_there.point ready.main_there.points ready.main_there.begins,
         (main_awaits, first.1.0),

@@ -39,7 +39,7 @@ use Rattle.owned_ways.specs.Ways as ways
 use Rattle.soundness.specs.Seen.{IsNear, is_view_formal, content, word_in, home}
 use Rattle.soundness.specs.Typed.{Kept}
 use Rattle.typed_laws.specs.Needed.{IsFine, Stays, Source, Returns}
-use Rattle.soundness.specs.Sound.{IsNoCall, Stage, facts_of, AreStages, IsRunnable, IsResting, returns_value, InScope, IsNamedSub, IsAtPoint, view_of as view_here}
+use Rattle.soundness.specs.Sound.{IsNoCall, Stage, facts_of, AreStages, IsRunnable, returns_value, InScope, IsNamedSub, IsAtPoint, view_of as view_here, calls_procedures}
 use Rattle.soundness.proofs.Scalars.{acts}
 use Rattle.soundness.proofs.Scoped.{Inside}
 use Rattle.soundness.proofs.Around.{IsFar}
@@ -53,7 +53,8 @@ use Rattle.viewed_soundness.specs.Holds.{IsNamed, AllKeep}
 use Rattle.viewed_soundness.proofs.Outcomes.{named_plain, IsGood, Leads_on}
 use Rattle.viewed_steps.specs.Awaited.{AreFor, AreValues, AreValuesBut, temporaries_of, lasting_of, awaited, AreAwaited, AreScalar, FillsTyped, TakesScalars, IsTakenBy, TakesAlone}
 use Rattle.viewed_steps.proofs.Waited.{temporary_first, lasting_more, Shares}
-use Rattle.viewed_steps.specs.Sound.{HoldsAt, ArePlaced, NoneAbove, ViewStage, stages_of, GoneElsewhere, AreWaiting, IsStoredAt, returns_one, LeadsAlong}
+use Rattle.viewed_steps.specs.Sound.{HoldsAt, ArePlaced, NoneAbove, ViewStage, stages_of, GoneElsewhere, AreWaiting, IsStoredAt, returns_one, LeadsAlong, IsResting}
+use Rattle.viewed_steps.specs.Taken.{TakenBy}
 use Rattle.viewed_steps.specs.Ready.{IsReady}
 use Rattle.viewed_steps.proofs.Lent.{Spare, loans_stay}
 use Rattle.viewed_steps.proofs.Placed.{scope_on, placed_on, MayBe, turned_placed}
@@ -119,7 +120,7 @@ module _ (table : Table) (typed : TypedProgram) (effects : Effects) (input : Lis
   module _ (state : State) (top : Stage) (below : ViewStage) (more_frames : List ViewStage) (rest : List Frame) (named : NamedSub) (p : NamedPoint)
       (frames : state.frames ≡ top.frame ∷ (below.stage.frame ∷ rest)) (deep : top.depth ≡ suc (length rest))
       (stages : AreStages (stages_of (below ∷ more_frames)) (below.stage.frame ∷ rest))
-      (running : IsRunnable table typed top.frame.sub × IsResting s top × AreWaiting table typed effects state top.frame.sub (below ∷ more_frames))
+      (running : IsRunnable table typed top.frame.sub × IsResting s top × AreWaiting table typed effects state top.frame.sub top.frame.returns (below ∷ more_frames))
       (awaiting : AreAwaited table typed None (top ∷ stages_of (below ∷ more_frames)))
       (of_sub : IsNamedSub (flow_named table typed) top.frame.sub named) (at_point : IsAtPoint named.points top.frame.next p)
       (path : ControlPath (path_points program effects (sub_of program top.frame.sub)) top.before top.frame.next) (views : Views)
@@ -238,7 +239,7 @@ module _ (table : Table) (typed : TypedProgram) (effects : Effects) (input : Lis
 
     abbrev wait_still : (next : State) (after_scope : List ℕ) → Inside s IsOld next.memory depth after_scope → OthersKept s depth state.memory next.memory
         → ((w : Way) (n : ℕ) → KeptElsewhere table typed effects unmoved_stage local older w n → ways.Reaches (view_here s next) w (ways.OfCell n))
-        → AreWaiting table typed effects next top.frame.sub older
+        → AreWaiting table typed effects next top.frame.sub top.frame.returns older
     wait_still = innermost.wait_still table typed effects input ready state top below more_frames rest named p frames deep stages running awaiting of_sub at_point path views viewed_before kept scope holds placed_before above
 
     abbrev sub_here : FlowSub
@@ -270,7 +271,7 @@ module _ (table : Table) (typed : TypedProgram) (effects : Effects) (input : Lis
 
     module _ (temporary : ℕ) (e : TypedTree) (op : Option ShortCircuit) (is : p.instr ≡ Evaluate temporary e op) where
       filled_there : FillsTyped program (Evaluate temporary e op) left_scope
-      filled_there = subst (λ i. FillsTyped program i left_scope) is (ready.taken.fills named named_there p point_there_now)
+      filled_there = subst (λ i. FillsTyped program i left_scope) is (ready.valued.fills named named_there p point_there_now)
 
       truth_there : is_scalar (full s.table boolean) ≡ true
       truth_there = by_operand op filled_there
@@ -433,7 +434,7 @@ module _ (table : Table) (typed : TypedProgram) (effects : Effects) (input : Lis
       no_finish_then : p.instr ≡ Finish → ⊥
       no_finish_then same = (let never : Hold (More e last) ≡ Finish = sym is ∙ same in cc)
 
-      named_result : IsNamed s.table of
+      pub named_result : IsNamed s.table of
       named_result = plain_named s.table of (innermost.named_result table typed effects input ready state top below more_frames rest named p frames deep stages running awaiting of_sub at_point path views viewed_before kept scope holds placed_before above of result)
 
       acts_then : acts_of_main p.instr ≡ acts (acts_in s e)
@@ -512,7 +513,7 @@ module _ (table : Table) (typed : TypedProgram) (effects : Effects) (input : Lis
       )
 
       wait_with : (v : Waiting) (st : State) (others : List ViewStage) → AreAwaited table typed (Some of) (stages_of (below ∷ others))
-          → AreWaiting table typed effects st top.frame.sub (below ∷ others) → AreWaiting table typed effects st top.frame.sub (below_with v ∷ others)
+          → AreWaiting table typed effects st top.frame.sub top.frame.returns (below ∷ others) → AreWaiting table typed effects st top.frame.sub top.frame.returns (below_with v ∷ others)
       wait_with v st [] await waits = (let never = await.0 in absurd (none_some of (sym never)))
       wait_with v st (h ∷ others) await waits =
           let was = waits.0 in (
@@ -533,6 +534,7 @@ module _ (table : Table) (typed : TypedProgram) (effects : Effects) (input : Lis
               views = was.views;
               holds = was.holds;
               placed = was.placed;
+              taken = was.taken;
             },
             waits.1,
           )
@@ -540,7 +542,7 @@ module _ (table : Table) (typed : TypedProgram) (effects : Effects) (input : Lis
       elsewhere_with : (v : Waiting) (w : Way) → GoneElsewhere program effects (below ∷ more_frames) w → GoneElsewhere program effects (below_with v ∷ more_frames) w
       elsewhere_with v w (g, inr has, what) = (g, inr has, what)
       elsewhere_with v w (g, inl same, what) =
-          (below_with v, inl refl, subst (λ (z : ViewStage). IsMovedBy (home s z.stage.depth) z.views (facts_of program effects z.stage) w) (sym same) what)
+          (below_with v, inl refl, subst (λ (z : ViewStage). IsMovedBy (home s z.stage.depth) z.views (facts_of program effects z.stage) w ⊎ TakenBy z.stage.returns w) (sym same) what)
 
       -- the successor
       abbrev next_number : ℕ

@@ -48,6 +48,10 @@ pub or_right : (a b : Bool) → b ≡ true → a || b ≡ true
 or_right true b e = refl
 or_right false b e = e
 
+no_middle : (a b : Bool) → (a && false) && b ≡ false
+no_middle true b = refl
+no_middle false b = refl
+
 module _ (table : Table) (typed : TypedProgram) (effects : Effects) (input : List ℕ) (ready : IsReady table typed effects) where
   abbrev pub program : FlowProgram
   program = flow_program table typed
@@ -63,7 +67,11 @@ module _ (table : Table) (typed : TypedProgram) (effects : Effects) (input : Lis
 
   pub no_in_formals : (x : ℕ) → is_view_formal s x ≡ false
   no_in_formals x = elim (bool_cases (is_formal s x)) [
-    | inl e ↦ no_second (is_in_formal s x) (is_owning s.table (object_at s x).of) (plain_type s ready.owns (object_at s x).of (ready.class.formals x e))
+    | inl e ↦ elim (ready.class.formals x e) [
+      | inl plain ↦ no_second (is_in_formal s x) (is_owning s.table (object_at s x).of) (plain_type s ready.owns (object_at s x).of plain)
+      | inr (in_out, own_type) ↦ ap (λ m. (is_formal s x && is_in m) && is_owning s.table (object_at s x).of) in_out
+          ∙ no_middle (is_formal s x) (is_owning s.table (object_at s x).of)
+    ]
     | inr e ↦ ap (λ b. (b && is_in (object_at s x).mode) && is_owning s.table (object_at s x).of) e
   ]
 

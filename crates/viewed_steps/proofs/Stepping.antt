@@ -16,11 +16,11 @@ use Rattle.machine.specs.Owners.{waiting_in}
 use Rattle.machine.specs.Run.{step}
 use Rattle.soundness.specs.Seen.{home}
 use Rattle.soundness.specs.Typed.{Kept}
-use Rattle.soundness.specs.Sound.{Stage, facts_of, AreStages, IsRunnable, IsResting, returns_value, InScope, IsNamedSub, IsAtPoint, view_of as view_here, IsNoCall}
+use Rattle.soundness.specs.Sound.{Stage, facts_of, AreStages, IsRunnable, returns_value, InScope, IsNamedSub, IsAtPoint, view_of as view_here, IsNoCall}
 use Rattle.soundness.proofs.Waited.{FillsNone}
 use Rattle.owned_loans.specs.Views.{known_gone, Views, Viewed}
 use Rattle.viewed_steps.specs.Awaited.{lasting_of, AreAwaited, IsTaken}
-use Rattle.viewed_steps.specs.Sound.{HoldsAt, ArePlaced, NoneAbove, ViewStage, stages_of, GoneElsewhere, AreWaiting, IsRunning, LeadsAlong, StepsLeadAlong, LeadsOn, StepsLeadOn}
+use Rattle.viewed_steps.specs.Sound.{HoldsAt, ArePlaced, NoneAbove, ViewStage, stages_of, GoneElsewhere, AreWaiting, IsRunning, LeadsAlong, StepsLeadAlong, LeadsOn, StepsLeadOn, IsResting}
 use Rattle.viewed_steps.specs.Ready.{IsReady}
 use Rattle.viewed_steps.proofs.Beside.{IsOther}
 use Rattle.viewed_steps.proofs.Standing as standing
@@ -43,7 +43,7 @@ module _ (table : Table) (typed : TypedProgram) (effects : Effects) (input : Lis
   module _ (state : State) (top : Stage) (below : ViewStage) (more_frames : List ViewStage) (rest : List Frame) (named : NamedSub) (p : NamedPoint)
       (frames : state.frames ≡ top.frame ∷ (below.stage.frame ∷ rest)) (deep : top.depth ≡ suc (length rest))
       (stages : AreStages (stages_of (below ∷ more_frames)) (below.stage.frame ∷ rest))
-      (running : IsRunnable table typed top.frame.sub × IsResting s top × AreWaiting table typed effects state top.frame.sub (below ∷ more_frames))
+      (running : IsRunnable table typed top.frame.sub × IsResting s top × AreWaiting table typed effects state top.frame.sub top.frame.returns (below ∷ more_frames))
       (awaiting : AreAwaited table typed None (top ∷ stages_of (below ∷ more_frames)))
       (of_sub : IsNamedSub (flow_named table typed) top.frame.sub named) (at_point : IsAtPoint named.points top.frame.next p)
       (path : ControlPath (path_points program effects (sub_of program top.frame.sub)) top.before top.frame.next) (views : Views)

@@ -16,7 +16,7 @@ use Rattle.flow_paths.specs.Objects.{Typing, is_anonymous, is_observer, is_packa
 use Rattle.flow_paths.specs.Laid.{FlowProgram, flow_typing, flow_program}
 use Rattle.machine.specs.Words as machine
 use Rattle.machine.specs.Memory.{variable_slots, no_slot}
-use Rattle.machine.specs.States.{Frame, State}
+use Rattle.machine.specs.States.{Frame, Return, State}
 use Rattle.owned_ways.specs.Ways.{Loc, IsSame, Step, OfVariable, OfHand, OfRoot, OfCell, Way, Object, Lost, Into, All, Held, View, Reaches, Under, Named, IsMoved, base_of, number_of, name_of}
 use Rattle.owned_ways.proofs.Named.{longer}
 use Rattle.owned_ways.proofs.Dropped.{named_base}
@@ -29,7 +29,10 @@ use Rattle.owned_loans.specs.Views.{on, Around, known_gone, Views, expand, IsThr
 use Rattle.owned_loans.proofs.Ended.{stands_itself}
 use Rattle.owned_loans.proofs.Ways.{under_on, on_under, lifts, lifted_root, lifted_way}
 use Rattle.owned_loans.proofs.Moves.{view_named, named_way, view_on, own_loan}
+use Rattle.viewed_steps.specs.Taken.{TakenBy}
+use Rattle.viewed_steps.proofs.Between.{taken_from as words_taken, taken_base, still_taken, near_base}
 use Rattle.viewed_steps.proofs.Roots.{borrower_goes, view_goes}
+use Rattle.viewed_steps.specs.Awaited.{lasting_of}
 use Rattle.viewed_steps.specs.Sound.{ViewStage, stages_of, GoneElsewhere, IsWaiting, IsFirst, AreWaiting}
 
 -- ---- near ways
@@ -81,35 +84,36 @@ module _ (table : Table) (typed : TypedProgram) (effects : Effects)
 
   -- Each is that of the package objects, or waits between it and the innermost one.
   abbrev pub StandsBetween : State → ℕ → ViewStage → Type 0
-  StandsBetween state depth g = IsFirst g ⊎ ((0 < g.stage.depth) × (g.stage.depth < depth) × (callee : ℕ) × IsWaiting table typed effects state callee g)
+  StandsBetween state depth g = IsFirst g ⊎ ((0 < g.stage.depth) × (g.stage.depth < depth) × (callee : ℕ) × (backs : List Return) × IsWaiting table typed effects state callee backs g)
 
-  pub all_between : (state : State) (callee depth : ℕ) (older : List ViewStage) (outer : List Frame) → AreStages (stages_of older) outer → length outer ≤ depth
-      → AreWaiting table typed effects state callee older → (g : ViewStage) → Has older g → StandsBetween state depth g
-  all_between state callee depth [] outer stages less waiting g has = absurd has
-  all_between state callee depth (e ∷ []) outer stages less waiting g (inl same) = inl (subst IsFirst same waiting)
-  all_between state callee depth (e ∷ []) outer stages less waiting g (inr never) = absurd never
-  all_between state callee depth (h ∷ (k ∷ older)) [] stages less waiting g has = absurd stages
-  all_between state callee depth (h ∷ (k ∷ older)) (f ∷ outer) stages less waiting g (inl same) =
+  pub all_between : (state : State) (callee depth : ℕ) (backs : List Return) (older : List ViewStage) (outer : List Frame) → AreStages (stages_of older) outer → length outer ≤ depth
+      → AreWaiting table typed effects state callee backs older → (g : ViewStage) → Has older g → StandsBetween state depth g
+  all_between state callee depth backs [] outer stages less waiting g has = absurd has
+  all_between state callee depth backs (e ∷ []) outer stages less waiting g (inl same) = inl (subst IsFirst same waiting.0)
+  all_between state callee depth backs (e ∷ []) outer stages less waiting g (inr never) = absurd never
+  all_between state callee depth backs (h ∷ (k ∷ older)) [] stages less waiting g has = absurd stages
+  all_between state callee depth backs (h ∷ (k ∷ older)) (f ∷ outer) stages less waiting g (inl same) =
       subst (StandsBetween state depth) same (inr (
         (let some = some_frames k older outer stages.2 in let deep = stages.1 in omega (arith, some, deep)),
         (let deep = stages.1 in omega (arith, less, deep)),
         callee,
+        backs,
         waiting.0,
       ))
-  all_between state callee depth (h ∷ (k ∷ older)) (f ∷ outer) stages less waiting g (inr has) =
-      all_between state h.stage.frame.sub depth (k ∷ older) outer stages.2 (omega (arith, less)) waiting.1 g has
+  all_between state callee depth backs (h ∷ (k ∷ older)) (f ∷ outer) stages less waiting g (inr has) =
+      all_between state h.stage.frame.sub depth h.stage.frame.returns (k ∷ older) outer stages.2 (omega (arith, less)) waiting.1 g has
 
   -- no package object that is moved in a frame around is used by the innermost one
-  pub unused_there : (state : State) (callee : ℕ) (older : List ViewStage) → AreWaiting table typed effects state callee older → (g : ViewStage) → Has older g
+  pub unused_there : (state : State) (callee : ℕ) (backs : List Return) (older : List ViewStage) → AreWaiting table typed effects state callee backs older → (g : ViewStage) → Has older g
       → (name : Name) → Has (facts_of program effects g.stage) (Moved name) → is_package_object s name.root ≡ true → Uses effects callee name.root → ⊥
-  unused_there state callee [] waiting g has name moved shared used = absurd has
-  unused_there state callee (e ∷ []) waiting g (inl same) name moved shared used =
-      unmoved e.stage waiting.0 name (subst (λ (z : ViewStage). Has (facts_of program effects z.stage) (Moved name)) (sym same) moved)
-  unused_there state callee (e ∷ []) waiting g (inr never) name moved shared used = absurd never
-  unused_there state callee (h ∷ (k ∷ older)) waiting g (inl same) name moved shared used =
+  unused_there state callee backs [] waiting g has name moved shared used = absurd has
+  unused_there state callee backs (e ∷ []) waiting g (inl same) name moved shared used =
+      unmoved e.stage (waiting.0).0 name (subst (λ (z : ViewStage). Has (facts_of program effects z.stage) (Moved name)) (sym same) moved)
+  unused_there state callee backs (e ∷ []) waiting g (inr never) name moved shared used = absurd never
+  unused_there state callee backs (h ∷ (k ∷ older)) waiting g (inl same) name moved shared used =
       (waiting.0).unmoved name (subst (λ (z : ViewStage). Has (facts_of program effects z.stage) (Moved name)) (sym same) moved) shared used
-  unused_there state callee (h ∷ (k ∷ older)) waiting g (inr has) name moved shared used =
-      unused_there state h.stage.frame.sub (k ∷ older) waiting.1 g has name moved shared ((waiting.0).uses name.root used)
+  unused_there state callee backs (h ∷ (k ∷ older)) waiting g (inr has) name moved shared used =
+      unused_there state h.stage.frame.sub h.stage.frame.returns (k ∷ older) waiting.1 g has name moved shared ((waiting.0).uses name.root used)
 
   none_some : {A : Type 0} (o : ℕ) (w : Way) (v : Views) → v.way o ≡ None → v.way o ≡ Some w → A
   none_some o w v none has = (let no : None ≡ Some w = sym none ∙ has in cc)
@@ -217,17 +221,17 @@ module _ (table : Table) (typed : TypedProgram) (effects : Effects)
     IsLentFor l w = IsThrough (home s depth) (LentElsewhere older) l w
 
     -- the innermost frame has the same names for what belongs to packages
-    lent_for : (g : ViewStage) → Has older g → 0 < g.stage.depth → (l : Loan) (h : ℕ) (k w : Way) → Has (facts_of program effects g.stage) (Lent l h (name_of k))
+    pub lent_for : (g : ViewStage) → Has older g → 0 < g.stage.depth → (l : Loan) (h : ℕ) (k w : Way) → Has (facts_of program effects g.stage) (Lent l h (name_of k))
         → Named (home s g.stage.depth) k → Under k w → is_package_object s (number_of w) ≡ true → IsLentFor l w
     lent_for g has some l h k w lent named under shared =
         let root : is_package_object s (number_of k) ≡ true = ap (is_package_object s) (sym (longer k w under).root) ∙ shared in
         (k, package_named s g.stage.depth depth k root named, under, (g, has, some, h, lent, root))
 
     -- the way of a view begins at an own variable of its frame, or goes on from such a place
-    way_cases : (callee : ℕ) (g : ViewStage) → Has older g → 0 < g.stage.depth → IsWaiting table typed effects state callee g → (x : ℕ) (w : Way)
+    way_cases : (callee : ℕ) (backs : List Return) (g : ViewStage) → Has older g → 0 < g.stage.depth → IsWaiting table typed effects state callee backs g → (x : ℕ) (w : Way)
         → g.views.way x ≡ Some w
         → Named (home s g.stage.depth) w × ((is_package_object s (number_of w) ≡ false) ⊎ ((l : Loan) × IsLentFor l w))
-    way_cases callee g has some waits x w way = (
+    way_cases callee backs g has some waits x w way = (
       view_named (home s g.stage.depth) (is_observer s) (known_gone (home s g.stage.depth) (λ w. ⊥)) g.views (view_here s state) (facts_of program effects g.stage)
           waits.views x w way,
       elim (bool_cases (is_package_object s (number_of w))) [
@@ -243,8 +247,8 @@ module _ (table : Table) (typed : TypedProgram) (effects : Effects)
         → (f : ℕ) × (x : ℕ) × (base_of w ≡ OfRoot (OfVariable f x)) × ((f ≡ home s depth x → ⊥) ⊎ ((l : Loan) × IsLentFor l w))
     begins_elsewhere w n (g, has, x, is, cell) = elim (between g has) [
       | inl first ↦ none_some x w g.views (first.2 x) is
-      | inr (some, less, callee, waits) ↦ (
-          let way = way_cases callee g has some waits x w is in (
+      | inr (some, less, callee, backs, waits) ↦ (
+          let way = way_cases callee backs g has some waits x w is in (
             home s g.stage.depth (number_of w),
             number_of w,
             named_base (home s g.stage.depth) w way.0,
@@ -259,8 +263,8 @@ module _ (table : Table) (typed : TypedProgram) (effects : Effects)
     pub apart_elsewhere : (x : ℕ) (w : Way) (n : ℕ) → KeptElsewhere older w n → base_of w ≡ OfRoot (OfVariable depth x) → ⊥
     apart_elsewhere x w n (g, has, y, is, cell) base = elim (between g has) [
       | inl first ↦ none_some y w g.views (first.2 y) is
-      | inr (some, less, callee, waits) ↦ (
-          let way = way_cases callee g has some waits y w is in
+      | inr (some, less, callee, backs, waits) ↦ (
+          let way = way_cases callee backs g has some waits y w is in
           let frames = same_frame (home s g.stage.depth (number_of w)) (number_of w) depth x (sym (named_base (home s g.stage.depth) w way.0) ∙ base) in
           below (is_package_object s (number_of w)) g.stage.depth some less frames)
     ]
@@ -269,14 +273,64 @@ module _ (table : Table) (typed : TypedProgram) (effects : Effects)
         below true a some less e = omega (arith, some, less, e)
         below false a some less e = omega (arith, less, e)
 
+    -- the ways of their views begin below
+    low_home : (b : Bool) (d : ℕ) → d < depth → (if b then 0 else d) < depth
+    low_home true d less = omega (arith, less)
+    low_home false d less = less
+
+    pub kept_low : (w : Way) (n : ℕ) → KeptElsewhere older w n → (f : ℕ) × (x : ℕ) × (base_of w ≡ OfRoot (OfVariable f x)) × (f < depth)
+    kept_low w n (g, has, x, is, cell) = elim (between g has) [
+      | inl first ↦ none_some x w g.views (first.2 x) is
+      | inr (some, less, callee, backs, waits) ↦ (
+          let way = way_cases callee backs g has some waits x w is in (
+            home s g.stage.depth (number_of w),
+            number_of w,
+            named_base (home s g.stage.depth) w way.0,
+            low_home (is_package_object s (number_of w)) g.stage.depth less,
+          ))
+    ]
+
+    -- and so does what is gone for them
+    pub gone_low : (w : Way) → GoneElsewhere program effects older w → (f : ℕ) × (x : ℕ) × (base_of w ≡ OfRoot (OfVariable f x)) × (f < depth)
+    gone_low w (g, has, inr taken) = elim (between g has) [
+      | inl first ↦ absurd (subst (λ z. TakenBy z w) (first.1).2 taken).1
+      | inr (some, less, callee, backs, waits) ↦ (
+          let base = taken_base g.stage.returns g.stage.depth
+          (words_taken s state.memory g.stage.depth (facts_of program effects g.stage) (lasting_of s waits.point.scope) backs g.stage.returns waits.taken) w taken in
+          (g.stage.depth, base.0, base.1, less))
+    ]
+    gone_low w (g, has, inl (u, moved, leads)) = elim (between g has) [
+      | inl first ↦ absurd (unmoved g.stage first.0 (name_of u) moved.1)
+      | inr (some, less, callee, backs, waits) ↦ (
+          let named : Named (home s g.stage.depth) w =
+          subst (Named (home s g.stage.depth)) leads
+          (named_way (home s g.stage.depth) (is_observer s) (known_gone (home s g.stage.depth) (λ z. ⊥)) g.views (view_here s state) (facts_of program effects g.stage)
+          waits.views (suc (number_of u)) u (omega arith) (moved.0, waits.clear.owned (name_of u) moved.1)) in (
+            home s g.stage.depth (number_of w),
+            number_of w,
+            named_base (home s g.stage.depth) w named,
+            low_home (is_package_object s (number_of w)) g.stage.depth less,
+          ))
+    ]
+
     -- what is near and gone elsewhere is a part of a package object that a fact says was moved, or
     -- goes on from a place that was borrowed
     pub near_moved : (w : Way) → IsNear depth w → GoneElsewhere program effects older w
         → ((is_package_object s (number_of w) ≡ true) × (g : ViewStage) × Has older g × IsMoved (home s g.stage.depth) (facts_of program effects g.stage) w)
         ⊎ IsLentFor Borrowed w
-    near_moved w near (g, has, (u, moved, leads)) = elim (between g has) [
+    near_moved w near (g, has, inr taken) = elim (between g has) [
+      | inl first ↦ absurd (subst (λ z. TakenBy z w) (first.1).2 taken).1
+      | inr (some, less, callee, backs, waits) ↦ absurd (
+          let base = taken_base g.stage.returns g.stage.depth
+          (words_taken s state.memory g.stage.depth (facts_of program effects g.stage) (lasting_of s waits.point.scope) backs g.stage.returns waits.taken) w taken in
+          elim (near_base depth w g.stage.depth base.0 near base.1) [
+            | inl none ↦ omega (arith, some, none)
+            | inr same ↦ omega (arith, less, same)
+          ])
+    ]
+    near_moved w near (g, has, inl (u, moved, leads)) = elim (between g has) [
       | inl first ↦ absurd (unmoved g.stage first.0 (name_of u) moved.1)
-      | inr (some, less, callee, waits) ↦ elim (lifts g.views u) [
+      | inr (some, less, callee, backs, waits) ↦ elim (lifts g.views u) [
         | inl e ↦ (
             let here : IsMoved (home s g.stage.depth) (facts_of program effects g.stage) w =
             subst (IsMoved (home s g.stage.depth) (facts_of program effects g.stage)) (sym e ∙ leads) moved in
@@ -308,13 +362,13 @@ module _ (table : Table) (typed : TypedProgram) (effects : Effects)
         by_way None is = is
         by_way (Some w) is = elim (between g has) [
           | inl first ↦ first.2 r
-          | inr (some, less, callee, waits) ↦ absurd (not_both (is_package_object s r) shared (local r (waits.holds.only r w is)))
+          | inr (some, less, callee, backs, waits) ↦ absurd (not_both (is_package_object s r) shared (local r (waits.holds.only r w is)))
         ]
 
     pub far : (w : Way) (n : ℕ) → KeptElsewhere older w n → Reaches (view_here s state) w (OfCell n)
     far w n (g, has, x, is, cell) = elim (between g has) [
       | inl first ↦ none_some x w g.views (first.2 x) is
-      | inr (some, less, callee, waits) ↦ subst (λ z. Reaches (view_here s state) w (OfCell z)) cell (waits.views x w is).reaches
+      | inr (some, less, callee, backs, waits) ↦ subst (λ z. Reaches (view_here s state) w (OfCell z)) cell (waits.views x w is).reaches
     ]
 
     -- What concerns the innermost frame when it has their facts on package objects beside its own.
@@ -541,19 +595,19 @@ module _ (table : Table) (typed : TypedProgram) (effects : Effects)
             let there : Named (home s g.stage.depth) u = package_named s depth g.stage.depth u shared named in
             let by_them : expand g.views u ≡ u =
             stands_itself (home s g.stage.depth) (is_observer s) (known_gone (home s g.stage.depth) (λ z. ⊥)) g.views u there (no_view_there g has (number_of u) shared) in
-            (g, has, (u, (there, moved), by_them ∙ sym itself ∙ leads))
+            (g, has, inl (u, (there, moved), by_them ∙ sym itself ∙ leads))
 
   -- ---- after a step of the innermost frame
 
   module _ (state next : State) (depth : ℕ)
       (still : (f x : ℕ) (p : List Step) (c : ℕ) → 0 < f → f < depth → word_in s.table (content s next.memory [] (OfRoot (OfVariable f x))) p ≡ Held c
-      → (q : List Step) × (k : ℕ) × (word_in s.table (content s state.memory [] (OfRoot (OfVariable f x))) q ≡ Held k))
+      → word_in s.table (content s state.memory [] (OfRoot (OfVariable f x))) p ≡ Held c)
       (words : (f x : ℕ) → 0 < f → f < depth → is_anonymous (view_of s x) ≡ true
       → (get_or (variable_slots s f x next.memory.variables) 0 no_slot).word ≡ (get_or (variable_slots s f x state.memory.variables) 0 no_slot).word) where
-    waits_on : (callee : ℕ) (g : ViewStage) → 0 < g.stage.depth → g.stage.depth < depth
+    waits_on : (callee : ℕ) (backs : List Return) (g : ViewStage) → 0 < g.stage.depth → g.stage.depth < depth
         → ((x : ℕ) (w : Way) → g.views.way x ≡ Some w → Reaches (view_here s next) w (OfCell (g.views.cell x)))
-        → IsWaiting table typed effects state callee g → IsWaiting table typed effects next callee g
-    waits_on callee g some less reach waits = record {
+        → IsWaiting table typed effects state callee backs g → IsWaiting table typed effects next callee backs g
+    waits_on callee backs g some less reach waits = record {
       runs = waits.runs;
       plain = waits.plain;
       path = waits.path;
@@ -561,7 +615,7 @@ module _ (table : Table) (typed : TypedProgram) (effects : Effects)
       of_sub = waits.of_sub;
       point = waits.point;
       at_point = waits.at_point;
-      scope = λ x p c held. (let before = still g.stage.depth x p c some less held in waits.scope x before.0 before.1 before.2);
+      scope = λ x p c held. waits.scope x p c (still g.stage.depth x p c some less held);
       lends = waits.lends;
       unmoved = waits.unmoved;
       uses = waits.uses;
@@ -576,6 +630,8 @@ module _ (table : Table) (typed : TypedProgram) (effects : Effects)
         only = waits.holds.only;
       };
       placed = waits.placed;
+      taken = still_taken s state.memory next.memory g.stage.depth (facts_of program effects g.stage) (lasting_of s waits.point.scope)
+          (λ y p c held. still g.stage.depth y p c some less held) backs g.stage.returns waits.taken;
     }
       where
         word_before : (x n : ℕ) → is_anonymous (view_of s x) ≡ true
@@ -587,25 +643,25 @@ module _ (table : Table) (typed : TypedProgram) (effects : Effects)
             (sym (words g.stage.depth x some less view)
             ∙ subst (λ f. (get_or (variable_slots s f x next.memory.variables) 0 no_slot).word ≡ machine.Cell n) own e)
 
-    pub all_on : (callee : ℕ) (older : List ViewStage) (outer : List Frame) → AreStages (stages_of older) outer → length outer ≤ depth
+    pub all_on : (callee : ℕ) (backs : List Return) (older : List ViewStage) (outer : List Frame) → AreStages (stages_of older) outer → length outer ≤ depth
         → ((g : ViewStage) → Has older g → (x : ℕ) (w : Way) → g.views.way x ≡ Some w → Reaches (view_here s next) w (OfCell (g.views.cell x)))
-        → AreWaiting table typed effects state callee older → AreWaiting table typed effects next callee older
-    all_on callee [] outer stages less reach waiting = waiting
-    all_on callee (e ∷ []) outer stages less reach waiting = waiting
-    all_on callee (g ∷ (h ∷ older)) [] stages less reach waiting = absurd stages
-    all_on callee (g ∷ (h ∷ older)) (f ∷ outer) stages less reach waiting =
+        → AreWaiting table typed effects state callee backs older → AreWaiting table typed effects next callee backs older
+    all_on callee backs [] outer stages less reach waiting = waiting
+    all_on callee backs (e ∷ []) outer stages less reach waiting = waiting
+    all_on callee backs (g ∷ (h ∷ older)) [] stages less reach waiting = absurd stages
+    all_on callee backs (g ∷ (h ∷ older)) (f ∷ outer) stages less reach waiting =
         let some = some_frames h older outer stages.2 in
         let deep = stages.1 in (
-          waits_on callee g (omega (arith, some, deep)) (omega (arith, less, deep)) (reach g (inl refl)) waiting.0,
-          all_on g.stage.frame.sub (h ∷ older) outer stages.2 (omega (arith, less)) (λ k has. reach k (inr has)) waiting.1,
+          waits_on callee backs g (omega (arith, some, deep)) (omega (arith, less, deep)) (reach g (inl refl)) waiting.0,
+          all_on g.stage.frame.sub g.stage.frame.returns (h ∷ older) outer stages.2 (omega (arith, less)) (λ k has. reach k (inr has)) waiting.1,
         )
 
     -- where owners see the same
-    pub all_same : IsSame (view_here s state) (view_here s next) → (callee : ℕ) (older : List ViewStage) (outer : List Frame) → AreStages (stages_of older) outer
-        → length outer ≤ depth → AreWaiting table typed effects state callee older → AreWaiting table typed effects next callee older
-    all_same same callee older outer stages less waiting =
-        all_on callee older outer stages less
-        (λ g has x w there. elim (all_between state callee depth older outer stages less waiting g has) [
+    pub all_same : IsSame (view_here s state) (view_here s next) → (callee : ℕ) (backs : List Return) (older : List ViewStage) (outer : List Frame) → AreStages (stages_of older) outer
+        → length outer ≤ depth → AreWaiting table typed effects state callee backs older → AreWaiting table typed effects next callee backs older
+    all_same same callee backs older outer stages less waiting =
+        all_on callee backs older outer stages less
+        (λ g has x w there. elim (all_between state callee depth backs older outer stages less waiting g has) [
           | inl first ↦ none_some x w g.views (first.2 x) there
-          | inr (some, under, below, waits) ↦ same_reaches (view_here s state) (view_here s next) same w (OfCell (g.views.cell x)) (waits.views x w there).reaches
+          | inr (some, under, below, backs_there, waits) ↦ same_reaches (view_here s state) (view_here s next) same w (OfCell (g.views.cell x)) (waits.views x w there).reaches
         ]) waiting

@@ -118,7 +118,7 @@ AreNamedResults program =
     → p.instr ≡ Call n actuals result → (t : ℕ) → (sub_of program n).result ≡ Some t → is_anonymous (full program.table t) ≡ false
 
 -- At each point.
-pub record AreTaken (table : Table) (typed : TypedProgram) : Type 0 where
+pub record AreValued (table : Table) (typed : TypedProgram) : Type 0 where
   -- what is stored at is none of these
   pub lasting : (sub : NamedSub) → Has (flow_named table typed) sub → (p : NamedPoint) → Has sub.points p → (x : ℕ) → Has (stored_at p.instr) x
       → is_held (flow_typing (flow_program table typed)) x ≡ false

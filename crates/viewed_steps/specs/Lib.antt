@@ -1,5 +1,7 @@
 -- what waits in frames
 pub mod Awaited
+-- what a call takes from places of its caller
+pub mod Taken
 -- what holds at each moment
 pub mod Sound
 -- what is asked of a program so that it does

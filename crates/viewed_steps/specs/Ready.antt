@@ -1,26 +1,87 @@
 -- What is asked of an accepted program with borrowers and observers so that its runs are sound: what
 -- typing, the layout and the rules see to. Nothing here speaks of a run.
-use Rattle.std.specs.Prelude.{◌≡◌, ◌<◌, ℕ, true, false, List, map, Some}
+use Rattle.std.specs.Prelude.{◌≡◌, ◌⊎◌, ◌<◌, ℕ, true, false, List, [], ◌∷◌, ◌++◌, map, drop, Option, Some, is_some}
 use Rattle.spark_base.specs.Lists.{Has}
 use Rattle.spark_base.specs.declared.position.Pos.{Pos}
+use Rattle.place_names.specs.declared.act.Mode.{Mode}
+use Rattle.place_names.specs.declared.act.Mode.TheVariants as mode
 use Rattle.place_names.specs.declared.act.Placed.{Placed}
-use Rattle.type_definitions.specs.Types.{Table}
+use Rattle.type_definitions.specs.Types.{Table, full, is_scalar, is_owning}
 use Rattle.typed_tree.specs.Trees.{TypedTree, Name, NoMore, More}
 use Rattle.typed_tree.specs.Programs.{TypedProgram}
 use Rattle.flow_paths.specs.declared.report.Effects.{Effects}
-use Rattle.flow_paths.specs.Instructions.{Declare, Assign, Input, EndScope}
-use Rattle.flow_paths.specs.Objects.{object_at, is_variable, is_anonymous, is_observer, is_package_object, view_of}
+use Rattle.flow_paths.specs.Instructions.{Declare, Assign, Call, Input, EndScope, Finish}
+use Rattle.flow_paths.specs.Objects.{Typing, object_at, sub_at, is_formal, is_variable, is_anonymous, is_observer, is_package_object, view_of}
 use Rattle.flow_paths.specs.Points.{NamedPoint, FlowPoint}
 use Rattle.flow_paths.specs.Laid.{FlowSub, FlowProgram, NamedSub, number_in, flow_typing, flow_program, flow_named}
-use Rattle.flow_paths.specs.Scopes.{is_within}
+use Rattle.flow_paths.specs.Scopes.{taken, is_within}
 use Rattle.flow_paths.specs.Views.{encloses, scope_of}
 use Rattle.machine.specs.States.{sub_of}
 use Rattle.soundness.specs.Typed.{OwnsByShape}
-use Rattle.soundness.specs.Sound.{Accepted, IsNamedSub, IsAtPoint, IsProcedure}
-use Rattle.soundness.specs.Ready.{AreScoped, AreNew, AreElaborated, AreCalled, AreReturning}
+use Rattle.soundness.specs.Sound.{Accepted, IsNamedSub, IsAtPoint, IsProcedure, IsRunnable}
+use Rattle.soundness.specs.Ready.{root_of, AreScoped, AreNew, AreElaborated, AreReturning}
+use Rattle.typed_laws.specs.Needed.{Matches, Stays, IsPlace}
 use Rattle.viewed_soundness.specs.Holds.{AllKeep}
-use Rattle.viewed_steps.specs.Awaited.{AreTaken}
-use Rattle.viewed_steps.specs.Sound.{IsViewClass, Lasts}
+use Rattle.viewed_steps.specs.Awaited.{is_held, AreValued}
+use Rattle.viewed_steps.specs.Sound.{IsScalarObject, IsViewClass, Lasts}
+
+-- ---- calls
+
+-- The objects that the names are rooted in that are passed.
+unfoldable pub roots_passed : TypedTree → List ℕ
+roots_passed (More e rest) = root_of e ++ roots_passed rest
+roots_passed _ = []
+
+abbrev pub AreDifferent : List ℕ → Type 0
+AreDifferent [] = Unit {0}
+AreDifferent (x ∷ rest) = ((y : ℕ) → Has rest y → y ≡ x → ⊥) × AreDifferent rest
+
+-- What is passed is in scope, or belongs to a package; and where a subprogram ends, formals of its own
+-- alone are in scope.
+pub record ArePassed (table : Table) (typed : TypedProgram) : Type 0 where
+  pub finishes : (sub : NamedSub) → Has (flow_named table typed) sub → (p : NamedPoint) → Has sub.points p → p.instr ≡ Finish
+      → (x : ℕ) → is_within x p.scope ≡ true → Has sub.sub.formals x
+  pub passed : (sub : NamedSub) → Has (flow_named table typed) sub → (p : NamedPoint) → Has sub.points p → (n : ℕ) (actuals : TypedTree) (result : Option ℕ)
+      → p.instr ≡ Call n actuals result → (x : ℕ) → Has (roots_passed actuals) x
+      → (is_package_object (flow_typing (flow_program table typed)) x ≡ true) ⊎ (is_within x (drop (taken p.instr) p.scope) ≡ true)
+  -- it is no temporary that owns
+  pub lasting : (sub : NamedSub) → Has (flow_named table typed) sub → (p : NamedPoint) → Has sub.points p → (n : ℕ) (actuals : TypedTree) (result : Option ℕ)
+      → p.instr ≡ Call n actuals result → (x : ℕ) → Has (roots_passed actuals) x → is_held (flow_typing (flow_program table typed)) x ≡ false
+
+-- What is passed stays within what it names. One that is copied back to is a name: of a scalar type; or,
+-- of mode `in out`, of a place of the type of the formal in an object that belongs to no package.
+abbrev pub IsOwnPlace : Typing → TypedTree → Type 0
+IsOwnPlace s e = (y : ℕ) → Has (root_of e) y → is_package_object s y ≡ false
+
+abbrev pub IsActualTo : Typing → ℕ → Mode → TypedTree → Type 0
+IsActualTo s x mode.In e = Stays s e
+IsActualTo s x mode.Out e = (t : ℕ) × IsPlace s e t × (is_scalar (full s.table t) ≡ true)
+IsActualTo s x mode.InOut e =
+    (t : ℕ) × IsPlace s e t × Matches s.table t (object_at s x).of × ((is_scalar (full s.table t) ≡ true) ⊎ IsOwnPlace s e)
+
+-- So is each that there is a formal for; each formal that isn't of a scalar type has an actual.
+abbrev pub AreActualsTo : Typing → List ℕ → TypedTree → Type 0
+AreActualsTo s (x ∷ formals) (More e rest) = IsActualTo s x (object_at s x).mode e × AreActualsTo s formals rest
+AreActualsTo s formals actuals = (x : ℕ) → Has formals x → IsScalarObject s x
+
+-- A subprogram that is called can run; it is a function where the call has a result. Its formals differ,
+-- belong to no package, and are in scope at first if they may own. (Where none is called, nothing is asked
+-- of object 0, which is Ada.Text_IO.)
+pub record IsCalled (table : Table) (typed : TypedProgram) (n : ℕ) (actuals : TypedTree) (result : Option ℕ) : Type 0 where
+  pub runs : IsRunnable table typed n
+  pub answers : is_some (sub_of (flow_program table typed) n).result ≡ is_some result
+  pub formals : (x : ℕ) → Has (sub_of (flow_program table typed) n).formals x → is_formal (flow_typing (flow_program table typed)) x ≡ true
+  pub differ : AreDifferent (sub_of (flow_program table typed) n).formals
+  pub local : (x : ℕ) → Has (sub_of (flow_program table typed) n).formals x → is_package_object (flow_typing (flow_program table typed)) x ≡ false
+  pub begins : (x : ℕ) → Has (sub_of (flow_program table typed) n).formals x
+      → is_owning (flow_program table typed).table (object_at (flow_typing (flow_program table typed)) x).of ≡ true → is_within x runs.point.scope ≡ true
+  pub actuals_stay : AreActualsTo (flow_typing (flow_program table typed)) (sub_of (flow_program table typed) n).formals actuals
+  pub text_io : is_package_object (flow_typing (flow_program table typed)) 0 ≡ false
+
+abbrev pub AreCalled : Table → TypedProgram → Type 0
+AreCalled table typed =
+    (sub : FlowSub) → Has (flow_program table typed).subs sub → (p : FlowPoint) → Has sub.points p
+    → (n : ℕ) (actuals : TypedTree) (result : Option ℕ) → p.instr ≡ Call n actuals result → IsCalled table typed n actuals result
 
 -- ---- borrowers and observers in order
 
@@ -79,14 +140,17 @@ pub record IsReady (table : Table) (typed : TypedProgram) (effects : Effects) : 
   pub owns : OwnsByShape (flow_program table typed).table
   pub class : IsViewClass (flow_program table typed)
   pub scoped : AreScoped table typed
+  pub passing : ArePassed table typed
   pub new : AreNew (flow_program table typed) effects
   pub elaborated : AreElaborated (flow_program table typed)
   pub orderly : ViewsAreOrderly table typed
   pub called : AreCalled table typed
   pub returning : AreReturning (flow_program table typed) effects
-  pub taken : AreTaken table typed
+  pub valued : AreValued table typed
   pub packages : NamedSub
   pub stands : IsNamedSub (flow_named table typed) 0 packages
   pub main : ℕ
   pub is_main : (flow_program table typed).main ≡ Some main
   pub main_there : IsProcedure table typed main
+  -- its formals, if it has any, are of scalar types
+  pub main_plain : (x : ℕ) → Has (sub_at (flow_typing (flow_program table typed)) main).formals x → IsScalarObject (flow_typing (flow_program table typed)) x

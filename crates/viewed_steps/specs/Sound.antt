@@ -5,6 +5,7 @@
 use Rattle.std.specs.Prelude.{◌≡◌, ◌⊎◌, ◌<◌, ℕ, true, false, List, [], ◌∷◌, map, get_or, Option, Some, None}
 use Rattle.spark_base.specs.Lists.{Has}
 use Rattle.spark_base.specs.declared.position.Pos.{Pos}
+use Rattle.place_names.specs.declared.act.Mode.TheVariants as mode
 use Rattle.place_names.specs.declared.fact.Fact.{Fact}
 use Rattle.place_names.specs.declared.fact.Fact.TheVariants.{Moved, Lent}
 use Rattle.place_names.specs.declared.rule.Loan.{Loan}
@@ -15,7 +16,7 @@ use Rattle.typed_tree.specs.Trees.{TypedTree, Name, NoMore}
 use Rattle.typed_tree.specs.Programs.{TypedProgram}
 use Rattle.flow_paths.specs.declared.report.Effects.{Effects}
 use Rattle.flow_paths.specs.Instructions.{Instruction, Declare, Assign, Call, EndScope, Finish}
-use Rattle.flow_paths.specs.Objects.{Typing, object_at, is_formal, is_anonymous, is_observer, is_package_object, has_scope_end, view_of}
+use Rattle.flow_paths.specs.Objects.{Typing, object_at, sub_at, is_formal, is_anonymous, is_observer, is_package_object, has_scope_end, view_of}
 use Rattle.flow_paths.specs.Points.{NamedPoint, FlowPoint}
 use Rattle.flow_paths.specs.Laid.{FlowSub, FlowProgram, NamedSub, flow_typing, flow_program, flow_named}
 use Rattle.flow_paths.specs.Paths.{ControlPath}
@@ -24,26 +25,37 @@ use Rattle.flow_paths.specs.Scopes.{is_within}
 use Rattle.flow_paths.specs.Views.{encloses, scope_of}
 use Rattle.machine.specs.Words.{Cell}
 use Rattle.machine.specs.Memory.{Memory, variable_slots, no_slot}
-use Rattle.machine.specs.States.{Waiting, State, Outcome, Goes, Ends, sub_of}
+use Rattle.machine.specs.States.{Return, Waiting, Frame, State, Outcome, Goes, Ends, sub_of}
 use Rattle.machine.specs.Owners.{WellOwned, waiting_in}
 use Rattle.machine.specs.Run.{step}
 use Rattle.owned_ways.specs.Ways.{Step, OfVariable, OfRoot, Held, Way, name_of, number_of}
 use Rattle.soundness.specs.Seen.{content, word_in, home}
 use Rattle.soundness.specs.Typed.{Kept}
-use Rattle.soundness.specs.Sound.{AreCopied, is_temporary_object, IsNamedSub, IsAtPoint, IsRunnable, Stage, facts_of, AreStages, Uses, IsPlain, IsResting, InScope, IsTrap}
+use Rattle.soundness.specs.Sound.{AreCopied, is_temporary_object, IsNamedSub, IsAtPoint, IsRunnable, Stage, facts_of, AreStages, Uses, IsPlain, InScope, IsTrap}
 use Rattle.soundness.specs.Sound as owners
 use Rattle.owned_loans.specs.Views.{known_gone, Views, IsMovedBy, AreClear, AreViews, Viewed}
-use Rattle.viewed_soundness.specs.Holds.{PartsAreNamed}
+use Rattle.viewed_soundness.specs.Holds.{IsNamed, PartsAreNamed}
 use Rattle.viewed_steps.specs.Awaited.{is_held, lasting_of, AreNamedResults, AreAwaited}
+use Rattle.viewed_steps.specs.Taken.{TakenBy, AreTaken}
 
 -- ---- the class
 
+-- A formal of a scalar type, or of mode `in out` and of no anonymous access type.
+abbrev pub IsScalarObject : Typing → ℕ → Type 0
+IsScalarObject s x = is_scalar (full s.table (object_at s x).of) ≡ true
+
+abbrev pub IsKindOfFormal : Typing → ℕ → Type 0
+IsKindOfFormal s x = IsScalarObject s x ⊎ (((object_at s x).mode ≡ mode.InOut) × IsNamed s.table (object_at s x).of)
+
 -- Anonymous access types are those of objects alone, and functions that are called have no results of
--- such types; formals are of scalar types, and actuals that are copied back to go through no access value.
+-- such types; formals are such, those of functions of scalar types, and actuals that are copied back to
+-- go through no access value.
 pub record IsViewClass (program : FlowProgram) : Type 0 where
   pub parts_named : PartsAreNamed program.table
   pub results : AreNamedResults program
-  pub formals : (x : ℕ) → is_formal (flow_typing program) x ≡ true → is_scalar (full program.table (object_at (flow_typing program) x).of) ≡ true
+  pub formals : (x : ℕ) → is_formal (flow_typing program) x ≡ true → IsKindOfFormal (flow_typing program) x
+  pub functions : (n t : ℕ) → (sub_at (flow_typing program) n).result ≡ Some t → (x : ℕ) → Has (sub_at (flow_typing program) n).formals x
+      → IsScalarObject (flow_typing program) x
   pub copied : (sub : FlowSub) → Has program.subs sub → (p : FlowPoint) → Has sub.points p → (n : ℕ) (actuals : TypedTree) (result : Option ℕ)
       → p.instr ≡ Call n actuals result → ((x : ℕ) → Has (sub_of program n).formals x → is_formal (flow_typing program) x ≡ true)
       → AreCopied (flow_typing program) (sub_of program n).formals actuals
@@ -96,6 +108,16 @@ NoneAbove s depth m =
 
 -- ---- frames that wait
 
+-- The formals of a frame are of scalar types, or are copied back; and formals alone are copied back.
+abbrev pub AreReturned : Typing → Frame → Type 0
+AreReturned s f =
+    ((x : ℕ) → Has (sub_at s f.sub).formals x → IsScalarObject s x ⊎ ((r : Return) × Has f.returns r × (r.formal ≡ x)))
+    × ((r : Return) → Has f.returns r → is_formal s r.formal ≡ true)
+
+-- Formals that may own are copied back.
+abbrev pub IsResting : Typing → Stage → Type 0
+IsResting s g = AreReturned s g.frame
+
 -- A frame with its executed points and the ways of its views.
 pub record ViewStage : Type 0 where
   pub stage : Stage
@@ -104,10 +126,12 @@ pub record ViewStage : Type 0 where
 abbrev pub stages_of : List ViewStage → List Stage
 stages_of older = map (λ (g : ViewStage). g.stage) older
 
--- What is gone elsewhere is moved by a fact of a frame that waits, perhaps through a view of it.
+-- What is gone elsewhere is moved by a fact of a frame that waits, perhaps through a view of it; or what
+-- that frame called has taken it.
 abbrev pub GoneElsewhere : FlowProgram → Effects → List ViewStage → Way → Type 0
 GoneElsewhere program effects older w =
-    (g : ViewStage) × Has older g × IsMovedBy (home (flow_typing program) g.stage.depth) g.views (facts_of program effects g.stage) w
+    (g : ViewStage) × Has older g
+    × (IsMovedBy (home (flow_typing program) g.stage.depth) g.views (facts_of program effects g.stage) w ⊎ TakenBy g.stage.returns w)
 
 -- What a callee may not do with a package object of which a part is lent: use it, where a borrower has
 -- the part, and write it, where an observer sees it.
@@ -118,8 +142,9 @@ Disturbs effects Observed n x = Has (written_by effects n) x
 -- A frame that waits for a call to end. The points that it has executed form a control path to its
 -- next point. What it owns is in scope there, and so are its views, which have their ways still. The
 -- callee disturbs no package object of which a part is lent, and uses none of which a part is moved.
--- What the callee uses or writes, its caller does.
-pub record IsWaiting (table : Table) (typed : TypedProgram) (effects : Effects) (state : State) (callee : ℕ) (g : ViewStage) : Type 0 where
+-- What the callee uses or writes, its caller does. What the callee copies back goes to scalar places,
+-- or to those that it took.
+pub record IsWaiting (table : Table) (typed : TypedProgram) (effects : Effects) (state : State) (callee : ℕ) (backs : List Return) (g : ViewStage) : Type 0 where
   pub runs : IsRunnable table typed g.stage.frame.sub
   pub plain : IsResting (flow_typing (flow_program table typed)) g.stage
   pub path : ControlPath (path_points (flow_program table typed) effects (sub_of (flow_program table typed) g.stage.frame.sub)) g.stage.before g.stage.frame.next
@@ -141,17 +166,19 @@ pub record IsWaiting (table : Table) (typed : TypedProgram) (effects : Effects) 
       (owners.view_of (flow_typing (flow_program table typed)) state) (facts_of (flow_program table typed) effects g.stage)
   pub holds : HoldsAt (flow_typing (flow_program table typed)) g.stage.depth g.views state.memory point
   pub placed : ArePlaced (flow_program table typed) (facts_of (flow_program table typed) effects g.stage) g.views point.scope
+  pub taken : AreTaken (flow_typing (flow_program table typed)) state.memory g.stage.depth (facts_of (flow_program table typed) effects g.stage)
+      (lasting_of (flow_typing (flow_program table typed)) point.scope) backs g.stage.returns
 
 -- The frame of the package objects has no views, and nothing waits in it.
 abbrev pub IsFirst : ViewStage → Type 0
 IsFirst e = (e.stage.frame.sub ≡ 0) × IsPlain e.stage × ((x : ℕ) → e.views.way x ≡ None) × (e.stage.depth ≡ 0)
 
--- The frames around one that runs a subprogram.
-abbrev pub AreWaiting : Table → TypedProgram → Effects → State → ℕ → List ViewStage → Type 0
-AreWaiting table typed effects state callee [] = ⊥
-AreWaiting table typed effects state callee (e ∷ []) = IsFirst e
-AreWaiting table typed effects state callee (g ∷ (h ∷ older)) =
-    IsWaiting table typed effects state callee g × AreWaiting table typed effects state g.stage.frame.sub (h ∷ older)
+-- The frames around one that runs a subprogram and copies formals back.
+abbrev pub AreWaiting : Table → TypedProgram → Effects → State → ℕ → List Return → List ViewStage → Type 0
+AreWaiting table typed effects state callee backs [] = ⊥
+AreWaiting table typed effects state callee backs (e ∷ []) = IsFirst e × (backs ≡ [])
+AreWaiting table typed effects state callee backs (g ∷ (h ∷ older)) =
+    IsWaiting table typed effects state callee backs g × AreWaiting table typed effects state g.stage.frame.sub g.stage.frame.returns (h ∷ older)
 
 -- ---- a state
 
@@ -160,7 +187,7 @@ abbrev pub IsRunning : Table → TypedProgram → Effects → State → ViewStag
 IsRunning table typed effects state top [] = IsFirst top
 IsRunning table typed effects state top (g ∷ older) =
     IsRunnable table typed top.stage.frame.sub × IsResting (flow_typing (flow_program table typed)) top.stage
-    × AreWaiting table typed effects state top.stage.frame.sub (g ∷ older)
+    × AreWaiting table typed effects state top.stage.frame.sub top.stage.frame.returns (g ∷ older)
 
 -- The innermost frame with its views, those around it, and what holds of them.
 pub record IsSound (table : Table) (typed : TypedProgram) (effects : Effects) (state : State) : Type 0 where
@@ -202,10 +229,14 @@ AreTurned i before later = (x : ℕ) (w : Way) → later.way x ≡ Some w → (b
 abbrev pub AreLeft : ℕ → Views → Views → Type 0
 AreLeft y before later = (x : ℕ) (w : Way) → later.way x ≡ Some w → (before.way x ≡ Some w) × (number_of w ≡ y → ⊥)
 
+-- All formals are of scalar types.
+abbrev pub AreScalarFormals : FlowProgram → Type 0
+AreScalarFormals program = (x : ℕ) → is_formal (flow_typing program) x ≡ true → IsScalarObject (flow_typing program) x
+
 -- How the frames after a step, with their views, come from those before it, of which `top` is the innermost one: it goes on; the
 -- scope of an object ends; after the last package object the main procedure begins; a subprogram is called, which has executed
--- nothing yet; a function gives its result to its caller; or a call has ended. A call, and the end of one, changes nothing that
--- owners see in the frames that are left, and a call moves nothing.
+-- nothing yet; a function gives its result to its caller; or a call has ended. Where formals are of scalar types, a call, and
+-- the end of one, changes nothing that owners see in the frames that are left. A call moves nothing.
 pub data Follows (program : FlowProgram) (effects : Effects) (i : Instruction) (m : Memory) (top : ViewStage) (older : List ViewStage) (n : Memory) (next : ViewStage) (around : List ViewStage) : Type 0 where
   steps_on : owners.IsNoCall i → (i ≡ Finish → ⊥) → ((y : ℕ) → i ≡ EndScope y → ⊥) → owners.IsOnward top.stage next.stage
       → AreTurned i top.views next.views → around ≡ older → Follows program effects i m top older n next around
@@ -219,8 +250,9 @@ pub data Follows (program : FlowProgram) (effects : Effects) (i : Instruction) (
       → Follows program effects i m top older n next around
   calls_one : (waits : Stage) → around ≡ record { stage = waits; views = top.views } ∷ older → owners.IsOnward top.stage waits → next.stage.before ≡ []
       → ((f : Fact) → Has (facts_of program effects waits) f → Has (facts_of program effects top.stage) f)
-      → owners.AreSameWords (flow_typing program) (λ f. Unit {0}) m n → Follows program effects i m top older n next around
-  ends_one : older ≡ next ∷ around → owners.AreSameWords (flow_typing program) (λ f. f ≡ top.stage.depth → ⊥) m n
+      → (AreScalarFormals program → owners.AreSameWords (flow_typing program) (λ f. Unit {0}) m n) → Follows program effects i m top older n next around
+  ends_one : older ≡ next ∷ around
+      → (AreScalarFormals program → owners.AreSameWords (flow_typing program) (λ f. f ≡ top.stage.depth → ⊥) m n)
       → Follows program effects i m top older n next around
 
 -- What a step leads to, with where its frames come from.

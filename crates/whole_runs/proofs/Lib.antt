@@ -4,3 +4,5 @@ pub mod Since
 pub mod Owed
 -- what steps and tellings keep of a run
 pub mod Kept
+-- what steps of which nothing is told lead on to
+pub mod Gone

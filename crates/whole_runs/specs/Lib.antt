@@ -8,3 +8,5 @@ pub mod Tellings
 pub mod Underway
 -- what is answered of a run
 pub mod Answers
+-- steps of which nothing is told
+pub mod Goings

@@ -6,6 +6,7 @@
 //! (`specs/Answers.antt`). Nothing but its buffers grows with the steps.
 #![tactic(auto)]
 
+mod going;
 mod stepping;
 mod told;
 mod whole;

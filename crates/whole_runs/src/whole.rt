@@ -7,6 +7,7 @@ ghost use Rattle.whole_runs.specs.Turns.{IsRunning, is_failing, some_steps};
 ghost use Rattle.whole_runs.specs.Tellings.{Sinks, TellsFronts};
 ghost use Rattle.whole_runs.specs.Answers.{IsOver, IsWritten, IsCut};
 
+use crate::going::go;
 use crate::stepping::{Stepping, Turn};
 use crate::told::{Told, tell, tell_leaks};
 use run_results::{Ending, ExecFault, Ran, write_all};
@@ -82,8 +83,8 @@ pub fn run_whole<S: Stepping, K: Sink>(
     };
     let mut steps = 0u64;
     'steps: while steps < limit {
-        let turn = run.step()?;
-        steps += 1;
+        let (made, turn) = go(run, limit - steps)?;
+        steps += made;
         match turn {
             Turn::On => tell(alloc, files, run, &mut told, out, err)?,
             Turn::Ends(ending) => {

@@ -1,12 +1,14 @@
-use Rattle.std.proofs.Common.{◌≡◌, ◌≤◌, map, string_bytes, ℕ, ◌+◌, refl, sym, ◌∙◌, subst, arith}
+use Rattle.std.proofs.Common.{◌≡◌, ◌≤◌, map, string_bytes, ℕ, ◌+◌, ◌-◌, refl, sym, ◌∙◌, subst, arith}
 use Rattle.machine.specs.States.{Spent}
 use Rattle.run_codes.specs.Points.{Outcome}
 use Rattle.run_results.specs.Results.{ending_of}
-use Rattle.whole_runs.specs.Turns.{some_steps, one_step, IsTurned}
+use Rattle.whole_runs.specs.Turns.{some_steps}
 use Rattle.whole_runs.specs.Tellings.{Sinks}
 use Rattle.whole_runs.specs.Underway.{IsUnderway}
-use Rattle.whole_runs.proofs.Kept.{if_ok, on_err, for_err, ok_apart, begun, step_there, step_on, step_ends, all_spent, told_on, underway_cut, over_cut}
+use Rattle.whole_runs.specs.Goings.{LeadsOn}
+use Rattle.whole_runs.proofs.Kept.{if_ok, on_err, for_err, ok_apart, begun, all_spent, told_on, underway_cut, over_cut}
 use Rattle.whole_runs.proofs.Owed.{none_cut}
+use Rattle.whole_runs.proofs.Gone.{gone_ends}
 use Rattle.whole_runs.proofs.whole.run_whole.Goals as goal
 
 same_there : (limit steps : ℕ) → limit ≤ steps → steps ≤ limit → steps ≡ limit
@@ -24,23 +26,16 @@ steps-init g c =
       refl,
     )
 
-pub step-requires-clause-there : goal.step-requires-clause-there
-step-requires-clause-there g c =
-    step_there (map string_bytes c.args.files.now) (g.S.Stepping.setting c.steps.run)
-    (record { output = g.K.Sink.written c.args.out.now; lines = g.K.Sink.written c.args.err.now }) (record { output = g.K.Sink.written c.steps.out; lines = g.K.Sink.written c.steps.err })
-    c.steps.told.lines.items c.steps.told.leaked (λ n. some_steps n (g.S.Stepping.setting c.args.run.now) (g.S.Stepping.state c.args.run.now))
-    c.args.limit c.steps.steps (g.S.Stepping.state c.steps.run) c.steps-test.true c.steps.invariant.0 c.requires.there
-
 pub returns-in-Ends-clause-written : goal.returns-in-Ends-clause-written
 returns-in-Ends-clause-written g c =
     let start : Sinks = record { output = g.K.Sink.written c.args.out.now; lines = g.K.Sink.written c.args.err.now } in
     let moments : ℕ → Outcome = λ n. some_steps n (g.S.Stepping.setting c.args.run.now) (g.S.Stepping.state c.args.run.now) in
     if_ok c.answer.result
     (λ ran written. written (moments c.args.limit) start
-    (step_ends (map string_bytes c.args.files.now) (g.S.Stepping.setting c.steps.run) start (record { output = g.K.Sink.written c.steps.out; lines = g.K.Sink.written c.steps.err })
-    c.steps.told.lines.items c.steps.told.leaked moments c.args.limit c.steps.steps (g.S.Stepping.state c.steps.run) (g.S.Stepping.state c.step.new.self) c.in-Ends.ending
-    c.steps-test.true c.steps.invariant.0
-    (subst (λ t. IsTurned (one_step (g.S.Stepping.setting c.steps.run) (g.S.Stepping.state c.steps.run)) t (g.S.Stepping.state c.step.new.self)) c.in-Ends.is c.in_ok-turn.ensures.turned)))
+    (gone_ends (map string_bytes c.args.files.now) (g.S.Stepping.setting c.steps.run) start (record { output = g.K.Sink.written c.steps.out; lines = g.K.Sink.written c.steps.err })
+    c.steps.told.lines.items c.steps.told.leaked moments c.args.limit c.steps.steps c.in_ok-made.made (g.S.Stepping.state c.steps.run) (g.S.Stepping.state c.go.new.run) c.in-Ends.ending
+    c.steps.invariant.2 c.steps.invariant.0
+    (subst (λ t. LeadsOn (g.S.Stepping.setting c.steps.run) (c.args.limit - c.steps.steps) (g.S.Stepping.state c.steps.run) c.in_ok-made.made t (g.S.Stepping.state c.go.new.run)) c.in-Ends.is c.in_ok-made.ensures.led)))
     c.answer.ensures.written
 
 pub steps-preserved : goal.steps-preserved
@@ -50,17 +45,18 @@ steps-preserved g c =
     let moments : ℕ → Outcome = λ n. some_steps n (g.S.Stepping.setting c.args.run.now) (g.S.Stepping.state c.args.run.now) in
     let now : Sinks = record { output = g.K.Sink.written c.steps.out; lines = g.K.Sink.written c.steps.err } in
     let later : Sinks = record { output = g.K.Sink.written c.tell.new.out; lines = g.K.Sink.written c.tell.new.err } in
-    let same = c.tell.ensures.setting ∙ c.step.ensures.setting in
-    let on = subst (λ t. IsTurned (one_step (g.S.Stepping.setting c.steps.run) (g.S.Stepping.state c.steps.run)) t (g.S.Stepping.state c.step.new.self)) c.in-On.is c.in_ok-turn.ensures.turned in
-    let below = c.steps-test.true in (
-      subst (λ s. IsUnderway files s start later c.tell.new.told.lines.items c.tell.new.told.leaked moments (c.steps.steps + 1) (g.S.Stepping.state c.tell.new.run)) (sym same)
+    let same = c.tell.ensures.setting ∙ c.go.ensures.setting in
+    let on : IsUnderway files (g.S.Stepping.setting c.steps.run) start now c.steps.told.lines.items c.steps.told.leaked moments (c.steps.steps + c.in_ok-made.made) (g.S.Stepping.state c.go.new.run) =
+    subst (λ t. LeadsOn (g.S.Stepping.setting c.steps.run) (c.args.limit - c.steps.steps) (g.S.Stepping.state c.steps.run) c.in_ok-made.made t (g.S.Stepping.state c.go.new.run)) c.in-On.is c.in_ok-made.ensures.led
+    files start now c.steps.told.lines.items c.steps.told.leaked moments c.steps.steps c.steps.invariant.0 in
+    let few = c.in_ok-made.ensures.few in (
+      subst (λ s. IsUnderway files s start later c.tell.new.told.lines.items c.tell.new.told.leaked moments (c.steps.steps + c.in_ok-made.made) (g.S.Stepping.state c.tell.new.run)) (sym same)
           (told_on files (g.S.Stepping.setting c.steps.run) start now later c.steps.told.lines.items c.tell.new.told.lines.items c.steps.told.leaked c.tell.new.told.leaked moments
-          (c.steps.steps + 1) (g.S.Stepping.state c.step.new.self) (g.S.Stepping.state c.tell.new.run)
-          (step_on files (g.S.Stepping.setting c.steps.run) start now c.steps.told.lines.items c.steps.told.leaked moments c.steps.steps
-          (g.S.Stepping.state c.steps.run) (g.S.Stepping.state c.step.new.self) c.steps.invariant.0 on)
+          (c.steps.steps + c.in_ok-made.made) (g.S.Stepping.state c.go.new.run) (g.S.Stepping.state c.tell.new.run)
+          on
           c.in_ok-tell-in-On.ensures.told),
       same ∙ c.steps.invariant.1,
-      omega (arith, below),
+      omega (arith, few, c.steps.invariant.2),
       c.in_ok-tell-in-On.ensures.no_fault_out (λ e. ok_apart _ _ e) ∙ c.steps.invariant.3,
       c.in_ok-tell-in-On.ensures.no_fault_err (λ e. ok_apart _ _ e) ∙ c.steps.invariant.4,
     )
@@ -78,8 +74,8 @@ returns-clause-written g c =
     (same_there c.args.limit c.steps.steps (omega (arith, past)) c.steps.invariant.2) c.steps.invariant.0))
     c.answer-2.ensures.written
 
-pub returns-in_err-turn-clause-cut : goal.returns-in_err-turn-clause-cut
-returns-in_err-turn-clause-cut g c =
+pub returns-in_err-made-clause-cut : goal.returns-in_err-made-clause-cut
+returns-in_err-made-clause-cut g c =
     let files = map string_bytes c.args.files.now in
     let start : Sinks = record { output = g.K.Sink.written c.args.out.now; lines = g.K.Sink.written c.args.err.now } in
     let now : Sinks = record { output = g.K.Sink.written c.steps.out; lines = g.K.Sink.written c.steps.err } in
@@ -95,13 +91,14 @@ returns-in_err-tell-in-On-clause-cut g c =
     let now : Sinks = record { output = g.K.Sink.written c.steps.out; lines = g.K.Sink.written c.steps.err } in
     let later : Sinks = record { output = g.K.Sink.written c.tell.new.out; lines = g.K.Sink.written c.tell.new.err } in
     let moments : ℕ → Outcome = λ n. some_steps n (g.S.Stepping.setting c.args.run.now) (g.S.Stepping.state c.args.run.now) in
-    let on = subst (λ t. IsTurned (one_step (g.S.Stepping.setting c.steps.run) (g.S.Stepping.state c.steps.run)) t (g.S.Stepping.state c.step.new.self)) c.in-On.is c.in_ok-turn.ensures.turned in
-    let below = c.steps-test.true in
+    let on : IsUnderway files (g.S.Stepping.setting c.steps.run) start now c.steps.told.lines.items c.steps.told.leaked moments (c.steps.steps + c.in_ok-made.made) (g.S.Stepping.state c.go.new.run) =
+    subst (λ t. LeadsOn (g.S.Stepping.setting c.steps.run) (c.args.limit - c.steps.steps) (g.S.Stepping.state c.steps.run) c.in_ok-made.made t (g.S.Stepping.state c.go.new.run)) c.in-On.is c.in_ok-made.ensures.led
+    files start now c.steps.told.lines.items c.steps.told.leaked moments c.steps.steps c.steps.invariant.0 in
+    let few = c.in_ok-made.ensures.few in
     for_err _
-    (underway_cut files (g.S.Stepping.setting c.steps.run) start now later c.steps.told.lines.items c.steps.told.leaked moments c.args.limit (c.steps.steps + 1) (g.S.Stepping.state c.step.new.self)
-    (omega (arith, below))
-    (step_on files (g.S.Stepping.setting c.steps.run) start now c.steps.told.lines.items c.steps.told.leaked moments c.steps.steps
-    (g.S.Stepping.state c.steps.run) (g.S.Stepping.state c.step.new.self) c.steps.invariant.0 on)
+    (underway_cut files (g.S.Stepping.setting c.steps.run) start now later c.steps.told.lines.items c.steps.told.leaked moments c.args.limit (c.steps.steps + c.in_ok-made.made) (g.S.Stepping.state c.go.new.run)
+    (omega (arith, few, c.steps.invariant.2))
+    on
     c.in_err-tell-in-On.ensures.front)
 
 pub returns-in-Ends-clause-cut : goal.returns-in-Ends-clause-cut
@@ -112,11 +109,11 @@ returns-in-Ends-clause-cut g c =
     let later : Sinks = record { output = g.K.Sink.written c.answer.new.out; lines = g.K.Sink.written c.answer.new.err } in
     let moments : ℕ → Outcome = λ n. some_steps n (g.S.Stepping.setting c.args.run.now) (g.S.Stepping.state c.args.run.now) in
     on_err c.answer.result
-    (λ fronts. over_cut files start now later c.steps.told.lines.items c.steps.told.leaked moments c.args.limit (ending_of c.in-Ends.ending) (c.steps.steps + 1) (g.S.Stepping.state c.step.new.self)
-    (step_ends files (g.S.Stepping.setting c.steps.run) start now
-    c.steps.told.lines.items c.steps.told.leaked moments c.args.limit c.steps.steps (g.S.Stepping.state c.steps.run) (g.S.Stepping.state c.step.new.self) c.in-Ends.ending
-    c.steps-test.true c.steps.invariant.0
-    (subst (λ t. IsTurned (one_step (g.S.Stepping.setting c.steps.run) (g.S.Stepping.state c.steps.run)) t (g.S.Stepping.state c.step.new.self)) c.in-Ends.is c.in_ok-turn.ensures.turned))
+    (λ fronts. over_cut files start now later c.steps.told.lines.items c.steps.told.leaked moments c.args.limit (ending_of c.in-Ends.ending) (c.steps.steps + c.in_ok-made.made) (g.S.Stepping.state c.go.new.run)
+    (gone_ends files (g.S.Stepping.setting c.steps.run) start now
+    c.steps.told.lines.items c.steps.told.leaked moments c.args.limit c.steps.steps c.in_ok-made.made (g.S.Stepping.state c.steps.run) (g.S.Stepping.state c.go.new.run) c.in-Ends.ending
+    c.steps.invariant.2 c.steps.invariant.0
+    (subst (λ t. LeadsOn (g.S.Stepping.setting c.steps.run) (c.args.limit - c.steps.steps) (g.S.Stepping.state c.steps.run) c.in_ok-made.made t (g.S.Stepping.state c.go.new.run)) c.in-Ends.is c.in_ok-made.ensures.led))
     fronts)
     c.answer.ensures.front
 

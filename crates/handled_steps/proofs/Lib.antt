@@ -1,0 +1,29 @@
+-- lists in relation, and frames with more handles
+pub mod Pairs
+-- steps that stop
+pub mod GivenUp
+-- words of types, and frames
+pub mod Tables
+pub mod Frames
+-- how steps begin, go on and end
+pub mod Turns
+-- what is read and stored
+pub mod Gots
+-- points
+pub mod Stores
+pub mod Choices
+pub mod Scopes
+pub mod Loops
+pub mod Texts
+pub mod Holds
+-- calls
+pub mod Moving
+pub mod Passing
+pub mod Calls
+pub mod Finishes
+-- steps and runs
+pub mod Steps
+pub mod Runs
+-- slots and greatest counts
+pub mod Greatest
+pub mod PeakSteps

@@ -1,0 +1,142 @@
+-- Points that write and read, over both heaps.
+use Rattle.std.proofs.Common.{◌≡◌, refl, sym, ap, ◌∙◌, subst, ℕ, Bool, true, false, List, [], ◌∷◌, ◌++◌, map, get_or, Option, ℤ, if◌then◌else◌}
+use Rattle.std.specs.Prelude.{unsigned_abs}
+use Rattle.std.specs.Char.{to_ascii_uppercase}
+use Rattle.type_definitions.specs.Types.{shape_of}
+use Rattle.run_values.specs.declared.value.Kind.{Kind}
+use Rattle.run_values.specs.declared.value.Kind.TheVariants as sort
+use Rattle.run_values.specs.declared.items.Item.{Item}
+use Rattle.run_values.specs.declared.items.Item.TheVariants as item
+use Rattle.run_values.specs.Images.{image}
+use Rattle.run_values.specs.Items.{next_item}
+use Rattle.machine.specs.Evaluate.{DataError, EndError, literals}
+use Rattle.run_codes.specs.Codes.{Place, Piece, Bytes, NumberImage, LiteralImage}
+use Rattle.run_codes.specs.Flat.{Flat, Got, Given, Raises, and_then, constraint, is_between, Spot}
+use Rattle.run_codes.specs.Flat as flat
+use Rattle.run_codes.specs.Points as points
+use Rattle.handled_runs.specs.Slots.{Slots}
+use Rattle.handled_runs.specs.Slots as slots
+use Rattle.handled_runs.specs.Changes.{stored}
+use Rattle.handled_runs.specs.Beside.{spot_renamed, Beside}
+use Rattle.handled_runs.specs.Alike.{StandAt}
+use Rattle.handled_steps.specs.States.{State, Outcome, Goes, Turn, start, waiting, halted, on_got, after}
+use Rattle.handled_steps.specs.Steps.{piece_bytes, text, writing, output, reading, read, input}
+use Rattle.handled_steps.specs.Alike.{StatesAlike, OutcomesAlike, led_kinds}
+use Rattle.handled_steps.specs.Looks.{LooksPiece, LooksPieces, LooksPlace, taken_kinds}
+use Rattle.handled_steps.proofs.Turns.{gots_same, Both, flat_turn, slot_turn, start_more, got_on, halted_alike, after_alike, waiting_on}
+use Rattle.handled_steps.proofs.Gots.{AreBeside, data_same_word, spot_gots, store_gots}
+
+module _ (handles : List ℕ) (here : List Kind) (z : Both handles here) where
+  abbrev t : points.Turn
+  t = flat_turn handles here z
+
+  abbrev u : Turn
+  u = slot_turn handles here z
+
+  abbrev takes : List Kind
+  takes = taken_kinds t
+
+  abbrev m : Flat
+  m = points.start t
+
+  abbrev s : Slots
+  s = start u
+
+  abbrev hs : List ℕ
+  hs = handles ++ []
+
+  abbrev Same : List Kind → points.Outcome → Outcome → Type 0
+  Same = OutcomesAlike z.table handles
+
+  beside : Beside hs here takes m s
+  beside = start_more handles here z
+
+  -- ---- output
+
+  piece_same : (p : Piece) → LooksPiece m here takes p → piece_bytes z.table s p ≡ points.piece_bytes z.table m p
+  piece_same (Bytes bytes) looks = refl
+  piece_same (NumberImage c) looks = ap (λ g. and_then g (λ w. Given (image w))) (data_same_word hs here takes m s beside c looks)
+  piece_same (LiteralImage c of) looks =
+      ap (λ g. and_then g (λ w. Given (map to_ascii_uppercase (get_or (literals (shape_of z.table of)) (unsigned_abs w) [])))) (data_same_word hs here takes m s beside c looks)
+
+  text_same : (pieces : List Piece) → LooksPieces m here takes pieces → text z.table s pieces ≡ points.text z.table m pieces
+  text_same [] looks = refl
+  text_same (p ∷ rest) looks =
+      ap (λ g. and_then g (λ bytes. and_then (text z.table s rest) (λ more. Given (bytes ++ more)))) (piece_same p looks.0)
+      ∙ ap (λ g. and_then (points.piece_bytes z.table m p) (λ bytes. and_then g (λ more. Given (bytes ++ more)))) (text_same rest looks.1)
+
+  written_alike : (ks : List Kind) (bytes : List ℕ) (a : points.State) (b : State) → StatesAlike z.table hs ks a b → StatesAlike z.table hs ks (record a { output = a.output ++ bytes }) (writing bytes b)
+  written_alike ks bytes a b is = record {
+    taken = is.taken;
+    memory = is.memory;
+    frames = is.frames;
+    at = is.at;
+    output = ap (λ out. out ++ bytes) is.output;
+    leaks = is.leaks;
+    steps = is.steps;
+  }
+
+  pub output_alike : (pieces : List Piece) (line : Bool) (n : Option ℕ) → LooksPieces m here takes pieces → Same (led_kinds t here n) (points.output t pieces line n) (output u pieces line n)
+  output_alike pieces line n looks =
+      got_on handles here z [] here takes m s beside (λ a b. b ≡ a) (led_kinds t here n) (points.text z.table m pieces) (text z.table s pieces)
+      (λ bytes. points.Goes (record (points.after t (points.waiting t) m n) { output = (points.after t (points.waiting t) m n).output ++ (bytes ++ (if line then 10 ∷ [] else [])) }))
+      (λ bytes. Goes (writing (bytes ++ (if line then 10 ∷ [] else [])) (after u (waiting u) s n)))
+      (gots_same (points.text z.table m pieces) (text z.table s pieces) (text_same pieces looks))
+      (λ bytes others found same.
+      subst (λ xs. Same (led_kinds t here n) (points.Goes (record (points.after t (points.waiting t) m n) { output = (points.after t (points.waiting t) m n).output ++ (bytes ++ (if line then 10 ∷ [] else [])) }))
+      (Goes (writing (xs ++ (if line then 10 ∷ [] else [])) (after u (waiting u) s n)))) (sym same) (
+        [],
+        written_alike (led_kinds t here n) (bytes ++ (if line then 10 ∷ [] else [])) (points.after t (points.waiting t) m n) (after u (waiting u) s n)
+            (after_alike handles here z [] here takes m s beside (points.waiting t) (waiting u) (waiting_on handles here z [] here takes m s beside) n),
+      ))
+
+  -- ---- input
+
+  abbrev flat_read : ℤ → ℤ → Option ℕ → Spot → Item → points.Outcome
+  flat_read low high n q item.Missing = points.halted t (Raises EndError) m
+  flat_read low high n q item.Bad = points.halted t (Raises DataError) m
+  flat_read low high n q (item.Number v end) =
+      if is_between low high v
+      then points.on_got t m (flat.stored m q (sort.Int ∷ []) (v ∷ [])) (λ k. points.Goes (record (points.after t (points.waiting t) k n) { at = end }))
+      else points.halted t constraint m
+
+  moved_alike : (ks : List Kind) (end : ℕ) (a : points.State) (b : State) → StatesAlike z.table hs ks a b → StatesAlike z.table hs ks (record a { at = end }) (reading end b)
+  moved_alike ks end a b is = record {
+    taken = is.taken;
+    memory = is.memory;
+    frames = is.frames;
+    at = refl;
+    output = is.output;
+    leaks = is.leaks;
+    steps = is.steps;
+  }
+
+  read_alike : (low high : ℤ) (n : Option ℕ) (q : Spot) (i : Item) → StandAt m here q (sort.Int ∷ []) → Same (led_kinds t here n) (flat_read low high n q i) (read u low high n (spot_renamed hs q) i)
+  read_alike low high n q item.Missing stand = halted_alike handles here z [] here takes m s beside (led_kinds t here n) (Raises EndError)
+  read_alike low high n q item.Bad stand = halted_alike handles here z [] here takes m s beside (led_kinds t here n) (Raises DataError)
+  read_alike low high n q (item.Number v end) stand = by (is_between low high v)
+    where
+      by : (c : Bool)
+          → Same (led_kinds t here n)
+          (if c then points.on_got t m (flat.stored m q (sort.Int ∷ []) (v ∷ [])) (λ k. points.Goes (record (points.after t (points.waiting t) k n) { at = end })) else points.halted t constraint m)
+          (if c then on_got u s (stored s (spot_renamed hs q) (sort.Int ∷ []) (v ∷ [])) (λ k. Goes (reading end (after u (waiting u) k n))) else halted u constraint s)
+      by true =
+          got_on handles here z [] here takes m s beside (AreBeside hs here takes m s beside) (led_kinds t here n) (flat.stored m q (sort.Int ∷ []) (v ∷ [])) (stored s (spot_renamed hs q) (sort.Int ∷ []) (v ∷ []))
+          (λ k. points.Goes (record (points.after t (points.waiting t) k n) { at = end })) (λ k. Goes (reading end (after u (waiting u) k n)))
+          (store_gots hs here takes m s beside q (sort.Int ∷ []) (v ∷ []) stand refl (tt, tt))
+          (λ i j found both. (
+            [],
+            moved_alike (led_kinds t here n) end (points.after t (points.waiting t) i n) (after u (waiting u) j n)
+                (after_alike handles here z [] here takes i j both (points.waiting t) (waiting u) (waiting_on handles here z [] here takes i j both) n),
+          ))
+      by false = halted_alike handles here z [] here takes m s beside (led_kinds t here n) constraint
+
+  pub input_alike : (p : Place) (low high : ℤ) (n : Option ℕ) → LooksPlace m here takes p (sort.Int ∷ []) → Same (led_kinds t here n) (points.input t p low high n) (input u p low high n)
+  input_alike p low high n looks =
+      got_on handles here z [] here takes m s beside (λ q r. r ≡ spot_renamed hs q) (led_kinds t here n) (flat.spot m p) (slots.spot s p)
+      (λ q. flat_read low high n q (next_item z.input z.a.at)) (λ q. read u low high n q (next_item z.input z.b.at))
+      (spot_gots hs here takes m s beside p looks.0)
+      (λ q r found same.
+      subst (λ x. Same (led_kinds t here n) (flat_read low high n q (next_item z.input z.a.at)) (read u low high n x (next_item z.input z.b.at))) (sym same)
+      (subst (λ i. Same (led_kinds t here n) (flat_read low high n q (next_item z.input z.a.at)) (read u low high n (spot_renamed hs q) (next_item z.input i))) (sym z.states.at)
+      (read_alike low high n q (next_item z.input z.a.at) (looks.1 q found))))

@@ -1,0 +1,2 @@
+-- code without calls
+pub mod Calls

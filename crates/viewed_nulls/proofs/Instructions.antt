@@ -1,0 +1,259 @@
+-- Instructions of programs with borrowers and observers, calls and returns apart, lead to the same
+-- in memories that agree.
+use Rattle.std.proofs.Common.{◌≡◌, refl, sym, ap, ◌∙◌, subst, inl, inr, ℕ, ◌+◌, Bool, true, false, ◌||◌, List, [], ◌∷◌, ◌++◌, length, if◌then◌else◌}
+use Rattle.spark_base.specs.declared.position.Pos.{Pos}
+use Rattle.place_names.specs.declared.act.Act.{Act}
+use Rattle.place_names.specs.declared.act.Act.TheVariants as act
+use Rattle.place_names.specs.declared.fact.Fact.{Fact}
+use Rattle.type_definitions.specs.declared.table.Shape.TheVariants as shape
+use Rattle.type_definitions.specs.Types.{Table, shape_of, full}
+use Rattle.typed_tree.specs.Trees.{TypedTree, Name, NoMore, More}
+use Rattle.typed_tree.specs.Programs.{TypedProgram}
+use Rattle.flow_paths.specs.declared.report.Effects.{Effects}
+use Rattle.flow_paths.specs.Instructions.{Instruction, Skip, Declare, Assign, Call, Output, Input, Release, Test, Choose, Start, Next, Evaluate, LeaveLoop, Hold, EndScope, Finish, Fall}
+use Rattle.flow_paths.specs.Objects.{Typing, object_at, is_anonymous, is_observer, view_of}
+use Rattle.flow_paths.specs.Names.{has_call, waiting as waits_in, name_of, first}
+use Rattle.flow_paths.specs.Acts.{acts_of, acts_in, source_acts, observe, declared_acts}
+use Rattle.flow_paths.specs.Points.{NamedPoint}
+use Rattle.flow_paths.specs.Laid.{FlowProgram, NamedSub, kept_roots, sub_facts, typing_of, flow_typing, flow_program}
+use Rattle.flow_paths.specs.Scopes.{taken}
+use Rattle.machine.specs.Words as machine
+use Rattle.machine.specs.Memory.{Memory}
+use Rattle.machine.specs.States.{Waiting, Frame, State}
+use Rattle.machine.specs.Step.{Turn, turn, start}
+use Rattle.machine.specs.Step as steps
+use Rattle.machine.specs.Owners.{waiting_in}
+use Rattle.owned_ways.specs.Ways.{Way, AllowsAll}
+use Rattle.soundness.specs.Seen.{IsNear, home, is_view_formal}
+use Rattle.soundness.specs.Sound.{calls_procedures, IsNoCall}
+use Rattle.typed_laws.specs.Needed.{IsFine, Source, FirstSource, FirstWrites, FirstStays}
+use Rattle.soundness.proofs.Numbers.{index_law}
+use Rattle.soundness.proofs.Points.{flow_at}
+use Rattle.soundness.proofs.Scalars.{acts, acts_append}
+use Rattle.soundness.proofs.Successors.{not_true, both_not}
+use Rattle.soundness.proofs.Taking.{Takes, takes_as, takes_both, TakesPlainly, nothing_more}
+use Rattle.soundness.proofs.Waits.{or_both}
+use Rattle.owned_loans.specs.Views.{Around, Views}
+use Rattle.viewed_soundness.specs.Holds.{IsNamed, AllKeep}
+use Rattle.viewed_soundness.proofs.Names.{plain_named, true_false}
+use Rattle.viewed_soundness.proofs.Evaluated.{keep_both}
+use Rattle.viewed_soundness.proofs.Outcomes.{named_plain, not_views, assigned_acts}
+use Rattle.viewed_steps.specs.Ready.{IsReady, AreOrderly, IsNewSource}
+use Rattle.viewed_steps.proofs.Sources.{leads_or}
+use Rattle.viewed_steps.proofs.Standing as standing
+use Rattle.null_places.specs.Agrees.{Agrees}
+use Rattle.null_places.specs.Compares.{Compares, ComparesIn}
+use Rattle.null_places.proofs.Only.{OnlyOwners}
+use Rattle.null_places.proofs.Laws.{Premises, Values}
+use Rattle.null_places.proofs.Instructions.{SameStep, twin, declare_on, assign_on, release_on, input_on, skip_same, fall_same, test_on, choose_on, leave_loop_on, operand_on, output_on, line_same, start_on, next_same}
+use Rattle.viewed_nulls.proofs.Viewed.{viewed_premises, IsReadyIn, viewed_values}
+use Rattle.viewed_nulls.proofs.Sources.{view_declared_same, view_assigned_same}
+
+module _ (table : Table) (typed : TypedProgram) (effects : Effects) (input : List ℕ) (ready : IsReady table typed effects) where
+  abbrev program : FlowProgram
+  program = flow_program table typed
+
+  abbrev s : Typing
+  s = flow_typing program
+
+  abbrev own : Typing
+  own = typing_of table typed
+
+  abbrev pub no_formals : (x : ℕ) → is_view_formal (flow_typing (flow_program table typed)) x ≡ false
+  no_formals = standing.no_in_formals table typed effects input ready
+
+  module _ (state : State) (frame : Frame) (outer : List Frame) (named : NamedSub) (p : NamedPoint)
+      (other : Around (home s (length outer))) (alone : (w : Way) → IsNear (length outer) w → other.gone w → ⊥) (v : Views) (facts : List Fact)
+      (next : NamedPoint → Type 0) (orderly : AreOrderly program p next) (on : List (List machine.Word)) where
+    abbrev pub t : Turn
+    t = record { program = flow_program table typed; input = input; point = flow_at (typing_of table typed) named p; state = state; frame = frame; outer = outer }
+
+    abbrev pub Ready : Memory → List Waiting → List Fact → Type 0
+    Ready m hands known =
+        IsReadyIn (steps.here t) ready.accepted.settled state.leaks other alone no_formals index_law ready.owns v ready.class.parts_named m hands known
+
+    abbrev pub asks : Premises (steps.here t)
+    asks = viewed_premises (steps.here t) ready.class.parts_named
+
+    pub laws : Values (steps.here t) ready.owns asks Ready
+    laws = viewed_values (steps.here t) ready.accepted.settled state.leaks other alone no_formals index_law ready.owns v ready.class.parts_named
+
+    abbrev acts_by : Instruction → List Act
+    acts_by i =
+        acts (acts_of (record { typing = s; result = named.sub.result; roots = kept_roots own 0 own.objects (sub_facts own named.sub named.points) }) p.pos i)
+
+    abbrev Keep : List Act → Type 0
+    Keep all = AllKeep (is_observer s) all
+
+    module _ (so : Ready state.memory (waiting_in state) facts) (only : OnlyOwners s state.memory) (n : Memory) (agrees : Agrees state.memory n) where
+      abbrev Same : Instruction → Type 0
+      Same i = SameStep t (turn t i) (turn (twin t n) i)
+
+      -- whether an instruction has a call, where only procedures are called
+      abbrev Plainly : Instruction → Type 0
+      Plainly i = (calls : Bool) → (calls_procedures i ≡ true → calls ≡ false) → TakesPlainly s calls
+
+      -- what it takes of the values that wait
+      abbrev TakesIn : Instruction → Type 0
+      TakesIn i = Takes (taken i) (start t).waits on
+
+      -- ---- declarations
+
+      abbrev DeclaresSame : ℕ → TypedTree → Type 0
+      DeclaresSame x e =
+          FirstSource s (object_at s x).of e → Plainly (Declare x e) → TakesIn (Declare x e) → Compares s e
+          → AllowsAll facts (acts_by (Declare x e)) → Keep (acts_by (Declare x e)) → Same (Declare x e)
+
+      view_declares : (x : ℕ) (q : Pos) (y u : ℕ) (path : TypedTree) → is_anonymous (view_of s x) ≡ true → DeclaresSame x (More (Name q y path u) NoMore)
+      unfolding Compares has_call waits_in
+      view_declares x q y u path view text plainly takes compares allowed keep =
+          view_declared_same t ready.accepted.settled ready.owns other alone no_formals v ready.class.parts_named facts so only n agrees on q x y u path view
+          (ready.orderly.local x view).0 text.1
+          (plainly (has_call path) (λ none. (or_both (has_call path) false (not_true (has_call path || false) none)).0))
+          (takes_as (waits_in path + 0) (waits_in path) (start t).waits on (nothing_more (waits_in path)) takes) compares.0 allowed
+
+      declares : (x : ℕ) (e : TypedTree) → p.instr ≡ Declare x e → DeclaresSame x e
+      declares x e is text plainly takes compares allowed keep = by_view (is_anonymous (view_of s x)) refl
+        where
+          by_view : (b : Bool) → is_anonymous (view_of s x) ≡ b → Same (Declare x e)
+          by_view true view =
+              let found = orderly.declared x e is view in
+              subst (DeclaresSame x) (sym found.4) (view_declares x found.0 found.1 found.3 found.2 view) text plainly takes compares allowed keep
+          by_view false owner =
+              let own_type : IsNamed s.table (object_at s x).of = plain_named s.table (object_at s x).of owner in
+              let kinds = not_views s x own_type in
+              let same : declared_acts s x e ≡ acts_in s e =
+              ap (λ b. if b then source_acts s (first e) (act.Borrow x) else (if is_observer s x then source_acts s (first e) (observe s x) else acts_in s e)) kinds.0
+              ∙ ap (λ b. if b then source_acts s (first e) (observe s x) else acts_in s e) kinds.1 in
+              declare_on t ready.accepted.settled ready.owns asks Ready laws facts so only n agrees on x e owner own_type text
+              (plainly (has_call e) (λ none. not_true (has_call e) none)) takes compares (subst (λ z. AllowsAll facts (acts z)) same allowed)
+              (subst (λ z. Keep (acts z)) same keep)
+
+      -- ---- assignments
+
+      abbrev AssignsSame : TypedTree → TypedTree → Type 0
+      AssignsSame target e =
+          Plainly (Assign target e) → TakesIn (Assign target e) → ComparesIn s (Assign target e)
+          → AllowsAll facts (acts_by (Assign target e)) → Keep (acts_by (Assign target e)) → Same (Assign target e)
+
+      view_assigns : (q : Pos) (x : ℕ) (r : Pos) (y w : ℕ) (path : TypedTree) → is_anonymous (view_of s x) ≡ true → (is_observer s x ≡ false → y ≡ x)
+          → Source s (object_at s x).of (Name r y path w) → AssignsSame (Name q x NoMore (object_at s x).of) (Name r y path w)
+      unfolding Compares has_call waits_in
+      view_assigns q x r y w path view itself source plainly takes compares allowed keep =
+          view_assigned_same t ready.accepted.settled ready.owns other alone no_formals v ready.class.parts_named facts so only n agrees on p.pos q r x y w path view
+          (ready.orderly.local x view).0 source (plainly (has_call path) (λ none. (both_not false (has_call path) none).1))
+          (takes_as (waits_in path + 0) (waits_in path) (start t).waits on (nothing_more (waits_in path)) takes) itself compares.1 allowed
+
+      -- the whole of a view
+      to_view : (q : Pos) (x : ℕ) (path : TypedTree) (u : ℕ) (e : TypedTree) → p.instr ≡ Assign (Name q x path u) e → path ≡ NoMore → (object_at s x).of ≡ u
+          → Source s u e → is_anonymous (full s.table u) ≡ true → AssignsSame (Name q x path u) e
+      to_view q x path u e is nothing type source view =
+          subst (λ z. AssignsSame z e) (sym target_is)
+          (subst (λ z. AssignsSame (Name q x NoMore (object_at s x).of) z) (sym found.4)
+          (view_assigns q x found.0 found.1 found.3 found.2 view_there found.6
+          (subst (Source s (object_at s x).of) found.4 (subst (λ z. Source s z e) (sym type) source))))
+        where
+          target_is : Name q x path u ≡ Name q x NoMore (object_at s x).of
+          target_is = (λ j. Name q x (nothing j) (sym type j))
+
+          view_there : is_anonymous (view_of s x) ≡ true
+          view_there = ap (λ z. is_anonymous (full s.table z)) type ∙ view
+
+          found : IsNewSource (flow_program table typed) p.scope x e
+          found = orderly.assigned q x (object_at s x).of e (is ∙ ap (λ z. Assign z e) target_is) view_there
+
+      assigns : (target e : TypedTree) → p.instr ≡ Assign target e → IsFine s named.sub.result (Assign target e) → AssignsSame target e
+      unfolding Compares has_call waits_in
+      assigns (Name q x path u) e is (k, (leads, type), source) plainly takes compares allowed keep =
+          by_view (subst (λ z. Source s z e) (sym type) source) (is_anonymous (full s.table u)) refl
+        where
+          by_view : Source s u e → (b : Bool) → is_anonymous (full s.table u) ≡ b → Same (Assign (Name q x path u) e)
+          by_view (inl view) false owner = absurd (true_false (is_anonymous (full s.table u)) view.0 owner)
+          by_view (inr gives) false owner =
+              let own_type : IsNamed s.table u = plain_named s.table u owner in
+              let same = assigned_acts s p.pos x u (Name q x path u) path e own_type leads in
+              let kept_there = subst (λ z. Keep (acts z)) same keep in
+              let before = (keep_both (is_observer s) (acts (acts_in s e ++ acts_in s path)) (act.Write (name_of x path) ∷ [])
+              (subst Keep (acts_append (acts_in s e ++ acts_in s path) (record { pos = q; act = act.Write (name_of x path) } ∷ [])) kept_there)).0 in
+              let two = takes_both (waits_in e) (waits_in path) (start t).waits on takes in
+              assign_on t ready.accepted.settled ready.owns asks Ready laws facts so only n agrees two.0 on q x u path e owner own_type gives leads
+              (plainly (has_call e) (λ none. (both_not (has_call path) (has_call e) none).1))
+              (plainly (has_call path) (λ none. (both_not (has_call path) (has_call e) none).0)) two.1 two.2 compares.0 compares.1
+              (subst (λ z. AllowsAll facts (acts z)) same allowed)
+              (keep_both (is_observer s) (acts (acts_in s e)) (acts (acts_in s path)) (subst Keep (acts_append (acts_in s e) (acts_in s path)) before)).0
+          by_view source_there true view = elim (leads_or s ready.class.parts_named path (object_at s x).of u leads) [
+            | inr own_type ↦ absurd (true_false (is_anonymous (full s.table u)) view (named_plain s.table u own_type))
+            | inl whole_path ↦ to_view q x path u e is whole_path.0 whole_path.1 source_there view plainly takes compares allowed keep
+          ]
+      assigns target e is (k, never, source) plainly takes compares allowed keep = absurd never
+
+      -- ---- the others
+
+      writes : (text : TypedTree) (line : Bool) → FirstWrites s text → Plainly (Output text line) → TakesIn (Output text line) → Compares s text
+          → AllowsAll facts (acts_by (Output text line)) → Same (Output text line)
+      unfolding acts_in Compares has_call waits_in
+      writes (More e rest) line (last, text) plainly takes compares allowed =
+          output_on t ready.accepted.settled ready.owns asks Ready laws facts so only n agrees on e rest line last text
+          (takes_as (taken (Output (More e rest) line)) (waits_in e) (start t).waits on (ap (λ z. waits_in e + waits_in z) last ∙ nothing_more (waits_in e)) takes)
+          (plainly (has_call e) (λ none. (or_both (has_call e) (has_call rest) (not_true (has_call e || has_call rest) none)).0)) compares.0 allowed
+      writes NoMore line text plainly takes compares allowed = line_same t ready.accepted.settled ready.owns asks Ready laws facts so only n agrees line
+      writes other_text line never plainly takes compares allowed = absurd never
+
+      reads : (target : TypedTree) → IsFine s named.sub.result (Input target) → Plainly (Input target) → TakesIn (Input target) → Compares s target
+          → AllowsAll facts (acts_by (Input target)) → Same (Input target)
+      unfolding Compares has_call waits_in
+      reads (Name q x path u) (k, (leads, type), scalar) plainly takes compares allowed =
+          input_on t ready.accepted.settled ready.owns asks Ready laws facts so only n agrees on q x u path leads takes
+          (plainly (has_call path) (λ none. not_true (has_call path) none)) compares allowed
+      reads target (k, never, scalar) plainly takes compares allowed = absurd never
+
+      releases : (target : TypedTree) → IsFine s named.sub.result (Release target) → Plainly (Release target) → TakesIn (Release target) → Compares s target
+          → AllowsAll facts (acts_by (Release target)) → Keep (acts_by (Release target)) → Same (Release target)
+      unfolding Compares has_call waits_in
+      releases (Name q x path u) (k, d, (leads, type), access) plainly takes compares allowed keep =
+          release_on t ready.accepted.settled ready.owns asks Ready laws facts so only n agrees on q x u d path
+          (subst (λ z. shape_of s.table z ≡ shape.Access d false true) (sym type) access) leads takes
+          (plainly (has_call path) (λ none. not_true (has_call path) none)) compares allowed
+          (keep_both (is_observer s) (acts (acts_in s path)) (act.Free (name_of x path) ∷ [])
+          (subst Keep (acts_append (acts_in s path) (record { pos = q; act = act.Free (name_of x path) } ∷ [])) keep)).1
+      releases target (k, d, never, access) plainly takes compares allowed keep = absurd never
+
+      leaves : (e : TypedTree) → FirstStays s e → Plainly (LeaveLoop e) → TakesIn (LeaveLoop e) → Compares s e → AllowsAll facts (acts_by (LeaveLoop e)) → Same (LeaveLoop e)
+      unfolding acts_in Compares has_call waits_in
+      leaves (More e rest) (last, stays) plainly takes compares allowed =
+          leave_loop_on t ready.accepted.settled ready.owns asks Ready laws facts so only n agrees on e rest last stays
+          (takes_as (taken (LeaveLoop (More e rest))) (waits_in e) (start t).waits on (ap (λ z. waits_in e + waits_in z) last ∙ nothing_more (waits_in e)) takes)
+          (plainly (has_call e) (λ none. (or_both (has_call e) (has_call rest) (not_true (has_call e || has_call rest) none)).0)) compares.0 allowed
+      leaves NoMore text plainly takes compares allowed = skip_same t ready.accepted.settled ready.owns asks Ready laws facts so only n agrees
+      leaves e never plainly takes compares allowed = absurd never
+
+      -- Each instruction that is no call, but for returns and for ends of scopes and of calls.
+      pub each_same : (i : Instruction) → p.instr ≡ i → IsNoCall i → (i ≡ Finish → ⊥) → ((x : ℕ) → i ≡ EndScope x → ⊥) → ((e : TypedTree) → i ≡ Hold e → Same (Hold e))
+          → IsFine s named.sub.result i → Plainly i → TakesIn i → ComparesIn s i → AllowsAll facts (acts_by i) → Keep (acts_by i) → Same i
+      each_same Skip is calls end going hold text plainly takes compares allowed keep = skip_same t ready.accepted.settled ready.owns asks Ready laws facts so only n agrees
+      each_same (Declare x e) is calls end going hold text plainly takes compares allowed keep = declares x e is text plainly takes compares allowed keep
+      each_same (Assign target e) is calls end going hold text plainly takes compares allowed keep = assigns target e is text plainly takes compares allowed keep
+      each_same (Call sub actuals result) is calls end going hold text plainly takes compares allowed keep = absurd (calls sub actuals result refl)
+      each_same (Output text line) is calls end going hold writing plainly takes compares allowed keep = writes text line writing plainly takes compares allowed
+      each_same (Input target) is calls end going hold text plainly takes compares allowed keep = reads target text plainly takes compares allowed
+      each_same (Release e) is calls end going hold text plainly takes compares allowed keep = releases e text plainly takes compares allowed keep
+      each_same (Test e) is calls end going hold stays plainly takes compares allowed keep =
+          test_on t ready.accepted.settled ready.owns asks Ready laws facts so only n agrees on e stays takes (plainly (has_call e) (λ none. not_true (has_call e) none)) compares allowed
+      each_same (Choose e choices) is calls end going hold stays plainly takes compares allowed keep =
+          choose_on t ready.accepted.settled ready.owns asks Ready laws facts so only n agrees on e choices stays takes
+          (plainly (has_call e) (λ none. not_true (has_call e) none)) compares allowed
+      each_same (Start x reversed low high) is calls end going hold (scalar, stays, stays') plainly takes compares allowed keep =
+          let two = takes_both (waits_in low) (waits_in high) (start t).waits on takes in
+          start_on t ready.accepted.settled ready.owns asks Ready laws facts so only n agrees two.0 on x low high stays stays' two.1 two.2
+          (plainly (has_call low) (λ none. (both_not (has_call low) (has_call high) none).0))
+          (plainly (has_call high) (λ none. (both_not (has_call low) (has_call high) none).1)) compares.0 compares.1 allowed
+      each_same (Next x reversed low high) is calls end going hold scalar plainly takes compares allowed keep =
+          next_same t ready.accepted.settled ready.owns asks Ready laws facts so only n agrees x reversed scalar
+      each_same (Evaluate temporary e op) is calls end going hold stays plainly takes compares allowed keep =
+          operand_on t ready.accepted.settled ready.owns asks Ready laws facts so only n agrees on e op stays takes
+          (plainly (has_call e) (λ none. (let no : false ≡ true = none in cc))) compares allowed
+      each_same (LeaveLoop e) is calls end going hold text plainly takes compares allowed keep = leaves e text plainly takes compares allowed
+      each_same (Hold e) is calls end going hold text plainly takes compares allowed keep = hold e refl
+      each_same (EndScope x) is calls end going hold text plainly takes compares allowed keep = absurd (going x refl)
+      each_same Finish is calls end going hold text plainly takes compares allowed keep = absurd (end refl)
+      each_same Fall is calls end going hold text plainly takes compares allowed keep = fall_same t ready.accepted.settled ready.owns asks Ready laws facts so only n agrees

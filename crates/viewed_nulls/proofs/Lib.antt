@@ -1,0 +1,8 @@
+-- names
+pub mod Names
+pub mod Viewed
+pub mod Sources
+-- instructions, steps, and the law
+pub mod Instructions
+pub mod Steps
+pub mod Runs

@@ -1,0 +1,236 @@
+-- Names and expressions in programs with borrowers and observers behave as instructions ask.
+use Rattle.std.proofs.Common.{◌≡◌, refl, sym, ap, ◌∙◌, subst, inl, ℕ, Bool, true, false, List, [], ◌∷◌}
+use Rattle.place_names.specs.declared.act.Act.TheVariants as act
+use Rattle.place_names.specs.declared.act.Mode.{Mode}
+use Rattle.place_names.specs.declared.fact.Fact.{Fact}
+use Rattle.place_names.specs.declared.rule.Loan.TheVariants.{Borrowed}
+use Rattle.place_names.specs.Names.{Name as PlaceName}
+use Rattle.type_definitions.specs.declared.table.Shape.TheVariants as shape
+use Rattle.type_definitions.specs.Types.{Table, shape_of, view_of as view_of_shape, parts}
+use Rattle.typed_tree.specs.Trees.{TypedTree}
+use Rattle.flow_paths.specs.Objects.{object_at, is_anonymous, is_observer}
+use Rattle.flow_paths.specs.Names.{waiting, name_of}
+use Rattle.flow_paths.specs.Acts.{acts_in}
+use Rattle.machine.specs.Words as machine
+use Rattle.machine.specs.Memory.{Memory, Place}
+use Rattle.machine.specs.Evaluate.{Here, Now, Use, AsValue, Evaluated, Done, Raises, Traps, evaluate, steps_of, variable_place, walked}
+use Rattle.machine.specs.Evaluate as run
+use Rattle.machine.specs.Calls.{Passed, passed}
+use Rattle.machine.specs.Owners.{is_in}
+use Rattle.machine.specs.States.{Waiting, Leak}
+use Rattle.owned_ways.specs.Ways.{OfVariable, Loc, OfRoot, Way, Object, All, Reaches, IsRooted, Past, Named, Allows, after, AllowsAll}
+use Rattle.owned_ways.specs.Ways as ways
+use Rattle.owned_ways.proofs.Locations.{under_itself}
+use Rattle.part_offsets.specs.Parts.{IsSettled}
+use Rattle.soundness.specs.Seen.{IsNear, content, trunk, seen, home, is_view_formal}
+use Rattle.soundness.specs.Typed.{OwnsByShape, Spot}
+use Rattle.soundness.specs.Sound.{goes_through_none}
+use Rattle.soundness.specs.Ready.{IsActualBy}
+use Rattle.typed_laws.specs.Needed.{IndexLaw}
+use Rattle.soundness.proofs.Walks.{way_along, past_along, Lead, walk}
+use Rattle.soundness.proofs.Scalars.{acts, number_along}
+use Rattle.soundness.proofs.Taking.{Takes, TakesPlainly, both_plainly}
+use Rattle.soundness.proofs.Passing.{IsLaid, way_by, head_acts}
+use Rattle.soundness.proofs.Stays.{Quiet}
+use Rattle.soundness.proofs.Lasting.{keeps}
+use Rattle.owned_loans.specs.Views.{Around, Views, expand, ExcusedBy}
+use Rattle.owned_loans.proofs.Safe.{Open, OpenWhole}
+use Rattle.owned_loans.proofs.Allowed.{read_open, look_open, look_whole, move_open, move_unlent, move_unmoved, write_open, free_open, free_whole}
+use Rattle.viewed_soundness.specs.Holds.{IsNamed, PartsAreNamed, AllKeep}
+use Rattle.viewed_soundness.proofs.Names.{Starts, name_walked}
+use Rattle.viewed_soundness.proofs.Stays.{Goes, taking, steps_taking}
+use Rattle.viewed_soundness.proofs.Evaluated.{keep_both, matches_named, part_named, Ready, GivenOn, live_trunk, evaluated_on}
+use Rattle.viewed_steps.proofs.Called.{IsGiven, one_given, given_laid}
+use Rattle.null_places.proofs.Only.{OnlyOwners}
+use Rattle.null_places.proofs.Walks.{walk_same}
+use Rattle.null_places.proofs.Direct.{has_deref, past_deref, selectors_direct}
+use Rattle.null_places.proofs.Laws.{Premises, LeadsSame, LeadsWhole, Behaves, GivenBy, Values}
+use Rattle.viewed_nulls.proofs.Names.{name_same, found_at, view_whole, access_found, owner_found}
+
+-- the type of a view
+pub anonymous_access : (c : Bool) → is_anonymous (view_of_shape (shape.Access 0 c false)) ≡ true
+anonymous_access true = refl
+anonymous_access false = refl
+
+-- An expression has no call, or the results of all functions are of scalar types. Nothing is moved, written or freed through an observer, and no value is
+-- taken for a view.
+abbrev pub viewed_premises : (h : Here) → PartsAreNamed h.typing.table → Premises h
+viewed_premises h parts_named = record {
+  calls = TakesPlainly h.typing;
+  both_calls = both_plainly h.typing;
+  keeps = AllKeep (is_observer h.typing);
+  both_keep = keep_both (is_observer h.typing);
+  takes = IsNamed h.typing.table;
+  part = λ t i made. part_named h.typing.table parts_named t i (shape_of h.typing.table t) refl made;
+  element = parts_named.element;
+  new = λ want t d c n is fits. matches_named h.typing.table d t fits (parts_named.designated want d c n is);
+  goes = λ t u steps way. Goes h.typing.table t u steps way;
+}
+
+-- Steps that go through no access value lead on without the word of a view.
+direct_lead : (table : Table) (t u : ℕ) (way : List run.Step) (w : Way) → ((z : Way) → Past z (way_along way w) → ⊥) → Starts table t way u → Lead table t way u
+direct_lead table t u [] w direct lead = lead
+direct_lead table t u (run.ToComponent i ∷ way) w direct lead = lead
+direct_lead table t u (run.ToElement n ∷ way) w direct lead = lead
+direct_lead table t u (run.ToDesignated ∷ way) w direct lead = absurd (direct w (past_along w (All w) way (under_itself w)))
+
+module _ (h : Here) (settled : IsSettled h.typing.table) (leaks : List Leak) (other : Around (home h.typing h.frame))
+    (alone : (w : Way) → IsNear h.frame w → other.gone w → ⊥) (no_formals : (x : ℕ) → is_view_formal h.typing x ≡ false) (index_law : IndexLaw)
+    (own_law : OwnsByShape h.typing.table) (v : Views) (parts_named : PartsAreNamed h.typing.table) where
+  abbrev pub IsReadyIn : Memory → List Waiting → List Fact → Type 0
+  IsReadyIn m hands facts = Ready h settled leaks [] other alone (keeps h.typing settled own_law) no_formals index_law own_law v parts_named m hands facts
+
+  -- ---- names and scalar expressions
+
+  module _ (m : Memory) (hands : List Waiting) (facts : List Fact)
+      (ready : Ready h settled leaks [] other alone (keeps h.typing settled own_law) no_formals index_law own_law v parts_named m hands facts)
+      (only : OnlyOwners h.typing m) where
+    abbrev at : List (List machine.Word) → Now
+    at ws = record { memory = m; waits = ws }
+
+    abbrev variable : ℕ → Way
+    variable x = Object (OfVariable (home h.typing h.frame x) x)
+
+    live : (w : Way) (l : Loc) → IsRooted w → Reaches (seen h.typing m hands leaks) w l → (content h.typing m hands (trunk l)).owns ≡ true
+    live = live_trunk h settled leaks [] other alone (keeps h.typing settled own_law) no_formals index_law own_law v parts_named m hands ready.viewed.owned
+
+    abbrev Along : ℕ → ℕ → TypedTree → List run.Step → Type 0
+    Along x t steps way = Goes h.typing.table (object_at h.typing x).of t steps way
+
+    abbrev Same : List (List machine.Word) → ℕ → ℕ → List run.Step → Type 0
+    Same on x t way = LeadsSame h (viewed_premises h parts_named) m hands facts on x t way
+
+    abbrev Whole : List (List machine.Word) → ℕ → ℕ → List run.Step → Type 0
+    Whole on x t way = LeadsWhole h (viewed_premises h parts_named) m hands facts on x t way
+
+    called : (x t : ℕ) (steps : TypedTree) (way : List run.Step) → Along x t steps way → ways.name_of (way_along way (variable x)) ≡ name_of x steps
+    called x t steps way goes = (λ j. record { root = number_along way (variable x) j; sels = goes.sels (variable x) j })
+
+    -- what an act says of the name says it of its way
+    of_way : (x t : ℕ) (steps : TypedTree) (way : List run.Step) → Along x t steps way → (P : PlaceName → Type 0) → P (name_of x steps)
+        → P (ways.name_of (way_along way (variable x)))
+    of_way x t steps way goes P mine = subst P (sym (called x t steps way goes)) mine
+
+    leads : (on : List (List machine.Word)) (x t : ℕ) (steps : TypedTree) (way : List run.Step) → Along x t steps way → Open facts (way_along way (variable x))
+        → Same on x t way
+    leads on x t steps way goes opens = (
+      found_at h settled hands leaks m on other facts v ready.kept ready.viewed ready.holds alone live only (expand v (way_along way (variable x))) t
+          (walked h.typing way (variable_place h x) (at on))
+          (name_walked h settled hands leaks m on other facts v ready.kept ready.viewed ready.holds alone live x t way goes.lead (λ e. opens)),
+      name_same h settled hands leaks m on other facts v ready.kept ready.viewed ready.holds alone live only x t way goes.lead (λ e. opens),
+    )
+
+    -- an access value of a named type
+    leads_access : (on : List (List machine.Word)) (x t : ℕ) (steps : TypedTree) (way : List run.Step) → Along x t steps way → (d : ℕ) (c : Bool)
+        → shape_of h.typing.table t ≡ shape.Access d c true → Open facts (way_along way (variable x)) → OpenWhole facts (way_along way (variable x)) → Whole on x t way
+    leads_access on x t steps way goes d c is opens whole = (
+      access_found h settled hands leaks m on other facts v ready.kept ready.viewed ready.holds alone live only index_law own_law parts_named x t d c way goes.lead is
+          (λ e. opens) (λ e. whole),
+      name_same h settled hands leaks m on other facts v ready.kept ready.viewed ready.holds alone live only x t way goes.lead (λ e. opens),
+    )
+
+    look_at : (on : List (List machine.Word)) (x t : ℕ) (steps : TypedTree) (way : List run.Step) → Along x t steps way → (d : ℕ) (c n : Bool)
+        → shape_of h.typing.table t ≡ shape.Access d c n → Allows facts (act.Look (name_of x steps)) → Whole on x t way
+    look_at on x t steps way goes d c true is looks =
+        let mine = of_way x t steps way goes (λ z. Allows facts (act.Look z)) looks in
+        leads_access on x t steps way goes d c is (look_open facts (way_along way (variable x)) mine) (look_whole facts (way_along way (variable x)) mine)
+    look_at on x t steps way goes d c false is looks =
+        let opens = look_open facts (way_along way (variable x)) (of_way x t steps way goes (λ z. Allows facts (act.Look z)) looks) in (
+          view_whole h settled hands leaks m on other facts v ready.kept ready.viewed ready.holds alone live only x t way goes.lead
+              (ap (λ z. is_anonymous (view_of_shape z)) is ∙ anonymous_access c) (λ e. opens),
+          name_same h settled hands leaks m on other facts v ready.kept ready.viewed ready.holds alone live only x t way goes.lead (λ e. opens),
+        )
+
+    free_at : (on : List (List machine.Word)) (x t : ℕ) (steps : TypedTree) (way : List run.Step) → Along x t steps way → (d : ℕ)
+        → shape_of h.typing.table t ≡ shape.Access d false true → Allows facts (act.Free (name_of x steps)) → Whole on x t way
+    free_at on x t steps way goes d is frees =
+        let mine = of_way x t steps way goes (λ z. Allows facts (act.Free z)) frees in
+        leads_access on x t steps way goes d false is (free_open facts (way_along way (variable x)) mine) (free_whole facts (way_along way (variable x)) mine)
+
+    move_at : (on : List (List machine.Word)) (x t : ℕ) (steps : TypedTree) (way : List run.Step) → Along x t steps way
+        → Allows facts (act.Move (name_of x steps) (parts h.typing.table t)) → is_observer h.typing x ≡ false → Whole on x t way
+    move_at on x t steps way goes moves plain =
+        let u : Way = way_along way (variable x) in
+        let mine = of_way x t steps way goes (λ z. Allows facts (act.Move z (parts h.typing.table t))) moves in
+        let opens = move_open facts u (parts h.typing.table t) mine in (
+          owner_found h settled hands leaks m on other facts v ready.kept ready.viewed ready.holds alone live only index_law own_law parts_named x t way goes.lead plain
+              (λ e. opens) (λ b n has over. move_unlent facts u (parts h.typing.table t) mine Borrowed b n has over) (move_unmoved facts u (parts h.typing.table t) mine),
+          name_same h settled hands leaks m on other facts v ready.kept ready.viewed ready.holds alone live only x t way goes.lead (λ e. opens),
+        )
+
+    -- one that goes through no access value
+    direct_at : (on : List (List machine.Word)) (x t : ℕ) (steps : TypedTree) (way : List run.Step) → Along x t steps way → goes_through_none steps ≡ true → Same on x t way
+    direct_at on x t steps way goes direct =
+        let l : Loc = OfRoot (OfVariable (home h.typing h.frame x) x) in
+        let k : Place = variable_place h x in
+        let spot : Spot h.typing m hands k l = record { base = refl; made = tt; at = refl; there = refl; of = inl refl } in
+        let lead = direct_lead h.typing.table (object_at h.typing x).of t way (variable x) nothing_past goes.lead in
+        let moved : Way → Type 0 = ExcusedBy (home h.typing h.frame) v other facts in (
+          found_at h settled hands leaks m on other facts v ready.kept ready.viewed ready.holds alone live only (way_along way (variable x)) t (walked h.typing way k (at on))
+              (walk h.typing settled hands leaks m on moved ready.kept ready.viewed.owned ready.viewed.known live way k l (variable x) t spot tt refl lead
+              (λ z past gone. nothing_past z past)),
+          walk_same h.typing settled hands leaks m on moved ready.kept ready.viewed.owned ready.viewed.known live only way k l (variable x) t spot tt refl lead
+              (λ z past gone. nothing_past z past),
+        )
+      where
+        nothing_past : (z : Way) → Past z (way_along way (variable x)) → ⊥
+        nothing_past z past =
+            let none : has_deref (ways.sels_of (way_along way (variable x))) ≡ false = ap has_deref (goes.sels (variable x)) ∙ selectors_direct steps direct in
+            let no : true ≡ false = sym (past_deref z (way_along way (variable x)) past) ∙ none in cc
+
+    -- ---- actuals
+
+    laid : (on : List (List machine.Word)) (mode_of : Mode) (e : TypedTree) (y : Evaluated Passed)
+        → Quiet (at on) (λ a. IsGiven h settled hands leaks m on other facts v ready.kept ready.viewed ready.holds alone live index_law own_law parts_named mode_of e a) y
+        → Quiet (at on) (λ a. IsLaid h.typing a) y
+    laid on mode_of e (Done a n) (same, given) =
+        (same, given_laid h settled hands leaks m on other facts v ready.kept ready.viewed ready.holds alone live index_law own_law parts_named mode_of e a given)
+    laid on mode_of e (Raises x n) is = is
+    laid on mode_of e (Traps x n) is = is
+
+    actual : (x : ℕ) (mode_of : Mode) (e : TypedTree) → IsActualBy h.typing mode_of e → (is_in mode_of ≡ false → goes_through_none e ≡ true)
+        → (before on : List (List machine.Word)) → Takes (waiting e) before on → AllowsAll facts (acts (head_acts h.typing own_law mode_of e))
+        → Quiet (at on) (λ a. IsLaid h.typing a) (passed h (way_by h.typing own_law mode_of) x e (at before))
+    actual x mode_of e by direct before on takes allowed =
+        laid on mode_of e (passed h (way_by h.typing own_law mode_of) x e (at before))
+        (one_given h settled hands leaks m on other facts v ready.kept ready.viewed ready.holds alone live index_law own_law parts_named before on mode_of x e by direct takes allowed)
+
+    -- ---- all together
+
+    pub viewed_behaves : Behaves h (viewed_premises h parts_named) m hands facts own_law
+    viewed_behaves = record {
+      kept = ready.kept;
+      only = only;
+      quiet = λ u e stays before on takes calls allowed.
+          taking h settled hands leaks m [] other facts v ready.kept ready.viewed ready.holds alone live index_law own_law parts_named u e stays before on takes allowed;
+      steps = λ t u path lead before on takes calls allowed.
+          steps_taking h settled hands leaks m [] other facts v ready.kept ready.viewed ready.holds alone live index_law own_law parts_named t u path lead before on takes allowed;
+      passed = λ x mode_of e by direct before on takes calls allowed. actual x mode_of e by direct before on takes allowed;
+      read = λ on x t path way goes reads.
+          leads on x t path way goes (read_open facts (way_along way (variable x)) (of_way x t path way goes (λ z. Allows facts (act.Read z)) reads));
+      write = λ on x t path way goes writes.
+          leads on x t path way goes (write_open facts (way_along way (variable x)) (of_way x t path way goes (λ z. Allows facts (act.Write z)) writes));
+      direct = λ on x t path way goes direct. direct_at on x t path way goes direct;
+      look = λ on x t path way goes d c n is looks. look_at on x t path way goes d c n is looks;
+      move = λ on x t path way goes owns moves kept. move_at on x t path way goes moves kept.0;
+      free = λ on x t path way goes d is frees kept. free_at on x t path way goes d is frees;
+    }
+
+  -- ---- values
+
+  given_by : (on : List (List machine.Word)) (want : ℕ) (hands : List Waiting) (facts : List Fact) (y : Evaluated (List machine.Word))
+      → GivenOn h settled leaks [] other alone (keeps h.typing settled own_law) no_formals index_law own_law v parts_named on want hands facts y
+      → GivenBy h IsReadyIn on want hands facts y
+  given_by on want hands facts (Done ws n) given = given
+  given_by on want hands facts (Raises e n) given = tt
+  given_by on want hands facts (Traps e n) none = none
+
+  pub viewed_values : Values h own_law (viewed_premises h parts_named)
+      (λ m hands facts. Ready h settled leaks [] other alone (keeps h.typing settled own_law) no_formals index_law own_law v parts_named m hands facts)
+  viewed_values = record {
+    behaves = λ m hands facts ready only. viewed_behaves m hands facts ready only;
+    given = λ e want gives calls before on takes m hands facts ready allowed own keep.
+        given_by on want hands (after (acts (acts_in h.typing e)) facts) (evaluate h AsValue e (record { memory = m; waits = before }))
+        (evaluated_on h settled leaks [] other alone (keeps h.typing settled own_law) no_formals index_law own_law v parts_named e want gives calls before on takes m hands facts
+        ready allowed own keep);
+  }

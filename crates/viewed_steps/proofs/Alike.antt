@@ -1,0 +1,196 @@
+-- Scalar places and formals of scalar types: owners see nothing of what is put into them, nor of what is
+-- copied back.
+use Rattle.std.proofs.Common.{◌≡◌, refl, sym, ap, ◌∙◌, subst, inl, inr, ℕ, ◌+◌, Bool, true, false, List, [], ◌∷◌, ◌++◌, take, drop, length, get_or, if◌then◌else◌}
+use Rattle.std.proofs.lemmas.List.{length-map}
+use Rattle.spark_base.specs.Lists.{Has}
+use Rattle.type_definitions.specs.Types.{shape_of, words, full, is_scalar}
+use Rattle.flow_paths.specs.Objects.{Typing, object_at, is_anonymous, view_of}
+use Rattle.machine.specs.Words.{access_offsets, fits_type}
+use Rattle.machine.specs.Words as machine
+use Rattle.machine.specs.Memory.{Slot, Memory, Base, Place, fresh, no_slot, variable_slots, slots_at, slots_of, words_of, gone_at, with_slots, stored, moved_out, declared}
+use Rattle.machine.specs.Memory as memory
+use Rattle.machine.specs.Evaluate.{Now, Evaluated, Done, Raises, Traps, ConstraintError, followed_by, variable_place}
+use Rattle.machine.specs.Calls.{Passed, Value, From, To, passed, with_formal, with_formals}
+use Rattle.machine.specs.States.{Waiting, Leak, Return}
+use Rattle.machine.specs.Step.{Turn, typing, here, copied_back}
+use Rattle.owned_ways.specs.Ways.{Step, OfVariable, Loc, OfRoot, IsSame}
+use Rattle.part_offsets.specs.Parts.{type_in, has_part, IsSettled}
+use Rattle.soundness.specs.Seen.{content, word_in, seen}
+use Rattle.soundness.specs.Typed.{Matches, OwnsByShape, Kept, Spot, IsFixed}
+use Rattle.soundness.specs.Sound.{IsCopied}
+use Rattle.soundness.proofs.Memories.{put_other, marked_length}
+use Rattle.soundness.proofs.Steps.{plain_end, room, taken_slots}
+use Rattle.soundness.proofs.Keeping.{scalar}
+use Rattle.soundness.proofs.Lasting.{lengths, less_kept, put_away, declared_kept, keeps}
+use Rattle.soundness.proofs.Fixed.{matches_scalar, plain_word, fixed_at, fixed_spot, fixed_one, put_word, put_same_view}
+use Rattle.soundness.proofs.Loops.{same_word, scalar_same}
+use Rattle.soundness.proofs.Stays.{One}
+use Rattle.soundness.proofs.Passing.{IsLaid, AreLaid}
+use Rattle.soundness.proofs.Returning.{Backs, copied_is, formal_fixed}
+use Rattle.viewed_soundness.proofs.Names.{true_false, view_access}
+use Rattle.viewed_soundness.proofs.Outcomes.{named_plain}
+use Rattle.viewed_steps.proofs.Read.{scalar_named}
+use Rattle.viewed_steps.proofs.Beside.{put_beside}
+
+-- ---- memories that owners see alike
+
+-- a scalar place isn't in the variable of a view
+no_view_fixed : (s : Typing) (settled : IsSettled s.table) (k : Place) → IsFixed s k → (g y : ℕ) → is_anonymous (view_of s y) ≡ true
+    → k.base ≡ memory.OfVariable g y → ⊥
+no_view_fixed s settled k fixed g y view base =
+    let same : fixed.object ≡ y = same_variable fixed.frame fixed.object g y (sym fixed.base ∙ base) in
+    let access = view_access (shape_of s.table (object_at s y).of) view in
+    let there : has_part s.table (object_at s y).of fixed.steps ≡ true = subst (λ z. has_part s.table (object_at s z).of fixed.steps ≡ true) same fixed.there in
+    let none = plain_end s.table settled (object_at s y).of access.0 access.1 fixed.steps there in
+    let fits : Matches s.table k.of (object_at s y).of =
+    subst (λ p. Matches s.table k.of (type_in s.table (object_at s y).of p)) none
+    (subst (λ z. Matches s.table k.of (type_in s.table (object_at s z).of fixed.steps)) same fixed.of) in
+    true_false (is_anonymous (view_of s y)) view
+    (named_plain s.table (object_at s y).of (scalar_named s.table (object_at s y).of (matches_scalar s k.of (object_at s y).of fits fixed.scalar)))
+  where
+    same_variable : (f x g y : ℕ) → memory.OfVariable f x ≡ memory.OfVariable g y → x ≡ y
+    same_variable f x g y e = cc
+
+module _ (s : Typing) (settled : IsSettled s.table) (own_law : OwnsByShape s.table) (hands : List Waiting) (leaks : List Leak) where
+  abbrev Scalar : ℕ → Type 0
+  Scalar x = is_scalar (full s.table (object_at s x).of) ≡ true
+
+  -- Owners see the same, words are typed, and the variables of views keep their words.
+  pub record Enters (m n : Memory) : Type 0 where
+    pub same : IsSame (seen s m hands leaks) (seen s n hands leaks)
+    pub typed : Kept s n hands
+    pub hold : (g y : ℕ) (p : List Step) → word_in s.table (content s n [] (OfRoot (OfVariable g y))) p ≡ word_in s.table (content s m [] (OfRoot (OfVariable g y))) p
+    pub views : (g y : ℕ) → is_anonymous (view_of s y) ≡ true
+        → (get_or (variable_slots s g y n.variables) 0 no_slot).word ≡ (get_or (variable_slots s g y m.variables) 0 no_slot).word
+
+  pub nothing : (m : Memory) → Kept s m hands → Enters m m
+  nothing m typed = record {
+    same = record { word = λ l. refl; made = refl; freed = λ n. refl; leaked = λ n. refl };
+    typed = typed;
+    hold = λ g y p. refl;
+    views = λ g y view. refl;
+  }
+
+  pub one_then : (a b c : Memory) → Enters a b → Enters b c → Enters a c
+  one_then a b c first second = record {
+    same = record {
+      word = λ l. second.same.word l ∙ first.same.word l;
+      made = second.same.made ∙ first.same.made;
+      freed = λ n. second.same.freed n ∙ first.same.freed n;
+      leaked = λ n. second.same.leaked n ∙ first.same.leaked n;
+    };
+    typed = second.typed;
+    hold = λ g y p. second.hold g y p ∙ first.hold g y p;
+    views = λ g y view. second.views g y view ∙ first.views g y view;
+  }
+
+  -- ---- scalar places in variables
+
+  -- what has other slots there
+  put_there : (k : Place) (fixed : IsFixed s k) (slots : List Slot) (m : Memory) → length slots ≡ words s.table k.of → Kept s m hands
+      → Kept s (with_slots s k slots m) hands → Enters m (with_slots s k slots m)
+  put_there k fixed slots m long typed typed_then =
+      let l : Loc = fixed_at s settled k fixed in
+      let spot : Spot s m hands k l = fixed_spot s settled k fixed m hands in
+      record {
+        same = put_same_view s settled m hands k l spot typed fixed.scalar slots long leaks;
+        typed = typed_then;
+        hold = λ g y p. put_word s settled m hands k l spot typed fixed.scalar slots long (OfRoot (OfVariable g y)) p refl;
+        views = λ g y view. ap (λ z. (get_or z 0 no_slot).word)
+            (put_beside s 0 k.base (take k.at (slots_at s m k.base) ++ slots ++ drop (k.at + length slots) (slots_at s m k.base)) m g y
+            (no_view_fixed s settled k fixed g y view));
+      }
+
+  pub moved_there : (k : Place) → IsFixed s k → (m : Memory) → Kept s m hands → Enters m (moved_out s k m)
+  moved_there k fixed m typed =
+      let l : Loc = fixed_at s settled k fixed in
+      let spot : Spot s m hands k l = fixed_spot s settled k fixed m hands in
+      let marks : List Slot = gone_at (access_offsets s.table k.of) (slots_of s m k) in
+      let long : length marks ≡ words s.table k.of =
+      marked_length (access_offsets s.table k.of) (slots_of s m k) ∙ (taken_slots s settled m k (room s settled m hands typed k l spot)).0 in
+      put_there k fixed marks m long typed
+      (less_kept s settled (moved_out s k m) (record { of = k.of; words = words_of s m k }) hands ((keeps s settled own_law).moved m hands k l spot typed))
+
+  pub stored_there : (k : Place) → IsFixed s k → (ws : List machine.Word) → length ws ≡ 1 → (m : Memory) → Kept s m hands → Enters m (stored s k ws m)
+  stored_there k fixed ws one m typed =
+      let got : Waiting = record { of = k.of; words = ws } in
+      put_there k fixed (fresh ws) m (length-map ws (λ w. record { word = w; gone = false }) ∙ one ∙ sym (plain_word s settled k.of fixed.scalar)) typed
+      (put_away s settled m got hands k (fixed_at s settled k fixed) (scalar s settled m got hands fixed.scalar typed) (fixed_spot s settled k fixed m (got ∷ hands))
+      (one ∙ sym (plain_word s settled k.of fixed.scalar)) (inl refl))
+
+  -- ---- the formals
+
+  same_object : (g x h y : ℕ) → OfVariable g x ≡ OfVariable h y → x ≡ y
+  same_object g x h y e = cc
+
+  one_formal : (f x : ℕ) (ws : List machine.Word) (m : Memory) → Scalar x → One ws → Kept s m hands → Enters m (declared f x ws m)
+  one_formal f x ws m plain one typed =
+      let u : ℕ = (object_at s x).of in
+      let got : Waiting = record { of = u; words = ws } in
+      let long : length ws ≡ words s.table u = one ∙ sym (plain_word s settled u plain) in
+      let others : (g y : ℕ) → (OfVariable f x ≡ OfVariable g y → ⊥) → variable_slots s g y (declared f x ws m).variables ≡ variable_slots s g y m.variables =
+      λ g y ne. put_other s f x g y ne (fresh ws) m.variables in
+      record {
+        same = scalar_same s settled m hands leaks f x plain (declared f x ws m).variables others;
+        typed = declared_kept s settled m f x got hands (scalar s settled m got hands plain typed) long (inl refl);
+        hold = λ g y p. same_word s settled m [] [] f x plain (declared f x ws m).variables others (OfRoot (OfVariable g y)) p refl;
+        views = λ g y view. ap (λ z. (get_or z 0 no_slot).word) (others g y (λ e.
+            true_false (is_anonymous (view_of s y)) view
+            (ap (λ z. is_anonymous (view_of s z)) (sym (same_object f x g y e)) ∙ named_plain s.table u (scalar_named s.table u plain))));
+      }
+
+  pub with_one : (f x : ℕ) (a : Passed) (m : Memory) → Scalar x → IsLaid s a → Kept s m hands → Enters m (with_formal s f x a m)
+  with_one f x (Value ws) m plain laid typed = one_formal f x ws m plain laid typed
+  with_one f x (From k) m plain laid typed =
+      let first = moved_there k laid m typed in
+      one_then m (moved_out s k m) (declared f x (words_of s m k) (moved_out s k m)) first
+      (one_formal f x (words_of s m k) (moved_out s k m) plain (fixed_one s settled k laid m hands typed) first.typed)
+  with_one f x (To k) m plain laid typed =
+      let first = moved_there k laid m typed in
+      one_then m (moved_out s k m) (declared f x (machine.default s.table (object_at s x).of) (moved_out s k m)) first
+      (one_formal f x (machine.default s.table (object_at s x).of) (moved_out s k m) plain
+      (lengths s.table (object_at s x).of ∙ plain_word s settled (object_at s x).of plain) first.typed)
+
+  pub all_entered : (f : ℕ) (formals : List ℕ) (passed : List Passed) (m : Memory) → ((x : ℕ) → Has formals x → Scalar x) → AreLaid s passed → Kept s m hands
+      → Enters m (with_formals s f formals passed m)
+  all_entered f [] passed m plain are typed = nothing m typed
+  all_entered f (x ∷ formals) [] m plain are typed = nothing m typed
+  all_entered f (x ∷ formals) (a ∷ rest) m plain are typed =
+      let first = with_one f x a m (plain x (inl refl)) are.0 typed in
+      one_then m (with_formal s f x a m) (with_formals s f formals rest (with_formal s f x a m)) first
+      (all_entered f formals rest (with_formal s f x a m) (λ y has. plain y (inr has)) are.1 first.typed)
+
+-- ---- formals are copied back
+
+pub backs_on : (Q R : Memory → Type 0) → ((m : Memory) → Q m → R m) → (y : Evaluated Memory) → Backs Q y → Backs R y
+backs_on Q R on (Done m n) q = on m q
+backs_on Q R on (Raises e n) q = tt
+backs_on Q R on (Traps trap n) never = never
+
+pub if_back : (Q : Memory → Type 0) (b : Bool) (ws : List machine.Word) (begun : Now) (f : List machine.Word → Now → Evaluated Memory)
+    → Backs Q (f ws begun) → Backs Q (followed_by (if b then Done ws begun else Raises ConstraintError begun) f)
+if_back Q true ws begun f q = q
+if_back Q false ws begun f q = tt
+
+module _ (t : Turn) (settled : IsSettled (typing t).table) (own_law : OwnsByShape (typing t).table) (hands : List Waiting) (leaks : List Leak) where
+  abbrev On : Memory → Memory → Type 0
+  On m n = Enters (typing t) settled own_law hands leaks m n
+
+  pub all_back : (returns : List Return) → ((r : Return) → Has returns r → IsCopied (typing t) r) → (begun : Now)
+      → Kept (typing t) begun.memory hands → Backs (λ m. On begun.memory m) (copied_back t returns begun)
+  all_back [] copied begun typed = nothing (typing t) settled own_law hands leaks begun.memory typed
+  all_back (r ∷ rest) copied begun typed =
+      let is : IsCopied (typing t) r = copied r (inl refl) in
+      let formal : Place = variable_place (here t) r.formal in
+      let ws : List machine.Word = words_of (typing t) begun.memory formal in
+      let fixed : IsFixed (typing t) formal = formal_fixed t r.formal is.0 in
+      let mid : Memory = moved_out (typing t) formal begun.memory in
+      let next : Memory = stored (typing t) r.to ws mid in
+      let first = moved_there (typing t) settled own_law hands leaks formal fixed begun.memory typed in
+      let second = stored_there (typing t) settled own_law hands leaks r.to is.1 ws (fixed_one (typing t) settled formal fixed begun.memory hands typed) mid first.typed in
+      subst (Backs (λ m. On begun.memory m)) (sym (copied_is t r rest begun is.1))
+      (if_back (λ m. On begun.memory m) (fits_type (typing t).table r.to.of ws) ws begun
+      (λ us n. copied_back t rest (record n { memory = stored (typing t) r.to us (moved_out (typing t) formal n.memory) }))
+      (backs_on (λ m. On next m) (λ m. On begun.memory m)
+      (λ m on. one_then (typing t) settled own_law hands leaks begun.memory next m (one_then (typing t) settled own_law hands leaks begun.memory mid next first second) on)
+      (copied_back t rest (record begun { memory = next })) (all_back rest (λ q has. copied q (inr has)) (record begun { memory = next }) second.typed)))

@@ -1,0 +1,484 @@
+-- Where a call ends, what its formals have is given back to the places that it was taken from.
+--
+-- All of it is seen from the frame of the caller: what is gone in the variables of the frame that ends is
+-- known as such.
+use Rattle.std.proofs.Common.{◌≡◌, refl, sym, ap, ◌∙◌, subst, ◌⊎◌, inl, inr, ℕ, suc, ◌<◌, ◌+◌, Bool, true, false, not, List, [], ◌∷◌, ◌++◌, take, drop, length, get_or, arith, append-nil, if◌then◌else◌}
+use Rattle.std.proofs.lemmas.List.{length-map}
+use Rattle.spark_base.specs.Lists.{Has}
+use Rattle.place_names.specs.declared.fact.Fact.{Fact}
+use Rattle.type_definitions.specs.Types.{words, full, is_scalar, is_owning}
+use Rattle.flow_paths.specs.Objects.{Typing, object_at, is_anonymous, is_observer, is_package_object, view_of}
+use Rattle.flow_paths.specs.Scopes.{is_within}
+use Rattle.machine.specs.Words.{access_offsets, fits_type}
+use Rattle.machine.specs.Words as machine
+use Rattle.machine.specs.Memory.{Slot, Memory, Place, fresh, no_slot, variable_slots, slots_at, slots_of, words_of, gone_at, moved_out, stored}
+use Rattle.machine.specs.Memory as memory
+use Rattle.machine.specs.Evaluate.{Now, Evaluated, followed_by, variable_place, checked}
+use Rattle.machine.specs.States.{Waiting, Leak, Return}
+use Rattle.machine.specs.Step.{Turn, typing, here, copied_back}
+use Rattle.owned_ways.specs.Ways.{Step, OfVariable, OfHand, Loc, OfRoot, OfCell, Inside, Way, Object, Empty, Held, Under, Past, Named, Reaches, part, base_of, number_of, name_of}
+use Rattle.owned_ways.proofs.Moving.{parts_apart}
+use Rattle.part_offsets.specs.Parts.{IsSettled}
+use Rattle.soundness.specs.Seen.{content, trunk, steps_in, word_in, seen, home, is_view_formal}
+use Rattle.soundness.specs.Typed.{Matches, OwnsByShape, Kept, Spot, IsFixed}
+use Rattle.soundness.specs.Sound.{IsCopied, AreSameWords}
+use Rattle.soundness.proofs.Joined.{trunk_part}
+use Rattle.soundness.proofs.Contents.{word_no}
+use Rattle.soundness.proofs.Steps.{matches_words, no_leaf, taken_slots, room}
+use Rattle.soundness.proofs.Lasting.{keeps, put_away}
+use Rattle.soundness.proofs.Fixed.{fixed_one}
+use Rattle.soundness.proofs.Returning.{Backs, copied_is, formal_fixed}
+use Rattle.owned_loans.specs.Views.{Around, Views, ExcusedBy, Viewed}
+use Rattle.owned_loans.proofs.Safe.{off_view}
+use Rattle.owned_loans.proofs.Moves.{named_way, same_viewed}
+use Rattle.viewed_soundness.proofs.Names.{true_false}
+use Rattle.viewed_soundness.proofs.Evaluated.{matches_named}
+use Rattle.viewed_steps.specs.Sound.{IsScalarObject}
+use Rattle.viewed_steps.proofs.Left.{cells_same}
+use Rattle.viewed_steps.specs.Taken.{TakenBy, IsInside, IsPassedOn, IsBare, IsTaken, IsApartFrom, IsAnother, AreTaken}
+use Rattle.viewed_steps.proofs.Between.{same_reaches, gone_also, more_gone, IsClearOf, base_along, base_under, same_variable, not_named, taken_less}
+use Rattle.viewed_steps.proofs.Carried.{inside_at, inside_spot, inside_reached, inside_base, inside_owns, inside_word, variable_clear, carried_bare, carried_held, carried_off, carried_off_low, carried_holds, carried_to, carried_to_low}
+use Rattle.viewed_steps.proofs.Beside.{put_beside}
+use Rattle.viewed_steps.proofs.Alike.{Enters, moved_there, stored_there, one_then, if_back, backs_on}
+use Rattle.viewed_steps.proofs.Entered.{matches_back, not_observing, inside_plain, inside_named, inside_number, inside_itself}
+
+same_names : {f x g y : ℕ} → memory.OfVariable f x ≡ memory.OfVariable g y → (f ≡ g) × (x ≡ y)
+same_names e = (cc, cc)
+
+-- a place in a variable is there
+pub given_is : (t : Turn) (r : Return) (rest : List Return) (begun : Now) (f x : ℕ) → r.to.base ≡ memory.OfVariable f x → copied_back t (r ∷ rest) begun
+    ≡ followed_by (checked (here t) r.to.of (words_of (typing t) begun.memory (variable_place (here t) r.formal)) begun)
+    (λ ws n. copied_back t rest (record n { memory = stored (typing t) r.to ws (moved_out (typing t) (variable_place (here t) r.formal) n.memory) }))
+given_is t r rest begun f x base = rw base refl
+
+module _ (t : Turn) (settled : IsSettled (typing t).table) (own_law : OwnsByShape (typing t).table) (no_formals : (x : ℕ) → is_view_formal (typing t) x ≡ false)
+    (hands : List Waiting) (leaks : List Leak) (depth : ℕ) (deep : length t.outer ≡ suc depth) (v : Views) (facts : List Fact) (scope : List ℕ)
+    (other : Around (home (typing t) depth))
+    (free : (h : ℕ) (w : Way) → Under (Object (OfHand h)) w → other.gone w → ⊥)
+    (whole : (x : ℕ) (w : Way) → base_of w ≡ OfRoot (OfVariable (suc depth) x) → other.gone w → ⊥)
+    (none : (w : Way) (n : ℕ) → other.kept w n → ⊥) where
+  abbrev s : Typing
+  s = typing t
+
+  -- It begins at a variable of the frame that ends, but at none of these formals.
+  abbrev pub IsLeft : List Return → Way → Type 0
+  IsLeft returns w = (x : ℕ) × (base_of w ≡ OfRoot (OfVariable (suc depth) x)) × ((r : Return) → Has returns r → r.formal ≡ x → ⊥)
+
+  -- What is gone for the caller, while these are still to be given back.
+  abbrev pub AwayBy : List Return → List Way → Way → Type 0
+  AwayBy returns ways w = other.gone w ⊎ (TakenBy ways w ⊎ IsLeft returns w)
+
+  abbrev pub away : List Return → List Way → Around (home (typing t) depth)
+  away returns ways = gone_also (home (typing t) depth) other (AwayBy returns ways)
+
+  abbrev pub ViewedAway : List Return → List Way → Memory → Type 0
+  ViewedAway returns ways m = Viewed (home (typing t) depth) (is_observer (typing t)) (away returns ways) v (seen (typing t) m hands leaks) facts
+
+  -- All is given back: words are typed; a variable that has a number had it before, or is one of the caller in
+  -- scope; the formals have none; views keep their words; and owners see nothing of scalar formals.
+  pub record IsBack (returns : List Return) (m n : Memory) : Type 0 where
+    pub typed : Kept (typing t) n hands
+    pub viewed : ViewedAway [] [] n
+    pub held : (g y : ℕ) (p : List Step) (c : ℕ) → word_in (typing t).table (content (typing t) n [] (OfRoot (OfVariable g y))) p ≡ Held c
+        → (word_in (typing t).table (content (typing t) m [] (OfRoot (OfVariable g y))) p ≡ Held c) ⊎ ((g ≡ depth) × (is_within y scope ≡ true))
+    pub empty : (r : Return) → Has returns r → (p : List Step) (c : ℕ)
+        → word_in (typing t).table (content (typing t) n [] (OfRoot (OfVariable (suc depth) r.formal))) p ≡ Held c → ⊥
+    pub views : (g y : ℕ) → is_anonymous (view_of (typing t) y) ≡ true
+        → (get_or (variable_slots (typing t) g y n.variables) 0 no_slot).word ≡ (get_or (variable_slots (typing t) g y m.variables) 0 no_slot).word
+    pub words : ((r : Return) → Has returns r → IsScalarObject (typing t) r.formal) → AreSameWords (typing t) (λ g. Unit {0}) m n
+    -- ways from the variables of frames around reach what they reached
+    pub low : (w : Way) (g y : ℕ) → base_of w ≡ OfRoot (OfVariable g y) → g < depth → (c : ℕ)
+        → Reaches (seen (typing t) m hands leaks) w (OfCell c) → Reaches (seen (typing t) n hands leaks) w (OfCell c)
+
+  left_more : (r : Return) (rest : List Return) (w : Way) → IsLeft (r ∷ rest) w → IsLeft rest w
+  left_more r rest w (x, base, none) = (x, base, λ q has. none q (inr has))
+
+  not_above : (y : ℕ) → home s depth y ≡ suc depth → ⊥
+  not_above y e = by_package (is_package_object s y) e
+    where
+      by_package : (b : Bool) → (if b then 0 else depth) ≡ suc depth → ⊥
+      by_package true e = omega (arith, e)
+      by_package false e = omega (arith, e)
+
+  -- ---- one that is given back
+
+  module _ (r : Return) (rest : List Return) (to : Way) (ways : List Way) (m : Memory) (taken : IsTaken (typing t) m depth facts scope r to)
+      (apart : IsApartFrom to ways) (another : IsAnother r.formal rest) (begin : (k : Way) → Has ways k → (y : ℕ) × (base_of k ≡ OfRoot (OfVariable depth y)))
+      (typed : Kept (typing t) m hands) (viewed : ViewedAway (r ∷ rest) (to ∷ ways) m) where
+    abbrev passed : IsPassedOn (typing t) depth facts scope r.formal r.to to
+    passed = taken.0
+
+    abbrev inside : IsInside (typing t) depth r.to to
+    inside = (taken.0).inside
+
+    abbrev formal : Place
+    formal = variable_place (here t) r.formal
+
+    abbrev root : Way
+    root = Object (OfVariable (suc depth) r.formal)
+
+    abbrev got : Waiting
+    got = record { of = (object_at s r.formal).of; words = words_of s m formal }
+
+    abbrev mid : Memory
+    mid = moved_out s formal m
+
+    abbrev next : Memory
+    next = stored s r.to (words_of s m formal) (moved_out s formal m)
+
+    abbrev observer : ℕ → Bool
+    observer = is_observer s
+
+    formal_inside : IsInside s (suc depth) formal root
+    formal_inside = record {
+      object = r.formal;
+      steps = [];
+      way = refl;
+      base = ap (λ z. memory.OfVariable z r.formal) (ap (λ b. if b then 0 else length t.outer) passed.formal ∙ deep);
+      own = passed.formal;
+      there = refl;
+      at = refl;
+      of = inl refl;
+      named = matches_named s.table r.to.of (object_at s r.formal).of passed.fits inside.named;
+    }
+
+    spot : Spot s m hands formal (OfRoot (OfVariable (suc depth) r.formal))
+    unfolding formal_inside
+    spot = inside_spot s (suc depth) formal root formal_inside m hands
+
+    owns : (content s m hands (OfRoot (OfVariable (suc depth) r.formal))).owns ≡ true
+    owns = ap not (no_formals r.formal)
+
+    abbrev first : Around (home s depth)
+    first = away (r ∷ rest) (to ∷ ways)
+
+    abbrev second : Around (home s depth)
+    second = away rest (to ∷ ways)
+
+    clean : (w : Way) → Under root w → ExcusedBy (home s depth) v first facts w → ⊥
+    clean w under (inl (inr gone_there)) =
+        let t = first.through w gone_there in
+        not_named (home s depth) (suc depth) r.formal not_above t.0 t.1 (sym (base_under t.0 w t.2) ∙ base_under root w under)
+    clean w under (inl (inl (u, moved, same))) =
+        not_named (home s depth) (suc depth) r.formal not_above w
+        (subst (Named (home s depth)) same
+        (named_way (home s depth) observer first v (seen s m hands leaks) facts viewed.views (suc (number_of u)) u (omega arith) (moved.0, viewed.clear.owned (name_of u) moved.1)))
+        (base_under root w under)
+    clean w under (inr (inl o)) = whole r.formal w (base_under root w under) o
+    clean w under (inr (inr (inl (k, has, p, is)))) =
+        let base = from_depth k has in
+        let frames = (same_variable (suc depth) r.formal depth base.0
+        (sym (base_under root w under) ∙ ap base_of is ∙ base_along k p ∙ base.1)).0 in omega (arith, frames)
+      where
+        from_depth : (k : Way) → Has (to ∷ ways) k → (y : ℕ) × (base_of k ≡ OfRoot (OfVariable depth y))
+        from_depth k (inl same) = (inside.object, ap base_of (sym same) ∙ inside_base s depth r.to to inside)
+        from_depth k (inr has) = begin k has
+    clean w under (inr (inr (inr (x, base, none)))) =
+        none r (inl refl) (same_variable (suc depth) r.formal (suc depth) x (sym (base_under root w under) ∙ base)).1
+
+    viewed_mid : Viewed (home s depth) observer second v (seen s mid (got ∷ hands) leaks) facts
+    viewed_mid =
+        carried_off s settled (home s depth) observer v first (AwayBy rest (to ∷ ways)) m hands leaks facts formal
+        (OfRoot (OfVariable (suc depth) r.formal)) root viewed typed spot tt refl owns clean (suc depth) r.formal refl
+        (variable_clear (home s depth) observer v first (AwayBy rest (to ∷ ways)) (seen s m hands leaks) facts viewed (suc depth) r.formal not_above
+        (λ w n keeps_it base. none w n keeps_it))
+        (λ w o. elim o [
+          | inl away_there ↦ inl away_there
+          | inr more ↦ elim more [ inl taken_there ↦ inr (inl taken_there) | inr left ↦ inr (inr (left_more r rest w left)) ]
+        ])
+        (λ p. inr (inr (r.formal, base_along root p, another)))
+
+    kept_mid : Kept s mid (got ∷ hands)
+    kept_mid = (keeps s settled own_law).moved m hands formal (OfRoot (OfVariable (suc depth) r.formal)) spot typed
+
+    held_mid : (g y : ℕ) (p : List Step) (c : ℕ) → word_in s.table (content s mid [] (OfRoot (OfVariable g y))) p ≡ Held c
+        → word_in s.table (content s m [] (OfRoot (OfVariable g y))) p ≡ Held c
+    held_mid g y p c held =
+        carried_held s settled (home s depth) observer v first (AwayBy rest (to ∷ ways)) m hands leaks facts formal
+        (OfRoot (OfVariable (suc depth) r.formal)) root viewed typed spot tt refl owns clean g y p c held
+
+    empty_mid : (p : List Step) (c : ℕ) → word_in s.table (content s mid [] (OfRoot (OfVariable (suc depth) r.formal))) p ≡ Held c → ⊥
+    empty_mid p c held =
+        carried_bare s settled (home s depth) observer v first (AwayBy rest (to ∷ ways)) m hands leaks facts formal
+        (OfRoot (OfVariable (suc depth) r.formal)) root viewed typed spot tt refl owns clean p c
+        (ap (λ z. word_in s.table (content s mid (got ∷ hands) (OfRoot (OfVariable (suc depth) r.formal))) z) (append-nil p) ∙ held)
+
+    -- ---- into the place
+
+    abbrev at : Loc
+    at = inside_at s depth r.to to (taken.0).inside
+
+    spot_to : Spot s mid (got ∷ hands) r.to at
+    spot_to = inside_spot s depth r.to to inside mid (got ∷ hands)
+
+    reached : Reaches (seen s mid (got ∷ hands) leaks) to at
+    reached = inside_reached s depth r.to to inside (seen s mid (got ∷ hands) leaks)
+
+    owns_to : (content s mid (got ∷ hands) (trunk at)).owns ≡ true
+    owns_to = inside_owns s depth r.to to inside mid (got ∷ hands) (no_formals inside.object)
+
+    long : length got.words ≡ words s.table r.to.of
+    long =
+        length-map (slots_of s m formal) (λ (z : Slot). z.word)
+        ∙ (taken_slots s settled m formal (room s settled m hands typed formal (OfRoot (OfVariable (suc depth) r.formal)) spot)).0
+        ∙ sym (matches_words s.table settled r.to.of (object_at s r.formal).of passed.fits)
+
+    fits : Matches s.table got.of r.to.of
+    fits = matches_back s r.to.of (object_at s r.formal).of passed.fits
+
+    bare : (p : List Step) (c : ℕ) → word_in s.table (content s mid (got ∷ hands) (trunk at)) (p ++ steps_in at) ≡ Held c → ⊥
+    bare p c held = taken.1 p c (held_mid depth inside.object (p ++ inside.steps) c (sym (inside_word s depth r.to to inside mid (got ∷ hands) p) ∙ held))
+
+    plain_name : observer (number_of to) ≡ false
+    plain_name = ap observer (inside_number s settled depth r.to to inside) ∙ not_observing s inside.object (inside_plain s settled depth r.to to inside)
+
+    clear_to : IsClearOf (home s depth) observer v second (AwayBy rest ways) to
+    clear_to = record {
+      own = λ y w has past.
+          off_view (home s depth) observer v (seen s mid (got ∷ hands) leaks) facts viewed_mid.views viewed_mid.clear to y w
+          (inside_named s settled depth r.to to inside, plain_name) passed.unlent has
+          (subst (λ z. Past z w) (sym (inside_itself s settled depth r.to to inside v)) past);
+      far = λ w n keeps_it past. none w n keeps_it;
+    }
+
+    free_hands : (w : Way) → Under (Object (OfHand (length hands))) w → second.gone w → ⊥
+    free_hands w under (inl o) = free (length hands) w under o
+    free_hands w under (inr (inl (k, has, p, is))) =
+        let base = from_depth k has in
+        hand_base (sym (base_under (Object (OfHand (length hands))) w under) ∙ ap base_of is ∙ base_along k p ∙ base.1)
+      where
+        from_depth : (k : Way) → Has (to ∷ ways) k → (y : ℕ) × (base_of k ≡ OfRoot (OfVariable depth y))
+        from_depth k (inl same) = (inside.object, ap base_of (sym same) ∙ inside_base s depth r.to to inside)
+        from_depth k (inr has) = begin k has
+
+        hand_base : {h f x : ℕ} → OfRoot (OfHand h) ≡ OfRoot (OfVariable f x) → ⊥
+        hand_base e = cc
+    free_hands w under (inr (inr (x, base, none))) = hand_base (sym (base_under (Object (OfHand (length hands))) w under) ∙ base)
+      where
+        hand_base : {h f x : ℕ} → OfRoot (OfHand h) ≡ OfRoot (OfVariable f x) → ⊥
+        hand_base e = cc
+
+    pub one_viewed : ViewedAway rest ways next
+    one_viewed =
+        carried_to s settled (home s depth) observer v second (AwayBy rest ways) mid got hands leaks facts r.to at to viewed_mid kept_mid spot_to reached owns_to
+        long fits bare depth inside.object (inside_base s depth r.to to inside) free_hands clear_to
+        (λ w o off. elim o [
+          | inl away_there ↦ inl away_there
+          | inr more ↦ elim more [ inl taken_there ↦ inr (inl (taken_less to ways w taken_there off)) | inr left ↦ inr (inr left) ]
+        ])
+
+    pub one_kept : Kept s next hands
+    one_kept = put_away s settled mid got hands r.to at kept_mid spot_to long fits
+
+    holds_next : (g y : ℕ) (p : List Step) (c : ℕ) → word_in s.table (content s next [] (OfRoot (OfVariable g y))) p ≡ Held c
+        → (word_in s.table (content s mid [] (OfRoot (OfVariable g y))) p ≡ Held c) ⊎ ((q : List Step) × (part (OfRoot (OfVariable g y)) p ≡ part at q))
+    holds_next g y p c held =
+        carried_holds s settled (home s depth) observer v second (AwayBy rest ways) mid got hands leaks facts r.to at to viewed_mid kept_mid spot_to reached owns_to
+        long fits bare g y p c held
+
+    in_place : (g y : ℕ) (p q : List Step) → part (OfRoot (OfVariable g y)) p ≡ part at q → (g ≡ depth) × (y ≡ inside.object)
+    in_place g y p q is =
+        same_variable g y depth inside.object
+        (sym (trunk_part (OfRoot (OfVariable g y)) p) ∙ ap trunk is ∙ trunk_part at q ∙ trunk_part (OfRoot (OfVariable depth inside.object)) inside.steps)
+
+    -- an object with a number owns
+    owning_there : (y g : ℕ) (p : List Step) (c : ℕ) → word_in s.table (content s next [] (OfRoot (OfVariable g y))) p ≡ Held c → is_owning s.table (object_at s y).of ≡ true
+    owning_there y g p c held = by_type (is_owning s.table (object_at s y).of) refl
+      where
+        by_type : (b : Bool) → is_owning s.table (object_at s y).of ≡ b → b ≡ true
+        by_type true e = refl
+        by_type false e =
+            let none = word_no s.table (content s next [] (OfRoot (OfVariable g y))) p ((keeps s settled own_law).ownerless (object_at s y).of e p) in
+            absurd (no_number (sym none ∙ held))
+          where
+            no_number : Empty ≡ Held c → ⊥
+            no_number e = cc
+
+    pub one_held : (g y : ℕ) (p : List Step) (c : ℕ) → word_in s.table (content s next [] (OfRoot (OfVariable g y))) p ≡ Held c
+        → (word_in s.table (content s m [] (OfRoot (OfVariable g y))) p ≡ Held c) ⊎ ((g ≡ depth) × (is_within y scope ≡ true))
+    one_held g y p c held = elim (holds_next g y p c held) [
+      | inl before ↦ inl (held_mid g y p c before)
+      | inr (q, is) ↦ (let there = in_place g y p q is in
+          inr (there.0, ap (λ z. is_within z scope) there.1 ∙ passed.within (ap (λ z. is_owning s.table (object_at s z).of) (sym there.1) ∙ owning_there y g p c held)))
+    ]
+
+    pub one_empty : (p : List Step) (c : ℕ) → word_in s.table (content s next [] (OfRoot (OfVariable (suc depth) r.formal))) p ≡ Held c → ⊥
+    one_empty p c held = elim (holds_next (suc depth) r.formal p c held) [
+      | inl before ↦ empty_mid p c before
+      | inr (q, is) ↦ (let frames = (in_place (suc depth) r.formal p q is).0 in omega (arith, frames))
+    ]
+
+    -- the other places have none still
+    pub one_bare : (k : Place) (w : Way) → Has ways w → (there : IsInside s depth k w) → IsBare s depth k w m there → IsBare s depth k w next there
+    one_bare k w has there none p c held = elim (holds_next depth there.object (p ++ there.steps) c held) [
+      | inl before ↦ none p c (held_mid depth there.object (p ++ there.steps) c before)
+      | inr (q, is) ↦
+          parts_apart (seen s mid (got ∷ hands) leaks) to w at (inside_at s depth k w there) viewed_mid.owned reached
+          (inside_reached s depth k w there (seen s mid (got ∷ hands) leaks)) (apart w has).0 (apart w has).1 q p
+          (sym is ∙ part_append (OfRoot (OfVariable depth there.object)) p there.steps)
+    ]
+      where
+        part_append : (l : Loc) (p q : List Step) → part l (p ++ q) ≡ part (part l q) p
+        part_append l [] q = refl
+        part_append l (i ∷ p) q = ap (λ z. Inside z i) (part_append l p q)
+
+    pub one_low : (w : Way) (g y : ℕ) → base_of w ≡ OfRoot (OfVariable g y) → g < depth → (c : ℕ)
+        → Reaches (seen s m hands leaks) w (OfCell c) → Reaches (seen s next hands leaks) w (OfCell c)
+    one_low w g y base less c reach =
+        carried_to_low s settled (home s depth) observer v second (AwayBy rest ways) mid got hands leaks facts r.to at to viewed_mid kept_mid spot_to reached owns_to
+        long fits bare depth inside.object (inside_base s depth r.to to inside) w g y base (λ e. omega (arith, less, e)) c
+        (carried_off_low s settled (home s depth) observer v first (AwayBy rest (to ∷ ways)) m hands leaks facts formal
+        (OfRoot (OfVariable (suc depth) r.formal)) root viewed typed spot tt refl owns clean (suc depth) r.formal refl w g y base (λ e. omega (arith, less, e)) c reach)
+
+    pub one_views : (g y : ℕ) → is_anonymous (view_of s y) ≡ true
+        → (get_or (variable_slots s g y next.variables) 0 no_slot).word ≡ (get_or (variable_slots s g y m.variables) 0 no_slot).word
+    unfolding formal_inside
+    one_views g y view =
+        ap (λ z. (get_or z 0 no_slot).word)
+        (put_beside s 0 r.to.base (take r.to.at (slots_at s mid r.to.base) ++ fresh (words_of s m formal) ++ drop (r.to.at + length (fresh (words_of s m formal))) (slots_at s mid r.to.base)) mid g y
+        (λ e. no_view inside.object (inside_plain s settled depth r.to to inside) (same_names (sym inside.base ∙ e)).1)
+        ∙ put_beside s 0 formal.base (take 0 (slots_at s m formal.base) ++ marks ++ drop (0 + length marks) (slots_at s m formal.base)) m g y
+        (λ e. no_view r.formal (inside_plain s settled (suc depth) formal root formal_inside) (same_names (sym formal_inside.base ∙ e)).1))
+      where
+        no_view : (x : ℕ) → is_anonymous (view_of s x) ≡ false → x ≡ y → ⊥
+        no_view x plain same = true_false (is_anonymous (view_of s y)) view (ap (λ z. is_anonymous (view_of s z)) (sym same) ∙ plain)
+
+        marks : List Slot
+        marks = gone_at (access_offsets s.table (object_at s r.formal).of) (slots_of s m formal)
+
+  -- ---- all of them
+
+  taken_base : (m : Memory) (returns : List Return) (ways : List Way) → AreTaken s m depth facts scope returns ways → (k : Way) → Has ways k
+      → (y : ℕ) × (base_of k ≡ OfRoot (OfVariable depth y))
+  taken_base m [] ways none k has = absurd (subst (λ z. Has z k) none has)
+  taken_base m (r ∷ rest) [] taken k has = absurd has
+  taken_base m (r ∷ rest) (to ∷ ways) (inl copied) k has = taken_base m rest (to ∷ ways) copied.1 k has
+  taken_base m (r ∷ rest) (to ∷ ways) (inr (one, apart, another, more)) k (inl same) =
+      ((one.0).inside.object, ap base_of (sym same) ∙ inside_base s depth r.to to (one.0).inside)
+  taken_base m (r ∷ rest) (to ∷ ways) (inr (one, apart, another, more)) k (inr has) = taken_base m rest ways more k has
+
+  taken_on : (m n : Memory) (returns : List Return) (ways : List Way)
+      → ((k : Place) (w : Way) → Has ways w → (there : IsInside s depth k w) → IsBare s depth k w m there → IsBare s depth k w n there)
+      → AreTaken s m depth facts scope returns ways → AreTaken s n depth facts scope returns ways
+  taken_on m n [] ways bare none = none
+  taken_on m n (r ∷ rest) [] bare taken = (taken.0, taken_on m n rest [] bare taken.1)
+  taken_on m n (r ∷ rest) (to ∷ ways) bare (inl copied) = inl (copied.0, taken_on m n rest (to ∷ ways) bare copied.1)
+  taken_on m n (r ∷ rest) (to ∷ ways) bare (inr (one, apart, another, more)) =
+      inr ((one.0, bare r.to to (inl refl) (one.0).inside one.1), apart, another, taken_on m n rest ways (λ k w has. bare k w (inr has)) more)
+
+  abbrev GivenBack : List Return → Memory → Evaluated Memory → Type 0
+  GivenBack returns m y = Backs (λ n. IsBack returns m n) y
+
+  scalar_empty : (m : Memory) (x : ℕ) → is_scalar (full s.table (object_at s x).of) ≡ true → (p : List Step) (c : ℕ)
+      → word_in s.table (content s m [] (OfRoot (OfVariable (suc depth) x))) p ≡ Held c → ⊥
+  scalar_empty m x plain p c held =
+      let none = word_no s.table (content s m [] (OfRoot (OfVariable (suc depth) x))) p (no_leaf s.table settled (object_at s x).of plain p) in
+      no_number (sym none ∙ held)
+    where
+      no_number : {c : ℕ} → Empty ≡ Held c → ⊥
+      no_number e = cc
+
+  copied_then : (r : Return) (rest : List Return) (m later : Memory) → IsCopied s r → Enters s settled own_law hands leaks m later → (n : Memory)
+      → IsBack rest later n → IsBack (r ∷ rest) m n
+  copied_then r rest m later copied on n back = record {
+    typed = back.typed;
+    viewed = back.viewed;
+    held = λ g y p c held. elim (back.held g y p c held) [ inl h ↦ inl (sym (on.hold g y p) ∙ h) | inr h ↦ inr h ];
+    empty = λ q has. elim has [
+      | inl same ↦ (λ p c held. scalar_empty n r.formal copied.0 p c (subst (λ (z : Return). word_in s.table (content s n [] (OfRoot (OfVariable (suc depth) z.formal))) p ≡ Held c) (sym same) held))
+      | inr later ↦ back.empty q later
+    ];
+    views = λ g y view. back.views g y view ∙ on.views g y view;
+    words = λ plain_all. (let more = back.words (λ q has. plain_all q (inr has)) in (
+      λ g y p any. more.0 g y p any ∙ on.hold g y p,
+      λ c p. more.1 c p ∙ cells_same s m later hands leaks on.same c p,
+    ));
+    low = λ w g y base less c reach. back.low w g y base less c (same_reaches (seen s m hands leaks) (seen s later hands leaks) on.same w (OfCell c) reach);
+  }
+
+  copied_first : (r : Return) (rest : List Return) (ways : List Way) (begun : Now) → IsCopied s r → Kept s begun.memory hands
+      → ViewedAway (r ∷ rest) ways begun.memory → AreTaken s begun.memory depth facts scope rest ways
+      → ((next : Memory) → Kept s next hands → ViewedAway rest ways next → AreTaken s next depth facts scope rest ways
+      → GivenBack rest next (copied_back t rest (record begun { memory = next })))
+      → GivenBack (r ∷ rest) begun.memory (copied_back t (r ∷ rest) begun)
+  copied_first r rest ways begun copied typed viewed taken more =
+      let formal : Place = variable_place (here t) r.formal in
+      let ws : List machine.Word = words_of s begun.memory formal in
+      let fixed : IsFixed s formal = formal_fixed t r.formal copied.0 in
+      let mid : Memory = moved_out s formal begun.memory in
+      let next : Memory = stored s r.to ws mid in
+      let first = moved_there s settled own_law hands leaks formal fixed begun.memory typed in
+      let second = stored_there s settled own_law hands leaks r.to copied.1 ws (fixed_one s settled formal fixed begun.memory hands typed) mid first.typed in
+      let on : Enters s settled own_law hands leaks begun.memory next = one_then s settled own_law hands leaks begun.memory mid next first second in
+      subst (GivenBack (r ∷ rest) begun.memory) (sym (copied_is t r rest begun copied.1))
+      (if_back (λ n. IsBack (r ∷ rest) begun.memory n) (fits_type s.table r.to.of ws) ws begun
+      (λ us n. copied_back t rest (record n { memory = stored s r.to us (moved_out s formal n.memory) }))
+      (backs_on (λ n. IsBack rest next n) (λ n. IsBack (r ∷ rest) begun.memory n) (λ n back. copied_then r rest begun.memory next copied on n back)
+      (copied_back t rest (record begun { memory = next }))
+      (more next on.typed
+      (more_gone (home s depth) (is_observer s) v (away (r ∷ rest) ways) (AwayBy rest ways) (seen s next hands leaks) facts
+      (λ w o. elim o [
+        | inl away_there ↦ inl away_there
+        | inr later ↦ elim later [ inl taken_there ↦ inr (inl taken_there) | inr left ↦ inr (inr (left_more r rest w left)) ]
+      ])
+      (same_viewed (home s depth) (is_observer s) (away (r ∷ rest) ways) v (seen s begun.memory hands leaks) (seen s next hands leaks) facts on.same viewed))
+      (taken_on begun.memory next rest ways (λ k w has there none p c held. none p c (sym (on.hold depth there.object (p ++ there.steps)) ∙ held)) taken))))
+
+  taken_first : (r : Return) (rest : List Return) (to : Way) (ways : List Way) (begun : Now) → (taken : IsTaken s begun.memory depth facts scope r to)
+      → IsApartFrom to ways → IsAnother r.formal rest → AreTaken s begun.memory depth facts scope rest ways → Kept s begun.memory hands
+      → ViewedAway (r ∷ rest) (to ∷ ways) begun.memory
+      → ((next : Memory) → Kept s next hands → ViewedAway rest ways next → AreTaken s next depth facts scope rest ways
+      → GivenBack rest next (copied_back t rest (record begun { memory = next })))
+      → GivenBack (r ∷ rest) begun.memory (copied_back t (r ∷ rest) begun)
+  taken_first r rest to ways begun taken apart another later typed viewed more =
+      let m : Memory = begun.memory in
+      let formal : Place = variable_place (here t) r.formal in
+      let ws : List machine.Word = words_of s begun.memory formal in
+      let begin = taken_base m rest ways later in
+      let next : Memory = stored s r.to ws (moved_out s formal begun.memory) in
+      subst (GivenBack (r ∷ rest) begun.memory) (sym (given_is t r rest begun depth (taken.0).inside.object (taken.0).inside.base))
+      (if_back (λ n. IsBack (r ∷ rest) begun.memory n) (fits_type s.table r.to.of ws) ws begun
+      (λ us n. copied_back t rest (record n { memory = stored s r.to us (moved_out s formal n.memory) }))
+      (backs_on (λ n. IsBack rest next n) (λ n. IsBack (r ∷ rest) begun.memory n)
+      (λ n back. record {
+        typed = back.typed;
+        viewed = back.viewed;
+        held = λ g y p c held. elim (back.held g y p c held) [
+          | inl h ↦ one_held r rest to ways m taken apart another begin typed viewed g y p c h
+          | inr h ↦ inr h
+        ];
+        empty = λ q has. elim has [
+          | inr there ↦ back.empty q there
+          | inl same ↦ (λ p c held. elim (back.held (suc depth) r.formal p c (subst (λ (z : Return). word_in s.table (content s n [] (OfRoot (OfVariable (suc depth) z.formal))) p ≡ Held c) (sym same) held)) [
+            | inl h ↦ one_empty r rest to ways m taken apart another begin typed viewed p c h
+            | inr h ↦ (let frames = h.0 in omega (arith, frames))
+          ])
+        ];
+        views = λ g y view. back.views g y view ∙ one_views r rest to ways m taken apart another begin typed viewed g y view;
+        words = λ plain_all. absurd (true_false (is_scalar (full s.table (object_at s r.formal).of)) (plain_all r (inl refl)) (taken.0).many);
+        low = λ w g y base less c reach. back.low w g y base less c (one_low r rest to ways m taken apart another begin typed viewed w g y base less c reach);
+      })
+      (copied_back t rest (record begun { memory = next }))
+      (more next (one_kept r rest to ways m taken apart another begin typed viewed) (one_viewed r rest to ways m taken apart another begin typed viewed)
+      (taken_on m next rest ways (λ k w has there none. one_bare r rest to ways m taken apart another begin typed viewed k w has there none) later))))
+
+  pub all_given_back : (returns : List Return) (ways : List Way) (begun : Now) → AreTaken s begun.memory depth facts scope returns ways
+      → Kept s begun.memory hands → ViewedAway returns ways begun.memory → GivenBack returns begun.memory (copied_back t returns begun)
+  all_given_back [] ways begun taken typed viewed = record {
+    typed = typed;
+    viewed = subst (λ z. ViewedAway [] z begun.memory) taken viewed;
+    held = λ g y p c held. inl held;
+    empty = λ r has. absurd has;
+    views = λ g y view. refl;
+    words = λ plain_all. ((λ g y p any. refl), (λ c p. refl));
+    low = λ w g y base less c reach. reach;
+  }
+  all_given_back (r ∷ rest) [] begun taken typed viewed =
+      copied_first r rest [] begun taken.0 typed viewed taken.1
+      (λ next kept there later. all_given_back rest [] (record begun { memory = next }) later kept there)
+  all_given_back (r ∷ rest) (to ∷ ways) begun (inl copied) typed viewed =
+      copied_first r rest (to ∷ ways) begun copied.0 typed viewed copied.1
+      (λ next kept there later. all_given_back rest (to ∷ ways) (record begun { memory = next }) later kept there)
+  all_given_back (r ∷ rest) (to ∷ ways) begun (inr (taken, apart, another, more)) typed viewed =
+      taken_first r rest to ways begun taken apart another more typed viewed
+      (λ next kept there later. all_given_back rest ways (record begun { memory = next }) later kept there)

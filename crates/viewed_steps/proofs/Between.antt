@@ -1,0 +1,149 @@
+-- A move that a call makes, or its end: no fact changes, and what is gone after it is known otherwise.
+use Rattle.std.proofs.Common.{◌≡◌, refl, sym, ap, ◌∙◌, subst, ◌⊎◌, inl, inr, ℕ, Bool, List, [], ◌∷◌, ◌++◌, Some}
+use Rattle.spark_base.specs.Lists.{Has}
+use Rattle.place_names.specs.declared.fact.Fact.{Fact}
+use Rattle.owned_ways.specs.Ways.{Step, OfVariable, OfHand, Loc, OfRoot, OfCell, Way, Object, Lost, Into, All, Gone, Held, View, Reaches, IsSame, part, along, IsRooted, Under, Past, Named, base_of, number_of}
+use Rattle.owned_ways.proofs.Locations.{under_along, under_itself}
+use Rattle.owned_ways.proofs.Named.{longer}
+use Rattle.owned_ways.proofs.Moving.{Given, keeps, owned_after, covered_after, known_after}
+use Rattle.owned_ways.proofs.Dropped.{named_base}
+use Rattle.owned_loans.specs.Views.{Around, Views, ExcusedBy, Viewed}
+use Rattle.owned_loans.proofs.Ways.{beginnings}
+use Rattle.owned_loans.proofs.Moves.{view_on}
+use Rattle.flow_paths.specs.Objects.{Typing}
+use Rattle.machine.specs.Memory.{Memory}
+use Rattle.machine.specs.States.{Return}
+use Rattle.soundness.specs.Seen.{IsNear, content, word_in}
+use Rattle.viewed_steps.specs.Taken.{TakenBy, AreTaken}
+
+-- where owners see the same, ways reach the same
+pub same_reaches : (s t : View) → IsSame s t → (w : Way) (l : Loc) → Reaches s w l → Reaches t w l
+same_reaches s t e (Object r) l h = h
+same_reaches s t e (Lost n) l h = (e.leaked n ∙ h.0, h.1)
+same_reaches s t e (Into w i) l (m, h, is) = (m, same_reaches s t e w m h, is)
+same_reaches s t e (All w) l (m, n, h, held, is) = (m, n, same_reaches s t e w m h, e.word m ∙ held, is)
+
+-- ---- what is known elsewhere
+
+-- The same ways are kept, and these are gone.
+abbrev pub gone_also : (home : ℕ → ℕ) → Around home → (Way → Type 0) → Around home
+gone_also home other gone = record {
+  lent = other.lent;
+  gone = gone;
+  away = other.away;
+  through = other.through;
+  kept = other.kept;
+  begins = other.begins;
+}
+
+module _ (home : ℕ → ℕ) (observer : ℕ → Bool) (v : Views) (other : Around home) (gone : Way → Type 0) where
+  -- more may be gone
+  pub more_gone : (s : View) (facts : List Fact) → ((w : Way) → other.gone w → gone w) → Viewed home observer other v s facts
+      → Viewed home observer (gone_also home other gone) v s facts
+  more_gone s facts more viewed = record {
+    owned = viewed.owned;
+    covered = viewed.covered;
+    known = λ w l rooted r is. elim (viewed.known w l rooted r is) [ inl m ↦ inl m | inr o ↦ inr (more w o) ];
+    clear = viewed.clear;
+    views = λ x w has. view_on home observer other v s s facts facts x w (viewed.views x w has) (λ seen n loan. loan) (viewed.views x w has).reaches;
+    lends = viewed.lends;
+    far = viewed.far;
+  }
+
+  -- No way of a view of the frame goes past one, and none of others.
+  pub record IsClearOf (f : Way) : Type 0 where
+    pub own : (x : ℕ) (w : Way) → v.way x ≡ Some w → Past f w → ⊥
+    pub far : (w : Way) (n : ℕ) → other.kept w n → Past f w → ⊥
+
+  pub moved_between : (s t : View) (f k : Way) (from to : Loc) (facts : List Fact) → Given s t f k from to
+      → Viewed home observer other v s facts → IsRooted f
+      → ((w : Way) → Under f w → ExcusedBy home v other facts w → ⊥)
+      → ((w : Way) → other.gone w → (Under k w → ⊥) → gone w)
+      → ((p : List Step) → t.word (part from p) ≡ Gone → gone (along f p))
+      → IsClearOf f → IsClearOf k → Viewed home observer (gone_also home other gone) v t facts
+  moved_between s t f k from to facts given viewed rooted clean stays adds off away = record {
+    owned = owned_after s t f k from to given;
+    covered = covered_after s t f k from to given viewed.covered;
+    known = known_after s t f k from to (ExcusedBy home v other facts) (ExcusedBy home v (gone_also home other gone) facts) given viewed.known rooted clean
+        (λ w moved apart. elim moved [ inl m ↦ inl m | inr o ↦ inr (stays w o apart) ]) (λ p is. inr (adds p is));
+    clear = viewed.clear;
+    views = λ x w has. (let view = viewed.views x w has in
+        view_on home observer other v s t facts facts x w view (λ seen n loan. loan)
+        (keeps s t f k from to given w (OfCell (v.cell x)) view.reaches (λ p. off.own x w has p) (λ p. away.own x w has p)));
+    lends = viewed.lends;
+    far = λ w n held. keeps s t f k from to given w (OfCell n) (viewed.far w n held) (λ p. off.far w n held p) (λ p. away.far w n held p);
+  }
+
+-- ---- ways that were taken
+
+-- what begins one with a way that it is apart from isn't taken by that
+pub not_taken : (to : Way) (ways : List Way) → ((k : Way) → Has ways k → (Under to k → ⊥) × (Under k to → ⊥)) → (w : Way) → Under to w → TakenBy ways w → ⊥
+not_taken to ways apart w under (k, has, p, is) =
+    let below : Under k w = subst (Under k) (sym is) (under_along k k p (under_itself k)) in
+    elim (beginnings to k w under below) [ inl a ↦ (apart k has).0 a | inr b ↦ (apart k has).1 b ]
+
+pub taken_more : (to : Way) (ways : List Way) (w : Way) → TakenBy ways w → TakenBy (to ∷ ways) w
+taken_more to ways w (k, has, p, is) = (k, inr has, p, is)
+
+-- of what is taken, what isn't below the first is taken by the others
+pub taken_less : (to : Way) (ways : List Way) (w : Way) → TakenBy (to ∷ ways) w → (Under to w → ⊥) → TakenBy ways w
+taken_less to ways w (k, inl same, p, is) off =
+    absurd (off (subst (λ z. Under z w) (sym same) (subst (Under k) (sym is) (under_along k k p (under_itself k)))))
+taken_less to ways w (k, inr has, p, is) off = (k, has, p, is)
+
+-- ---- where ways begin
+
+pub base_along : (w : Way) (p : List Step) → base_of (along w p) ≡ base_of w
+base_along w [] = refl
+base_along w (i ∷ p) = base_along w p
+
+-- a way below another one begins where that does
+pub base_under : (t w : Way) → Under t w → base_of w ≡ base_of t
+base_under t w under = (longer t w under).base
+
+pub same_variable : (f x g y : ℕ) → OfRoot (OfVariable f x) ≡ OfRoot (OfVariable g y) → (f ≡ g) × (x ≡ y)
+same_variable f x g y e = (cc, cc)
+
+-- a name of a frame isn't rooted in another one
+pub not_named : (home : ℕ → ℕ) (e x : ℕ) → ((y : ℕ) → home y ≡ e → ⊥) → (w : Way) → Named home w → base_of w ≡ OfRoot (OfVariable e x) → ⊥
+not_named home e x other w named base =
+    other (number_of w) (same_variable (home (number_of w)) (number_of w) e x (sym (named_base home w named) ∙ base)).0
+
+-- what was taken is in variables of the frame
+pub taken_from : (s : Typing) (m : Memory) (depth : ℕ) (facts : List Fact) (scope : List ℕ) (returns : List Return) (ways : List Way)
+    → AreTaken s m depth facts scope returns ways → (k : Way) → Has ways k → (y : ℕ) × (base_of k ≡ OfRoot (OfVariable depth y))
+taken_from s m depth facts scope [] ways none k has = absurd (subst (λ z. Has z k) none has)
+taken_from s m depth facts scope (r ∷ rest) [] taken k has = absurd has
+taken_from s m depth facts scope (r ∷ rest) (to ∷ ways) (inl copied) k has = taken_from s m depth facts scope rest (to ∷ ways) copied.1 k has
+taken_from s m depth facts scope (r ∷ rest) (to ∷ ways) (inr (one, apart, another, more)) k (inl same) = (
+  (one.0).inside.object,
+  ap base_of (sym same ∙ (one.0).inside.way) ∙ base_along (Object (OfVariable depth (one.0).inside.object)) (one.0).inside.steps,
+)
+taken_from s m depth facts scope (r ∷ rest) (to ∷ ways) (inr (one, apart, another, more)) k (inr has) = taken_from s m depth facts scope rest ways more k has
+
+pub taken_base : (ways : List Way) (depth : ℕ) → ((k : Way) → Has ways k → (y : ℕ) × (base_of k ≡ OfRoot (OfVariable depth y))) → (w : Way) → TakenBy ways w
+    → (y : ℕ) × (base_of w ≡ OfRoot (OfVariable depth y))
+taken_base ways depth begin w (k, has, p, is) = (let base = begin k has in (base.0, ap base_of is ∙ base_along k p ∙ base.1))
+
+-- it stays so where nothing gets a number in them
+pub still_taken : (s : Typing) (m n : Memory) (depth : ℕ) (facts : List Fact) (scope : List ℕ)
+    → ((y : ℕ) (p : List Step) (c : ℕ) → word_in s.table (content s n [] (OfRoot (OfVariable depth y))) p ≡ Held c
+    → word_in s.table (content s m [] (OfRoot (OfVariable depth y))) p ≡ Held c)
+    → (returns : List Return) (ways : List Way) → AreTaken s m depth facts scope returns ways → AreTaken s n depth facts scope returns ways
+still_taken s m n depth facts scope still [] ways none = none
+still_taken s m n depth facts scope still (r ∷ rest) [] taken = (taken.0, still_taken s m n depth facts scope still rest [] taken.1)
+still_taken s m n depth facts scope still (r ∷ rest) (to ∷ ways) (inl copied) = inl (copied.0, still_taken s m n depth facts scope still rest (to ∷ ways) copied.1)
+still_taken s m n depth facts scope still (r ∷ rest) (to ∷ ways) (inr (one, apart, another, more)) = inr (
+  (one.0, (λ p c held. one.1 p c (still (one.0).inside.object (p ++ (one.0).inside.steps) c held))),
+  apart,
+  another,
+  still_taken s m n depth facts scope still rest ways more,
+)
+
+-- what begins at a variable of a frame between isn't near
+pub near_base : (b : ℕ) (w : Way) (f x : ℕ) → IsNear b w → base_of w ≡ OfRoot (OfVariable f x) → (f ≡ 0) ⊎ (f ≡ b)
+near_base b (Object (OfVariable g y)) f x near base = (let same = (same_variable g y f x base).0 in elim near [ inl e ↦ inl (sym same ∙ e) | inr e ↦ inr (sym same ∙ e) ])
+near_base b (Object (OfHand h)) f x near base = cc
+near_base b (Lost n) f x near base = absurd near
+near_base b (Into w i) f x near base = near_base b w f x near base
+near_base b (All w) f x near base = near_base b w f x near base

@@ -1,0 +1,251 @@
+-- What a place has is taken by a call, or by its end, and given to a place that has no number: the
+-- state stays sound with views.
+use Rattle.std.proofs.Common.{◌≡◌, refl, sym, ap, ◌∙◌, subst, ◌⊎◌, inl, inr, ℕ, ◌+◌, Bool, true, false, not, List, [], ◌∷◌, ◌++◌, take, drop, length, get_or, append-nil}
+use Rattle.place_names.specs.declared.fact.Fact.{Fact}
+use Rattle.type_definitions.specs.Types.{words}
+use Rattle.flow_paths.specs.Objects.{Typing, object_at}
+use Rattle.machine.specs.Words.{access_offsets}
+use Rattle.machine.specs.Words as machine
+use Rattle.machine.specs.Memory.{Slot, Memory, Place, fresh, cell, no_slot, slots_of, slots_at, words_of, gone_at, stored, moved_out}
+use Rattle.machine.specs.States.{Waiting, Leak}
+use Rattle.owned_ways.specs.Ways.{Step, OfVariable, OfHand, Loc, OfRoot, OfCell, Way, Object, Gone, Held, View, Reaches, IsMove, IsRooted, Under, part, along, base_of}
+use Rattle.owned_ways.proofs.Locations.{past_under, reaches_along, under_along, under_itself, named_along}
+use Rattle.owned_ways.proofs.Assigned.{given_apart}
+use Rattle.owned_ways.proofs.Moving.{Given, keeps, owner_before}
+use Rattle.owned_ways.proofs.Dropped.{named_base}
+use Rattle.part_offsets.specs.Parts.{type_in, offset_in, has_part, is_leaf, IsSettled}
+use Rattle.soundness.specs.Seen.{Content, content, trunk, steps_in, word_in, owner_at, seen_of, seen, is_view_formal}
+use Rattle.soundness.specs.Changes.{hand, Checks, Stores}
+use Rattle.soundness.specs.Typed.{Matches, Kept, Spot, IsMade, loc_of}
+use Rattle.soundness.proofs.Joined.{trunk_part, steps_part}
+use Rattle.soundness.proofs.Contents.{bool_cases, word_yes, word_part, word_root, stored_step, stored_whole, taken_step}
+use Rattle.soundness.proofs.Steps.{put_count, put_freed, stores, takes}
+use Rattle.owned_loans.specs.Views.{Around, Views, ExcusedBy, Viewed}
+use Rattle.owned_loans.proofs.Moves.{view_named, no_hand}
+use Rattle.viewed_steps.specs.Taken.{IsInside}
+use Rattle.viewed_steps.proofs.Between.{gone_also, IsClearOf, moved_between, base_under, base_along, same_variable, not_named}
+
+-- ---- places in variables
+
+module _ (s : Typing) (depth : ℕ) (k : Place) (to : Way) (inside : IsInside s depth k to) where
+  -- where it is
+  abbrev pub inside_at : Loc
+  inside_at = part (OfRoot (OfVariable depth inside.object)) inside.steps
+
+  trunk_is : trunk (part (OfRoot (OfVariable depth inside.object)) inside.steps) ≡ OfRoot (OfVariable depth inside.object)
+  trunk_is = trunk_part (OfRoot (OfVariable depth inside.object)) inside.steps
+
+  pub inside_steps : steps_in (part (OfRoot (OfVariable depth inside.object)) inside.steps) ≡ inside.steps
+  inside_steps = steps_part (OfRoot (OfVariable depth inside.object)) inside.steps ∙ append-nil inside.steps
+
+  pub inside_spot : (m : Memory) (hands : List Waiting) → Spot s m hands k (part (OfRoot (OfVariable depth inside.object)) inside.steps)
+  inside_spot m hands = record {
+    base = trunk_is ∙ ap loc_of (sym inside.base);
+    made = subst (λ b. IsMade m b) (sym inside.base) tt;
+    at = inside.at ∙ (λ j. offset_in s.table (content s m hands (sym trunk_is j)).of (sym inside_steps j));
+    there = (λ j. has_part s.table (content s m hands (trunk_is j)).of (inside_steps j)) ∙ inside.there;
+    of = subst (λ z. Matches s.table k.of (type_in s.table (content s m hands z).of (steps_in (part (OfRoot (OfVariable depth inside.object)) inside.steps)))) (sym trunk_is)
+        (subst (λ z. Matches s.table k.of (type_in s.table (object_at s inside.object).of z)) (sym inside_steps) inside.of);
+  }
+
+  pub inside_reached : (view : View) → Reaches view to (part (OfRoot (OfVariable depth inside.object)) inside.steps)
+  inside_reached view =
+      subst (λ w. Reaches view w (part (OfRoot (OfVariable depth inside.object)) inside.steps)) (sym inside.way)
+      (reaches_along view (Object (OfVariable depth inside.object)) (OfRoot (OfVariable depth inside.object)) inside.steps refl)
+
+  pub inside_base : base_of to ≡ OfRoot (OfVariable depth inside.object)
+  inside_base = ap base_of inside.way ∙ base_along (Object (OfVariable depth inside.object)) inside.steps
+
+  pub inside_rooted : IsRooted to
+  inside_rooted = subst IsRooted (sym inside.way) (named_along (Object (OfVariable depth inside.object)) inside.steps tt)
+
+  pub inside_owns : (m : Memory) (hands : List Waiting) → is_view_formal s inside.object ≡ false
+      → (content s m hands (trunk (part (OfRoot (OfVariable depth inside.object)) inside.steps))).owns ≡ true
+  inside_owns m hands plain = ap (λ z. (content s m hands z).owns) trunk_is ∙ ap not plain
+
+  -- the words there
+  pub inside_word : (m : Memory) (hands : List Waiting) (p : List Step)
+      → word_in s.table (content s m hands (trunk (part (OfRoot (OfVariable depth inside.object)) inside.steps))) (p ++ steps_in (part (OfRoot (OfVariable depth inside.object)) inside.steps))
+      ≡ word_in s.table (content s m [] (OfRoot (OfVariable depth inside.object))) (p ++ inside.steps)
+  inside_word m hands p =
+      (λ j. word_in s.table (content s m hands (trunk_is j)) (p ++ inside_steps j))
+
+-- ---- hands and variables
+
+hand_differs : {a : Loc} {f x h : ℕ} → a ≡ OfRoot (OfVariable f x) → a ≡ OfRoot (OfHand h) → ⊥
+hand_differs p q = cc
+
+module _ (home : ℕ → ℕ) (observer : ℕ → Bool) (v : Views) (other : Around home) (gone : Way → Type 0) (s : View) (facts : List Fact)
+    (viewed : Viewed home observer other v s facts) where
+  pub hand_clear : (h : ℕ) → IsClearOf home observer v other gone (Object (OfHand h))
+  hand_clear h = record {
+    own = λ x w has past. hand_differs (named_base home w (view_named home observer other v s facts viewed.views x w has))
+        (base_under (Object (OfHand h)) w (past_under (Object (OfHand h)) w past));
+    far = λ w n keeps past. (let root = other.begins w n keeps in
+        hand_differs root.2 (base_under (Object (OfHand h)) w (past_under (Object (OfHand h)) w past)));
+  }
+
+  -- a variable that the frame doesn't name, and where no way of others begins
+  pub variable_clear : (e x : ℕ) → ((y : ℕ) → home y ≡ e → ⊥) → ((w : Way) (n : ℕ) → other.kept w n → base_of w ≡ OfRoot (OfVariable e x) → ⊥)
+      → IsClearOf home observer v other gone (Object (OfVariable e x))
+  variable_clear e x elsewhere apart = record {
+    own = λ y w has past. not_named home e x elsewhere w (view_named home observer other v s facts viewed.views y w has)
+        (base_under (Object (OfVariable e x)) w (past_under (Object (OfVariable e x)) w past));
+    far = λ w n keeps past. apart w n keeps (base_under (Object (OfVariable e x)) w (past_under (Object (OfVariable e x)) w past));
+  }
+
+-- ---- what goes
+
+module _ (s : Typing) (settled : IsSettled s.table) (home : ℕ → ℕ) (observer : ℕ → Bool) (v : Views) (other : Around home) (gone : Way → Type 0) where
+  abbrev whole_slots : Memory → Place → List Slot → List Slot
+  whole_slots m k slots = take k.at (slots_at s m k.base) ++ slots ++ drop (k.at + length slots) (slots_at s m k.base)
+
+  -- What a place has goes to a hand.
+  module _ (m : Memory) (rest : List Waiting) (leaks : List Leak) (facts : List Fact) (k : Place) (l : Loc) (u : Way)
+      (viewed : Viewed home observer other v (seen s m rest leaks) facts) (kept : Kept s m rest) (spot : Spot s m rest k l)
+      (rooted : IsRooted u) (reaches : Reaches (seen s m rest leaks) u l) (owns : (content s m rest (trunk l)).owns ≡ true)
+      (clean : (w : Way) → Under u w → ExcusedBy home v other facts w → ⊥) where
+    abbrev got : Waiting
+    got = record { of = k.of; words = words_of s m k }
+
+    abbrev a : Loc → Content
+    a = content s m rest
+
+    abbrev b : Loc → Content
+    b = content s (moved_out s k m) (got ∷ rest)
+
+    -- nothing at or below the place is gone
+    whole : (p : List Step) → is_leaf s.table (content s m rest (trunk l)).of (p ++ steps_in l) ≡ true
+        → (get_or (content s m rest (trunk l)).slots (offset_in s.table (content s m rest (trunk l)).of (p ++ steps_in l)) no_slot).gone ≡ false
+    whole p leaf = elim (bool_cases (get_or (content s m rest (trunk l)).slots (offset_in s.table (content s m rest (trunk l)).of (p ++ steps_in l)) no_slot).gone) [
+      | inr e ↦ e
+      | inl e ↦ absurd (clean (along u p) (under_along u u p (under_itself u))
+          (viewed.known (along u p) (part l p) (named_along u p rooted) (reaches_along (seen s m rest leaks) u l p reaches)
+          (word_part s.table (content s m rest) l p ∙ word_yes s.table (content s m rest (trunk l)) (p ++ steps_in l) owns leaf ∙ marked _ _ e)))
+    ]
+      where
+        marked : (z : machine.Word) (g : Bool) → g ≡ true → owner_at z g ≡ Gone
+        marked z true e = refl
+        marked z false e = cc
+
+    abbrev after : View
+    after = seen_of s.table b (length m.cells) (λ n. (cell m n).freed) leaks
+
+    move : IsMove (seen s m rest leaks) after l (hand (length rest))
+    move =
+        taken_step s.table settled a b (length rest) got l (length m.cells) (λ n. (cell m n).freed) leaks
+        (takes s settled m rest kept k l spot owns (λ p leaf. whole p leaf))
+
+    -- no number is left there
+    pub carried_bare : (p : List Step) (c : ℕ) → word_in s.table (content s (moved_out s k m) (got ∷ rest) (trunk l)) (p ++ steps_in l) ≡ Held c → ⊥
+    carried_bare p c held = move.goes p c (word_part s.table b l p ∙ held)
+
+    -- what has a number in a variable then had it before
+    pub carried_held : (g y : ℕ) (p : List Step) (c : ℕ) → word_in s.table (content s (moved_out s k m) [] (OfRoot (OfVariable g y))) p ≡ Held c
+        → word_in s.table (content s m [] (OfRoot (OfVariable g y))) p ≡ Held c
+    carried_held g y p c held =
+        elim (owner_before (seen s m rest leaks) after l (hand (length rest)) move (part (OfRoot (OfVariable g y)) p) c (word_root s.table b (OfVariable g y) p ∙ held)) [
+          | inr stays ↦ sym (word_root s.table a (OfVariable g y) p) ∙ stays.word
+          | inl (q, is, word) ↦ absurd (other_trunk
+              (sym (trunk_part (OfRoot (OfVariable g y)) p) ∙ ap trunk is ∙ trunk_part (hand (length rest)) q))
+        ]
+      where
+        other_trunk : {h f x : ℕ} → OfRoot (OfVariable f x) ≡ OfRoot (OfHand h) → ⊥
+        other_trunk e = cc
+
+    after_is : after ≡ seen s (moved_out s k m) (got ∷ rest) leaks
+    after_is =
+        (λ j. seen_of s.table b (sym (put_count s m k.base (whole_slots m k (gone_at (access_offsets s.table k.of) (slots_of s m k)))) j)
+        (λ n. sym (put_freed s m k.base (whole_slots m k (gone_at (access_offsets s.table k.of) (slots_of s m k))) n) j) leaks)
+
+    goes_off : (f x : ℕ) → base_of u ≡ OfRoot (OfVariable f x) → Given (seen s m rest leaks) after u (Object (OfHand (length rest))) l (hand (length rest))
+    goes_off f x base =
+        given_apart (seen s m rest leaks) after u (Object (OfHand (length rest))) l (hand (length rest)) viewed.owned move reaches refl (λ e. hand_differs base e)
+
+    -- What is gone then is known elsewhere.
+    pub carried_off : (f x : ℕ) → base_of u ≡ OfRoot (OfVariable f x)
+        → IsClearOf home observer v other gone u → ((w : Way) → other.gone w → gone w) → ((p : List Step) → gone (along u p))
+        → Viewed home observer (gone_also home other gone) v (seen s (moved_out s k m) (got ∷ rest) leaks) facts
+    carried_off f x base clear more adds =
+        subst (λ z. Viewed home observer (gone_also home other gone) v z facts) after_is
+        (moved_between home observer v other gone (seen s m rest leaks) after u (Object (OfHand (length rest))) l (hand (length rest)) facts
+        (goes_off f x base) viewed rooted clean (λ w o off. more w o) (λ p is. adds p) clear
+        (hand_clear home observer v other gone (seen s m rest leaks) facts viewed (length rest)))
+
+    -- a way from another variable reaches what it reached
+    pub carried_off_low : (f x : ℕ) → base_of u ≡ OfRoot (OfVariable f x) → (w : Way) (g y : ℕ) → base_of w ≡ OfRoot (OfVariable g y) → (g ≡ f → ⊥) → (n : ℕ)
+        → Reaches (seen s m rest leaks) w (OfCell n) → Reaches (seen s (moved_out s k m) (got ∷ rest) leaks) w (OfCell n)
+    carried_off_low f x base w g y root off n reach =
+        subst (λ z. Reaches z w (OfCell n)) after_is
+        (keeps (seen s m rest leaks) after u (Object (OfHand (length rest))) l (hand (length rest)) (goes_off f x base) w (OfCell n) reach
+        (λ past. off (same_variable g y f x (sym root ∙ base_under u w (past_under u w past) ∙ base)).0)
+        (λ past. hand_differs root (base_under (Object (OfHand (length rest))) w (past_under (Object (OfHand (length rest))) w past))))
+
+  -- What a hand has goes to a place that has no number.
+  module _ (m : Memory) (got : Waiting) (rest : List Waiting) (leaks : List Leak) (facts : List Fact) (k : Place) (l : Loc) (u : Way)
+      (viewed : Viewed home observer other v (seen s m (got ∷ rest) leaks) facts) (kept : Kept s m (got ∷ rest)) (spot : Spot s m (got ∷ rest) k l)
+      (reaches : Reaches (seen s m (got ∷ rest) leaks) u l) (owns : (content s m (got ∷ rest) (trunk l)).owns ≡ true)
+      (long : length got.words ≡ words s.table k.of) (fits : Matches s.table got.of k.of)
+      (bare : (p : List Step) (c : ℕ) → word_in s.table (content s m (got ∷ rest) (trunk l)) (p ++ steps_in l) ≡ Held c → ⊥) where
+    abbrev full : Loc → Content
+    full = content s m (got ∷ rest)
+
+    abbrev given : Loc → Content
+    given = content s (stored s k got.words m) rest
+
+    change : Stores s.table (content s m (got ∷ rest)) (content s (stored s k got.words m) rest) (length rest) got l
+    change = stores s settled m got rest kept k l spot long fits owns
+
+    checks : Checks s.table (content s m (got ∷ rest) (trunk l)) (steps_in l) leaks leaks
+    checks = record { keeps = λ n e. e; checks = λ p n h. absurd (bare p n h); only = λ n e. inl e }
+
+    abbrev then_seen : View
+    then_seen = seen_of s.table given (length m.cells) (λ n. (cell m n).freed) leaks
+
+    goes_there : IsMove (seen s m (got ∷ rest) leaks) then_seen (hand (length rest)) l
+    goes_there = stored_step s.table settled full given (length rest) got l (length m.cells) (λ n. (cell m n).freed) leaks leaks change checks
+
+    -- what has a number in a variable then had it before, or is in the place
+    pub carried_holds : (g y : ℕ) (p : List Step) (c : ℕ) → word_in s.table (content s (stored s k got.words m) [] (OfRoot (OfVariable g y))) p ≡ Held c
+        → (word_in s.table (content s m [] (OfRoot (OfVariable g y))) p ≡ Held c) ⊎ ((q : List Step) × (part (OfRoot (OfVariable g y)) p ≡ part l q))
+    carried_holds g y p c held =
+        elim (owner_before (seen s m (got ∷ rest) leaks) then_seen (hand (length rest)) l goes_there (part (OfRoot (OfVariable g y)) p) c
+        (word_root s.table given (OfVariable g y) p ∙ held)) [
+          | inl (q, is, word) ↦ inr (q, is)
+          | inr stays ↦ inl (sym (word_root s.table full (OfVariable g y) p) ∙ stays.word)
+        ]
+
+    then_is : then_seen ≡ seen s (stored s k got.words m) rest leaks
+    then_is =
+        (λ j. seen_of s.table given (sym (put_count s m k.base (whole_slots m k (fresh got.words))) j)
+        (λ n. sym (put_freed s m k.base (whole_slots m k (fresh got.words)) n) j) leaks)
+
+    goes_to : (f x : ℕ) → base_of u ≡ OfRoot (OfVariable f x) → Given (seen s m (got ∷ rest) leaks) then_seen (Object (OfHand (length rest))) u (hand (length rest)) l
+    goes_to f x base =
+        given_apart (seen s m (got ∷ rest) leaks) then_seen (Object (OfHand (length rest))) u (hand (length rest)) l viewed.owned goes_there refl reaches
+        (λ e. hand_differs base (sym e))
+
+    -- What was gone there isn't any more.
+    pub carried_to : (f x : ℕ) → base_of u ≡ OfRoot (OfVariable f x)
+        → ((w : Way) → Under (Object (OfHand (length rest))) w → other.gone w → ⊥)
+        → IsClearOf home observer v other gone u → ((w : Way) → other.gone w → (Under u w → ⊥) → gone w)
+        → Viewed home observer (gone_also home other gone) v (seen s (stored s k got.words m) rest leaks) facts
+    carried_to f x base hands clear stays =
+        subst (λ z. Viewed home observer (gone_also home other gone) v z facts) then_is
+        (moved_between home observer v other gone (seen s m (got ∷ rest) leaks) then_seen (Object (OfHand (length rest))) u (hand (length rest)) l facts
+        (goes_to f x base) viewed tt
+        (λ w under known. elim known [
+          | inl moved ↦ no_hand home observer other v (seen s m (got ∷ rest) leaks) facts viewed (Object (OfHand (length rest))) w tt under moved
+          | inr o ↦ hands w under o
+        ]) stays
+        (λ p is. absurd (stored_whole s.table settled full given (length rest) got l (length m.cells) (λ n. (cell m n).freed) leaks change p is))
+        (hand_clear home observer v other gone (seen s m (got ∷ rest) leaks) facts viewed (length rest)) clear)
+
+    -- a way from another variable reaches what it reached
+    pub carried_to_low : (f x : ℕ) → base_of u ≡ OfRoot (OfVariable f x) → (w : Way) (g y : ℕ) → base_of w ≡ OfRoot (OfVariable g y) → (g ≡ f → ⊥) → (n : ℕ)
+        → Reaches (seen s m (got ∷ rest) leaks) w (OfCell n) → Reaches (seen s (stored s k got.words m) rest leaks) w (OfCell n)
+    carried_to_low f x base w g y root off n reach =
+        subst (λ z. Reaches z w (OfCell n)) then_is
+        (keeps (seen s m (got ∷ rest) leaks) then_seen (Object (OfHand (length rest))) u (hand (length rest)) l (goes_to f x base) w (OfCell n) reach
+        (λ past. hand_differs root (base_under (Object (OfHand (length rest))) w (past_under (Object (OfHand (length rest))) w past)))
+        (λ past. off (same_variable g y f x (sym root ∙ base_under u w (past_under u w past) ∙ base)).0))

@@ -1,0 +1,482 @@
+-- The formals of a call are declared. Those that are copied back have what their actuals had; the
+-- places of the actuals are gone meanwhile, and have no number.
+use Rattle.std.proofs.Common.{◌≡◌, refl, sym, ap, ◌∙◌, subst, ◌⊎◌, inl, inr, ℕ, suc, ◌<◌, ◌+◌, Bool, true, false, not, ◌&&◌, ◌||◌, List, [], ◌∷◌, ◌++◌, take, drop, length, get_or, arith, if◌then◌else◌}
+use Rattle.std.proofs.lemmas.List.{length-map}
+use Rattle.spark_base.specs.Lists.{Has}
+use Rattle.place_names.specs.declared.fact.Fact.{Fact}
+use Rattle.place_names.specs.declared.fact.Fact.TheVariants.{Moved}
+use Rattle.place_names.specs.declared.rule.Loan.TheVariants.{Borrowed}
+use Rattle.place_names.specs.Names.{Name as PlaceName, overlaps}
+use Rattle.type_definitions.specs.Types.{shape_of, words, full, is_scalar}
+use Rattle.flow_paths.specs.Objects.{Typing, object_at, is_variable, is_borrowing, is_observing, is_anonymous, is_observer, is_package_object, view_of}
+use Rattle.machine.specs.Words.{access_offsets}
+use Rattle.machine.specs.Memory.{Slot, Memory, Base, Place, fresh, no_slot, variable_slots, slots_at, slots_of, words_of, gone_at, moved_out, declared}
+use Rattle.machine.specs.Memory as memory
+use Rattle.machine.specs.Calls.{Passed, Value, From, To, with_formal, with_formals, returns_of}
+use Rattle.machine.specs.States.{Waiting, Leak, Return}
+use Rattle.owned_ways.specs.Ways.{Step, OfVariable, OfHand, Loc, OfRoot, OfCell, Reaches, Way, Object, Empty, Held, Under, Past, Named, along, base_of, number_of, name_of}
+use Rattle.owned_ways.proofs.Locations.{same_loc, under_along, under_itself}
+use Rattle.part_offsets.specs.Parts.{type_in, IsSettled}
+use Rattle.soundness.specs.Seen.{content, word_in, seen, home, is_view_formal}
+use Rattle.soundness.specs.Typed.{Matches, OwnsByShape, Kept, Spot}
+use Rattle.soundness.specs.Sound.{AreSameWords}
+use Rattle.soundness.proofs.Memories.{put_other}
+use Rattle.soundness.proofs.Moments.{number_part}
+use Rattle.soundness.proofs.Steps.{matches_words, plain_end, alike, taken_slots, room}
+use Rattle.soundness.proofs.Lasting.{keeps, declared_kept}
+use Rattle.soundness.proofs.Passing.{IsLaid}
+use Rattle.owned_loans.specs.Views.{Around, Views, expand, ExcusedBy, Viewed}
+use Rattle.owned_loans.proofs.Ways.{beginnings}
+use Rattle.owned_loans.proofs.Safe.{off_view}
+use Rattle.owned_loans.proofs.Others.{clean_away}
+use Rattle.owned_loans.proofs.Moves.{expand_along, same_viewed}
+use Rattle.viewed_soundness.proofs.Names.{true_false, view_access, not_view}
+use Rattle.viewed_soundness.proofs.Evaluated.{matches_named}
+use Rattle.viewed_steps.specs.Sound.{IsScalarObject}
+use Rattle.viewed_steps.proofs.Left.{cells_same}
+use Rattle.viewed_steps.specs.Taken.{TakenBy, IsInside, IsPassedOn, IsBare, IsApartFrom, AreTaken}
+use Rattle.viewed_steps.proofs.Between.{same_reaches, gone_also, more_gone, IsClearOf, base_along, base_under, same_variable, taken_more}
+use Rattle.viewed_steps.proofs.Carried.{inside_at, inside_spot, inside_reached, inside_base, inside_rooted, inside_owns, inside_word, carried_bare, carried_held, carried_off_low, carried_off}
+use Rattle.viewed_steps.proofs.Alike.{Enters, with_one}
+use Rattle.viewed_steps.proofs.Beside.{put_beside}
+use Rattle.viewed_steps.proofs.Declared.{declared_viewed, declared_low}
+
+named_part : (home : ℕ → ℕ) (w : Way) (p : List Step) → Named home w → Named home (along w p)
+named_part home w [] n = n
+named_part home w (i ∷ p) n = named_part home w p n
+
+pub matches_back : (s : Typing) (t u : ℕ) → Matches s.table t u → Matches s.table u t
+matches_back s t u (inl e) = inl (sym e)
+matches_back s t u (inr (a, b)) = inr (b, a)
+
+pub not_observing : (s : Typing) (x : ℕ) → is_anonymous (view_of s x) ≡ false → is_observer s x ≡ false
+not_observing s x plain = neither (is_variable (object_at s x).kind) (is_borrowing (view_of s x)) (is_observing (view_of s x)) plain
+  where
+    neither : (k a b : Bool) → a || b ≡ false → k && b ≡ false
+    neither true a true e = second a e
+      where
+        second : (a : Bool) → a || true ≡ false → true ≡ false
+        second true e = e
+        second false e = e
+    neither true a false e = refl
+    neither false a b e = refl
+
+module _ (s : Typing) (settled : IsSettled s.table) (depth : ℕ) (k : Place) (to : Way) (inside : IsInside s depth k to) where
+  -- the variable is no view
+  pub inside_plain : is_anonymous (view_of s inside.object) ≡ false
+  inside_plain = by_kind (is_anonymous (view_of s inside.object)) refl
+    where
+      by_kind : (b : Bool) → is_anonymous (view_of s inside.object) ≡ b → b ≡ false
+      by_kind false e = refl
+      by_kind true view =
+          let access = view_access (shape_of s.table (object_at s inside.object).of) view in
+          let none = plain_end s.table settled (object_at s inside.object).of access.0 access.1 inside.steps inside.there in
+          let fits : Matches s.table k.of (object_at s inside.object).of =
+          subst (λ p. Matches s.table k.of (type_in s.table (object_at s inside.object).of p)) none inside.of in
+          absurd (not_view s.table (object_at s inside.object).of view (matches_named s.table k.of (object_at s inside.object).of fits inside.named))
+
+  pub inside_named : Named (home s depth) to
+  inside_named =
+      subst (Named (home s depth)) (sym inside.way)
+      (named_part (home s depth) (Object (OfVariable depth inside.object)) inside.steps (sym (ap (λ b. if b then 0 else depth) inside.own)))
+
+  pub inside_number : number_of to ≡ inside.object
+  inside_number = ap number_of inside.way ∙ number_part (Object (OfVariable depth inside.object)) inside.steps
+
+  pub inside_itself : (v : Views) → expand v to ≡ to
+  inside_itself v = ap (expand v) inside.way ∙ expand_along v (Object (OfVariable depth inside.object)) inside.steps ∙ sym inside.way
+
+-- ---- what is passed
+
+-- A scalar value, or a scalar place in a variable.
+abbrev pub IsPlainOne : Typing → ℕ → Passed → Type 0
+IsPlainOne s x a = (is_scalar (full s.table (object_at s x).of) ≡ true) × IsLaid s a
+
+-- No fact says of the way that it was moved, or of what leads to it or lies in it.
+abbrev pub IsWhole : List Fact → Way → Type 0
+IsWhole facts to = (n : PlaceName) → Has facts (Moved n) → overlaps n (name_of to) ≡ true → ⊥
+
+abbrev pub DiffersFrom : ℕ → List ℕ → Type 0
+DiffersFrom x formals = (y : ℕ) → Has formals y → y ≡ x → ⊥
+
+-- What is passed, with the ways of the places that are taken.
+abbrev pub ArePassedOn : Typing → ℕ → List Fact → List ℕ → List ℕ → List Passed → List Way → Type 0
+ArePassedOn s depth facts scope [] passed ways = ways ≡ []
+ArePassedOn s depth facts scope (x ∷ formals) [] ways = ways ≡ []
+ArePassedOn s depth facts scope (x ∷ formals) (a ∷ passed) [] = IsPlainOne s x a × ArePassedOn s depth facts scope formals passed []
+ArePassedOn s depth facts scope (x ∷ formals) (a ∷ passed) (to ∷ ways) =
+    (IsPlainOne s x a × ArePassedOn s depth facts scope formals passed (to ∷ ways))
+    ⊎ ((k : Place) × (a ≡ From k) × IsPassedOn s depth facts scope x k to × IsWhole facts to × IsApartFrom to ways × DiffersFrom x formals
+    × ArePassedOn s depth facts scope formals passed ways)
+
+-- the ways of such places begin at variables of the frame
+pub passed_base : (s : Typing) (depth : ℕ) (facts : List Fact) (scope : List ℕ) (formals : List ℕ) (passed : List Passed) (ways : List Way)
+    → ArePassedOn s depth facts scope formals passed ways → (k : Way) → Has ways k → (y : ℕ) × (base_of k ≡ OfRoot (OfVariable depth y))
+passed_base s depth facts scope [] passed ways none k has = absurd (subst (λ z. Has z k) none has)
+passed_base s depth facts scope (x ∷ formals) [] ways none k has = absurd (subst (λ z. Has z k) none has)
+passed_base s depth facts scope (x ∷ formals) (a ∷ passed) [] are k has = absurd has
+passed_base s depth facts scope (x ∷ formals) (a ∷ passed) (to ∷ ways) (inl are) k has = passed_base s depth facts scope formals passed (to ∷ ways) are.1 k has
+passed_base s depth facts scope (x ∷ formals) (a ∷ passed) (to ∷ ways) (inr (place, is, one, whole, apart, differ, more)) k (inl same) =
+    (one.inside.object, ap base_of (sym same) ∙ inside_base s depth place to one.inside)
+passed_base s depth facts scope (x ∷ formals) (a ∷ passed) (to ∷ ways) (inr (place, is, one, whole, apart, differ, more)) k (inr has) =
+    passed_base s depth facts scope formals passed ways more k has
+
+-- ---- what the formals have then
+
+module _ (s : Typing) (settled : IsSettled s.table) (own_law : OwnsByShape s.table) (no_formals : (x : ℕ) → is_view_formal s x ≡ false)
+    (hands : List Waiting) (leaks : List Leak) (depth : ℕ) (v : Views) (facts : List Fact) (scope : List ℕ) where
+  abbrev Home : ℕ → ℕ
+  Home = home s depth
+
+  abbrev Scalar : ℕ → Type 0
+  Scalar x = is_scalar (full s.table (object_at s x).of) ≡ true
+
+  pub not_above : (y : ℕ) → home s depth y ≡ suc depth → ⊥
+  not_above y e = by_package (is_package_object s y) e
+    where
+      by_package : (b : Bool) → (if b then 0 else depth) ≡ suc depth → ⊥
+      by_package true e = omega (arith, e)
+      by_package false e = omega (arith, e)
+
+  -- Nothing is gone elsewhere in hands, or in the places that are still to be taken; and others keep no way.
+  pub record IsOpen (other : Around (home s depth)) (ways : List Way) : Type 0 where
+    pub free : (h : ℕ) (w : Way) → Under (Object (OfHand h)) w → other.gone w → ⊥
+    pub whole : (to : Way) → Has ways to → (w : Way) → Under to w → other.gone w → ⊥
+    pub none : (w : Way) (n : ℕ) → other.kept w n → ⊥
+
+  abbrev ViewedIn : Around (home s depth) → Memory → Type 0
+  ViewedIn other m = Viewed (home s depth) (is_observer s) other v (seen s m hands leaks) facts
+
+  abbrev taken_also : Around (home s depth) → List Way → Around (home s depth)
+  taken_also other ways = gone_also (home s depth) other (λ w. other.gone w ⊎ TakenBy ways w)
+
+  -- The formals that are still to be declared have nothing.
+  abbrev pub AreBlank : Memory → List ℕ → Type 0
+  AreBlank m formals =
+      (x : ℕ) → Has formals x → (p : List Step) → word_in s.table (content s m [] (OfRoot (OfVariable (suc depth) x))) p ≡ Empty
+
+  -- Words are typed; a variable that has a number had it before, or is a formal; views keep their words; and
+  -- owners see nothing of scalar formals.
+  pub record AreDeclared (formals : List ℕ) (m n : Memory) : Type 0 where
+    pub typed : Kept s n hands
+    pub held : (g y : ℕ) (p : List Step) (c : ℕ) → word_in s.table (content s n [] (OfRoot (OfVariable g y))) p ≡ Held c
+        → (word_in s.table (content s m [] (OfRoot (OfVariable g y))) p ≡ Held c) ⊎ ((g ≡ suc depth) × Has formals y)
+    pub views : (g y : ℕ) → is_anonymous (view_of s y) ≡ true
+        → (get_or (variable_slots s g y n.variables) 0 no_slot).word ≡ (get_or (variable_slots s g y m.variables) 0 no_slot).word
+    pub words : ((x : ℕ) → Has formals x → IsScalarObject s x) → AreSameWords s (λ g. Unit {0}) m n
+    -- ways from the variables of frames around reach what they reached
+    pub low : (w : Way) (g y : ℕ) → base_of w ≡ OfRoot (OfVariable g y) → g < depth → (c : ℕ)
+        → Reaches (seen s m hands leaks) w (OfCell c) → Reaches (seen s n hands leaks) w (OfCell c)
+
+  abbrev pub Enter : Around (home s depth) → List ℕ → List Passed → List Way → Memory → Memory → Type 0
+  Enter other formals passed ways m n =
+      AreDeclared formals m n × ViewedIn (taken_also other ways) n × AreTaken s n depth facts scope (returns_of formals passed) ways
+
+  -- ---- one that is taken
+
+  module _ (other : Around (home s depth)) (x : ℕ) (k : Place) (to : Way) (ways : List Way) (passed : IsPassedOn s depth facts scope x k to) (whole : IsWhole facts to)
+      (apart : IsApartFrom to ways) (open_there : IsOpen other (to ∷ ways)) (m : Memory) (typed : Kept s m hands) (viewed : ViewedIn other m)
+      (blank : (p : List Step) → word_in s.table (content s m [] (OfRoot (OfVariable (suc depth) x))) p ≡ Empty) where
+    abbrev inside : IsInside s depth k to
+    inside = passed.inside
+
+    abbrev at : Loc
+    at = inside_at s depth k to passed.inside
+
+    abbrev got : Waiting
+    got = record { of = k.of; words = words_of s m k }
+
+    abbrev mid : Memory
+    mid = moved_out s k m
+
+    abbrev next : Memory
+    next = declared (suc depth) x (words_of s m k) (moved_out s k m)
+
+    -- gone elsewhere, or in the place
+    abbrev with_it : Around (home s depth)
+    with_it = gone_also (home s depth) other (λ w. other.gone w ⊎ ((p : List Step) × (w ≡ along to p)))
+
+    spot : Spot s m hands k at
+    spot = inside_spot s depth k to passed.inside m hands
+
+    plain_name : is_observer s (number_of to) ≡ false
+    plain_name = ap (is_observer s) (inside_number s settled depth k to passed.inside) ∙ not_observing s (passed.inside).object (inside_plain s settled depth k to passed.inside)
+
+    itself : expand v to ≡ to
+    itself = inside_itself s settled depth k to passed.inside v
+
+    named_to : Named (home s depth) to
+    named_to = inside_named s settled depth k to passed.inside
+
+    clean : (w : Way) → Under to w → ExcusedBy (home s depth) v other facts w → ⊥
+    clean w under (inl moved) =
+        clean_away (home s depth) (is_observer s) other v (seen s m hands leaks) facts viewed to w (named_to, plain_name)
+        (λ h n has over. passed.unlent Borrowed h n has over) whole (subst (λ z. Under z w) (sym itself) under) moved
+    clean w under (inr o) = open_there.whole to (inl refl) w under o
+
+    clear_to : IsClearOf (home s depth) (is_observer s) v other with_it.gone to
+    clear_to = record {
+      own = λ y w has past.
+          off_view (home s depth) (is_observer s) v (seen s m hands leaks) facts viewed.views viewed.clear to y w (named_to, plain_name) passed.unlent has
+          (subst (λ z. Past z w) (sym itself) past);
+      far = λ w n keeps_it past. open_there.none w n keeps_it;
+    }
+
+    viewed_mid : Viewed (home s depth) (is_observer s) with_it v (seen s mid (got ∷ hands) leaks) facts
+    viewed_mid =
+        carried_off s settled (home s depth) (is_observer s) v other with_it.gone m hands leaks facts k at to viewed typed spot
+        (inside_rooted s depth k to passed.inside) (inside_reached s depth k to passed.inside (seen s m hands leaks))
+        (inside_owns s depth k to passed.inside m hands (no_formals (passed.inside).object)) clean
+        depth (passed.inside).object (inside_base s depth k to passed.inside) clear_to (λ w o. inl o) (λ p. inr (p, refl))
+
+    kept_mid : Kept s mid (got ∷ hands)
+    kept_mid = (keeps s settled own_law).moved m hands k at spot typed
+
+    abbrev marks : List Slot
+    marks = gone_at (access_offsets s.table k.of) (slots_of s m k)
+
+    -- the variable of the place alone is changed
+    other_base : (g y : ℕ) → (OfVariable depth (passed.inside).object ≡ OfVariable g y → ⊥) → variable_slots s g y mid.variables ≡ variable_slots s g y m.variables
+    other_base g y ne =
+        put_beside s 0 k.base (take k.at (slots_at s m k.base) ++ marks ++ drop (k.at + length marks) (slots_at s m k.base)) m g y
+        (λ e. ne (same_names (sym (passed.inside).base ∙ e)))
+      where
+        same_names : {f x g y : ℕ} → memory.OfVariable f x ≡ memory.OfVariable g y → OfVariable f x ≡ OfVariable g y
+        same_names e = cc
+
+    long : length got.words ≡ words s.table (object_at s x).of
+    long =
+        length-map (slots_of s m k) (λ (z : Slot). z.word) ∙ (taken_slots s settled m k (room s settled m hands typed k at spot)).0
+        ∙ matches_words s.table settled k.of (object_at s x).of passed.fits
+
+    frames_differ : (f x g y : ℕ) → (f ≡ g → ⊥) → OfVariable f x ≡ OfVariable g y → ⊥
+    frames_differ f x g y ne e = (let same : f ≡ g = cc in ne same)
+
+    blank_mid : (p : List Step) → word_in s.table (content s mid (got ∷ hands) (OfRoot (OfVariable (suc depth) x))) p ≡ Empty
+    blank_mid p =
+        ap (λ z. word_in s.table (record { of = (object_at s x).of; slots = z; owns = not (is_view_formal s x) }) p)
+        (other_base (suc depth) x (frames_differ depth (passed.inside).object (suc depth) x (λ e. omega (arith, e)))) ∙ blank p
+
+    viewed_next : Viewed (home s depth) (is_observer s) with_it v (seen s next hands leaks) facts
+    viewed_next =
+        declared_viewed s settled (home s depth) (is_observer s) with_it v mid got hands leaks facts (suc depth) x viewed_mid
+        (λ h w under o. elim o [
+          | inl away ↦ open_there.free h w under away
+          | inr (p, is) ↦ hand_base (sym (base_under (Object (OfHand h)) w under) ∙ ap base_of is ∙ base_along to p ∙ inside_base s depth k to passed.inside)
+        ]) kept_mid blank_mid (no_formals x) long (alike s.table settled k.of (object_at s x).of passed.fits)
+        (λ y w has at_home root. not_above x at_home) (λ w n keeps_it base. open_there.none w n keeps_it)
+      where
+        hand_base : {h f x : ℕ} → OfRoot (OfHand h) ≡ OfRoot (OfVariable f x) → ⊥
+        hand_base e = cc
+
+    kept_next : Kept s next hands
+    kept_next = declared_kept s settled mid (suc depth) x got hands kept_mid long passed.fits
+
+    bare_mid : (p : List Step) (c : ℕ) → word_in s.table (content s mid [] (OfRoot (OfVariable depth (passed.inside).object))) (p ++ (passed.inside).steps) ≡ Held c → ⊥
+    bare_mid p c held =
+        carried_bare s settled (home s depth) (is_observer s) v other with_it.gone m hands leaks facts k at to viewed typed spot
+        (inside_rooted s depth k to passed.inside) (inside_reached s depth k to passed.inside (seen s m hands leaks))
+        (inside_owns s depth k to passed.inside m hands (no_formals (passed.inside).object)) clean p c
+        (inside_word s depth k to passed.inside mid (got ∷ hands) p ∙ held)
+
+    -- ---- what changed
+
+    new_other : (g y : ℕ) → (OfVariable (suc depth) x ≡ OfVariable g y → ⊥) → variable_slots s g y next.variables ≡ variable_slots s g y mid.variables
+    new_other g y ne = put_other s (suc depth) x g y ne (fresh (words_of s m k)) mid.variables
+
+    new_word : (g y : ℕ) → (OfVariable (suc depth) x ≡ OfVariable g y → ⊥) → (p : List Step)
+        → word_in s.table (content s next [] (OfRoot (OfVariable g y))) p ≡ word_in s.table (content s mid [] (OfRoot (OfVariable g y))) p
+    new_word g y ne p = ap (λ z. word_in s.table (record { of = (object_at s y).of; slots = z; owns = not (is_view_formal s y) }) p) (new_other g y ne)
+
+    held_before : (g y : ℕ) (p : List Step) (c : ℕ) → word_in s.table (content s mid [] (OfRoot (OfVariable g y))) p ≡ Held c
+        → word_in s.table (content s m [] (OfRoot (OfVariable g y))) p ≡ Held c
+    held_before g y p c held =
+        carried_held s settled (home s depth) (is_observer s) v other with_it.gone m hands leaks facts k at to viewed typed spot
+        (inside_rooted s depth k to passed.inside) (inside_reached s depth k to passed.inside (seen s m hands leaks))
+        (inside_owns s depth k to passed.inside m hands (no_formals (passed.inside).object)) clean g y p c held
+
+    pub one_held : (g y : ℕ) (p : List Step) (c : ℕ) → word_in s.table (content s next [] (OfRoot (OfVariable g y))) p ≡ Held c
+        → (word_in s.table (content s m [] (OfRoot (OfVariable g y))) p ≡ Held c) ⊎ ((g ≡ suc depth) × (y ≡ x))
+    one_held g y p c held = elim (same_loc (OfRoot (OfVariable (suc depth) x)) (OfRoot (OfVariable g y))) [
+      | inl e ↦ (let both = same_variable (suc depth) x g y e in inr (sym both.0, sym both.1))
+      | inr ne ↦ inl (held_before g y p c (sym (new_word g y (λ e. ne (ap OfRoot e)) p) ∙ held))
+    ]
+
+    formal_plain : is_anonymous (view_of s x) ≡ true → ⊥
+    formal_plain view = not_view s.table (object_at s x).of view (matches_named s.table k.of (object_at s x).of passed.fits (passed.inside).named)
+
+    pub one_views : (g y : ℕ) → is_anonymous (view_of s y) ≡ true
+        → (get_or (variable_slots s g y next.variables) 0 no_slot).word ≡ (get_or (variable_slots s g y m.variables) 0 no_slot).word
+    one_views g y view =
+        ap (λ z. (get_or z 0 no_slot).word)
+        (new_other g y (λ e. formal_plain (subst (λ z. is_anonymous (view_of s z) ≡ true) (sym (same_variable (suc depth) x g y (ap OfRoot e)).1) view))
+        ∙ other_base g y (λ e. true_false (is_anonymous (view_of s y)) view
+        (ap (λ z. is_anonymous (view_of s z)) (sym (same_variable depth (passed.inside).object g y (ap OfRoot e)).1) ∙ inside_plain s settled depth k to passed.inside)))
+
+    pub one_bare : IsBare s depth k to next passed.inside
+    one_bare p c held =
+        bare_mid p c
+        (sym (new_word depth (passed.inside).object (frames_differ (suc depth) x depth (passed.inside).object (λ e. omega (arith, e))) (p ++ (passed.inside).steps)) ∙ held)
+
+    pub one_low : (w : Way) (g y : ℕ) → base_of w ≡ OfRoot (OfVariable g y) → g < depth → (c : ℕ)
+        → Reaches (seen s m hands leaks) w (OfCell c) → Reaches (seen s next hands leaks) w (OfCell c)
+    one_low w g y base less c reach =
+        declared_low s mid got hands leaks (suc depth) x w g y base (frames_differ (suc depth) x g y (λ e. omega (arith, less, e))) c
+        (carried_off_low s settled (home s depth) (is_observer s) v other with_it.gone m hands leaks facts k at to viewed typed spot
+        (inside_rooted s depth k to passed.inside) (inside_reached s depth k to passed.inside (seen s m hands leaks))
+        (inside_owns s depth k to passed.inside m hands (no_formals (passed.inside).object)) clean
+        depth (passed.inside).object (inside_base s depth k to passed.inside) w g y base (λ e. omega (arith, less, e)) c reach)
+
+    -- what is left to be declared has nothing still
+    pub one_blank : (y : ℕ) → (y ≡ x → ⊥) → (p : List Step) → word_in s.table (content s m [] (OfRoot (OfVariable (suc depth) y))) p ≡ Empty
+        → word_in s.table (content s next [] (OfRoot (OfVariable (suc depth) y))) p ≡ Empty
+    one_blank y off p none =
+        new_word (suc depth) y (λ e. off (sym (same_variable (suc depth) x (suc depth) y (ap OfRoot e)).1)) p
+        ∙ ap (λ z. word_in s.table (record { of = (object_at s y).of; slots = z; owns = not (is_view_formal s y) }) p)
+        (other_base (suc depth) y (frames_differ depth (passed.inside).object (suc depth) y (λ e. omega (arith, e)))) ∙ none
+
+    -- the others are open still
+    pub one_open : IsOpen with_it ways
+    one_open = record {
+      free = λ h w under o. elim o [
+        | inl away ↦ open_there.free h w under away
+        | inr (p, is) ↦ hand_base (sym (base_under (Object (OfHand h)) w under) ∙ ap base_of is ∙ base_along to p ∙ inside_base s depth k to passed.inside)
+      ];
+      whole = λ z has w under o. elim o [
+        | inl away ↦ open_there.whole z (inr has) w under away
+        | inr (p, is) ↦ elim (beginnings to z w (subst (Under to) (sym is) (under_along to to p (under_itself to))) under) [
+          | inl a ↦ (apart z has).0 a
+          | inr b ↦ (apart z has).1 b
+        ]
+      ];
+      none = open_there.none;
+    }
+      where
+        hand_base : {h f x : ℕ} → OfRoot (OfHand h) ≡ OfRoot (OfVariable f x) → ⊥
+        hand_base e = cc
+
+  -- ---- all of them
+
+  pub formals_of_returns : (formals : List ℕ) (passed : List Passed) (r : Return) → Has (returns_of formals passed) r → Has formals r.formal
+  formals_of_returns [] passed r has = absurd has
+  formals_of_returns (x ∷ formals) [] r has = absurd has
+  formals_of_returns (x ∷ formals) (Value ws ∷ passed) r has = inr (formals_of_returns formals passed r has)
+  formals_of_returns (x ∷ formals) (From k ∷ passed) r (inl e) = inl (ap (λ (z : Return). z.formal) e)
+  formals_of_returns (x ∷ formals) (From k ∷ passed) r (inr has) = inr (formals_of_returns formals passed r has)
+  formals_of_returns (x ∷ formals) (To k ∷ passed) r (inl e) = inl (ap (λ (z : Return). z.formal) e)
+  formals_of_returns (x ∷ formals) (To k ∷ passed) r (inr has) = inr (formals_of_returns formals passed r has)
+
+  plain_returns : (n : Memory) (x : ℕ) (a : Passed) (formals : List ℕ) (passed : List Passed) (ways : List Way) → IsPlainOne s x a
+      → AreTaken s n depth facts scope (returns_of formals passed) ways → AreTaken s n depth facts scope (returns_of (x ∷ formals) (a ∷ passed)) ways
+  plain_returns n x (Value ws) formals passed ways plain taken = taken
+  plain_returns n x (From k) formals passed [] plain taken = (plain, taken)
+  plain_returns n x (From k) formals passed (to ∷ ways) plain taken = inl (plain, taken)
+  plain_returns n x (To k) formals passed [] plain taken = (plain, taken)
+  plain_returns n x (To k) formals passed (to ∷ ways) plain taken = inl (plain, taken)
+
+  nothing_declared : (formals : List ℕ) (m : Memory) → Kept s m hands → AreDeclared formals m m
+  nothing_declared formals m typed = record { typed = typed; held = λ g y p c held. inl held; views = λ g y view. refl; words = λ plain. ((λ g y p any. refl), (λ c p. refl)); low = λ w g y base less c reach. reach }
+
+  nothing_entered : (other : Around (home s depth)) (formals : List ℕ) (passed : List Passed) (ways : List Way) (m : Memory)
+      → returns_of formals passed ≡ [] → ways ≡ [] → Kept s m hands → ViewedIn other m → Enter other formals passed ways m m
+  nothing_entered other formals passed ways m none no_ways typed viewed = (
+    nothing_declared formals m typed,
+    more_gone (home s depth) (is_observer s) v other (λ w. other.gone w ⊎ TakenBy ways w) (seen s m hands leaks) facts (λ w o. inl o) viewed,
+    subst (λ z. AreTaken s m depth facts scope z ways) (sym none) no_ways,
+  )
+
+  -- scalar ones change nothing that owners see
+  plain_then : (other : Around (home s depth)) (x : ℕ) (a : Passed) (formals : List ℕ) (passed : List Passed) (ways : List Way) (m then_m n : Memory) → IsPlainOne s x a
+      → Enters s settled own_law hands leaks m then_m → Enter other formals passed ways then_m n → Enter other (x ∷ formals) (a ∷ passed) ways m n
+  plain_then other x a formals passed ways m then_m n plain on later = (
+    record {
+      typed = later.0.typed;
+      held = λ g y p c held. elim (later.0.held g y p c held) [
+        | inl h ↦ inl (sym (on.hold g y p) ∙ h)
+        | inr h ↦ inr (h.0, inr h.1)
+      ];
+      views = λ g y view. later.0.views g y view ∙ on.views g y view;
+      words = λ plain_all. (let more = later.0.words (λ y has. plain_all y (inr has)) in (
+        λ g y p any. more.0 g y p any ∙ on.hold g y p,
+        λ c p. more.1 c p ∙ cells_same s m then_m hands leaks on.same c p,
+      ));
+      low = λ w g y base less c reach. later.0.low w g y base less c (same_reaches (seen s m hands leaks) (seen s then_m hands leaks) on.same w (OfCell c) reach);
+    },
+    later.1,
+    plain_returns n x a formals passed ways plain later.2,
+  )
+
+  taken_then : (other : Around (home s depth)) (x : ℕ) (k : Place) (to : Way) (formals : List ℕ) (passed : List Passed) (ways : List Way) (m next n : Memory)
+      → (one : IsPassedOn s depth facts scope x k to) → IsApartFrom to ways → DiffersFrom x formals
+      → ((g y : ℕ) (p : List Step) (c : ℕ) → word_in s.table (content s next [] (OfRoot (OfVariable g y))) p ≡ Held c
+      → (word_in s.table (content s m [] (OfRoot (OfVariable g y))) p ≡ Held c) ⊎ ((g ≡ suc depth) × (y ≡ x)))
+      → ((g y : ℕ) → is_anonymous (view_of s y) ≡ true
+      → (get_or (variable_slots s g y next.variables) 0 no_slot).word ≡ (get_or (variable_slots s g y m.variables) 0 no_slot).word)
+      → IsBare s depth k to next one.inside
+      → ((w : Way) (g y : ℕ) → base_of w ≡ OfRoot (OfVariable g y) → g < depth → (c : ℕ)
+      → Reaches (seen s m hands leaks) w (OfCell c) → Reaches (seen s next hands leaks) w (OfCell c))
+      → Enter (gone_also (home s depth) other (λ w. other.gone w ⊎ ((p : List Step) × (w ≡ along to p)))) formals passed ways next n
+      → Enter other (x ∷ formals) (From k ∷ passed) (to ∷ ways) m n
+  taken_then other x k to formals passed ways m next n one apart differ held views bare low later = (
+    record {
+      typed = later.0.typed;
+      held = λ g y p c is. elim (later.0.held g y p c is) [
+        | inr h ↦ inr (h.0, inr h.1)
+        | inl h ↦ elim (held g y p c h) [ inl before ↦ inl before | inr mine ↦ inr (mine.0, inl (sym mine.1)) ]
+      ];
+      views = λ g y view. later.0.views g y view ∙ views g y view;
+      words = λ plain_all. absurd (true_false (is_scalar (full s.table (object_at s x).of)) (plain_all x (inl refl)) one.many);
+      low = λ w g y base less c reach. later.0.low w g y base less c (low w g y base less c reach);
+    },
+    more_gone (home s depth) (is_observer s) v
+        (taken_also (gone_also (home s depth) other (λ w. other.gone w ⊎ ((p : List Step) × (w ≡ along to p)))) ways)
+        (λ w. other.gone w ⊎ TakenBy (to ∷ ways) w) (seen s n hands leaks) facts
+        (λ w o. elim o [
+          | inr taken ↦ inr (taken_more to ways w taken)
+          | inl before ↦ elim before [ inl away ↦ inl away | inr (p, is) ↦ inr (to, inl refl, p, is) ]
+        ]) later.1,
+    inr (
+      (
+        one,
+        (λ p c is. elim (later.0.held depth (one.inside).object (p ++ (one.inside).steps) c is) [
+          | inl h ↦ bare p c h
+          | inr h ↦ (let same = h.0 in omega (arith, same))
+        ]),
+      ),
+      apart,
+      (λ r has. differ r.formal (formals_of_returns formals passed r has)),
+      later.2,
+    ),
+  )
+
+  pub all_declared : (other : Around (home s depth)) (formals : List ℕ) (passed : List Passed) (ways : List Way) (m : Memory)
+      → ArePassedOn s depth facts scope formals passed ways → IsOpen other ways → Kept s m hands → ViewedIn other m → AreBlank m formals
+      → Enter other formals passed ways m (with_formals s (suc depth) formals passed m)
+  all_declared other [] passed ways m are open_there typed viewed blank = nothing_entered other [] passed ways m refl are typed viewed
+  all_declared other (x ∷ formals) [] ways m are open_there typed viewed blank = nothing_entered other (x ∷ formals) [] ways m refl are typed viewed
+  all_declared other (x ∷ formals) (a ∷ passed) [] m are open_there typed viewed blank =
+      let on = with_one s settled own_law hands leaks (suc depth) x a m are.0.0 are.0.1 typed in
+      let mid : Memory = with_formal s (suc depth) x a m in
+      plain_then other x a formals passed [] m mid (with_formals s (suc depth) formals passed mid) are.0 on
+      (all_declared other formals passed [] mid are.1 open_there on.typed
+      (same_viewed (home s depth) (is_observer s) other v (seen s m hands leaks) (seen s mid hands leaks) facts on.same viewed)
+      (λ y has p. on.hold (suc depth) y p ∙ blank y (inr has) p))
+  all_declared other (x ∷ formals) (a ∷ passed) (to ∷ ways) m (inl are) open_there typed viewed blank =
+      let on = with_one s settled own_law hands leaks (suc depth) x a m are.0.0 are.0.1 typed in
+      let mid : Memory = with_formal s (suc depth) x a m in
+      plain_then other x a formals passed (to ∷ ways) m mid (with_formals s (suc depth) formals passed mid) are.0 on
+      (all_declared other formals passed (to ∷ ways) mid are.1 open_there on.typed
+      (same_viewed (home s depth) (is_observer s) other v (seen s m hands leaks) (seen s mid hands leaks) facts on.same viewed)
+      (λ y has p. on.hold (suc depth) y p ∙ blank y (inr has) p))
+  all_declared other (x ∷ formals) (a ∷ passed) (to ∷ ways) m (inr (k, is, one, whole, apart, differ, more)) open_there typed viewed blank =
+      let new = blank x (inl refl) in
+      let next : Memory = declared (suc depth) x (words_of s m k) (moved_out s k m) in
+      let away : Around (home s depth) = gone_also (home s depth) other (λ w. other.gone w ⊎ ((p : List Step) × (w ≡ along to p))) in
+      subst (λ z. Enter other (x ∷ formals) (z ∷ passed) (to ∷ ways) m (with_formals s (suc depth) (x ∷ formals) (z ∷ passed) m)) (sym is)
+      (taken_then other x k to formals passed ways m next (with_formals s (suc depth) formals passed next) one apart differ
+      (one_held other x k to ways one whole apart open_there m typed viewed new) (one_views other x k to ways one whole apart open_there m typed viewed new)
+      (one_bare other x k to ways one whole apart open_there m typed viewed new)
+      (one_low other x k to ways one whole apart open_there m typed viewed new)
+      (all_declared away formals passed ways next more (one_open other x k to ways one whole apart open_there m typed viewed new)
+      (kept_next other x k to ways one whole apart open_there m typed viewed new) (viewed_next other x k to ways one whole apart open_there m typed viewed new)
+      (λ y has p. one_blank other x k to ways one whole apart open_there m typed viewed new y (differ y has) p (blank y (inr has) p))))

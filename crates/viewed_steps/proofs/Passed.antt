@@ -1,0 +1,373 @@
+-- What a call passes: places that aren't scalar are neither moved nor lent, and don't overlap; and what a
+-- call leads to after its actuals.
+use Rattle.std.proofs.Common.{◌≡◌, refl, sym, ap, ◌∙◌, subst, ◌⊎◌, inl, inr, ℕ, Bool, true, false, not, ◌&&◌, ◌||◌, List, [], ◌∷◌, ◌++◌, map, flat_map, nat_le, Option, Some, None, if◌then◌else◌}
+use Rattle.std.specs.List.{list_any, filter}
+use Rattle.spark_base.specs.Lists.{Has}
+use Rattle.spark_base.proofs.Lists.{Has-append_left, Has-append_right, Has-append_cases, Has-filter, Has-map_from}
+use Rattle.spark_base.specs.declared.position.Pos.{Pos}
+use Rattle.place_names.specs.declared.act.Act.{Act}
+use Rattle.place_names.specs.declared.act.Act.TheVariants as act
+use Rattle.place_names.specs.declared.act.Mode.{Mode}
+use Rattle.place_names.specs.declared.act.Mode.TheVariants as mode
+use Rattle.place_names.specs.declared.act.Placed.{Placed}
+use Rattle.place_names.specs.declared.fact.Fact.{Fact}
+use Rattle.place_names.specs.declared.fact.Fact.TheVariants.{Moved, Lent}
+use Rattle.place_names.specs.declared.rule.Rule.TheVariants.{A1, O10}
+use Rattle.place_names.specs.Names.{overlaps, strict_prefixes}
+use Rattle.place_names.specs.Facts.{adds, removes, effect}
+use Rattle.place_names.specs.Rules.{lent, moved_or_borrowed, moved_or_lent, breaks_O2, breaks_O3, breaks_O10}
+use Rattle.place_names.specs.Reports.{Report}
+use Rattle.type_definitions.specs.Types.{shape_of, full, parts, is_scalar, is_owning}
+use Rattle.typed_tree.specs.Trees.{TypedTree, Name, More}
+use Rattle.flow_paths.specs.declared.report.Effects.{Effects}
+use Rattle.flow_paths.specs.Objects.{Typing, object_at, sub_at, is_package_object, is_named_access, is_variable_access, view_of, Passing, passing, passing_by, passings}
+use Rattle.flow_paths.specs.Names.{Written, written, name_of}
+use Rattle.flow_paths.specs.Acts.{actual_act, actual_acts}
+use Rattle.flow_paths.specs.Views.{is_in_mode, text_report}
+use Rattle.flow_paths.specs.Points.{FlowPoint}
+use Rattle.flow_paths.specs.Laid.{FlowSub, FlowProgram, flow_typing}
+use Rattle.flow_paths.specs.Reports.{AreReports, on_actuals}
+use Rattle.flow_paths.specs.Aliases as alias
+use Rattle.flow_paths.specs.Aliases.{may_overlap, pair_reports, overlap_reports, passed_reports, call_reports, alias_reports}
+use Rattle.flow_paths.specs.Scopes.{is_within}
+use Rattle.machine.specs.Words as machine
+use Rattle.machine.specs.Memory.{Memory, Place, slots_at}
+use Rattle.machine.specs.Evaluate.{Now, Exception, Evaluated, Done, Raises, Traps, StorageError}
+use Rattle.machine.specs.Calls.{Passed, Value, From, To, all_passed, out_checks, checks_at, checked_at, written_pos, return_of, returns_of}
+use Rattle.machine.specs.States.{Return, Outcome, Goes, stack_words, frame_words, frame_at_start, sub_of}
+use Rattle.machine.specs.Step.{Turn, typing, here, start, raised, leaking_goes, call}
+use Rattle.machine.specs.Step as steps
+use Rattle.owned_ways.specs.Ways.{Way, Under, Allows, AllowsAll, after}
+use Rattle.owned_ways.specs.Ways as ways
+use Rattle.owned_ways.proofs.Named.{under_overlaps, under_front}
+use Rattle.part_offsets.specs.Parts.{IsSettled}
+use Rattle.soundness.specs.Typed.{OwnsByShape}
+use Rattle.soundness.specs.Ready.{root_of}
+use Rattle.soundness.proofs.Contents.{bool_cases}
+use Rattle.soundness.proofs.Freeing.{plain_parts}
+use Rattle.soundness.proofs.Passing.{Enters, formals_there, entered}
+use Rattle.soundness.proofs.Scalars.{acts, acts_append, after_append, allows_both}
+use Rattle.soundness.proofs.Stays.{Quiet}
+use Rattle.owned_loans.proofs.Clear.{refused}
+use Rattle.owned_loans.proofs.Allowed.{either_right}
+use Rattle.owned_loans.proofs.Safe.{Unlent, Unmoved}
+use Rattle.viewed_steps.specs.Sound.{IsScalarObject, IsKindOfFormal}
+use Rattle.viewed_steps.specs.Ready.{roots_passed, AreDifferent, AreActualsTo}
+use Rattle.viewed_soundness.proofs.Names.{true_false}
+use Rattle.viewed_steps.specs.Taken.{IsApartFrom}
+use Rattle.viewed_steps.proofs.Called.{IsOwnPut, IsLaidOne, AreLaidOut, copies_add}
+use Rattle.viewed_steps.proofs.Entered.{IsPlainOne, DiffersFrom, ArePassedOn}
+
+-- ---- what the rules on facts say
+
+either_left : (a b : Bool) → a ≡ true → a || b ≡ true
+either_left true b e = refl
+either_left false b e = cc
+
+-- nothing that overlaps an actual of mode `in out` is moved or lent
+pub passed_unlent : (facts : List Fact) (u : Way) (owning access : Bool) → Allows facts (act.Actual (ways.name_of u) mode.InOut owning access) → Unlent facts u
+passed_unlent facts u true access allowed l h n has over =
+    refused (moved_or_lent (ways.name_of u) (Lent l h n)) O10 (ways.name_of u) (Lent l h n) over (allowed (Lent l h n) has)
+passed_unlent facts u false access allowed l h n has over =
+    refused (breaks_O10 (ways.name_of u) mode.InOut false access (Lent l h n)) O10 (ways.name_of u) (Lent l h n)
+    (either_right (moved_or_borrowed (ways.name_of u) (Lent l h n)) (breaks_O3 (ways.name_of u) (Lent l h n))
+    (either_right (list_any (λ p. breaks_O2 p (Lent l h n)) (strict_prefixes (ways.name_of u))) (lent (ways.name_of u) (Lent l h n)) over)) (allowed (Lent l h n) has)
+
+pub passed_unmoved : (facts : List Fact) (u : Way) (owning access : Bool) → Allows facts (act.Actual (ways.name_of u) mode.InOut owning access) → Unmoved facts u
+passed_unmoved facts u true access allowed n has over =
+    refused (moved_or_lent (ways.name_of u) (Moved n)) O10 (ways.name_of u) (Moved n) over (allowed (Moved n) has)
+passed_unmoved facts u false access allowed n has over =
+    refused (breaks_O10 (ways.name_of u) mode.InOut false access (Moved n)) O10 (ways.name_of u) (Moved n)
+    (either_left (moved_or_borrowed (ways.name_of u) (Moved n)) (breaks_O3 (ways.name_of u) (Moved n)) over) (allowed (Moved n) has)
+
+-- ---- what the rules on actuals say
+
+-- no report is given
+none_of : {A : Type 0} (xs : List A) → ((x : A) → Has xs x → ⊥) → xs ≡ []
+none_of [] none = refl
+none_of (x ∷ xs) none = absurd (none x (inl refl))
+
+flat_has : {A B : Type 0} (f : A → List B) (xs : List A) (x : A) (y : B) → Has xs x → Has (f x) y → Has (flat_map f xs) y
+flat_has f [] x y h k = absurd h
+flat_has f (z ∷ xs) x y h k = elim h [
+  | inl e ↦ Has-append_left (f z) (flat_map f xs) y (subst (λ w. Has (f w) y) (sym e) k)
+  | inr later ↦ Has-append_right (f z) (flat_map f xs) y (flat_has f xs x y later k)
+]
+
+pub no_call_reports : (program : FlowProgram) (effects : Effects) → AreReports program effects [] → (sub : FlowSub) → Has program.subs sub → (p : FlowPoint) → Has sub.points p
+    → (r : Report) → Has (call_reports (flow_typing program) effects p.instr) r → ⊥
+no_call_reports program effects none sub in_program p in_sub r has =
+    none.complete r (on_actuals (flat_has (λ (z : FlowSub). flat_map (λ (q : FlowPoint). call_reports (flow_typing program) effects q.instr) z.points) program.subs sub r in_program
+    (flat_has (λ (q : FlowPoint). call_reports (flow_typing program) effects q.instr) sub.points p r in_sub has)))
+
+abbrev pub IsInOut : Typing → ℕ → Type 0
+IsInOut s x = (object_at s x).mode ≡ mode.InOut
+
+module _ (s : Typing) where
+  -- two of mode `in out` may not overlap
+  mutable : (x : ℕ) → IsInOut s x → alias.is_immutable s x ≡ false
+  mutable x in_out = ap (λ m. is_in_mode m && not (is_variable_access (view_of s x))) in_out
+
+  never : (a b : alias.Passed) → IsInOut s a.formal → IsInOut s b.formal → may_overlap s a b ≡ false
+  never a b one two =
+      (λ j. (mutable a.formal one j && mutable b.formal two j) || ((mutable a.formal one j && alias.is_scalar_formal s a.formal) || (mutable b.formal two j && alias.is_scalar_formal s b.formal)))
+
+  apart_pair : (a b : alias.Passed) → IsInOut s a.formal → IsInOut s b.formal → ((r : Report) → Has (pair_reports s a b) r → ⊥)
+      → overlaps a.actual.name b.actual.name ≡ true → ⊥
+  apart_pair a b one two none over =
+      let test : overlaps a.actual.name b.actual.name && not (may_overlap s a b) ≡ true =
+      ap (λ z. z && not (may_overlap s a b)) over ∙ ap not (never a b one two) in
+      none (text_report b.actual.pos A1 b.actual.name)
+      (subst (λ z. Has (if z then text_report b.actual.pos A1 b.actual.name ∷ [] else []) (text_report b.actual.pos A1 b.actual.name)) (sym test) (inl refl))
+
+-- ---- what is passed
+
+-- The name of an actual, with its formal.
+abbrev pub IsNamedBy : Typing → List ℕ → TypedTree → Way → Type 0
+IsNamedBy s formals actuals to =
+    (b : alias.Passed) × Has (alias.passed formals actuals) b × IsInOut s b.formal × (b.actual.name ≡ ways.name_of to)
+
+module _ (s : Typing) where
+  -- what is apart from all later ones
+  pub apart_from : (x : ℕ) (e : TypedTree) (m : Written) (formals : List ℕ) (actuals : TypedTree) (to : Way) (ways_left : List Way) → IsInOut s x
+      → written e ≡ Some m → m.name ≡ ways.name_of to
+      → ((r : Report) → Has (overlap_reports s (alias.passed (x ∷ formals) (More e actuals))) r → ⊥)
+      → ((k : Way) → Has ways_left k → IsNamedBy s formals actuals k) → IsApartFrom to ways_left
+  apart_from x e m formals actuals to ways_left in_out is called none names k has =
+      let b = names k has in
+      let first : alias.Passed = record { formal = x; actual = m } in
+      let all : alias.passed (x ∷ formals) (More e actuals) ≡ first ∷ alias.passed formals actuals =
+      ap (λ z. alias.passed_as x z ++ alias.passed formals actuals) is in
+      let apart : overlaps (ways.name_of to) (ways.name_of k) ≡ true → ⊥ =
+      (λ over. apart_pair s first b.0 in_out b.2
+      (λ r report. none r (subst (λ z. Has (overlap_reports s z) r) (sym all)
+      (Has-append_left (flat_map (pair_reports s first) (alias.passed formals actuals)) (overlap_reports s (alias.passed formals actuals)) r
+      (flat_has (pair_reports s first) (alias.passed formals actuals) b.0 r b.1 report))))
+      (subst (λ z. overlaps z b.0.actual.name ≡ true) (sym called) (subst (λ z. overlaps (ways.name_of to) z ≡ true) (sym b.3) over))) in (
+        λ under. apart (under_front to k under),
+        λ under. apart (under_overlaps k to under),
+      )
+
+  -- the reports on the others are among those
+  pub later_none : (x : ℕ) (e : TypedTree) (formals : List ℕ) (actuals : TypedTree)
+      → ((r : Report) → Has (overlap_reports s (alias.passed (x ∷ formals) (More e actuals))) r → ⊥)
+      → (r : Report) → Has (overlap_reports s (alias.passed formals actuals)) r → ⊥
+  later_none x e formals actuals none r has = by_written (written e) refl
+    where
+      by_written : (w : Option Written) → written e ≡ w → ⊥
+      by_written None is = none r (subst (λ z. Has (overlap_reports s (alias.passed_as x z ++ alias.passed formals actuals)) r) (sym is) has)
+      by_written (Some m) is =
+          none r (subst (λ z. Has (overlap_reports s (alias.passed_as x z ++ alias.passed formals actuals)) r) (sym is)
+          (Has-append_right (flat_map (pair_reports s (record { formal = x; actual = m })) (alias.passed formals actuals)) (overlap_reports s (alias.passed formals actuals)) r has))
+
+-- acts that add nothing leave fewer facts
+after_less : (more : List Act) → ((a : Act) → Has more a → (f : Fact) → Has (adds a) f → ⊥) → (facts : List Fact) (f : Fact) → Has (after more facts) f → Has facts f
+after_less [] none facts f has = has
+after_less (a ∷ more) none facts f has =
+    elim (Has-append_cases (filter (λ g. not (removes a g)) facts) (adds a) f (after_less more (λ b there. none b (inr there)) (effect a facts) f has)) [
+      | inl old ↦ (Has-filter (λ g. not (removes a g)) facts f old).0
+      | inr new ↦ absurd (none a (inl refl) f new)
+    ]
+
+-- ---- all that is passed
+
+module _ (s : Typing) (own_law : OwnsByShape s.table) (depth : ℕ) (facts : List Fact) (scope : List ℕ) (procedure : Bool) where
+  abbrev copies_of : List ℕ → TypedTree → List Placed
+  copies_of formals actuals = actual_acts (map (passing s procedure) formals) actuals
+
+  -- its ways
+  abbrev Passes : List ℕ → TypedTree → List Passed → Type 0
+  Passes formals actuals passed =
+      (ways_there : List Way) × ArePassedOn s depth facts scope formals passed ways_there × ((k : Way) → Has ways_there k → IsNamedBy s formals actuals k)
+
+  more_named : (x : ℕ) (e : TypedTree) (formals : List ℕ) (actuals : TypedTree) (k : Way) → IsNamedBy s formals actuals k → IsNamedBy s (x ∷ formals) (More e actuals) k
+  more_named x e formals actuals k (b, has, is, called) =
+      (b, Has-append_right (alias.passed_as x (written e)) (alias.passed formals actuals) b has, is, called)
+
+  plain_first : (x : ℕ) (e : TypedTree) (a : Passed) (formals : List ℕ) (actuals : TypedTree) (passed : List Passed) → IsPlainOne s x a
+      → Passes formals actuals passed → Passes (x ∷ formals) (More e actuals) (a ∷ passed)
+  plain_first x e a formals actuals passed plain ([], are, names) = ([], (plain, are), λ k has. more_named x e formals actuals k (names k has))
+  plain_first x e a formals actuals passed plain (to ∷ ways_left, are, names) =
+      (to ∷ ways_left, inl (plain, are), λ k has. more_named x e formals actuals k (names k has))
+
+  own_first : (x : ℕ) (e : TypedTree) (k : Place) (formals : List ℕ) (actuals : TypedTree) (passed : List Passed) (known : List Fact)
+      → IsInOut s x → is_scalar (full s.table (object_at s x).of) ≡ false → IsOwnPut s depth x e k → is_package_object s x ≡ false
+      → DiffersFrom x formals
+      → ((y : ℕ) → Has (root_of e) y → is_package_object s y ≡ false → is_owning s.table (object_at s y).of ≡ true → is_within y scope ≡ true)
+      → ((r : Report) → Has (overlap_reports s (alias.passed (x ∷ formals) (More e actuals))) r → ⊥)
+      → ((f : Fact) → Has facts f → Has known f) → AllowsAll known (acts (actual_act (passing s procedure x) e))
+      → Passes formals actuals passed → Passes (x ∷ formals) (More e actuals) (From k ∷ passed)
+  own_first x (Name p y path u) k formals actuals passed known in_out many (to, inside, called, object_is, fits) local differ within none less allowed (ways_left, are, names) =
+      let owning : Bool = is_owning s.table (object_at s x).of in
+      let access : Bool = procedure && is_named_access (view_of s x) in
+      let m : Written = record { pos = p; name = name_of y path; of = u } in
+      let here_allowed : Allows known (act.Actual (name_of y path) mode.InOut owning access) =
+      (subst (λ z. AllowsAll known (acts (actual_act (passing_by z owning access) (Name p y path u)))) in_out allowed).0 in
+      let by_way : Allows known (act.Actual (ways.name_of to) mode.InOut owning access) =
+      subst (λ z. Allows known (act.Actual z mode.InOut owning access)) (sym called) here_allowed in (
+        to ∷ ways_left,
+        inr (
+          k,
+          refl,
+          record {
+            inside = inside;
+            fits = fits;
+            formal = local;
+            many = many;
+            within = λ owns. within inside.object (inl (sym object_is)) inside.own owns;
+            unlent = λ l h n has over. passed_unlent known to owning access by_way l h n (less (Lent l h n) has) over;
+          },
+          (λ n has over. passed_unmoved known to owning access by_way n (less (Moved n) has) over),
+          apart_from s x (Name p y path u) m formals actuals to ways_left in_out refl (sym called) none names,
+          differ,
+          are,
+        ),
+        λ z has. elim has [
+          | inr later ↦ more_named x (Name p y path u) formals actuals z (names z later)
+          | inl same ↦ (record { formal = x; actual = m }, inl refl, in_out, sym called ∙ ap ways.name_of same)
+        ],
+      )
+  own_first x e k formals actuals passed known in_out many put local differ within none less allowed later = absurd put
+
+  kind_scalar : (x : ℕ) (m : Mode) → (object_at s x).mode ≡ m → (m ≡ mode.InOut → ⊥) → IsKindOfFormal s x → IsScalarObject s x
+  kind_scalar x m is other (inl plain) = plain
+  kind_scalar x m is other (inr (in_out, own)) = absurd (other (sym is ∙ in_out))
+
+  no_in : mode.In ≡ mode.InOut → ⊥
+  no_in e = cc
+
+  no_out : mode.Out ≡ mode.InOut → ⊥
+  no_out e = cc
+
+  first_passed : (x : ℕ) (m : Mode) (e : TypedTree) (a : Passed) (formals : List ℕ) (actuals : TypedTree) (passed : List Passed) (known : List Fact)
+      → (object_at s x).mode ≡ m → IsLaidOne s depth x m e a → IsKindOfFormal s x → is_package_object s x ≡ false → DiffersFrom x formals
+      → ((y : ℕ) → Has (root_of e) y → is_package_object s y ≡ false → is_owning s.table (object_at s y).of ≡ true → is_within y scope ≡ true)
+      → ((r : Report) → Has (overlap_reports s (alias.passed (x ∷ formals) (More e actuals))) r → ⊥) ⊎ ((y : ℕ) → Has (x ∷ formals) y → IsScalarObject s y)
+      → ((f : Fact) → Has facts f → Has known f) → AllowsAll known (acts (actual_act (passing s procedure x) e))
+      → Passes formals actuals passed → Passes (x ∷ formals) (More e actuals) (a ∷ passed)
+  first_passed x mode.In e (Value ws) formals actuals passed known is laid kind local differ within none less allowed later =
+      plain_first x e (Value ws) formals actuals passed (kind_scalar x mode.In is no_in kind, laid) later
+  first_passed x mode.Out e (To k) formals actuals passed known is laid kind local differ within none less allowed later =
+      plain_first x e (To k) formals actuals passed (kind_scalar x mode.Out is no_out kind, laid) later
+  first_passed x mode.InOut e (From k) formals actuals passed known is (inl (plain, fixed)) kind local differ within none less allowed later =
+      plain_first x e (From k) formals actuals passed (plain, fixed) later
+  first_passed x mode.InOut e (From k) formals actuals passed known is (inr (many, put)) kind local differ within (inl none) less allowed later =
+      own_first x e k formals actuals passed known is many put local differ within none less allowed later
+  first_passed x mode.InOut e (From k) formals actuals passed known is (inr (many, put)) kind local differ within (inr plain) less allowed later =
+      absurd (true_false (is_scalar (full s.table (object_at s x).of)) (plain x (inl refl)) many)
+  first_passed x m e a formals actuals passed known is laid kind local differ within none less allowed later = absurd laid
+
+  pub all_passed_on : (formals : List ℕ) (actuals : TypedTree) (passed : List Passed) (known : List Fact) → AreLaidOut s depth formals actuals passed
+      → ((x : ℕ) → Has formals x → IsKindOfFormal s x) → ((x : ℕ) → Has formals x → is_package_object s x ≡ false) → AreDifferent formals
+      → ((y : ℕ) → Has (roots_passed actuals) y → is_package_object s y ≡ false → is_owning s.table (object_at s y).of ≡ true → is_within y scope ≡ true)
+      → ((r : Report) → Has (overlap_reports s (alias.passed formals actuals)) r → ⊥) ⊎ ((x : ℕ) → Has formals x → IsScalarObject s x)
+      → facts ≡ after (acts (actual_acts (map (passing s procedure) formals) actuals)) known
+      → AllowsAll known (acts (actual_acts (map (passing s procedure) formals) actuals)) → Passes formals actuals passed
+  unfolding roots_passed
+  all_passed_on [] actuals passed known laid kinds local differ within none same allowed = ([], refl, λ k has. absurd has)
+  all_passed_on (x ∷ formals) (More e rest) (a ∷ passed) known laid kinds local differ within none same allowed =
+      let first : List Act = acts (actual_act (passing s procedure x) e) in
+      let others : List Act = acts (copies_of formals rest) in
+      let both : acts (copies_of (x ∷ formals) (More e rest)) ≡ first ++ others = acts_append (actual_act (passing s procedure x) e) (copies_of formals rest) in
+      let each = allows_both known first others (subst (AllowsAll known) both allowed) in
+      first_passed x (object_at s x).mode e a formals rest passed known refl laid.0 (kinds x (inl refl)) (local x (inl refl)) differ.0
+      (λ y has. within y (Has-append_left (root_of e) (roots_passed rest) y has)) none
+      (λ f has. after_less (acts (copies_of (x ∷ formals) (More e rest)))
+      (λ b there. (let from = Has-map_from (λ (z : Placed). z.act) (copies_of (x ∷ formals) (More e rest)) b there in
+      λ g new. copies_add s own_law procedure (x ∷ formals) (More e rest) from.0 from.1 g (subst (λ z. Has (adds z) g) (sym from.2) new))) known f (subst (λ z. Has z f) same has))
+      each.0
+      (all_passed_on formals rest passed (after first known) laid.1 (λ y has. kinds y (inr has)) (λ y has. local y (inr has)) differ.1
+      (λ y has. within y (Has-append_right (root_of e) (roots_passed rest) y has)) (elim none [ inl no_reports ↦ inl (later_none s x e formals rest no_reports) | inr plain ↦ inr (λ y has. plain y (inr has)) ])
+      (same ∙ ap (λ z. after z known) both ∙ after_append first others known) each.1)
+  all_passed_on (x ∷ formals) (More e rest) [] known laid kinds local differ within none same allowed = absurd laid
+  all_passed_on (x ∷ formals) actuals passed known laid kinds local differ within none same allowed =
+      ([], subst (λ z. ArePassedOn s depth facts scope (x ∷ formals) z []) (sym laid) refl, λ k has. absurd has)
+
+-- ---- what is checked, and what is to be copied back
+
+module _ (s : Typing) (settled : IsSettled s.table) (depth : ℕ) where
+  -- a scalar place has no leak checks
+  no_checks : (p : Pos) (m : Memory) (k : Place) → is_scalar (full s.table k.of) ≡ true → checks_at s p m k ≡ []
+  no_checks p m k plain =
+      ap (map (λ part. checked_at p k.at (slots_at s m k.base) (machine.offsets s.table k.of part)))
+      (settled.part_law k.of ∙ plain_parts (parts s.table) (shape_of s.table k.of) plain)
+
+  first_checks : (p : Pos) (m : Memory) (x : ℕ) (how : Mode) (e : TypedTree) (a : Passed) (passed : List Passed) (rest : TypedTree) → IsLaidOne s depth x how e a
+      → out_checks s p m passed rest ≡ [] → out_checks s p m (a ∷ passed) (More e rest) ≡ []
+  first_checks p m x mode.In e (Value ws) passed rest laid none = none
+  first_checks p m x mode.InOut e (From k) passed rest laid none = none
+  first_checks p m x mode.Out e (To k) passed rest laid none =
+      ap (λ z. z ++ out_checks s p m passed rest) (no_checks (written_pos p (written e)) m k laid.scalar) ∙ none
+  first_checks p m x how e a passed rest laid none = absurd laid
+
+  pub no_out_checks : (p : Pos) (m : Memory) (formals : List ℕ) (actuals : TypedTree) (passed : List Passed) → AreLaidOut s depth formals actuals passed
+      → out_checks s p m passed actuals ≡ []
+  no_out_checks p m [] actuals passed laid = ap (λ z. out_checks s p m z actuals) laid
+  no_out_checks p m (x ∷ formals) (More e rest) (a ∷ passed) laid =
+      first_checks p m x (object_at s x).mode e a passed rest laid.0 (no_out_checks p m formals rest passed laid.1)
+  no_out_checks p m (x ∷ formals) (More e rest) [] laid = absurd laid
+  no_out_checks p m (x ∷ formals) actuals passed laid = ap (λ z. out_checks s p m z actuals) laid
+
+  more_return : (x y : ℕ) (a : Passed) (formals : List ℕ) (passed : List Passed)
+      → IsScalarObject s y ⊎ ((r : Return) × Has (returns_of formals passed) r × (r.formal ≡ y))
+      → IsScalarObject s y ⊎ ((r : Return) × Has (returns_of (x ∷ formals) (a ∷ passed)) r × (r.formal ≡ y))
+  more_return x y a formals passed (inl plain) = inl plain
+  more_return x y a formals passed (inr (r, has, is)) = inr (r, Has-append_right (return_of x a) (returns_of formals passed) r has, is)
+
+  first_return : (x : ℕ) (how : Mode) (e : TypedTree) (a : Passed) (formals : List ℕ) (passed : List Passed) → (object_at s x).mode ≡ how → IsLaidOne s depth x how e a
+      → IsKindOfFormal s x → IsScalarObject s x ⊎ ((r : Return) × Has (returns_of (x ∷ formals) (a ∷ passed)) r × (r.formal ≡ x))
+  first_return x mode.InOut e (From k) formals passed is laid kind = inr (record { formal = x; to = k }, inl refl, refl)
+  first_return x mode.In e (Value ws) formals passed is laid (inl plain) = inl plain
+  first_return x mode.In e (Value ws) formals passed is laid (inr (in_out, own)) = (let no : mode.In ≡ mode.InOut = sym is ∙ in_out in cc)
+  first_return x mode.Out e (To k) formals passed is laid kind = inr (record { formal = x; to = k }, inl refl, refl)
+  first_return x how e a formals passed is laid kind = absurd laid
+
+  pub all_returned : (formals : List ℕ) (actuals : TypedTree) (passed : List Passed) → AreLaidOut s depth formals actuals passed → AreActualsTo s formals actuals
+      → ((x : ℕ) → Has formals x → IsKindOfFormal s x) → (x : ℕ) → Has formals x
+      → IsScalarObject s x ⊎ ((r : Return) × Has (returns_of formals passed) r × (r.formal ≡ x))
+  all_returned [] actuals passed laid stay kinds x has = absurd has
+  all_returned (y ∷ formals) (More e rest) (a ∷ passed) laid stay kinds x (inl same) =
+      subst (λ z. IsScalarObject s z ⊎ ((r : Return) × Has (returns_of (y ∷ formals) (a ∷ passed)) r × (r.formal ≡ z))) same
+      (first_return y (object_at s y).mode e a formals passed refl laid.0 (kinds y (inl refl)))
+  all_returned (y ∷ formals) (More e rest) (a ∷ passed) laid stay kinds x (inr has) =
+      more_return y x a formals passed (all_returned formals rest passed laid.1 stay.1 (λ z there. kinds z (inr there)) x has)
+  all_returned (y ∷ formals) (More e rest) [] laid stay kinds x has = absurd laid
+  all_returned (y ∷ formals) actuals passed laid stay kinds x has = inl (stay x has)
+
+-- ---- the call
+
+-- What a call leads to after its actuals, where no leak check is to be made.
+module _ (t : Turn) (settled : IsSettled (typing t).table) (n : ℕ) (actuals : TypedTree)
+    (P : Outcome → Type 0) (raises : (e : Exception) (m : Memory) → P (raised t e m)) (Given : List Passed → Type 0)
+    (plain : (passed : List Passed) → Given passed → out_checks (typing t) t.point.pos t.state.memory passed actuals ≡ [])
+    (goes : (passed : List Passed) → Given passed → P (leaking_goes [] (Goes (entered t settled n actuals passed)))) where
+  abbrev frames_with : List Passed → Memory → ℕ
+  frames_with passed m = frame_words t.program (frame_at_start n (returns_of (sub_of t.program n).formals passed) ∷ (steps.behind t (steps.waiting t) m 0).frames)
+
+  by_room : (f : List Passed → Memory → Outcome) → Enters t settled n actuals f → (passed : List Passed) → Given passed → P (f passed t.state.memory)
+  by_room f enters passed are = elim (bool_cases (nat_le (frames_with passed t.state.memory) stack_words)) [
+    | inr full ↦ subst P (sym (enters.full passed t.state.memory full)) (raises StorageError t.state.memory)
+    | inl fits ↦ subst P (sym (enters.fits passed t.state.memory fits))
+        (subst (λ z. P (leaking_goes z (Goes (entered t settled n actuals passed)))) (sym (plain passed are)) (goes passed are))
+  ]
+
+  by_values : (f : List Passed → Memory → Outcome) → Enters t settled n actuals f → (now : Now) → now.memory ≡ t.state.memory → (y : Evaluated (List Passed)) → Quiet now Given y
+      → P (steps.evaluated t y f)
+  by_values f enters now same (Done passed m) (is, are) =
+      subst (λ z. P (f passed z)) (sym same ∙ ap (λ (z : Now). z.memory) (sym is)) (by_room f enters passed are)
+  by_values f enters now same (Raises e m) is = raises e m.memory
+  by_values f enters now same (Traps e m) never_there = absurd never_there
+
+  called_by : (f : List Passed → Memory → Outcome) → Enters t settled n actuals f → (ways_there : List Passing) → passings (typing t) (sub_at (typing t) n) ≡ ways_there
+      → (before now : Now) → start t ≡ before → now.memory ≡ t.state.memory → Quiet now Given (all_passed (here t) ways_there (formals_there t settled n actuals) actuals before)
+      → P (steps.evaluated t (all_passed (here t) (passings (typing t) (sub_at (typing t) n)) (formals_there t settled n actuals) actuals (start t)) f)
+  called_by f enters ways_there are before now started same quiet_there =
+      subst (λ z. P (steps.evaluated t (all_passed (here t) z (formals_there t settled n actuals) actuals (start t)) f)) (sym are)
+      (subst (λ z. P (steps.evaluated t (all_passed (here t) ways_there (formals_there t settled n actuals) actuals z) f)) (sym started)
+      (by_values f enters now same (all_passed (here t) ways_there (formals_there t settled n actuals) actuals before) quiet_there))
+
+  pub call_goes : (ways_there : List Passing) → passings (typing t) (sub_at (typing t) n) ≡ ways_there
+      → (before now : Now) → start t ≡ before → now.memory ≡ t.state.memory → Quiet now Given (all_passed (here t) ways_there (formals_there t settled n actuals) actuals before)
+      → P (call t n actuals)
+  call_goes ways_there are before now started same quiet_there =
+      called_by _ (record { fits = λ passed m e. rw e refl; full = λ passed m e. rw e refl }) ways_there are before now started same quiet_there

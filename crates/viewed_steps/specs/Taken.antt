@@ -1,0 +1,73 @@
+-- What a call takes from places of its caller, and gives back when it ends.
+--
+-- While the call is in progress, the formal owns what the place had, and the place has no number.
+use Rattle.std.specs.Prelude.{◌≡◌, ◌⊎◌, ℕ, true, false, List, [], ◌∷◌, ◌++◌}
+use Rattle.spark_base.specs.Lists.{Has}
+use Rattle.place_names.specs.declared.fact.Fact.{Fact}
+use Rattle.place_names.specs.declared.fact.Fact.TheVariants.{Lent}
+use Rattle.place_names.specs.declared.rule.Loan.{Loan}
+use Rattle.place_names.specs.Names.{Name as PlaceName, overlaps}
+use Rattle.type_definitions.specs.Types.{full, is_scalar, is_owning}
+use Rattle.flow_paths.specs.Objects.{Typing, object_at, is_package_object}
+use Rattle.flow_paths.specs.Scopes.{is_within}
+use Rattle.machine.specs.Memory.{Memory, Place}
+use Rattle.machine.specs.Memory as memory
+use Rattle.machine.specs.States.{Return}
+use Rattle.owned_ways.specs.Ways.{Step, OfVariable, OfRoot, Way, Object, Held, Under, along, name_of}
+use Rattle.part_offsets.specs.Parts.{type_in, offset_in, has_part}
+use Rattle.soundness.specs.Seen.{content, word_in}
+use Rattle.soundness.specs.Typed.{Matches}
+use Rattle.soundness.specs.Sound.{IsCopied}
+use Rattle.viewed_soundness.specs.Holds.{IsNamed}
+
+-- A way is one of these, or goes on from it to a part.
+abbrev pub TakenBy : List Way → Way → Type 0
+TakenBy ways w = (to : Way) × Has ways to × (p : List Step) × (w ≡ along to p)
+
+-- A place in a variable of a frame: its way. Where it stands doesn't go by what is in memory.
+pub record IsInside (s : Typing) (depth : ℕ) (k : Place) (to : Way) : Type 0 where
+  pub object : ℕ
+  pub steps : List Step
+  pub way : to ≡ along (Object (OfVariable depth object)) steps
+  pub base : k.base ≡ memory.OfVariable depth object
+  pub own : is_package_object s object ≡ false
+  pub there : has_part s.table (object_at s object).of steps ≡ true
+  pub at : k.at ≡ offset_in s.table (object_at s object).of steps
+  pub of : Matches s.table k.of (type_in s.table (object_at s object).of steps)
+  pub named : IsNamed s.table k.of
+
+-- What is passed for a formal that isn't scalar and is copied back: a place in a variable, which is in
+-- scope if it may own and isn't lent, and whose value the formal may have.
+pub record IsPassedOn (s : Typing) (depth : ℕ) (facts : List Fact) (scope : List ℕ) (x : ℕ) (k : Place) (to : Way) : Type 0 where
+  pub inside : IsInside s depth k to
+  pub fits : Matches s.table k.of (object_at s x).of
+  pub formal : is_package_object s x ≡ false
+  pub many : is_scalar (full s.table (object_at s x).of) ≡ false
+  pub within : is_owning s.table (object_at s inside.object).of ≡ true → is_within inside.object scope ≡ true
+  pub unlent : (l : Loan) (h : ℕ) (n : PlaceName) → Has facts (Lent l h n) → overlaps n (name_of to) ≡ true → ⊥
+
+-- No number stands in the place.
+abbrev pub IsBare : (s : Typing) (depth : ℕ) (k : Place) (to : Way) → Memory → IsInside s depth k to → Type 0
+IsBare s depth k to m inside =
+    (p : List Step) (c : ℕ) → word_in s.table (content s m [] (OfRoot (OfVariable depth inside.object))) (p ++ inside.steps) ≡ Held c → ⊥
+
+abbrev pub IsTaken : Typing → Memory → ℕ → List Fact → List ℕ → Return → Way → Type 0
+IsTaken s m depth facts scope r to =
+    (passed : IsPassedOn s depth facts scope r.formal r.to to) × IsBare s depth r.to to m passed.inside
+
+-- None of these ways begins another one, or is begun by it.
+abbrev pub IsApartFrom : Way → List Way → Type 0
+IsApartFrom to ways = (k : Way) → Has ways k → (Under to k → ⊥) × (Under k to → ⊥)
+
+-- Other formals with a number differ.
+abbrev pub IsAnother : ℕ → List Return → Type 0
+IsAnother x rest = (r : Return) → Has rest r → r.formal ≡ x → ⊥
+
+-- Formals of scalar types are copied back to variables, which owners don't see; the others to places
+-- that were taken, one after the other.
+abbrev pub AreTaken : Typing → Memory → ℕ → List Fact → List ℕ → List Return → List Way → Type 0
+AreTaken s m depth facts scope [] ways = ways ≡ []
+AreTaken s m depth facts scope (r ∷ rest) [] = IsCopied s r × AreTaken s m depth facts scope rest []
+AreTaken s m depth facts scope (r ∷ rest) (to ∷ ways) =
+    (IsCopied s r × AreTaken s m depth facts scope rest (to ∷ ways))
+    ⊎ (IsTaken s m depth facts scope r to × IsApartFrom to ways × IsAnother r.formal rest × AreTaken s m depth facts scope rest ways)
