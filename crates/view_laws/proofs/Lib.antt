@@ -8,6 +8,7 @@ pub mod Packages
 pub mod Facts
 pub mod Formals
 pub mod Scoped
+pub mod Valued
 pub mod Points
 pub mod Ready
 pub mod Written
