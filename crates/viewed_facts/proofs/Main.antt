@@ -1,6 +1,5 @@
 -- In each sound state of a program that is ready whose facts are exact, no leak check of the step fails that is excused.
-use Rattle.std.specs.Prelude.{is_some}
-use Rattle.std.proofs.Common.{not, ◌≡◌, refl, sym, ap, ◌∙◌, subst, ◌⊎◌, inl, inr, ℕ, suc, List, [], ◌∷◌, length, get_or, Option}
+use Rattle.std.proofs.Common.{◌≡◌, refl, sym, ap, ◌∙◌, subst, ◌⊎◌, inl, inr, ℕ, suc, List, [], ◌∷◌, length, get_or, Option, not, is_some}
 use Rattle.spark_base.specs.Lists.{Has}
 use Rattle.type_definitions.specs.Types.{Table}
 use Rattle.typed_tree.specs.Trees.{TypedTree}
@@ -30,8 +29,8 @@ use Rattle.viewed_steps.specs.Ready.{IsReady}
 use Rattle.viewed_steps.proofs.Standing as standing
 use Rattle.viewed_steps.proofs.Calling as calling
 use Rattle.exact_facts.specs.Exact.{NoneFails, checks_of}
-use Rattle.viewed_facts.proofs.Spots.{spots_none}
 use Rattle.exact_facts.proofs.Spots.{call_same, ways_same}
+use Rattle.viewed_facts.proofs.Spots.{spots_none}
 use Rattle.viewed_facts.specs.Exact.{IsDefiniteOf, ExcusedHold}
 use Rattle.viewed_facts.proofs.Stepping.{checks_hold, ended_checks_hold}
 

@@ -45,7 +45,7 @@ use Rattle.owned_ways.proofs.Locations.{reaches_along, named_along as rooted_alo
 use Rattle.soundness.specs.Seen.{IsNear, is_view_formal, content, word_in, home}
 use Rattle.soundness.specs.Typed.{Kept}
 use Rattle.typed_laws.specs.Needed.{IsFine, Stays, Source, FirstSource, FirstWrites, FirstStays, Returns}
-use Rattle.soundness.specs.Sound.{IsNoCall, Stage, facts_of, AreStages, IsRunnable, returns_value, InScope, IsNamedSub, IsAtPoint, view_of as view_here, is_temporary_object, calls_procedures}
+use Rattle.soundness.specs.Sound.{IsNoCall, Stage, facts_of, AreStages, IsRunnable, returns_value, InScope, IsNamedSub, IsAtPoint, view_of as view_here, is_temporary_object}
 use Rattle.soundness.specs.Ready.{stored_at, Fills, IsSupplied}
 use Rattle.soundness.proofs.Contents.{bool_cases, word_root}
 use Rattle.soundness.proofs.Scalars.{acts, acts_append}

@@ -39,7 +39,7 @@ use Rattle.owned_ways.specs.Ways as ways
 use Rattle.soundness.specs.Seen.{IsNear, is_view_formal, content, word_in, home}
 use Rattle.soundness.specs.Typed.{Kept}
 use Rattle.typed_laws.specs.Needed.{IsFine, Stays, Source, Returns}
-use Rattle.soundness.specs.Sound.{IsNoCall, Stage, facts_of, AreStages, IsRunnable, returns_value, InScope, IsNamedSub, IsAtPoint, view_of as view_here, calls_procedures}
+use Rattle.soundness.specs.Sound.{IsNoCall, Stage, facts_of, AreStages, IsRunnable, returns_value, InScope, IsNamedSub, IsAtPoint, view_of as view_here}
 use Rattle.soundness.proofs.Scalars.{acts}
 use Rattle.soundness.proofs.Scoped.{Inside}
 use Rattle.soundness.proofs.Around.{IsFar}
