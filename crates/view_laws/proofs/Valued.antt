@@ -1,16 +1,13 @@
 -- What waits, where temporaries are of scalar types: it is of such types, and so is what takes it.
-use Rattle.std.proofs.Common.{◌≡◌, refl, sym, ap, ◌∙◌, subst, inl, inr, ℕ, Bool, true, false, not, ◌&&◌, ◌||◌, List, [], ◌∷◌, take, drop, Option, Some, None}
+use Rattle.std.proofs.Common.{◌≡◌, refl, sym, ap, ◌∙◌, subst, inl, inr, ℕ, Bool, true, false, not, ◌&&◌, ◌||◌, List, [], ◌∷◌, take, drop, Some, None}
 use Rattle.std.specs.Prelude.{filter}
-use Rattle.std.specs.List.{AllByRecursion}
 use Rattle.spark_base.specs.Lists.{Has}
-use Rattle.spark_base.proofs.Lists.{Has-map}
 use Rattle.type_definitions.specs.Entries.{boolean}
-use Rattle.type_definitions.specs.Types.{Table, full, is_owning, is_scalar}
-use Rattle.typed_tree.specs.Trees.{TypedTree}
+use Rattle.type_definitions.specs.Types.{Table, full, is_scalar}
 use Rattle.typed_tree.specs.Programs.{TypedProgram}
 use Rattle.flow_paths.specs.declared.report.Effects.{Effects}
 use Rattle.flow_paths.specs.Instructions.{Instruction, Declare, Assign, Call, Evaluate, Hold}
-use Rattle.flow_paths.specs.Objects.{Typing, Signature, object_at, is_anonymous, has_scope_end, traverses, view_of}
+use Rattle.flow_paths.specs.Objects.{Typing, Signature, object_at, has_scope_end, traverses, view_of}
 use Rattle.flow_paths.specs.Names.{has_call}
 use Rattle.flow_paths.specs.Points.{NamedPoint}
 use Rattle.flow_paths.specs.Laid.{FlowProgram, NamedSub, flow_sub, typing_of, flow_typing, flow_program, flow_named}
@@ -22,9 +19,8 @@ use Rattle.soundness.proofs.Points.{flow_at}
 use Rattle.soundness.proofs.Passing.{plain_type, signature_is}
 use Rattle.soundness.proofs.Successors.{not_true}
 use Rattle.soundness.proofs.Taking.{TakesPlainly}
-use Rattle.viewed_soundness.specs.Taken.{GivesPlainly}
 use Rattle.viewed_soundness.proofs.Evaluated.{gives_plainly}
-use Rattle.viewed_steps.specs.Awaited.{Fits, is_held, AreScalar, TakesScalars, FillsTyped, AreNamedResults}
+use Rattle.viewed_steps.specs.Awaited.{is_held, AreScalar, TakesScalars, FillsTyped, AreNamedResults}
 use Rattle.viewed_steps.specs.Ready.{AreValued}
 use Rattle.view_laws.specs.Program.{IsViewProgram}
 use Rattle.view_laws.proofs.Acts.{no_anonymous}
