@@ -1,5 +1,5 @@
 -- Each step of a sound state whose facts are exact leads to such a state, in a program that is ready.
-use Rattle.std.proofs.Common.{◌≡◌, refl, sym, ◌∙◌, subst, ◌⊎◌, inl, inr, ℕ, suc, true, false, List, [], ◌∷◌, length, arith, Some}
+use Rattle.std.proofs.Common.{◌<◌, ◌≡◌, refl, sym, ◌∙◌, subst, ◌⊎◌, inl, inr, ℕ, suc, true, false, List, [], ◌∷◌, length, arith, Some}
 use Rattle.spark_base.specs.Lists.{Has}
 use Rattle.place_names.specs.declared.fact.Fact.{Fact}
 use Rattle.place_names.specs.declared.fact.Fact.TheVariants.{Moved}
@@ -17,26 +17,27 @@ use Rattle.machine.specs.Memory.{Memory}
 use Rattle.machine.specs.States.{Waiting, Frame, State, Outcome, Goes, Ends, sub_of}
 use Rattle.machine.specs.Owners.{waiting_in}
 use Rattle.machine.specs.Run.{step}
-use Rattle.owned_ways.specs.Ways.{Way, Loc, Gone, Reaches, Told, Named, name_of}
+use Rattle.owned_ways.specs.Ways.{OfVariable, OfRoot, Under, base_of, number_of, Way, Loc, Gone, Reaches, Told, Named, name_of}
 use Rattle.soundness.specs.Seen.{home, seen}
 use Rattle.soundness.specs.Typed.{Kept}
-use Rattle.soundness.specs.Sound.{Stage, facts_of, AreStages, IsRunnable, AreAwaited, InScope, IsNamedSub, IsAtPoint, IsNoCall, IsOnward, AreSameWords, view_of as view_here}
+use Rattle.soundness.specs.Sound.{Stage, facts_of, AreStages, IsRunnable, AreAwaited, InScope, IsNamedSub, IsAtPoint, IsNoCall, IsOnward, view_of as view_here}
 use Rattle.soundness.proofs.Points.{sub_there}
 use Rattle.owned_loans.specs.Views.{known_gone, Views, Viewed}
-use Rattle.viewed_steps.specs.Sound.{AreScalarFormals, IsResting, HoldsAt, ArePlaced, NoneAbove, ViewStage, stages_of, GoneElsewhere, AreWaiting, IsRunning, AreTurned, AreLeft, Follows, steps_on, leaves_scope, begins_main, returns_one, calls_one, ends_one, LeadsAlong}
+use Rattle.viewed_steps.specs.Sound.{IsResting, HoldsAt, ArePlaced, NoneAbove, ViewStage, stages_of, GoneElsewhere, AreWaiting, IsRunning, AreTurned, AreLeft, Follows, steps_on, leaves_scope, begins_main, returns_one, calls_one, ends_one, LeadsAlong}
 use Rattle.viewed_steps.specs.Ready.{IsReady}
 use Rattle.viewed_steps.proofs.Waiting.{StandsBetween, all_between}
 use Rattle.viewed_steps.proofs.Standing as standing
 use Rattle.viewed_steps.proofs.Packages as packages
 use Rattle.viewed_steps.proofs.Stepping.{sound_along}
-use Rattle.exact_facts.proofs.Steps.{Begins}
-use Rattle.exact_facts.proofs.Frames.{IsOn, words_told, named_begins}
 use Rattle.viewed_facts.specs.Exact.{IsDefiniteBy, IsDefiniteOf, LeadsExactly, StepsLeadExactly}
 use Rattle.viewed_facts.proofs.Steps.{named_definite}
+use Rattle.viewed_facts.proofs.Calls.{carried_told, home_below, lower, passed_of, passed_clean, other_clean}
+use Rattle.viewed_steps.specs.Taken.{AreCarried}
+use Rattle.owned_ways.proofs.Dropped.{named_base}
 use Rattle.viewed_facts.proofs.Frames.{between_named, IsDefiniteHere}
 use Rattle.viewed_facts.proofs.Stepping.{told_next, told_left}
 
-module _ (table : Table) (typed : TypedProgram) (effects : Effects) (input : List ℕ) (ready : IsReady table typed effects) (scalars : AreScalarFormals (flow_program table typed)) where
+module _ (table : Table) (typed : TypedProgram) (effects : Effects) (input : List ℕ) (ready : IsReady table typed effects) where
   abbrev program : FlowProgram
   program = flow_program table typed
 
@@ -87,23 +88,37 @@ module _ (table : Table) (typed : TypedProgram) (effects : Effects) (input : Lis
 
   -- ---- a call, and the end of one
 
-  told_called : (m n : Memory) (stages : List ViewStage) → ((g : ViewStage) → Has stages g → (w : Way) → Definite g w → Named (home s g.stage.depth) w)
-      → AreSameWords s (λ f. Unit {0}) m n → AllTold m stages → AllTold n stages
-  told_called m n stages named same told =
-      words_told s (λ f. Unit {0}) m n same (IsDefiniteOf program effects stages)
-      (λ w is. named_begins s (λ f. Unit {0}) m n same (is.0).stage.depth tt tt w (named is.0 is.1 w is.2)) told
+  told_called : (depth : ℕ) (m n : Memory) (stages : List ViewStage)
+      → ((g : ViewStage) → Has stages g → (w : Way) → Definite g w → Named (home s g.stage.depth) w × (g.stage.depth < suc depth))
+      → AreCarried s (λ f. f ≡ suc depth → ⊥) [] m n → AllTold m stages → AllTold n stages
+  told_called depth m n stages named carried told =
+      carried_told s (λ f. f ≡ suc depth → ⊥) [] m n carried (IsDefiniteOf program effects stages)
+      (λ w (g, has, definite). (let there = named g has w definite in (
+        home s g.stage.depth (number_of w),
+        number_of w,
+        named_base (home s g.stage.depth) w there.0,
+        λ e. home_below s g.stage.depth (suc depth) (number_of w) there.1 e,
+      )))
+      (λ w is to none under. none) told
 
-  told_ended : (state : State) (depth : ℕ) (m n : Memory) (stages : List ViewStage) → ((g : ViewStage) → Has stages g → Between state depth g)
-      → AreSameWords s (λ f. f ≡ depth → ⊥) m n → AllTold m stages → AllTold n stages
-  told_ended state depth m n stages between same told =
-      words_told s (λ f. f ≡ depth → ⊥) m n same (IsDefiniteOf program effects stages) begins_there told
+  told_ended : (state : State) (depth : ℕ) (m n : Memory) (ways : List Way) (stages : List ViewStage) → ((g : ViewStage) → Has stages g → Between state depth g)
+      → ((g : ViewStage) → Has stages g → (w : Way) → Definite g w → Named (home s g.stage.depth) w → (to : Way) → Has ways to → Under to w → ⊥)
+      → AreCarried s (λ f. f ≡ depth → ⊥) ways m n → AllTold m stages → AllTold n stages
+  told_ended state depth m n ways stages between off carried told =
+      carried_told s (λ f. f ≡ depth → ⊥) ways m n carried (IsDefiniteOf program effects stages) begins_there
+      (λ w (g, has, definite) to there under.
+      off g has w definite (between_named table typed effects unmoved_stage local state depth g (between g has) w definite) to there under) told
     where
-      begins_there : (w : Way) → IsDefiniteOf program effects stages w → Begins (IsOn s (λ f. f ≡ depth → ⊥) m n same) w
+      begins_there : (w : Way) → IsDefiniteOf program effects stages w → (f : ℕ) × (x : ℕ) × (base_of w ≡ OfRoot (OfVariable f x)) × (f ≡ depth → ⊥)
       begins_there w (g, has, definite) = elim (between g has) [
         | inl first ↦ absurd (unmoved g first.0 w definite)
-        | inr (some, less, callee, backs, waits) ↦ named_begins s (λ f. f ≡ depth → ⊥) m n same g.stage.depth
-            (λ e. omega (arith, less, some, e)) (λ e. omega (arith, less, e)) w
-            (between_named table typed effects unmoved_stage local state depth g (inr (some, less, callee, backs, waits)) w definite)
+        | inr (some, less, callee, backs, waits) ↦ (
+          home s g.stage.depth (number_of w),
+          number_of w,
+          named_base (home s g.stage.depth) w
+              (between_named table typed effects unmoved_stage local state depth g (inr (some, less, callee, backs, waits)) w definite),
+          λ e. home_below s g.stage.depth depth (number_of w) less e,
+        )
       ]
 
   -- ---- the frames after a step
@@ -117,15 +132,42 @@ module _ (table : Table) (typed : TypedProgram) (effects : Effects) (input : Lis
       (between : (g : ViewStage) → Has older g → StandsBetween table typed effects unmoved_stage local state top.stage.depth g)
       (top_named : (w : Way) → IsDefiniteBy (home (flow_typing (flow_program table typed)) top.stage.depth) top.views (facts_of (flow_program table typed) effects top.stage) w
       → Named (home (flow_typing (flow_program table typed)) top.stage.depth) w)
+      (lower_there : (next : ViewStage) (around : List ViewStage) → older ≡ next ∷ around → (g : ViewStage) → Has around g → g.stage.depth < next.stage.depth)
       (told : Told (seen (flow_typing (flow_program table typed)) state.memory [] []) (IsDefiniteOf (flow_program table typed) effects (top ∷ older)))
       (next : ViewStage) (around : List ViewStage)
       (told_step : IsOnward top.stage next.stage → Stays i top.views next.views
       → Told (seen (flow_typing (flow_program table typed)) after_step.memory [] [])
       (IsDefiniteHere table typed effects unmoved_stage local top.stage.depth next.views
       (facts_before (path_points (flow_program table typed) effects (sub_of (flow_program table typed) top.stage.frame.sub)) (top.stage.frame.next ∷ top.stage.before)) older)) where
-    all_named : (g : ViewStage) → Has (top ∷ older) g → (w : Way) → Definite g w → Named (home s g.stage.depth) w
-    all_named g (inl is) w definite = subst (λ (z : ViewStage). Named (home s z.stage.depth) w) is (top_named w (same_stage top g is w definite))
-    all_named g (inr has) w definite = between_named table typed effects unmoved_stage local state top.stage.depth g (between g has) w definite
+    all_low : (g : ViewStage) → Has (top ∷ older) g → (w : Way) → Definite g w → Named (home s g.stage.depth) w × (g.stage.depth < suc top.stage.depth)
+    all_low g (inl is) w definite = (
+      subst (λ (z : ViewStage). Named (home s z.stage.depth) w) is (top_named w (same_stage top g is w definite)),
+      subst (λ (z : ViewStage). z.stage.depth < suc top.stage.depth) is (omega arith),
+    )
+    all_low g (inr has) w definite = elim (between g has) [
+      | inl first ↦ absurd (unmoved g first.0 w definite)
+      | inr (some, less, callee, backs, waits) ↦ (
+        between_named table typed effects unmoved_stage local state top.stage.depth g (inr (some, less, callee, backs, waits)) w definite,
+        omega (arith, less),
+      )
+    ]
+
+    -- what the frames moved is in no place that the call took
+    off_places : older ≡ next ∷ around → (g : ViewStage) → Has older g → (w : Way) → Definite g w → Named (home s g.stage.depth) w
+        → (to : Way) → Has next.stage.returns to → Under to w → ⊥
+    off_places same g has w definite named to there under = elim (between next (subst (λ gs. Has gs next) (sym same) (inl refl))) [
+      | inl first ↦ subst (λ z. Has z to) (first.1).2 there
+      | inr (some, less, callee, backs, waits) ↦ elim (subst (λ gs. Has gs g) same has) [
+        | inl is ↦ (
+            let passed = passed_of s state.memory next.stage.depth (facts_of program effects next.stage) waits.point.scope backs next.stage.returns waits.taken to there in
+            let own : Definite next w = same_stage next g is w definite in
+            passed_clean s ready.accepted.settled next.stage.depth (facts_of program effects next.stage) waits.point.scope passed.0 to passed.1 next.views (view_here s state)
+            waits.views waits.clear w (own.0, own.1, own.3) under)
+        | inr other ↦
+            other_clean s state.memory g.stage.depth next.stage.depth (facts_of program effects next.stage) waits.point.scope backs next.stage.returns waits.taken
+            (lower_there next around same g other) to there w named under
+      ]
+    ]
 
     onward_told : IsOnward top.stage next.stage → Stays i top.views next.views → around ≡ older → AllTold after_step.memory (next ∷ around)
     onward_told on stays same w l (g, inl is, definite) reaches =
@@ -161,15 +203,16 @@ module _ (table : Table) (typed : TypedProgram) (effects : Effects) (input : Lis
           | inl is ↦ unmoved below (on.0 ∙ packages_first none) w (same_stage below g is w definite)
           | inr never ↦ never
         ]
-    follows_told (calls_one waits same on fresh fewer words) = λ w l (g, has, definite) reaches. by_frame waits same on fresh fewer (words scalars) w l g has definite reaches
+    follows_told (calls_one waits same on fresh fewer carried) = λ w l (g, has, definite) reaches. by_frame waits same on fresh fewer carried w l g has definite reaches
       where
         by_frame : (waits : Stage) → around ≡ record { stage = waits; views = top.views } ∷ older → IsOnward top.stage waits → next.stage.before ≡ []
-            → ((f : Fact) → Has (facts_of program effects waits) f → Has (facts_of program effects top.stage) f) → AreSameWords s (λ f. Unit {0}) state.memory after_step.memory
+            → ((f : Fact) → Has (facts_of program effects waits) f → Has (facts_of program effects top.stage) f)
+            → AreCarried s (λ f. f ≡ suc top.stage.depth → ⊥) [] state.memory after_step.memory
             → (w : Way) (l : Loc) (g : ViewStage) → Has (next ∷ around) g → Definite g w → Reaches (seen s after_step.memory [] []) w l
             → (seen s after_step.memory [] []).word l ≡ Gone
-        by_frame waits same on fresh fewer words w l g (inl is) definite reaches = absurd (none_yet next fresh w (same_stage next g is w definite))
-        by_frame waits same on fresh fewer words w l g (inr has) definite reaches =
-            let all : AllTold after_step.memory (top ∷ older) = told_called state.memory after_step.memory (top ∷ older) all_named words told in
+        by_frame waits same on fresh fewer carried w l g (inl is) definite reaches = absurd (none_yet next fresh w (same_stage next g is w definite))
+        by_frame waits same on fresh fewer carried w l g (inr has) definite reaches =
+            let all : AllTold after_step.memory (top ∷ older) = told_called top.stage.depth state.memory after_step.memory (top ∷ older) all_low carried told in
             elim (subst (λ gs. Has gs g) same has) [
               | inr there ↦ all w l (g, inr there, definite) reaches
               | inl is ↦ (
@@ -178,8 +221,8 @@ module _ (table : Table) (typed : TypedProgram) (effects : Effects) (input : Lis
                   (waiting.0, (waiting.1.0, fewer (Moved (name_of waiting.0)) waiting.1.1), waiting.2, waiting.3) in
                   all w l (top, inl refl, subst (λ d. IsDefiniteBy (home s d) top.views (facts_of program effects top.stage) w) on.1 before) reaches)
             ]
-    follows_told (ends_one same words) = λ w l (g, has, definite) reaches.
-        told_ended state top.stage.depth state.memory after_step.memory older between (words scalars)
+    follows_told (ends_one same carried) = λ w l (g, has, definite) reaches.
+        told_ended state top.stage.depth state.memory after_step.memory next.stage.returns older between (off_places same) carried
         (λ v k (h, there, is) r. told v k (h, inr there, is) r) w l (g, subst (λ gs. Has gs g) (sym same) has, definite) reaches
 
   -- ---- what holds at a step
@@ -196,6 +239,16 @@ module _ (table : Table) (typed : TypedProgram) (effects : Effects) (input : Lis
   between_of state top views (below ∷ more) (f ∷ outer) stages running g has =
       all_between table typed effects unmoved_stage local state top.frame.sub top.depth top.frame.returns (below ∷ more) outer stages.2
       (let deep = stages.1 in omega (arith, deep)) running.2 g has
+
+  lower_of : (top : Stage) (older : List ViewStage) (fs : List Frame) → AreStages (top ∷ stages_of older) fs → (next : ViewStage) (around : List ViewStage)
+      → older ≡ next ∷ around → (g : ViewStage) → Has around g → g.stage.depth < next.stage.depth
+  lower_of top older [] stages next around same g has = absurd stages
+  lower_of top older (f ∷ outer) (frame, deep, others) next around same g has =
+      below outer (subst (λ gs. AreStages (stages_of gs) outer) same others)
+    where
+      below : (outer : List Frame) → AreStages (stages_of (next ∷ around)) outer → g.stage.depth < next.stage.depth
+      below [] stages = absurd stages
+      below (h ∷ rest) (frame, deep, others) = (let less = lower around rest others g has in omega (arith, less, deep))
 
   none_then : (top : Stage) → top.frame.sub ≡ 0 → (v : Views) (w : Way) → Here top.depth v (facts_then top) [] w → ⊥
   none_then top first v w (inr (g, has, definite)) = has
@@ -267,7 +320,7 @@ module _ (table : Table) (typed : TypedProgram) (effects : Effects) (input : Lis
             (between_of state sound.top sound.views sound.older state.frames sound.stages sound.running)
             (named_definite (home s sound.top.depth) (is_observer s) (known_gone (home s sound.top.depth) (GoneElsewhere program effects sound.older)) sound.views (λ z. ⊥) (λ w none. absurd none)
             (view_here s state) (facts_of program effects sound.top) sound.viewed)
-            exact (record { stage = (leads.0).top; views = (leads.0).views }) (leads.0).older
+            (lower_of sound.top sound.older state.frames sound.stages) exact (record { stage = (leads.0).top; views = (leads.0).views }) (leads.0).older
             (λ on stays. step_told state sound.top sound.views sound.older state.frames refl sound.stages sound.running sound.awaited sound.path sound.viewed sound.kept sound.named sound.of_sub sound.point
             sound.at_point sound.scope sound.holds sound.placed sound.none_above exact after_step is (leads.0).views (
               (leads.0).holds.only,

@@ -10,6 +10,7 @@ pub mod Viewing
 pub mod Frames
 pub mod Stepping
 pub mod Spots
+pub mod Calls
 pub mod Main
 pub mod Going
 pub mod Runs

@@ -1,5 +1,6 @@
 -- In each sound state of a program that is ready whose facts are exact, no leak check of the step fails that is excused.
-use Rattle.std.proofs.Common.{◌≡◌, refl, sym, ap, ◌∙◌, subst, ◌⊎◌, inl, inr, ℕ, suc, List, [], ◌∷◌, length, get_or, Option, not, is_some}
+use Rattle.std.specs.Prelude.{is_some}
+use Rattle.std.proofs.Common.{not, ◌≡◌, refl, sym, ap, ◌∙◌, subst, ◌⊎◌, inl, inr, ℕ, suc, List, [], ◌∷◌, length, get_or, Option}
 use Rattle.spark_base.specs.Lists.{Has}
 use Rattle.type_definitions.specs.Types.{Table}
 use Rattle.typed_tree.specs.Trees.{TypedTree}
@@ -24,13 +25,13 @@ use Rattle.soundness.proofs.Points.{flow_at, sub_there, point_there, point_in}
 use Rattle.soundness.proofs.Successors.{call_or, finish_or}
 use Rattle.soundness.proofs.Passing.{signature_is}
 use Rattle.owned_loans.specs.Views.{known_gone, Views, Viewed}
-use Rattle.viewed_steps.specs.Sound.{AreScalarFormals, IsResting, HoldsAt, ArePlaced, NoneAbove, ViewStage, stages_of, GoneElsewhere, AreWaiting, IsRunning}
+use Rattle.viewed_steps.specs.Sound.{IsResting, HoldsAt, ArePlaced, NoneAbove, ViewStage, stages_of, GoneElsewhere, AreWaiting, IsRunning}
 use Rattle.viewed_steps.specs.Ready.{IsReady}
 use Rattle.viewed_steps.proofs.Standing as standing
 use Rattle.viewed_steps.proofs.Calling as calling
 use Rattle.exact_facts.specs.Exact.{NoneFails, checks_of}
-use Rattle.exact_facts.proofs.Spots.{call_same, ways_same}
 use Rattle.viewed_facts.proofs.Spots.{spots_none}
+use Rattle.exact_facts.proofs.Spots.{call_same, ways_same}
 use Rattle.viewed_facts.specs.Exact.{IsDefiniteOf, ExcusedHold}
 use Rattle.viewed_facts.proofs.Stepping.{checks_hold, ended_checks_hold}
 
@@ -38,7 +39,7 @@ pub end_or : (i : Instruction) → ((x : ℕ) × (i ≡ EndScope x)) ⊎ ((x : �
 end_or (EndScope x) = inl (x, refl)
 end_or i = inr (λ x e. cc)
 
-module _ (table : Table) (typed : TypedProgram) (effects : Effects) (input : List ℕ) (ready : IsReady table typed effects) (scalars : AreScalarFormals (flow_program table typed)) where
+module _ (table : Table) (typed : TypedProgram) (effects : Effects) (input : List ℕ) (ready : IsReady table typed effects) where
   abbrev program : FlowProgram
   program = flow_program table typed
 

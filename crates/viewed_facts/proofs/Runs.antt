@@ -13,7 +13,7 @@ use Rattle.machine.specs.States.{Frame, Leak, State, Outcome, Goes, Ends, sub_of
 use Rattle.machine.specs.Run.{state_at_start, no_point, step}
 use Rattle.owned_ways.specs.Ways.{Way, name_of}
 use Rattle.soundness.specs.Sound.{Stage, AreStages}
-use Rattle.viewed_steps.specs.Sound.{AreScalarFormals, ViewStage}
+use Rattle.viewed_steps.specs.Sound.{ViewStage}
 use Rattle.viewed_steps.specs.Ready.{IsReady}
 use Rattle.viewed_steps.proofs.Main.{fresh_start}
 use Rattle.exact_facts.specs.Exact.{NoneFails, checks_of, StepHolds, RunHolds}
@@ -22,7 +22,7 @@ use Rattle.viewed_facts.specs.Exact.{IsDefiniteOf, IsExactly, LeadsExactly}
 use Rattle.viewed_facts.proofs.Main.{excused_hold}
 use Rattle.viewed_facts.proofs.Going.{exactly_step}
 
-module _ (table : Table) (typed : TypedProgram) (effects : Effects) (ready : IsReady table typed effects) (scalars : AreScalarFormals (flow_program table typed)) (input : List ℕ) where
+module _ (table : Table) (typed : TypedProgram) (effects : Effects) (ready : IsReady table typed effects) (input : List ℕ) where
   abbrev program : FlowProgram
   program = flow_program table typed
 
@@ -46,7 +46,7 @@ module _ (table : Table) (typed : TypedProgram) (effects : Effects) (ready : IsR
   step_holds : (state : State) → IsExactly table typed effects state → StepHolds program effects state.frames (checks_of (step program input state))
   step_holds state exactly =
       by_frames exactly.0.top (map (λ (g : ViewStage). g.stage) exactly.0.older) state.frames (checks_of (step program input state)) exactly.0.stages
-      (excused_hold table typed effects input ready scalars state exactly.0 exactly.1)
+      (excused_hold table typed effects input ready state exactly.0 exactly.1)
 
   leads_there : (outcome : Outcome) → LeadsExactly table typed effects outcome → LeadsBy (IsExactly table typed effects) outcome
   leads_there (Goes state) leads = leads
@@ -55,4 +55,4 @@ module _ (table : Table) (typed : TypedProgram) (effects : Effects) (ready : IsR
   pub run_holds : RunHolds (flow_program table typed) effects input
   run_holds =
       steps_hold program effects input (IsExactly table typed effects) exactly_start
-      (λ state exactly. leads_there (step program input state) (exactly_step table typed effects input ready scalars state exactly)) step_holds
+      (λ state exactly. leads_there (step program input state) (exactly_step table typed effects input ready state exactly)) step_holds

@@ -16,12 +16,14 @@ use Rattle.machine.specs.Memory as memory
 use Rattle.machine.specs.Evaluate.{Now, Evaluated, followed_by, variable_place, checked}
 use Rattle.machine.specs.States.{Waiting, Leak, Return}
 use Rattle.machine.specs.Step.{Turn, typing, here, copied_back}
-use Rattle.owned_ways.specs.Ways.{Step, OfVariable, OfHand, Loc, OfRoot, OfCell, Inside, Way, Object, Empty, Held, Under, Past, Named, Reaches, part, base_of, number_of, name_of}
+use Rattle.owned_ways.specs.Ways.{Step, OfVariable, OfHand, Loc, OfRoot, OfCell, Inside, Way, Object, Empty, Held, Under, Past, Named, Reaches, part, along, base_of, number_of, name_of}
 use Rattle.owned_ways.proofs.Moving.{parts_apart}
+use Rattle.owned_ways.proofs.Unique.{one_way}
+use Rattle.owned_ways.proofs.Locations.{reaches_along}
 use Rattle.part_offsets.specs.Parts.{IsSettled}
 use Rattle.soundness.specs.Seen.{content, trunk, steps_in, word_in, seen, home, is_view_formal}
 use Rattle.soundness.specs.Typed.{Matches, OwnsByShape, Kept, Spot, IsFixed}
-use Rattle.soundness.specs.Sound.{IsCopied, AreSameWords}
+use Rattle.soundness.specs.Sound.{IsCopied}
 use Rattle.soundness.proofs.Joined.{trunk_part}
 use Rattle.soundness.proofs.Contents.{word_no}
 use Rattle.soundness.proofs.Steps.{matches_words, no_leaf, taken_slots, room}
@@ -33,11 +35,10 @@ use Rattle.owned_loans.proofs.Safe.{off_view}
 use Rattle.owned_loans.proofs.Moves.{named_way, same_viewed}
 use Rattle.viewed_soundness.proofs.Names.{true_false}
 use Rattle.viewed_soundness.proofs.Evaluated.{matches_named}
-use Rattle.viewed_steps.specs.Sound.{IsScalarObject}
 use Rattle.viewed_steps.proofs.Left.{cells_same}
-use Rattle.viewed_steps.specs.Taken.{TakenBy, IsInside, IsPassedOn, IsBare, IsTaken, IsApartFrom, IsAnother, AreTaken}
-use Rattle.viewed_steps.proofs.Between.{same_reaches, gone_also, more_gone, IsClearOf, base_along, base_under, same_variable, not_named, taken_less}
-use Rattle.viewed_steps.proofs.Carried.{inside_at, inside_spot, inside_reached, inside_base, inside_owns, inside_word, variable_clear, carried_bare, carried_held, carried_off, carried_off_low, carried_holds, carried_to, carried_to_low}
+use Rattle.viewed_steps.specs.Taken.{AreCarried, TakenBy, IsInside, IsPassedOn, IsBare, IsTaken, IsApartFrom, IsAnother, AreTaken}
+use Rattle.viewed_steps.proofs.Between.{carried_same, carried_then, taken_more, same_reaches, gone_also, more_gone, IsClearOf, base_along, base_under, same_variable, not_named, taken_less}
+use Rattle.viewed_steps.proofs.Carried.{trunk_is, carried_gone, carried_cells, carried_gone_to, carried_cells_to, inside_at, inside_spot, inside_reached, inside_base, inside_owns, inside_word, variable_clear, carried_bare, carried_held, carried_off, carried_off_low, carried_holds, carried_to, carried_to_low}
 use Rattle.viewed_steps.proofs.Beside.{put_beside}
 use Rattle.viewed_steps.proofs.Alike.{Enters, moved_there, stored_there, one_then, if_back, backs_on}
 use Rattle.viewed_steps.proofs.Entered.{matches_back, not_observing, inside_plain, inside_named, inside_number, inside_itself}
@@ -75,8 +76,8 @@ module _ (t : Turn) (settled : IsSettled (typing t).table) (own_law : OwnsByShap
   ViewedAway returns ways m = Viewed (home (typing t) depth) (is_observer (typing t)) (away returns ways) v (seen (typing t) m hands leaks) facts
 
   -- All is given back: words are typed; a variable that has a number had it before, or is one of the caller in
-  -- scope; the formals have none; views keep their words; and owners see nothing of scalar formals.
-  pub record IsBack (returns : List Return) (m n : Memory) : Type 0 where
+  -- scope; the formals have none; views keep their words; and what was gone stays so, but in the places.
+  pub record IsBack (returns : List Return) (ways : List Way) (m n : Memory) : Type 0 where
     pub typed : Kept (typing t) n hands
     pub viewed : ViewedAway [] [] n
     pub held : (g y : ℕ) (p : List Step) (c : ℕ) → word_in (typing t).table (content (typing t) n [] (OfRoot (OfVariable g y))) p ≡ Held c
@@ -85,7 +86,7 @@ module _ (t : Turn) (settled : IsSettled (typing t).table) (own_law : OwnsByShap
         → word_in (typing t).table (content (typing t) n [] (OfRoot (OfVariable (suc depth) r.formal))) p ≡ Held c → ⊥
     pub views : (g y : ℕ) → is_anonymous (view_of (typing t) y) ≡ true
         → (get_or (variable_slots (typing t) g y n.variables) 0 no_slot).word ≡ (get_or (variable_slots (typing t) g y m.variables) 0 no_slot).word
-    pub words : ((r : Return) → Has returns r → IsScalarObject (typing t) r.formal) → AreSameWords (typing t) (λ g. Unit {0}) m n
+    pub carried : AreCarried (typing t) (λ g. g ≡ suc depth → ⊥) ways m n
     -- ways from the variables of frames around reach what they reached
     pub low : (w : Way) (g y : ℕ) → base_of w ≡ OfRoot (OfVariable g y) → g < depth → (c : ℕ)
         → Reaches (seen (typing t) m hands leaks) w (OfCell c) → Reaches (seen (typing t) n hands leaks) w (OfCell c)
@@ -281,6 +282,33 @@ module _ (t : Turn) (settled : IsSettled (typing t).table) (own_law : OwnsByShap
         same_variable g y depth inside.object
         (sym (trunk_part (OfRoot (OfVariable g y)) p) ∙ ap trunk is ∙ trunk_part at q ∙ trunk_part (OfRoot (OfVariable depth inside.object)) inside.steps)
 
+    -- the way of what is in the place
+    in_place_way : (g y : ℕ) (p q : List Step) → part (OfRoot (OfVariable g y)) p ≡ part at q → along (Object (OfVariable g y)) p ≡ along to q
+    in_place_way g y p q is =
+        let now = seen s mid (got ∷ hands) leaks in
+        one_way now viewed_mid.owned (along (Object (OfVariable g y)) p) (along to q) (part at q)
+        (subst (Reaches now (along (Object (OfVariable g y)) p)) is (reaches_along now (Object (OfVariable g y)) (OfRoot (OfVariable g y)) p refl))
+        (reaches_along now to at q reached)
+
+    -- what was gone stays so, but in the place
+    pub one_carried : AreCarried s (λ g. g ≡ suc depth → ⊥) (to ∷ []) m next
+    one_carried = record {
+      held = λ g y p c other_frame off held. elim (holds_next g y p c held) [
+        | inl before ↦ held_mid g y p c before
+        | inr (q, is) ↦ absurd (off (to, inl refl, q, in_place_way g y p q is))
+      ];
+      gone = λ g y p other_frame off gone.
+          carried_gone_to s settled (home s depth) observer v second (AwayBy rest ways) mid got hands leaks facts r.to at to viewed_mid kept_mid spot_to reached owns_to
+          long fits bare g y p (λ there. off (to, inl refl, there.0, in_place_way g y p there.0 there.1))
+          (carried_gone s settled (home s depth) observer v first (AwayBy rest (to ∷ ways)) m hands leaks facts formal
+          (OfRoot (OfVariable (suc depth) r.formal)) root viewed typed spot tt refl owns clean g y p gone);
+      cells = λ c p.
+          carried_cells_to s settled (home s depth) observer v second (AwayBy rest ways) mid got hands leaks facts r.to at to viewed_mid kept_mid spot_to reached owns_to
+          long fits bare depth inside.object (trunk_is s depth r.to to inside) c p
+          ∙ carried_cells s settled (home s depth) observer v first (AwayBy rest (to ∷ ways)) m hands leaks facts formal
+          (OfRoot (OfVariable (suc depth) r.formal)) root viewed typed spot tt refl owns clean (suc depth) r.formal refl c p;
+    }
+
     -- an object with a number owns
     owning_there : (y g : ℕ) (p : List Step) (c : ℕ) → word_in s.table (content s next [] (OfRoot (OfVariable g y))) p ≡ Held c → is_owning s.table (object_at s y).of ≡ true
     owning_there y g p c held = by_type (is_owning s.table (object_at s y).of) refl
@@ -366,8 +394,8 @@ module _ (t : Turn) (settled : IsSettled (typing t).table) (own_law : OwnsByShap
   taken_on m n (r ∷ rest) (to ∷ ways) bare (inr (one, apart, another, more)) =
       inr ((one.0, bare r.to to (inl refl) (one.0).inside one.1), apart, another, taken_on m n rest ways (λ k w has. bare k w (inr has)) more)
 
-  abbrev GivenBack : List Return → Memory → Evaluated Memory → Type 0
-  GivenBack returns m y = Backs (λ n. IsBack returns m n) y
+  abbrev GivenBack : List Return → List Way → Memory → Evaluated Memory → Type 0
+  GivenBack returns ways m y = Backs (λ n. IsBack returns ways m n) y
 
   scalar_empty : (m : Memory) (x : ℕ) → is_scalar (full s.table (object_at s x).of) ≡ true → (p : List Step) (c : ℕ)
       → word_in s.table (content s m [] (OfRoot (OfVariable (suc depth) x))) p ≡ Held c → ⊥
@@ -378,9 +406,9 @@ module _ (t : Turn) (settled : IsSettled (typing t).table) (own_law : OwnsByShap
       no_number : {c : ℕ} → Empty ≡ Held c → ⊥
       no_number e = cc
 
-  copied_then : (r : Return) (rest : List Return) (m later : Memory) → IsCopied s r → Enters s settled own_law hands leaks m later → (n : Memory)
-      → IsBack rest later n → IsBack (r ∷ rest) m n
-  copied_then r rest m later copied on n back = record {
+  copied_then : (r : Return) (rest : List Return) (ways : List Way) (m later : Memory) → IsCopied s r → Enters s settled own_law hands leaks m later → (n : Memory)
+      → IsBack rest ways later n → IsBack (r ∷ rest) ways m n
+  copied_then r rest ways m later copied on n back = record {
     typed = back.typed;
     viewed = back.viewed;
     held = λ g y p c held. elim (back.held g y p c held) [ inl h ↦ inl (sym (on.hold g y p) ∙ h) | inr h ↦ inr h ];
@@ -389,18 +417,16 @@ module _ (t : Turn) (settled : IsSettled (typing t).table) (own_law : OwnsByShap
       | inr later ↦ back.empty q later
     ];
     views = λ g y view. back.views g y view ∙ on.views g y view;
-    words = λ plain_all. (let more = back.words (λ q has. plain_all q (inr has)) in (
-      λ g y p any. more.0 g y p any ∙ on.hold g y p,
-      λ c p. more.1 c p ∙ cells_same s m later hands leaks on.same c p,
-    ));
+    carried = carried_then s (λ g. g ≡ suc depth → ⊥) ways ways ways m later n (λ w taken. taken) (λ w taken. taken)
+        (carried_same s (λ g. g ≡ suc depth → ⊥) ways m later on.hold (λ c p. cells_same s m later hands leaks on.same c p)) back.carried;
     low = λ w g y base less c reach. back.low w g y base less c (same_reaches (seen s m hands leaks) (seen s later hands leaks) on.same w (OfCell c) reach);
   }
 
   copied_first : (r : Return) (rest : List Return) (ways : List Way) (begun : Now) → IsCopied s r → Kept s begun.memory hands
       → ViewedAway (r ∷ rest) ways begun.memory → AreTaken s begun.memory depth facts scope rest ways
       → ((next : Memory) → Kept s next hands → ViewedAway rest ways next → AreTaken s next depth facts scope rest ways
-      → GivenBack rest next (copied_back t rest (record begun { memory = next })))
-      → GivenBack (r ∷ rest) begun.memory (copied_back t (r ∷ rest) begun)
+      → GivenBack rest ways next (copied_back t rest (record begun { memory = next })))
+      → GivenBack (r ∷ rest) ways begun.memory (copied_back t (r ∷ rest) begun)
   copied_first r rest ways begun copied typed viewed taken more =
       let formal : Place = variable_place (here t) r.formal in
       let ws : List machine.Word = words_of s begun.memory formal in
@@ -410,10 +436,10 @@ module _ (t : Turn) (settled : IsSettled (typing t).table) (own_law : OwnsByShap
       let first = moved_there s settled own_law hands leaks formal fixed begun.memory typed in
       let second = stored_there s settled own_law hands leaks r.to copied.1 ws (fixed_one s settled formal fixed begun.memory hands typed) mid first.typed in
       let on : Enters s settled own_law hands leaks begun.memory next = one_then s settled own_law hands leaks begun.memory mid next first second in
-      subst (GivenBack (r ∷ rest) begun.memory) (sym (copied_is t r rest begun copied.1))
-      (if_back (λ n. IsBack (r ∷ rest) begun.memory n) (fits_type s.table r.to.of ws) ws begun
+      subst (GivenBack (r ∷ rest) ways begun.memory) (sym (copied_is t r rest begun copied.1))
+      (if_back (λ n. IsBack (r ∷ rest) ways begun.memory n) (fits_type s.table r.to.of ws) ws begun
       (λ us n. copied_back t rest (record n { memory = stored s r.to us (moved_out s formal n.memory) }))
-      (backs_on (λ n. IsBack rest next n) (λ n. IsBack (r ∷ rest) begun.memory n) (λ n back. copied_then r rest begun.memory next copied on n back)
+      (backs_on (λ n. IsBack rest ways next n) (λ n. IsBack (r ∷ rest) ways begun.memory n) (λ n back. copied_then r rest ways begun.memory next copied on n back)
       (copied_back t rest (record begun { memory = next }))
       (more next on.typed
       (more_gone (home s depth) (is_observer s) v (away (r ∷ rest) ways) (AwayBy rest ways) (seen s next hands leaks) facts
@@ -428,18 +454,18 @@ module _ (t : Turn) (settled : IsSettled (typing t).table) (own_law : OwnsByShap
       → IsApartFrom to ways → IsAnother r.formal rest → AreTaken s begun.memory depth facts scope rest ways → Kept s begun.memory hands
       → ViewedAway (r ∷ rest) (to ∷ ways) begun.memory
       → ((next : Memory) → Kept s next hands → ViewedAway rest ways next → AreTaken s next depth facts scope rest ways
-      → GivenBack rest next (copied_back t rest (record begun { memory = next })))
-      → GivenBack (r ∷ rest) begun.memory (copied_back t (r ∷ rest) begun)
+      → GivenBack rest ways next (copied_back t rest (record begun { memory = next })))
+      → GivenBack (r ∷ rest) (to ∷ ways) begun.memory (copied_back t (r ∷ rest) begun)
   taken_first r rest to ways begun taken apart another later typed viewed more =
       let m : Memory = begun.memory in
       let formal : Place = variable_place (here t) r.formal in
       let ws : List machine.Word = words_of s begun.memory formal in
       let begin = taken_base m rest ways later in
       let next : Memory = stored s r.to ws (moved_out s formal begun.memory) in
-      subst (GivenBack (r ∷ rest) begun.memory) (sym (given_is t r rest begun depth (taken.0).inside.object (taken.0).inside.base))
-      (if_back (λ n. IsBack (r ∷ rest) begun.memory n) (fits_type s.table r.to.of ws) ws begun
+      subst (GivenBack (r ∷ rest) (to ∷ ways) begun.memory) (sym (given_is t r rest begun depth (taken.0).inside.object (taken.0).inside.base))
+      (if_back (λ n. IsBack (r ∷ rest) (to ∷ ways) begun.memory n) (fits_type s.table r.to.of ws) ws begun
       (λ us n. copied_back t rest (record n { memory = stored s r.to us (moved_out s formal n.memory) }))
-      (backs_on (λ n. IsBack rest next n) (λ n. IsBack (r ∷ rest) begun.memory n)
+      (backs_on (λ n. IsBack rest ways next n) (λ n. IsBack (r ∷ rest) (to ∷ ways) begun.memory n)
       (λ n back. record {
         typed = back.typed;
         viewed = back.viewed;
@@ -455,7 +481,9 @@ module _ (t : Turn) (settled : IsSettled (typing t).table) (own_law : OwnsByShap
           ])
         ];
         views = λ g y view. back.views g y view ∙ one_views r rest to ways m taken apart another begin typed viewed g y view;
-        words = λ plain_all. absurd (true_false (is_scalar (full s.table (object_at s r.formal).of)) (plain_all r (inl refl)) (taken.0).many);
+        carried = carried_then s (λ g. g ≡ suc depth → ⊥) (to ∷ []) ways (to ∷ ways) m next n
+            (λ w there. elim there.1 [ inl same ↦ (there.0, inl same, there.2, there.3) | inr never ↦ absurd never ]) (λ w there. taken_more to ways w there)
+            (one_carried r rest to ways m taken apart another begin typed viewed) back.carried;
         low = λ w g y base less c reach. back.low w g y base less c (one_low r rest to ways m taken apart another begin typed viewed w g y base less c reach);
       })
       (copied_back t rest (record begun { memory = next }))
@@ -463,14 +491,14 @@ module _ (t : Turn) (settled : IsSettled (typing t).table) (own_law : OwnsByShap
       (taken_on m next rest ways (λ k w has there none. one_bare r rest to ways m taken apart another begin typed viewed k w has there none) later))))
 
   pub all_given_back : (returns : List Return) (ways : List Way) (begun : Now) → AreTaken s begun.memory depth facts scope returns ways
-      → Kept s begun.memory hands → ViewedAway returns ways begun.memory → GivenBack returns begun.memory (copied_back t returns begun)
+      → Kept s begun.memory hands → ViewedAway returns ways begun.memory → GivenBack returns ways begun.memory (copied_back t returns begun)
   all_given_back [] ways begun taken typed viewed = record {
     typed = typed;
     viewed = subst (λ z. ViewedAway [] z begun.memory) taken viewed;
     held = λ g y p c held. inl held;
     empty = λ r has. absurd has;
     views = λ g y view. refl;
-    words = λ plain_all. ((λ g y p any. refl), (λ c p. refl));
+    carried = carried_same s (λ g. g ≡ suc depth → ⊥) ways begun.memory begun.memory (λ g y p. refl) (λ c p. refl);
     low = λ w g y base less c reach. reach;
   }
   all_given_back (r ∷ rest) [] begun taken typed viewed =

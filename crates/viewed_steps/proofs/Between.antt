@@ -14,7 +14,7 @@ use Rattle.flow_paths.specs.Objects.{Typing}
 use Rattle.machine.specs.Memory.{Memory}
 use Rattle.machine.specs.States.{Return}
 use Rattle.soundness.specs.Seen.{IsNear, content, word_in}
-use Rattle.viewed_steps.specs.Taken.{TakenBy, AreTaken}
+use Rattle.viewed_steps.specs.Taken.{TakenBy, AreTaken, AreCarried}
 
 -- where owners see the same, ways reach the same
 pub same_reaches : (s t : View) → IsSame s t → (w : Way) (l : Loc) → Reaches s w l → Reaches t w l
@@ -90,6 +90,29 @@ pub taken_less : (to : Way) (ways : List Way) (w : Way) → TakenBy (to ∷ ways
 taken_less to ways w (k, inl same, p, is) off =
     absurd (off (subst (λ z. Under z w) (sym same) (subst (Under k) (sym is) (under_along k k p (under_itself k)))))
 taken_less to ways w (k, inr has, p, is) off = (k, has, p, is)
+
+-- ---- what is carried
+
+pub carried_same : (s : Typing) (these : ℕ → Type 0) (ways : List Way) (m n : Memory)
+    → ((f x : ℕ) (p : List Step) → word_in s.table (content s n [] (OfRoot (OfVariable f x))) p ≡ word_in s.table (content s m [] (OfRoot (OfVariable f x))) p)
+    → ((c : ℕ) (p : List Step) → word_in s.table (content s n [] (OfCell c)) p ≡ word_in s.table (content s m [] (OfCell c)) p) → AreCarried s these ways m n
+carried_same s these ways m n same cells = record {
+  held = λ f x p c there off held. sym (same f x p) ∙ held;
+  gone = λ f x p there off gone. same f x p ∙ gone;
+  cells = cells;
+}
+
+pub carried_then : (s : Typing) (these : ℕ → Type 0) (first second all : List Way) (m k n : Memory) → ((w : Way) → TakenBy first w → TakenBy all w)
+    → ((w : Way) → TakenBy second w → TakenBy all w) → AreCarried s these first m k → AreCarried s these second k n → AreCarried s these all m n
+carried_then s these first second all m k n less more one two = record {
+  held = λ f x p c there off held.
+      one.held f x p c there (λ taken. off (less (along (Object (OfVariable f x)) p) taken))
+      (two.held f x p c there (λ taken. off (more (along (Object (OfVariable f x)) p) taken)) held);
+  gone = λ f x p there off gone.
+      two.gone f x p there (λ taken. off (more (along (Object (OfVariable f x)) p) taken))
+      (one.gone f x p there (λ taken. off (less (along (Object (OfVariable f x)) p) taken)) gone);
+  cells = λ c p. two.cells c p ∙ one.cells c p;
+}
 
 -- ---- where ways begin
 

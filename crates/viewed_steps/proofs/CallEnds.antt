@@ -31,7 +31,7 @@ use Rattle.owned_ways.specs.Ways.{Step, OfVariable, OfRoot, Way, Held, AllowsAll
 use Rattle.owned_ways.specs.Ways as ways
 use Rattle.soundness.specs.Seen.{content, word_in, seen, home, is_view_formal}
 use Rattle.soundness.specs.Typed.{Kept}
-use Rattle.soundness.specs.Sound.{Stage, facts_of, AreStages, IsRunnable, is_temporary_object, has_returned, InScope, IsNamedSub, IsAtPoint, AreSameWords, view_of as view_here}
+use Rattle.soundness.specs.Sound.{Stage, facts_of, AreStages, IsRunnable, is_temporary_object, has_returned, InScope, IsNamedSub, IsAtPoint, AreSameWords, view_of as view_here, temporaries_in}
 use Rattle.soundness.proofs.Contents.{bool_cases, word_no}
 use Rattle.soundness.proofs.Steps.{no_leaf}
 use Rattle.soundness.proofs.Typings.{package_same, formal_same}
@@ -44,7 +44,7 @@ use Rattle.viewed_soundness.proofs.Names.{true_false}
 use Rattle.viewed_soundness.proofs.Outcomes.{named_plain}
 use Rattle.viewed_steps.specs.Awaited.{AreFor, AreValues, temporaries_of, lasting_of, awaited, AreAwaited}
 use Rattle.viewed_steps.proofs.Waited.{others_only, lasting_within}
-use Rattle.viewed_steps.specs.Sound.{HoldsAt, ArePlaced, NoneAbove, ViewStage, stages_of, GoneElsewhere, IsWaiting, AreWaiting, ends_one, LeadsAlong, IsResting, IsKindOfFormal, AreScalarFormals}
+use Rattle.viewed_steps.specs.Sound.{HoldsAt, ArePlaced, NoneAbove, ViewStage, stages_of, GoneElsewhere, IsWaiting, AreWaiting, ends_one, LeadsAlong, IsResting, IsKindOfFormal}
 use Rattle.viewed_steps.specs.Ready.{IsReady}
 use Rattle.viewed_steps.proofs.Read.{scalar_named}
 use Rattle.viewed_steps.proofs.Waiting.{StandsBetween, all_between, handed, all_on, gone_low, kept_low, far}
@@ -56,7 +56,7 @@ use Rattle.viewed_steps.proofs.Innermost as innermost
 use Rattle.soundness.proofs.Passing.{signature_is}
 use Rattle.owned_ways.proofs.Dropped.{named_base}
 use Rattle.viewed_soundness.specs.Holds.{IsNamed}
-use Rattle.viewed_steps.specs.Taken.{TakenBy}
+use Rattle.viewed_steps.specs.Taken.{TakenBy, AreCarried}
 use Rattle.viewed_steps.proofs.Between.{base_under, same_variable}
 use Rattle.viewed_steps.proofs.Backed.{AwayBy, ViewedAway, IsBack, all_given_back}
 use Rattle.viewed_steps.proofs.Whole.{leaves_whole}
@@ -342,7 +342,7 @@ module _ (table : Table) (typed : TypedProgram) (effects : Effects) (input : Lis
       abbrev Backed : Memory → Type 0
       Backed m =
           IsBack main_turn ready.accepted.settled ready.owns no_in_formals (waiting_in state) state.leaks below.stage.depth deep_low below.views their_facts
-          (lasting_of s waits.point.scope) around_low free_low whole_low none_kept top.frame.returns state.memory m
+          (lasting_of s waits.point.scope) around_low free_low whole_low none_kept top.frame.returns below.stage.returns state.memory m
 
       given_back : Backs Backed (steps.copied_back main_turn top.frame.returns (steps.start main_turn))
       given_back =
@@ -474,14 +474,17 @@ module _ (table : Table) (typed : TypedProgram) (effects : Effects) (input : Lis
             reach_on w (g.views.cell x) (on.low w root.0 root.1 root.2 root.3 (g.views.cell x)
             (far table typed effects unmoved_stage local state below.stage.depth (h ∷ others) between_low w (g.views.cell x) (g, has, x, there, refl))))) waiting.1
 
-        -- owners see the same of the frames that are left, if formals are scalar
-        left_words : AreScalarFormals program → AreSameWords s (λ f. f ≡ top.depth → ⊥) state.memory left_memory
-        left_words scalars =
+        -- what was gone stays so in the frames that are left, but in the places that were taken
+        left_carried : AreCarried s (λ f. f ≡ top.depth → ⊥) below.stage.returns state.memory left_memory
+        left_carried =
             let left_there = left_same s mid depth (waiting_in state) state.leaks nothing_mid in
-            let on_there = on.words (λ r has. scalars r.formal ((running.1).1 r has)) in (
-              λ f x q other_frame. left_there.0 f x q (λ e. other_frame (e ∙ sym deep)) ∙ on_there.0 f x q tt,
-              λ c q. left_there.1 c q ∙ on_there.1 c q,
-            )
+            let others_off : (f : ℕ) → (f ≡ top.depth → ⊥) → f ≡ depth → ⊥ = (λ f off e. off (e ∙ sym deep)) in
+            let above_off : (f : ℕ) → (f ≡ top.depth → ⊥) → f ≡ suc below.stage.depth → ⊥ = (λ f off e. off (e ∙ depths ∙ sym deep)) in
+            record {
+              held = λ f x q c off out held. on.carried.held f x q c (above_off f off) out (sym (left_there.0 f x q (others_off f off)) ∙ held);
+              gone = λ f x q off out gone. left_there.0 f x q (others_off f off) ∙ on.carried.gone f x q (above_off f off) out gone;
+              cells = λ c q. left_there.1 c q ∙ on.carried.cells c q;
+            }
 
         -- the frame below goes on
         returns_to : more_frames ≡ h ∷ others → Along (Goes left_state)
@@ -507,7 +510,7 @@ module _ (table : Table) (typed : TypedProgram) (effects : Effects) (input : Lis
             placed = waits.placed;
             none_above = above_left;
           },
-          ends_one (ap (λ z. below ∷ z) same_more) left_words,
+          ends_one (ap (λ z. below ∷ z) same_more) left_carried,
         )
 
     pub ends_call : p.instr ≡ Finish → Along (turn main_turn Finish)

@@ -8,8 +8,8 @@ use Rattle.machine.specs.Words.{access_offsets}
 use Rattle.machine.specs.Words as machine
 use Rattle.machine.specs.Memory.{Slot, Memory, Place, fresh, cell, no_slot, slots_of, slots_at, words_of, gone_at, stored, moved_out}
 use Rattle.machine.specs.States.{Waiting, Leak}
-use Rattle.owned_ways.specs.Ways.{Step, OfVariable, OfHand, Loc, OfRoot, OfCell, Way, Object, Gone, Held, View, Reaches, IsMove, IsRooted, Under, part, along, base_of}
-use Rattle.owned_ways.proofs.Locations.{past_under, reaches_along, under_along, under_itself, named_along}
+use Rattle.owned_ways.specs.Ways.{Step, OfVariable, OfHand, Loc, OfRoot, OfCell, Way, Object, Gone, Held, View, Reaches, IsMove, IsRooted, Root, Below, Under, part, along, base_of}
+use Rattle.owned_ways.proofs.Locations.{below, past_under, reaches_along, under_along, under_itself, named_along}
 use Rattle.owned_ways.proofs.Assigned.{given_apart}
 use Rattle.owned_ways.proofs.Moving.{Given, keeps, owner_before}
 use Rattle.owned_ways.proofs.Dropped.{named_base}
@@ -32,7 +32,7 @@ module _ (s : Typing) (depth : ℕ) (k : Place) (to : Way) (inside : IsInside s 
   abbrev pub inside_at : Loc
   inside_at = part (OfRoot (OfVariable depth inside.object)) inside.steps
 
-  trunk_is : trunk (part (OfRoot (OfVariable depth inside.object)) inside.steps) ≡ OfRoot (OfVariable depth inside.object)
+  pub trunk_is : trunk (part (OfRoot (OfVariable depth inside.object)) inside.steps) ≡ OfRoot (OfVariable depth inside.object)
   trunk_is = trunk_part (OfRoot (OfVariable depth inside.object)) inside.steps
 
   pub inside_steps : steps_in (part (OfRoot (OfVariable depth inside.object)) inside.steps) ≡ inside.steps
@@ -71,6 +71,18 @@ module _ (s : Typing) (depth : ℕ) (k : Place) (to : Way) (inside : IsInside s 
       (λ j. word_in s.table (content s m hands (trunk_is j)) (p ++ inside_steps j))
 
 -- ---- hands and variables
+
+variable_off : (g y : ℕ) (p : List Step) (h : ℕ) → Below (hand h) (part (OfRoot (OfVariable g y)) p) → ⊥
+variable_off g y p h (q, is) = other_trunk (sym (trunk_part (OfRoot (OfVariable g y)) p) ∙ ap trunk is ∙ trunk_part (hand h) q)
+  where
+    other_trunk : {h f x : ℕ} → OfRoot (OfVariable f x) ≡ OfRoot (OfHand h) → ⊥
+    other_trunk e = cc
+
+cell_off : (c : ℕ) (p : List Step) (l : Loc) (r : Root) → trunk l ≡ OfRoot r → Below l (part (OfCell c) p) → ⊥
+cell_off c p l r base (q, is) = other_trunk (sym (trunk_part (OfCell c) p) ∙ ap trunk is ∙ trunk_part l q ∙ base)
+  where
+    other_trunk : {c : ℕ} {r : Root} → OfCell c ≡ OfRoot r → ⊥
+    other_trunk e = cc
 
 hand_differs : {a : Loc} {f x h : ℕ} → a ≡ OfRoot (OfVariable f x) → a ≡ OfRoot (OfHand h) → ⊥
 hand_differs p q = cc
@@ -153,6 +165,27 @@ module _ (s : Typing) (settled : IsSettled s.table) (home : ℕ → ℕ) (observ
         other_trunk : {h f x : ℕ} → OfRoot (OfVariable f x) ≡ OfRoot (OfHand h) → ⊥
         other_trunk e = cc
 
+    -- what is gone in a variable stays so, and cells are as they were
+    pub carried_gone : (g y : ℕ) (p : List Step) → word_in s.table (content s m [] (OfRoot (OfVariable g y))) p ≡ Gone
+        → word_in s.table (content s (moved_out s k m) [] (OfRoot (OfVariable g y))) p ≡ Gone
+    carried_gone g y p gone = elim (below l (part (OfRoot (OfVariable g y)) p)) [
+      | inl (q, is) ↦ absurd (clean (along u q) (under_along u u q (under_itself u))
+          (viewed.known (along u q) (part l q) (named_along u q rooted) (reaches_along (seen s m rest leaks) u l q reaches)
+          (subst (λ z. (seen s m rest leaks).word z ≡ Gone) is (word_root s.table a (OfVariable g y) p ∙ gone))))
+      | inr off ↦
+          sym (word_root s.table b (OfVariable g y) p)
+          ∙ move.off (part (OfRoot (OfVariable g y)) p) (λ there. variable_off g y p (length rest) there) off
+          ∙ word_root s.table a (OfVariable g y) p ∙ gone
+    ]
+
+    pub carried_cells : (f x : ℕ) → trunk l ≡ OfRoot (OfVariable f x) → (c : ℕ) (p : List Step)
+        → word_in s.table (content s (moved_out s k m) [] (OfCell c)) p ≡ word_in s.table (content s m [] (OfCell c)) p
+    carried_cells f x base c p =
+        subst (λ q. word_in s.table (content s (moved_out s k m) [] (OfCell c)) q ≡ word_in s.table (content s m [] (OfCell c)) q) (append-nil p)
+        (sym (word_part s.table b (OfCell c) p)
+        ∙ move.off (part (OfCell c) p) (λ there. cell_off c p (hand (length rest)) (OfHand (length rest)) refl there) (λ there. cell_off c p l (OfVariable f x) base there)
+        ∙ word_part s.table a (OfCell c) p)
+
     after_is : after ≡ seen s (moved_out s k m) (got ∷ rest) leaks
     after_is =
         (λ j. seen_of s.table b (sym (put_count s m k.base (whole_slots m k (gone_at (access_offsets s.table k.of) (slots_of s m k)))) j)
@@ -214,6 +247,22 @@ module _ (s : Typing) (settled : IsSettled s.table) (home : ℕ → ℕ) (observ
           | inl (q, is, word) ↦ inr (q, is)
           | inr stays ↦ inl (sym (word_root s.table full (OfVariable g y) p) ∙ stays.word)
         ]
+
+    -- beside the place, what is gone in a variable stays so; and cells are as they were
+    pub carried_gone_to : (g y : ℕ) (p : List Step) → (Below l (part (OfRoot (OfVariable g y)) p) → ⊥)
+        → word_in s.table (content s m [] (OfRoot (OfVariable g y))) p ≡ Gone → word_in s.table (content s (stored s k got.words m) [] (OfRoot (OfVariable g y))) p ≡ Gone
+    carried_gone_to g y p off gone =
+        sym (word_root s.table given (OfVariable g y) p)
+        ∙ goes_there.off (part (OfRoot (OfVariable g y)) p) off (λ there. variable_off g y p (length rest) there)
+        ∙ word_root s.table full (OfVariable g y) p ∙ gone
+
+    pub carried_cells_to : (f x : ℕ) → trunk l ≡ OfRoot (OfVariable f x) → (c : ℕ) (p : List Step)
+        → word_in s.table (content s (stored s k got.words m) [] (OfCell c)) p ≡ word_in s.table (content s m [] (OfCell c)) p
+    carried_cells_to f x base c p =
+        subst (λ q. word_in s.table (content s (stored s k got.words m) [] (OfCell c)) q ≡ word_in s.table (content s m [] (OfCell c)) q) (append-nil p)
+        (sym (word_part s.table given (OfCell c) p)
+        ∙ goes_there.off (part (OfCell c) p) (λ there. cell_off c p l (OfVariable f x) base there) (λ there. cell_off c p (hand (length rest)) (OfHand (length rest)) refl there)
+        ∙ word_part s.table full (OfCell c) p)
 
     then_is : then_seen ≡ seen s (stored s k got.words m) rest leaks
     then_is =

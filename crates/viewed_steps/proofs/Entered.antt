@@ -19,7 +19,6 @@ use Rattle.owned_ways.proofs.Locations.{same_loc, under_along, under_itself}
 use Rattle.part_offsets.specs.Parts.{type_in, IsSettled}
 use Rattle.soundness.specs.Seen.{content, word_in, seen, home, is_view_formal}
 use Rattle.soundness.specs.Typed.{Matches, OwnsByShape, Kept, Spot}
-use Rattle.soundness.specs.Sound.{AreSameWords}
 use Rattle.soundness.proofs.Memories.{put_other}
 use Rattle.soundness.proofs.Moments.{number_part}
 use Rattle.soundness.proofs.Steps.{matches_words, plain_end, alike, taken_slots, room}
@@ -32,11 +31,10 @@ use Rattle.owned_loans.proofs.Others.{clean_away}
 use Rattle.owned_loans.proofs.Moves.{expand_along, same_viewed}
 use Rattle.viewed_soundness.proofs.Names.{true_false, view_access, not_view}
 use Rattle.viewed_soundness.proofs.Evaluated.{matches_named}
-use Rattle.viewed_steps.specs.Sound.{IsScalarObject}
 use Rattle.viewed_steps.proofs.Left.{cells_same}
-use Rattle.viewed_steps.specs.Taken.{TakenBy, IsInside, IsPassedOn, IsBare, IsApartFrom, AreTaken}
-use Rattle.viewed_steps.proofs.Between.{same_reaches, gone_also, more_gone, IsClearOf, base_along, base_under, same_variable, taken_more}
-use Rattle.viewed_steps.proofs.Carried.{inside_at, inside_spot, inside_reached, inside_base, inside_rooted, inside_owns, inside_word, carried_bare, carried_held, carried_off_low, carried_off}
+use Rattle.viewed_steps.specs.Taken.{AreCarried, TakenBy, IsInside, IsPassedOn, IsBare, IsApartFrom, AreTaken}
+use Rattle.viewed_steps.proofs.Between.{carried_same, carried_then, same_reaches, gone_also, more_gone, IsClearOf, base_along, base_under, same_variable, taken_more}
+use Rattle.viewed_steps.proofs.Carried.{trunk_is, carried_gone, carried_cells, inside_at, inside_spot, inside_reached, inside_base, inside_rooted, inside_owns, inside_word, carried_bare, carried_held, carried_off_low, carried_off}
 use Rattle.viewed_steps.proofs.Alike.{Enters, with_one}
 use Rattle.viewed_steps.proofs.Beside.{put_beside}
 use Rattle.viewed_steps.proofs.Declared.{declared_viewed, declared_low}
@@ -156,14 +154,14 @@ module _ (s : Typing) (settled : IsSettled s.table) (own_law : OwnsByShape s.tab
       (x : ℕ) → Has formals x → (p : List Step) → word_in s.table (content s m [] (OfRoot (OfVariable (suc depth) x))) p ≡ Empty
 
   -- Words are typed; a variable that has a number had it before, or is a formal; views keep their words; and
-  -- owners see nothing of scalar formals.
+  -- what was gone stays so.
   pub record AreDeclared (formals : List ℕ) (m n : Memory) : Type 0 where
     pub typed : Kept s n hands
     pub held : (g y : ℕ) (p : List Step) (c : ℕ) → word_in s.table (content s n [] (OfRoot (OfVariable g y))) p ≡ Held c
         → (word_in s.table (content s m [] (OfRoot (OfVariable g y))) p ≡ Held c) ⊎ ((g ≡ suc depth) × Has formals y)
     pub views : (g y : ℕ) → is_anonymous (view_of s y) ≡ true
         → (get_or (variable_slots s g y n.variables) 0 no_slot).word ≡ (get_or (variable_slots s g y m.variables) 0 no_slot).word
-    pub words : ((x : ℕ) → Has formals x → IsScalarObject s x) → AreSameWords s (λ g. Unit {0}) m n
+    pub carried : AreCarried s (λ g. g ≡ suc depth → ⊥) [] m n
     -- ways from the variables of frames around reach what they reached
     pub low : (w : Way) (g y : ℕ) → base_of w ≡ OfRoot (OfVariable g y) → g < depth → (c : ℕ)
         → Reaches (seen s m hands leaks) w (OfCell c) → Reaches (seen s n hands leaks) w (OfCell c)
@@ -305,6 +303,22 @@ module _ (s : Typing) (settled : IsSettled s.table) (own_law : OwnsByShape s.tab
     formal_plain : is_anonymous (view_of s x) ≡ true → ⊥
     formal_plain view = not_view s.table (object_at s x).of view (matches_named s.table k.of (object_at s x).of passed.fits (passed.inside).named)
 
+    -- what was gone stays so, but in the formal
+    pub one_carried : AreCarried s (λ g. g ≡ suc depth → ⊥) [] m next
+    one_carried = record {
+      held = λ g y p c other_frame off held. elim (one_held g y p c held) [ inl before ↦ before | inr mine ↦ absurd (other_frame mine.0) ];
+      gone = λ g y p other_frame off gone.
+          new_word g y (frames_differ (suc depth) x g y (λ e. other_frame (sym e))) p
+          ∙ carried_gone s settled (home s depth) (is_observer s) v other with_it.gone m hands leaks facts k at to viewed typed spot
+          (inside_rooted s depth k to passed.inside) (inside_reached s depth k to passed.inside (seen s m hands leaks))
+          (inside_owns s depth k to passed.inside m hands (no_formals (passed.inside).object)) clean g y p gone;
+      cells = λ c p.
+          carried_cells s settled (home s depth) (is_observer s) v other with_it.gone m hands leaks facts k at to viewed typed spot
+          (inside_rooted s depth k to passed.inside) (inside_reached s depth k to passed.inside (seen s m hands leaks))
+          (inside_owns s depth k to passed.inside m hands (no_formals (passed.inside).object)) clean
+          depth (passed.inside).object (trunk_is s depth k to passed.inside) c p;
+    }
+
     pub one_views : (g y : ℕ) → is_anonymous (view_of s y) ≡ true
         → (get_or (variable_slots s g y next.variables) 0 no_slot).word ≡ (get_or (variable_slots s g y m.variables) 0 no_slot).word
     one_views g y view =
@@ -375,7 +389,7 @@ module _ (s : Typing) (settled : IsSettled s.table) (own_law : OwnsByShape s.tab
   plain_returns n x (To k) formals passed (to ∷ ways) plain taken = inl (plain, taken)
 
   nothing_declared : (formals : List ℕ) (m : Memory) → Kept s m hands → AreDeclared formals m m
-  nothing_declared formals m typed = record { typed = typed; held = λ g y p c held. inl held; views = λ g y view. refl; words = λ plain. ((λ g y p any. refl), (λ c p. refl)); low = λ w g y base less c reach. reach }
+  nothing_declared formals m typed = record { typed = typed; held = λ g y p c held. inl held; views = λ g y view. refl; carried = carried_same s (λ g. g ≡ suc depth → ⊥) [] m m (λ g y p. refl) (λ c p. refl); low = λ w g y base less c reach. reach }
 
   nothing_entered : (other : Around (home s depth)) (formals : List ℕ) (passed : List Passed) (ways : List Way) (m : Memory)
       → returns_of formals passed ≡ [] → ways ≡ [] → Kept s m hands → ViewedIn other m → Enter other formals passed ways m m
@@ -396,10 +410,8 @@ module _ (s : Typing) (settled : IsSettled s.table) (own_law : OwnsByShape s.tab
         | inr h ↦ inr (h.0, inr h.1)
       ];
       views = λ g y view. later.0.views g y view ∙ on.views g y view;
-      words = λ plain_all. (let more = later.0.words (λ y has. plain_all y (inr has)) in (
-        λ g y p any. more.0 g y p any ∙ on.hold g y p,
-        λ c p. more.1 c p ∙ cells_same s m then_m hands leaks on.same c p,
-      ));
+      carried = carried_then s (λ g. g ≡ suc depth → ⊥) [] [] [] m then_m n (λ w taken. taken) (λ w taken. taken)
+          (carried_same s (λ g. g ≡ suc depth → ⊥) [] m then_m on.hold (λ c p. cells_same s m then_m hands leaks on.same c p)) later.0.carried;
       low = λ w g y base less c reach. later.0.low w g y base less c (same_reaches (seen s m hands leaks) (seen s then_m hands leaks) on.same w (OfCell c) reach);
     },
     later.1,
@@ -412,12 +424,12 @@ module _ (s : Typing) (settled : IsSettled s.table) (own_law : OwnsByShape s.tab
       → (word_in s.table (content s m [] (OfRoot (OfVariable g y))) p ≡ Held c) ⊎ ((g ≡ suc depth) × (y ≡ x)))
       → ((g y : ℕ) → is_anonymous (view_of s y) ≡ true
       → (get_or (variable_slots s g y next.variables) 0 no_slot).word ≡ (get_or (variable_slots s g y m.variables) 0 no_slot).word)
-      → IsBare s depth k to next one.inside
+      → IsBare s depth k to next one.inside → AreCarried s (λ g. g ≡ suc depth → ⊥) [] m next
       → ((w : Way) (g y : ℕ) → base_of w ≡ OfRoot (OfVariable g y) → g < depth → (c : ℕ)
       → Reaches (seen s m hands leaks) w (OfCell c) → Reaches (seen s next hands leaks) w (OfCell c))
       → Enter (gone_also (home s depth) other (λ w. other.gone w ⊎ ((p : List Step) × (w ≡ along to p)))) formals passed ways next n
       → Enter other (x ∷ formals) (From k ∷ passed) (to ∷ ways) m n
-  taken_then other x k to formals passed ways m next n one apart differ held views bare low later = (
+  taken_then other x k to formals passed ways m next n one apart differ held views bare carried low later = (
     record {
       typed = later.0.typed;
       held = λ g y p c is. elim (later.0.held g y p c is) [
@@ -425,7 +437,7 @@ module _ (s : Typing) (settled : IsSettled s.table) (own_law : OwnsByShape s.tab
         | inl h ↦ elim (held g y p c h) [ inl before ↦ inl before | inr mine ↦ inr (mine.0, inl (sym mine.1)) ]
       ];
       views = λ g y view. later.0.views g y view ∙ views g y view;
-      words = λ plain_all. absurd (true_false (is_scalar (full s.table (object_at s x).of)) (plain_all x (inl refl)) one.many);
+      carried = carried_then s (λ g. g ≡ suc depth → ⊥) [] [] [] m next n (λ w taken. taken) (λ w taken. taken) carried later.0.carried;
       low = λ w g y base less c reach. later.0.low w g y base less c (low w g y base less c reach);
     },
     more_gone (home s depth) (is_observer s) v
@@ -475,7 +487,7 @@ module _ (s : Typing) (settled : IsSettled s.table) (own_law : OwnsByShape s.tab
       subst (λ z. Enter other (x ∷ formals) (z ∷ passed) (to ∷ ways) m (with_formals s (suc depth) (x ∷ formals) (z ∷ passed) m)) (sym is)
       (taken_then other x k to formals passed ways m next (with_formals s (suc depth) formals passed next) one apart differ
       (one_held other x k to ways one whole apart open_there m typed viewed new) (one_views other x k to ways one whole apart open_there m typed viewed new)
-      (one_bare other x k to ways one whole apart open_there m typed viewed new)
+      (one_bare other x k to ways one whole apart open_there m typed viewed new) (one_carried other x k to ways one whole apart open_there m typed viewed new)
       (one_low other x k to ways one whole apart open_there m typed viewed new)
       (all_declared away formals passed ways next more (one_open other x k to ways one whole apart open_there m typed viewed new)
       (kept_next other x k to ways one whole apart open_there m typed viewed new) (viewed_next other x k to ways one whole apart open_there m typed viewed new)

@@ -216,6 +216,7 @@ module _ (s : Typing) (own_law : OwnsByShape s.table) (depth : ℕ) (facts : Lis
             many = many;
             within = λ owns. within inside.object (inl (sym object_is)) inside.own owns;
             unlent = λ l h n has over. passed_unlent known to owning access by_way l h n (less (Lent l h n) has) over;
+            whole = λ n has over. passed_unmoved known to owning access by_way n (less (Moved n) has) over;
           },
           (λ n has over. passed_unmoved known to owning access by_way n (less (Moved n) has) over),
           apart_from s x (Name p y path u) m formals actuals to ways_left in_out refl (sym called) none names,

@@ -2,7 +2,7 @@
 --
 -- A frame that waits for a call to end has its views still: what was called names no object of the
 -- frame, and leaves package objects alone of which a part is lent.
-use Rattle.std.specs.Prelude.{◌≡◌, ◌⊎◌, ◌<◌, ℕ, true, false, List, [], ◌∷◌, map, get_or, Option, Some, None}
+use Rattle.std.specs.Prelude.{◌≡◌, ◌⊎◌, ◌<◌, ℕ, true, false, List, [], ◌∷◌, map, get_or, Option, Some, None, suc}
 use Rattle.spark_base.specs.Lists.{Has}
 use Rattle.spark_base.specs.declared.position.Pos.{Pos}
 use Rattle.place_names.specs.declared.act.Mode.TheVariants as mode
@@ -36,7 +36,7 @@ use Rattle.soundness.specs.Sound as owners
 use Rattle.owned_loans.specs.Views.{known_gone, Views, IsMovedBy, AreClear, AreViews, Viewed}
 use Rattle.viewed_soundness.specs.Holds.{IsNamed, PartsAreNamed}
 use Rattle.viewed_steps.specs.Awaited.{is_held, lasting_of, AreNamedResults, AreAwaited}
-use Rattle.viewed_steps.specs.Taken.{TakenBy, AreTaken}
+use Rattle.viewed_steps.specs.Taken.{TakenBy, AreTaken, AreCarried}
 
 -- ---- the class
 
@@ -229,14 +229,10 @@ AreTurned i before later = (x : ℕ) (w : Way) → later.way x ≡ Some w → (b
 abbrev pub AreLeft : ℕ → Views → Views → Type 0
 AreLeft y before later = (x : ℕ) (w : Way) → later.way x ≡ Some w → (before.way x ≡ Some w) × (number_of w ≡ y → ⊥)
 
--- All formals are of scalar types.
-abbrev pub AreScalarFormals : FlowProgram → Type 0
-AreScalarFormals program = (x : ℕ) → is_formal (flow_typing program) x ≡ true → IsScalarObject (flow_typing program) x
-
 -- How the frames after a step, with their views, come from those before it, of which `top` is the innermost one: it goes on; the
 -- scope of an object ends; after the last package object the main procedure begins; a subprogram is called, which has executed
--- nothing yet; a function gives its result to its caller; or a call has ended. Where formals are of scalar types, a call, and
--- the end of one, changes nothing that owners see in the frames that are left. A call moves nothing.
+-- nothing yet; a function gives its result to its caller; or a call has ended. In the frames that are left, a call changes
+-- nothing that owners see but what it takes, and the end of one nothing but what was taken. A call moves nothing.
 pub data Follows (program : FlowProgram) (effects : Effects) (i : Instruction) (m : Memory) (top : ViewStage) (older : List ViewStage) (n : Memory) (next : ViewStage) (around : List ViewStage) : Type 0 where
   steps_on : owners.IsNoCall i → (i ≡ Finish → ⊥) → ((y : ℕ) → i ≡ EndScope y → ⊥) → owners.IsOnward top.stage next.stage
       → AreTurned i top.views next.views → around ≡ older → Follows program effects i m top older n next around
@@ -250,9 +246,9 @@ pub data Follows (program : FlowProgram) (effects : Effects) (i : Instruction) (
       → Follows program effects i m top older n next around
   calls_one : (waits : Stage) → around ≡ record { stage = waits; views = top.views } ∷ older → owners.IsOnward top.stage waits → next.stage.before ≡ []
       → ((f : Fact) → Has (facts_of program effects waits) f → Has (facts_of program effects top.stage) f)
-      → (AreScalarFormals program → owners.AreSameWords (flow_typing program) (λ f. Unit {0}) m n) → Follows program effects i m top older n next around
+      → AreCarried (flow_typing program) (λ f. f ≡ suc top.stage.depth → ⊥) [] m n → Follows program effects i m top older n next around
   ends_one : older ≡ next ∷ around
-      → (AreScalarFormals program → owners.AreSameWords (flow_typing program) (λ f. f ≡ top.stage.depth → ⊥) m n)
+      → AreCarried (flow_typing program) (λ f. f ≡ top.stage.depth → ⊥) next.stage.returns m n
       → Follows program effects i m top older n next around
 
 -- What a step leads to, with where its frames come from.

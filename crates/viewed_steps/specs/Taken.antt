@@ -4,7 +4,7 @@
 use Rattle.std.specs.Prelude.{◌≡◌, ◌⊎◌, ℕ, true, false, List, [], ◌∷◌, ◌++◌}
 use Rattle.spark_base.specs.Lists.{Has}
 use Rattle.place_names.specs.declared.fact.Fact.{Fact}
-use Rattle.place_names.specs.declared.fact.Fact.TheVariants.{Lent}
+use Rattle.place_names.specs.declared.fact.Fact.TheVariants.{Moved, Lent}
 use Rattle.place_names.specs.declared.rule.Loan.{Loan}
 use Rattle.place_names.specs.Names.{Name as PlaceName, overlaps}
 use Rattle.type_definitions.specs.Types.{full, is_scalar, is_owning}
@@ -13,7 +13,7 @@ use Rattle.flow_paths.specs.Scopes.{is_within}
 use Rattle.machine.specs.Memory.{Memory, Place}
 use Rattle.machine.specs.Memory as memory
 use Rattle.machine.specs.States.{Return}
-use Rattle.owned_ways.specs.Ways.{Step, OfVariable, OfRoot, Way, Object, Held, Under, along, name_of}
+use Rattle.owned_ways.specs.Ways.{Step, OfVariable, OfRoot, OfCell, Way, Object, Held, Gone, Under, along, name_of}
 use Rattle.part_offsets.specs.Parts.{type_in, offset_in, has_part}
 use Rattle.soundness.specs.Seen.{content, word_in}
 use Rattle.soundness.specs.Typed.{Matches}
@@ -23,6 +23,15 @@ use Rattle.viewed_soundness.specs.Holds.{IsNamed}
 -- A way is one of these, or goes on from it to a part.
 abbrev pub TakenBy : List Way → Way → Type 0
 TakenBy ways w = (to : Way) × Has ways to × (p : List Step) × (w ≡ along to p)
+
+-- In the variables of these frames, but in these places: what has a number then had it before, and what is gone
+-- stays gone. Cells are as they were.
+pub record AreCarried (s : Typing) (these : ℕ → Type 0) (ways : List Way) (m n : Memory) : Type 0 where
+  pub held : (f x : ℕ) (p : List Step) (c : ℕ) → these f → (TakenBy ways (along (Object (OfVariable f x)) p) → ⊥)
+      → word_in s.table (content s n [] (OfRoot (OfVariable f x))) p ≡ Held c → word_in s.table (content s m [] (OfRoot (OfVariable f x))) p ≡ Held c
+  pub gone : (f x : ℕ) (p : List Step) → these f → (TakenBy ways (along (Object (OfVariable f x)) p) → ⊥)
+      → word_in s.table (content s m [] (OfRoot (OfVariable f x))) p ≡ Gone → word_in s.table (content s n [] (OfRoot (OfVariable f x))) p ≡ Gone
+  pub cells : (c : ℕ) (p : List Step) → word_in s.table (content s n [] (OfCell c)) p ≡ word_in s.table (content s m [] (OfCell c)) p
 
 -- A place in a variable of a frame: its way. Where it stands doesn't go by what is in memory.
 pub record IsInside (s : Typing) (depth : ℕ) (k : Place) (to : Way) : Type 0 where
@@ -37,7 +46,7 @@ pub record IsInside (s : Typing) (depth : ℕ) (k : Place) (to : Way) : Type 0 w
   pub named : IsNamed s.table k.of
 
 -- What is passed for a formal that isn't scalar and is copied back: a place in a variable, which is in
--- scope if it may own and isn't lent, and whose value the formal may have.
+-- scope if it may own, isn't lent and of which nothing was moved, and whose value the formal may have.
 pub record IsPassedOn (s : Typing) (depth : ℕ) (facts : List Fact) (scope : List ℕ) (x : ℕ) (k : Place) (to : Way) : Type 0 where
   pub inside : IsInside s depth k to
   pub fits : Matches s.table k.of (object_at s x).of
@@ -45,6 +54,7 @@ pub record IsPassedOn (s : Typing) (depth : ℕ) (facts : List Fact) (scope : Li
   pub many : is_scalar (full s.table (object_at s x).of) ≡ false
   pub within : is_owning s.table (object_at s inside.object).of ≡ true → is_within inside.object scope ≡ true
   pub unlent : (l : Loan) (h : ℕ) (n : PlaceName) → Has facts (Lent l h n) → overlaps n (name_of to) ≡ true → ⊥
+  pub whole : (n : PlaceName) → Has facts (Moved n) → overlaps n (name_of to) ≡ true → ⊥
 
 -- No number stands in the place.
 abbrev pub IsBare : (s : Typing) (depth : ℕ) (k : Place) (to : Way) → Memory → IsInside s depth k to → Type 0

@@ -1,0 +1,143 @@
+-- What is called moved stays so in calls and their ends: it is in no place that a call takes.
+use Rattle.std.proofs.Common.{◌≡◌, sym, ap, ◌∙◌, subst, ◌⊎◌, inl, inr, ℕ, suc, ◌<◌, Bool, true, false, List, [], ◌∷◌, length, append-nil, arith, if◌then◌else◌}
+use Rattle.spark_base.specs.Lists.{Has}
+use Rattle.place_names.specs.declared.fact.Fact.{Fact}
+use Rattle.place_names.specs.declared.rule.Loan.TheVariants.{Borrowed}
+use Rattle.flow_paths.specs.Objects.{Typing, is_observer, is_package_object}
+use Rattle.machine.specs.Memory.{Memory}
+use Rattle.machine.specs.States.{Return, Frame}
+use Rattle.owned_ways.specs.Ways.{Step, Root, OfVariable, Loc, OfRoot, OfCell, Inside, Way, Object, Lost, Into, All, Gone, Held, View, part, along, Reaches, Under, Told, Named, base_of, number_of}
+use Rattle.owned_ways.proofs.Locations.{under_along, under_itself}
+use Rattle.owned_ways.proofs.Dropped.{named_base}
+use Rattle.part_offsets.specs.Parts.{IsSettled}
+use Rattle.soundness.specs.Seen.{word_in, content, seen, home}
+use Rattle.soundness.proofs.Contents.{word_part, word_root}
+use Rattle.soundness.specs.Sound.{AreStages}
+use Rattle.owned_loans.specs.Views.{Views, AreClear, AreViews, IsMovedBy}
+use Rattle.owned_loans.proofs.Safe.{clean_below}
+use Rattle.viewed_steps.specs.Sound.{ViewStage, stages_of}
+use Rattle.viewed_steps.specs.Taken.{TakenBy, AreCarried, IsPassedOn, AreTaken}
+use Rattle.viewed_steps.proofs.Between.{base_under, same_variable, taken_from}
+use Rattle.viewed_steps.proofs.Entered.{not_observing, inside_plain, inside_named, inside_number, inside_itself}
+
+-- ---- ways from variables, where words are carried
+
+module _ (s : Typing) (these : ℕ → Type 0) (ways : List Way) (m n : Memory) (carried : AreCarried s these ways m n) where
+  abbrev was : View
+  was = seen s m [] []
+
+  abbrev now : View
+  now = seen s n [] []
+
+  -- The way goes to a part of a variable of these frames, or to one of a cell.
+  abbrev Stands : Way → Loc → Type 0
+  Stands w l =
+      ((f : ℕ) × (x : ℕ) × (p : List Step) × these f × (w ≡ along (Object (OfVariable f x)) p) × (l ≡ part (OfRoot (OfVariable f x)) p))
+      ⊎ ((c : ℕ) × (p : List Step) × (l ≡ part (OfCell c) p))
+
+  abbrev Begins : Way → Type 0
+  Begins w = (f : ℕ) × (x : ℕ) × (base_of w ≡ OfRoot (OfVariable f x)) × these f
+
+  abbrev IsOff : Way → Type 0
+  IsOff w = (to : Way) → Has ways to → Under to w → ⊥
+
+  stands : (w : Way) (l : Loc) → Begins w → Reaches now w l → Stands w l
+  stands (Object r) l (f, x, base, there) reach = inl (f, x, [], there, same_root r base, reach ∙ base)
+    where
+      same_root : (r : Root) → OfRoot r ≡ OfRoot (OfVariable f x) → Object r ≡ Object (OfVariable f x)
+      same_root r e = cc
+  stands (Lost c) l (f, x, base, there) reach = absurd (let no : OfCell c ≡ OfRoot (OfVariable f x) = base in cc)
+  stands (Into w i) l begins (k, reach, e) = elim (stands w k begins reach) [
+    | inl (f, x, p, there, is, at) ↦ inl (f, x, i ∷ p, there, ap (λ z. Into z i) is, e ∙ ap (λ z. Inside z i) at)
+    | inr (c, p, at) ↦ inr (c, i ∷ p, e ∙ ap (λ z. Inside z i) at)
+  ]
+  stands (All w) l begins (k, c, reach, held, e) = inr (c, [], e)
+
+  off_place : (w : Way) → IsOff w → TakenBy ways w → ⊥
+  off_place w off (to, has, p, is) = off to has (subst (Under to) (sym is) (under_along to to p (under_itself to)))
+
+  cell_word : (c : ℕ) (p : List Step) → now.word (part (OfCell c) p) ≡ was.word (part (OfCell c) p)
+  cell_word c p =
+      word_part s.table (content s n []) (OfCell c) p
+      ∙ subst (λ q. word_in s.table (content s n [] (OfCell c)) q ≡ word_in s.table (content s m [] (OfCell c)) q) (sym (append-nil p)) (carried.cells c p)
+      ∙ sym (word_part s.table (content s m []) (OfCell c) p)
+
+  held_before : (w : Way) (l : Loc) → Stands w l → IsOff w → (c : ℕ) → now.word l ≡ Held c → was.word l ≡ Held c
+  held_before w l (inr (d, p, at)) off c held =
+      subst (λ z. was.word z ≡ Held c) (sym at) (sym (cell_word d p) ∙ subst (λ z. now.word z ≡ Held c) at held)
+  held_before w l (inl (f, x, p, there, is, at)) off c held =
+      subst (λ z. was.word z ≡ Held c) (sym at)
+      (word_root s.table (content s m []) (OfVariable f x) p
+      ∙ carried.held f x p c there (λ taken. off_place w off (subst (TakenBy ways) (sym is) taken))
+      (sym (word_root s.table (content s n []) (OfVariable f x) p) ∙ subst (λ z. now.word z ≡ Held c) at held))
+
+  gone_then : (w : Way) (l : Loc) → Stands w l → IsOff w → was.word l ≡ Gone → now.word l ≡ Gone
+  gone_then w l (inr (d, p, at)) off gone =
+      subst (λ z. now.word z ≡ Gone) (sym at) (cell_word d p ∙ subst (λ z. was.word z ≡ Gone) at gone)
+  gone_then w l (inl (f, x, p, there, is, at)) off gone =
+      subst (λ z. now.word z ≡ Gone) (sym at)
+      (word_root s.table (content s n []) (OfVariable f x) p
+      ∙ carried.gone f x p there (λ taken. off_place w off (subst (TakenBy ways) (sym is) taken))
+      (sym (word_root s.table (content s m []) (OfVariable f x) p) ∙ subst (λ z. was.word z ≡ Gone) at gone))
+
+  -- such a way leads where it led
+  reached_before : (w : Way) (l : Loc) → Begins w → IsOff w → Reaches now w l → Reaches was w l
+  reached_before (Object r) l begins off reach = reach
+  reached_before (Lost c) l (f, x, base, there) off reach = absurd (let no : OfCell c ≡ OfRoot (OfVariable f x) = base in cc)
+  reached_before (Into w i) l begins off (k, reach, e) = (k, reached_before w k begins (λ to has under. off to has (inr under)) reach, e)
+  reached_before (All w) l begins off (k, c, reach, held, e) =
+      let off_front : IsOff w = (λ to has under. off to has (inr under)) in
+      (k, c, reached_before w k begins off_front reach, held_before w k (stands w k begins reach) off_front c held, e)
+
+  pub carried_told : (P : Way → Type 0) → ((w : Way) → P w → Begins w) → ((w : Way) → P w → IsOff w) → Told (seen s m [] []) P → Told (seen s n [] []) P
+  carried_told P begins off told w l is reach =
+      gone_then w l (stands w l (begins w is) reach) (off w is) (told w l is (reached_before w l (begins w is) (off w is) reach))
+
+-- ---- where frames have names
+
+pub home_below : (s : Typing) (a b y : ℕ) → a < b → home s a y ≡ b → ⊥
+home_below s a b y less e = by_package (is_package_object s y) e
+  where
+    by_package : (c : Bool) → (if c then 0 else a) ≡ b → ⊥
+    by_package true e = omega (arith, less, e)
+    by_package false e = omega (arith, less, e)
+
+-- the frames of a list are lower than its length
+pub lower : (older : List ViewStage) (outer : List Frame) → AreStages (stages_of older) outer → (g : ViewStage) → Has older g → g.stage.depth < length outer
+lower [] outer stages g has = absurd has
+lower (h ∷ older) [] stages g has = absurd stages
+lower (h ∷ older) (f ∷ outer) (frame, deep, others) g (inl same) =
+    subst (λ (z : ViewStage). z.stage.depth < suc (length outer)) same (omega (arith, deep))
+lower (h ∷ older) (f ∷ outer) (frame, deep, others) g (inr has) = (let less = lower older outer others g has in omega (arith, less))
+
+-- ---- the places that a call took
+
+pub passed_of : (s : Typing) (m : Memory) (depth : ℕ) (facts : List Fact) (scope : List ℕ) (returns : List Return) (ways : List Way)
+    → AreTaken s m depth facts scope returns ways → (to : Way) → Has ways to → (r : Return) × IsPassedOn s depth facts scope r.formal r.to to
+passed_of s m depth facts scope [] ways none to has = absurd (subst (λ z. Has z to) none has)
+passed_of s m depth facts scope (r ∷ rest) [] taken to has = absurd has
+passed_of s m depth facts scope (r ∷ rest) (k ∷ ways) (inl copied) to has = passed_of s m depth facts scope rest (k ∷ ways) copied.1 to has
+passed_of s m depth facts scope (r ∷ rest) (k ∷ ways) (inr (one, apart, another, more)) to (inl same) =
+    (r, subst (IsPassedOn s depth facts scope r.formal r.to) same one.0)
+passed_of s m depth facts scope (r ∷ rest) (k ∷ ways) (inr (one, apart, another, more)) to (inr has) = passed_of s m depth facts scope rest ways more to has
+
+module _ (s : Typing) (settled : IsSettled s.table) (depth : ℕ) (facts : List Fact) (scope : List ℕ) (r : Return) (to : Way)
+    (passed : IsPassedOn s depth facts scope r.formal r.to to) where
+  -- nothing that the frame moved is there
+  pub passed_clean : (v : Views) (view : View) → AreViews (home s depth) (is_observer s) v view facts → AreClear (is_observer s) facts
+      → (w : Way) → IsMovedBy (home s depth) v facts w → Under to w → ⊥
+  passed_clean v view views clear w moved under =
+      clean_below (home s depth) (is_observer s) v view facts views clear to w (
+        inside_named s settled depth r.to to passed.inside,
+        ap (is_observer s) (inside_number s settled depth r.to to passed.inside)
+            ∙ not_observing s (passed.inside).object (inside_plain s settled depth r.to to passed.inside),
+      ) (λ h n has over. passed.unlent Borrowed h n has over) passed.whole
+      (subst (λ z. Under z w) (sym (inside_itself s settled depth r.to to passed.inside v)) under) moved
+
+-- nor what another frame named
+pub other_clean : (s : Typing) (m : Memory) (a depth : ℕ) (facts : List Fact) (scope : List ℕ) (returns : List Return) (ways : List Way)
+    → AreTaken s m depth facts scope returns ways → a < depth → (to : Way) → Has ways to → (w : Way) → Named (home s a) w → Under to w → ⊥
+other_clean s m a depth facts scope returns ways taken less to has w named under =
+    let base = taken_from s m depth facts scope returns ways taken to has in
+    home_below s a depth (number_of w) less
+    (same_variable (home s a (number_of w)) (number_of w) depth base.0 (sym (named_base (home s a) w named) ∙ base_under to w under ∙ base.1)).0
