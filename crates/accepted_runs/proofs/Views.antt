@@ -24,6 +24,7 @@ use Rattle.accepted_runs.specs.Passed.{Passes}
 use Rattle.accepted_runs.proofs.Passing.{Passed, product_passed}
 use Rattle.accepted_runs.proofs.Parsed.{are_parsed}
 use Rattle.accepted_runs.proofs.Runs.{RunsAreSound}
+use Rattle.accepted_runs.proofs.Functions.{AreInThirdClass}
 
 -- ---- with calls
 
@@ -55,7 +56,11 @@ accepted_called_sound stored input words names answer command product zero =
     let is : Passed (sources stored 0 SOURCE_BYTES names) = product_passed stored input words names answer command product zero in
     (is, passed_called_sound is.texts is.trees is.effects is.passes)
 
--- ---- without calls
+-- ---- parts of it
+
+-- Programs without anonymous access types that call as above are of this class.
+pub third_second : (trees : List (List SourceUnit)) → AreInThirdClass trees → AreInSecondViewClass trees
+third_second trees class = record { main = class.text.main; is_main = class.text.is_main; calls = class.calls }
 
 -- No subprogram has formals, and none is called. Anonymous access types are allowed.
 pub record AreInViewClass (trees : List (List SourceUnit)) : Type 0 where

@@ -6,6 +6,7 @@
 //! types and no limit, and that there are no reports (`specs/Passed.antt`, `proofs/Passing.antt`).
 //! The files are parsed then, as `file_positions` has it (`proofs/Parsed.antt`). So the laws of
 //! `function_files` speak of what `check` accepts (`proofs/Functions.antt`), of smaller classes of
-//! programs, too (`proofs/Main.antt`); and so do those of `viewed_files` (`proofs/Views.antt`) and of
-//! `viewed_facts` (`proofs/ViewFacts.antt`). Nothing here runs.
+//! programs, too (`proofs/Main.antt`); and so do those of `viewed_files` (`proofs/Views.antt`), of
+//! `viewed_facts` (`proofs/ViewFacts.antt`) and of `viewed_nulls` (`proofs/ViewNulls.antt`). Nothing
+//! here runs.
 #![tactic(auto)]

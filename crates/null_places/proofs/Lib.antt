@@ -9,6 +9,7 @@ pub mod Laws
 pub mod Scalars
 pub mod Evaluated
 pub mod Instructions
+pub mod Each
 pub mod Calls
 pub mod Direct
 -- programs without borrowers and observers

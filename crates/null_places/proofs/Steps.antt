@@ -1,5 +1,5 @@
 -- Each step of a sound state is the same in memories that agree, in a program that is ready.
-use Rattle.std.proofs.Common.{◌≡◌, refl, sym, ap, ◌∙◌, subst, inl, inr, ℕ, suc, ◌+◌, ◌<◌, Bool, true, false, not, ◌||◌, List, [], ◌∷◌, ◌++◌, map, take, length, append-nil, Option, Some, None, if◌then◌else◌}
+use Rattle.std.proofs.Common.{◌≡◌, refl, sym, ap, ◌∙◌, subst, inl, inr, ℕ, suc, ◌<◌, Bool, true, false, not, ◌||◌, List, [], ◌∷◌, ◌++◌, map, take, length, append-nil, Option, Some, None, if◌then◌else◌}
 use Rattle.spark_base.specs.Lists.{Has}
 use Rattle.spark_base.proofs.Lists.{Has-map_from, Has-append_left}
 use Rattle.spark_base.specs.declared.position.Pos.{Pos}
@@ -8,12 +8,11 @@ use Rattle.place_names.specs.declared.act.Act.TheVariants as act
 use Rattle.place_names.specs.declared.act.Placed.{Placed}
 use Rattle.place_names.specs.declared.fact.Fact.{Fact}
 use Rattle.place_names.specs.Rules.{forbids}
-use Rattle.type_definitions.specs.Types.{Table, shape_of, full}
-use Rattle.type_definitions.specs.declared.table.Shape.TheVariants as shape
+use Rattle.type_definitions.specs.Types.{Table, full}
 use Rattle.typed_tree.specs.Trees.{TypedTree, Name, NoMore, More}
 use Rattle.typed_tree.specs.Programs.{TypedProgram}
 use Rattle.flow_paths.specs.declared.report.Effects.{Effects}
-use Rattle.flow_paths.specs.Instructions.{Instruction, Skip, Declare, Assign, Call, Output, Input, Release, Test, Choose, Start, Next, Evaluate, LeaveLoop, Hold, EndScope, Finish, Fall}
+use Rattle.flow_paths.specs.Instructions.{Instruction, Declare, Assign, Call, Hold, Finish}
 use Rattle.flow_paths.specs.Objects.{Typing, sub_at, passings, Passing, traverses, is_anonymous, is_observer, object_at}
 use Rattle.flow_paths.specs.Names.{has_call, waiting as waits_in, whole, first, written, source}
 use Rattle.flow_paths.specs.Acts as flow
@@ -34,7 +33,7 @@ use Rattle.machine.specs.Run.{step}
 use Rattle.owned_ways.specs.Ways.{Way, Sound, AllowsAll}
 use Rattle.soundness.specs.Seen.{home, IsNear, is_view_formal}
 use Rattle.soundness.specs.Typed.{Kept}
-use Rattle.typed_laws.specs.Needed.{IsFine, Source, Gives, FirstWrites, FirstStays, Returns}
+use Rattle.typed_laws.specs.Needed.{IsFine, Source, Gives, Returns}
 use Rattle.soundness.specs.Sound.{calls_procedures, Stage, facts_of, Elsewhere, AreStages, AreRunning, AreWaiting, AreAwaited, InScope, IsNoCall, IsNamedSub, IsAtPoint, view_of, IsSound, AreCopied}
 use Rattle.soundness.specs.Ready.{IsCalled, IsSupplied, IsReady}
 use Rattle.soundness.proofs.Scalars.{acts, acts_append, allows_both}
@@ -57,9 +56,10 @@ use Rattle.null_places.specs.Agrees.{Agrees}
 use Rattle.null_places.specs.Compares.{Compares, ComparesIn, AreCompared}
 use Rattle.null_places.proofs.Only.{OnlyOwners}
 use Rattle.null_places.proofs.Laws.{Premises, Values}
+use Rattle.null_places.proofs.Each.{each_by}
 use Rattle.null_places.proofs.Calls.{call_same, finish_same}
 use Rattle.null_places.proofs.Plain.{plain_premises, IsReadyIn, plain_values}
-use Rattle.null_places.proofs.Instructions.{SameStepBy, SameStep, twin, both_are, step_simply, source_same, declare_on, assign_on, end_scope_same, release_on, input_on, skip_same, fall_same, test_on, choose_on, leave_loop_on, operand_on, output_on, line_same, start_on, next_same}
+use Rattle.null_places.proofs.Instructions.{SameStepBy, SameStep, twin, both_are, step_simply, source_same, declare_on, assign_on, end_scope_same, skip_same}
 
 module _ (table : Table) (typed : TypedProgram) (effects : Effects) (input : List ℕ) (ready : IsReady table typed effects)
     (compared : AreCompared (flow_program table typed)) where
@@ -135,6 +135,13 @@ module _ (table : Table) (typed : TypedProgram) (effects : Effects) (input : Lis
         else (if is_observer s x then source_acts s e (observe s x) else stored_acts s target e)) (not_borrower s ready.class.all_named x)
         ∙ ap (λ b. if b then source_acts s e (observe s x) else stored_acts s target e) (not_observer s ready.class.all_named x)
 
+    declares : (x : ℕ) (v : TypedTree) → IsFine s named.sub.result (Declare x v) → TakesIn (Declare x v) → Plainly (Declare x v) → ComparesIn s (Declare x v)
+        → AllowsAll facts (acts_by (Declare x v)) → Same (Declare x v)
+    declares x v text takes plainly compares allowed_there =
+        declare_on t ready.accepted.settled ready.owns asks ready_in laws facts so only n agrees on
+        x v (owner (object_at s x).of) tt text (plainly (has_call v) (λ none. not_true (has_call v) none)) takes compares
+        (subst (λ z. AllowsAll facts (acts z)) (declared_plain x v) allowed_there) tt
+
     assigns : (target e : TypedTree) → IsFine s named.sub.result (Assign target e) → TakesIn (Assign target e) → Plainly (Assign target e)
         → ComparesIn s (Assign target e) → AllowsAll facts (acts_by (Assign target e)) → Same (Assign target e)
     unfolding has_call waits_in Compares
@@ -147,85 +154,19 @@ module _ (table : Table) (typed : TypedProgram) (effects : Effects) (input : Lis
         (subst (λ z. AllowsAll facts (acts z)) (assigned_plain p.pos (whole (Name q x path u)) (Name q x path u) e) allowed_there) tt
     assigns target e (v, never, source) takes plainly compares allowed_there = absurd never
 
-    writes : (text : TypedTree) (line : Bool) → FirstWrites s text → TakesIn (Output text line) → Plainly (Output text line) → ComparesIn s (Output text line)
-        → AllowsAll facts (acts_by (Output text line)) → Same (Output text line)
-    unfolding acts_in has_call waits_in Compares
-    writes (More e rest) line (last, text) takes plainly compares allowed_there =
-        output_on t ready.accepted.settled ready.owns asks ready_in laws facts so only n agrees on
-        e rest line last text
-        (takes_as (taken (Output (More e rest) line)) (waits_in e) (start t).waits on (ap (λ z. waits_in e + waits_in z) last ∙ nothing_more (waits_in e)) takes)
-        (plainly (has_call e) (λ calls. (or_both (has_call e) (has_call rest) (not_true (has_call e || has_call rest) calls)).0))
-        compares.0 allowed_there
-    writes NoMore line text takes plainly compares allowed_there =
-        line_same t ready.accepted.settled ready.owns asks ready_in laws facts so only n agrees line
-    writes other_text line never takes plainly compares allowed_there = absurd never
-
-    reads : (target : TypedTree) → IsFine s named.sub.result (Input target) → TakesIn (Input target) → Plainly (Input target) → ComparesIn s (Input target)
-        → AllowsAll facts (acts_by (Input target)) → Same (Input target)
-    unfolding has_call waits_in Compares
-    reads (Name q x path u) (v, (leads, type), scalar) takes plainly compares allowed_there =
-        input_on t ready.accepted.settled ready.owns asks ready_in laws facts so only n agrees on
-        q x u path leads takes (plainly (has_call path) (λ none. not_true (has_call path) none)) compares allowed_there
-    reads target (v, never, scalar) takes plainly compares allowed_there = absurd never
-
-    releases : (target : TypedTree) → IsFine s named.sub.result (Release target) → TakesIn (Release target) → Plainly (Release target) → ComparesIn s (Release target)
-        → AllowsAll facts (acts_by (Release target)) → Same (Release target)
-    unfolding has_call waits_in Compares
-    releases (Name q x path u) (v, d, (leads, type), access) takes plainly compares allowed_there =
-        release_on t ready.accepted.settled ready.owns asks ready_in laws facts so only n agrees on
-        q x u d path (subst (λ z. shape_of s.table z ≡ shape.Access d false true) (sym type) access) leads takes
-        (plainly (has_call path) (λ none. not_true (has_call path) none)) compares allowed_there tt
-    releases target (v, d, never, access) takes plainly compares allowed_there = absurd never
-
-    leaves : (e : TypedTree) → FirstStays s e → TakesIn (LeaveLoop e) → Plainly (LeaveLoop e) → ComparesIn s (LeaveLoop e)
-        → AllowsAll facts (acts_by (LeaveLoop e)) → Same (LeaveLoop e)
-    unfolding acts_in has_call waits_in Compares
-    leaves (More e rest) (last, stays) takes plainly compares allowed_there =
-        leave_loop_on t ready.accepted.settled ready.owns asks ready_in laws facts so only n agrees on
-        e rest last stays
-        (takes_as (taken (LeaveLoop (More e rest))) (waits_in e) (start t).waits on (ap (λ z. waits_in e + waits_in z) last ∙ nothing_more (waits_in e)) takes)
-        (plainly (has_call e) (λ calls. (or_both (has_call e) (has_call rest) (not_true (has_call e || has_call rest) calls)).0))
-        compares.0 allowed_there
-    leaves NoMore text takes plainly compares allowed_there =
-        skip_same t ready.accepted.settled ready.owns asks ready_in laws facts so only n agrees
-    leaves e never takes plainly compares allowed_there = absurd never
-
     pub each_same : (i : Instruction) → IsNoCall i → (i ≡ Finish → ⊥) → ((v : TypedTree) → i ≡ Hold v → Same (Hold v)) → IsFine s named.sub.result i
         → TakesIn i → Plainly i → ComparesIn s i → AllowsAll facts (acts_by i) → Same i
-    each_same Skip calls going hold text takes plainly compares allowed_there =
-        skip_same t ready.accepted.settled ready.owns asks ready_in laws facts so only n agrees
-    each_same (Declare x v) calls going hold text takes plainly compares allowed_there =
-        declare_on t ready.accepted.settled ready.owns asks ready_in laws facts so only n agrees on
-        x v (owner (object_at s x).of) tt text (plainly (has_call v) (λ none. not_true (has_call v) none)) takes compares
-        (subst (λ z. AllowsAll facts (acts z)) (declared_plain x v) allowed_there) tt
-    each_same (Assign target e) calls going hold text takes plainly compares allowed_there = assigns target e text takes plainly compares allowed_there
-    each_same (Call sub actuals result) calls going hold text takes plainly compares allowed_there = absurd (calls sub actuals result refl)
-    each_same (Output text line) calls going hold writing takes plainly compares allowed_there = writes text line writing takes plainly compares allowed_there
-    each_same (Input target) calls going hold text takes plainly compares allowed_there = reads target text takes plainly compares allowed_there
-    each_same (Release e) calls going hold text takes plainly compares allowed_there = releases e text takes plainly compares allowed_there
-    each_same (Test e) calls going hold stays takes plainly compares allowed_there =
-        test_on t ready.accepted.settled ready.owns asks ready_in laws facts so only n agrees on
-        e stays takes (plainly (has_call e) (λ none. not_true (has_call e) none)) compares allowed_there
-    each_same (Choose e choices) calls going hold stays takes plainly compares allowed_there =
-        choose_on t ready.accepted.settled ready.owns asks ready_in laws facts so only n agrees on
-        e choices stays takes (plainly (has_call e) (λ none. not_true (has_call e) none)) compares allowed_there
-    each_same (Start x reversed low high) calls going hold (scalar, stays, stays') takes plainly compares allowed_there =
-        let two = takes_both (waits_in low) (waits_in high) (start t).waits on takes in
-        start_on t ready.accepted.settled ready.owns asks ready_in laws facts so only n agrees two.0 on
-        x low high stays stays' two.1 two.2 (plainly (has_call low) (λ none. (both_not (has_call low) (has_call high) none).0))
-        (plainly (has_call high) (λ none. (both_not (has_call low) (has_call high) none).1)) compares.0 compares.1 allowed_there
-    each_same (Next x reversed low high) calls going hold scalar takes plainly compares allowed_there =
-        next_same t ready.accepted.settled ready.owns asks ready_in laws facts so only n agrees x reversed scalar
-    each_same (Evaluate temporary e op) calls going hold stays takes plainly compares allowed_there =
-        operand_on t ready.accepted.settled ready.owns asks ready_in laws facts so only n agrees on
-        e op stays takes (plainly (has_call e) (λ none. (let no : false ≡ true = none in cc))) compares allowed_there
-    each_same (LeaveLoop e) calls going hold text takes plainly compares allowed_there = leaves e text takes plainly compares allowed_there
-    each_same (Hold v) calls going hold text takes plainly compares allowed_there = hold v refl
-    each_same (EndScope x) calls going hold text takes plainly compares allowed_there =
-        end_scope_same t n agrees only x
-    each_same Finish calls going hold text takes plainly compares allowed_there = absurd (going refl)
-    each_same Fall calls going hold text takes plainly compares allowed_there =
-        fall_same t ready.accepted.settled ready.owns asks ready_in laws facts so only n agrees
+    each_same i calls going hold text takes plainly compares allowed_there =
+        each_by t ready.accepted.settled ready.owns asks ready_in laws facts so only n agrees on named.sub.result
+        (kept_roots own 0 own.objects (sub_facts own named.sub named.points)) p.pos i calls going
+        (record {
+          declares = λ x v is. declares x v (subst (IsFine s named.sub.result) is text) (subst TakesIn is takes) (subst Plainly is plainly) (subst (ComparesIn s) is compares)
+              (subst (λ z. AllowsAll facts (acts_by z)) is allowed_there);
+          assigns = λ target e is. assigns target e (subst (IsFine s named.sub.result) is text) (subst TakesIn is takes) (subst Plainly is plainly)
+              (subst (ComparesIn s) is compares) (subst (λ z. AllowsAll facts (acts_by z)) is allowed_there);
+          holds = hold;
+          ends = λ x is. end_scope_same t n agrees only x;
+        }) text plainly takes compares allowed_there tt
 
   -- ---- the package objects
 

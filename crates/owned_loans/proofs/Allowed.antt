@@ -6,7 +6,7 @@ use Rattle.spark_base.specs.Lists.{Has}
 use Rattle.place_names.specs.declared.selector.Sel.{Sel}
 use Rattle.place_names.specs.declared.rule.Rule.TheVariants.{O1, O2, O3, O4, O5, O6, O7, O14}
 use Rattle.place_names.specs.declared.rule.Loan.{Loan}
-use Rattle.place_names.specs.declared.rule.Loan.TheVariants.{Borrowed, Observed}
+use Rattle.place_names.specs.declared.rule.Loan.TheVariants.{Borrowed}
 use Rattle.place_names.specs.Names.{Name, object, agrees, agree_along, agrees_whole, overlaps, leads_to, strict_prefixes}
 use Rattle.place_names.proofs.Names.{both_parts, both_true}
 use Rattle.place_names.proofs.Rules.{any_breaks_O2}

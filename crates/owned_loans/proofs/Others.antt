@@ -1,17 +1,17 @@
 -- What is lent to others, where the facts allow an act: its name meets no place that others have
 -- borrowed, and what is changed lies on no way of their views.
-use Rattle.std.proofs.Common.{◌≡◌, refl, sym, ap, ◌∙◌, subst, ◌⊎◌, inl, inr, ℕ, Bool, true, false, List, [], length, ◌<◌, arith, Some, None}
+use Rattle.std.proofs.Common.{◌≡◌, sym, ap, ◌∙◌, subst, ◌⊎◌, inl, inr, ℕ, Bool, true, List, [], length, ◌<◌, arith, Some, None}
 use Rattle.spark_base.specs.Lists.{Has}
 use Rattle.place_names.specs.declared.rule.Loan.{Loan}
 use Rattle.place_names.specs.declared.rule.Loan.TheVariants.{Borrowed, Observed}
 use Rattle.place_names.specs.declared.fact.Fact.{Fact}
 use Rattle.place_names.specs.declared.fact.Fact.TheVariants.{Lent}
 use Rattle.place_names.specs.Names.{overlaps}
-use Rattle.owned_ways.specs.Ways.{OfVariable, OfRoot, Way, View, Under, Past, Named, base_of, name_of, number_of, sels_of}
+use Rattle.owned_ways.specs.Ways.{OfVariable, OfRoot, Way, View, Under, Past, Named, name_of, number_of, sels_of}
 use Rattle.owned_ways.proofs.Locations.{past_under, not_past}
 use Rattle.owned_ways.proofs.Named.{longer, under_leads}
 use Rattle.owned_ways.proofs.Dropped.{named_base}
-use Rattle.owned_loans.specs.Views.{Around, Views, expand, HasLoan, IsThrough, IsAway, IsLentToOthers, Viewed}
+use Rattle.owned_loans.specs.Views.{Around, Views, expand, HasLoan, IsAway, IsLentToOthers, Viewed}
 use Rattle.owned_loans.proofs.Ways.{Meet, flip, meets_on, beginnings, under_on, meet_overlaps, Lifted, next_of, lifts, lifted_root}
 use Rattle.owned_loans.proofs.Meeting.{IsPlain, next, Lends, Both, meeting}
 use Rattle.owned_loans.proofs.Safe.{under_shorter, Open, OpenWhole, Unlent, Unborrowed, Unmoved, loan_of, no_both, open_way, open_itself, seen_way, clean_below, seen_below}

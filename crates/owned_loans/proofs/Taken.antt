@@ -5,7 +5,6 @@ use Rattle.spark_base.proofs.Lists.{Has-append_right}
 use Rattle.std.specs.List.{filter}
 use Rattle.std.proofs.Common.{not}
 use Rattle.place_names.specs.declared.rule.Rule.TheVariants.{O7}
-use Rattle.place_names.specs.declared.rule.Loan.{Loan}
 use Rattle.place_names.specs.declared.rule.Loan.TheVariants.{Borrowed, Observed}
 use Rattle.place_names.specs.Names.{Name, object, agree_along, overlaps}
 use Rattle.place_names.proofs.Names.{both_true}

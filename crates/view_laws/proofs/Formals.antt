@@ -1,6 +1,6 @@
 -- Formals of procedures in the layout: they are in scope at the first point, and differ; and what is
 -- passed is named at the point of the call.
-use Rattle.std.proofs.Common.{◌≡◌, refl, sym, ap, ◌∙◌, subst, inl, inr, ℕ, Bool, true, false, ◌==◌, ◌||◌, eq-eqb, List, [], ◌∷◌, ◌++◌, length, reverse, is_some, if◌then◌else◌}
+use Rattle.std.proofs.Common.{◌≡◌, refl, sym, ap, subst, inl, inr, ℕ, Bool, true, false, ◌==◌, ◌||◌, eq-eqb, List, [], ◌∷◌, ◌++◌, length, reverse, is_some, if◌then◌else◌}
 use Rattle.std.specs.List.{filter}
 use Rattle.std.proofs.lemmas.List.{reverse-append}
 use Rattle.spark_base.specs.Lists.{Has}
@@ -11,8 +11,9 @@ use Rattle.typed_tree.specs.Programs.{TypedSub}
 use Rattle.flow_paths.specs.Instructions.{Finish, Fall}
 use Rattle.flow_paths.specs.Objects.{has_scope_end}
 use Rattle.flow_paths.specs.Points.{Place, PointName, row_at, NamedPoint, point, entry}
-use Rattle.flow_paths.specs.Layout.{Setting, Around, declared, ends, laid}
-use Rattle.flow_paths.specs.Laid.{around_body, function_end, procedure_end, sub_points}
+use Rattle.flow_paths.specs.Prep.{Setting}
+use Rattle.flow_paths.specs.Layout.{Around, declared, ends, laid}
+use Rattle.flow_paths.specs.Laid.{around_body, sub_points}
 use Rattle.flow_paths.specs.Scopes.{Leads, is_settled, is_within}
 use Rattle.flow_paths.proofs.ScopesFlow.{leads_same, Starts}
 use Rattle.flow_paths.proofs.StatementScopes.{laid_starts, after}

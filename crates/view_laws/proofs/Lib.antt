@@ -7,6 +7,7 @@ pub mod Calls
 pub mod Packages
 pub mod Facts
 pub mod Formals
+pub mod Passing
 pub mod Scoped
 pub mod Valued
 pub mod Points

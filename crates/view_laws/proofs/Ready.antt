@@ -17,7 +17,10 @@ use Rattle.viewed_steps.specs.Ready.{AreOrderly, ViewsAreOrderly, IsReady}
 use Rattle.viewed_steps.proofs.Main.{ready_sound}
 use Rattle.view_laws.specs.Program.{IsViewProgram}
 use Rattle.view_laws.proofs.Enclosing.{itself, transitive}
+use Rattle.view_laws.proofs.Passing.{PassActuals, scalar_actuals}
+use Rattle.view_laws.proofs.Passing as passing
 use Rattle.view_laws.proofs.Scoped as scoped
+use Rattle.view_laws.proofs.Valued as valued
 use Rattle.view_laws.proofs.Points as points
 
 no_assign : (i : Instruction) (x : ℕ) (v target e : TypedTree) → i ≡ Declare x v → i ≡ Assign target e → ⊥
@@ -92,11 +95,15 @@ module _ (table : Table) (typed : TypedProgram) (effects : Effects) (given : IsV
   class : IsViewClass program
   class = record {
     parts_named = given.parts_named;
-    results = given.results;
-    temporaries = given.temporaries;
-    formals = given.formals;
+    results = valued.named_results table typed effects given;
+    formals = λ x formal. inl (given.formals x formal);
+    functions = λ n of is x has formal. given.formals x formal;
     copied = given.copied;
   }
+
+  passed_to : PassActuals program
+  passed_to sub has p there n actuals result is known =
+      scalar_actuals s (sub_of program n).formals actuals (λ x formal. given.formals x (known x formal)) (given.passed sub has p there n actuals result is known)
 
   pub views_ready : IsReady table typed effects
   views_ready = record {
@@ -104,16 +111,19 @@ module _ (table : Table) (typed : TypedProgram) (effects : Effects) (given : IsV
     owns = given.owns;
     class = class;
     scoped = scoped.are_scoped table typed effects given;
+    passing = passing.are_passed table typed effects given.accepted given.owns given.order given.answered given.passed given.still;
     new = scoped.are_new table typed effects given;
     elaborated = scoped.are_elaborated table typed effects given;
     orderly = views_orderly;
-    called = scoped.are_called table typed effects given;
+    called = passing.called_to table typed effects given.accepted given.owns given.order given.answered given.passed given.still passed_to;
     returning = scoped.are_returning table typed effects given;
+    valued = valued.are_valued table typed effects given;
     packages = scoped.packages table typed effects given;
     stands = scoped.packages_stand table typed effects given;
     main = suc given.order.number;
     is_main = scoped.main_is table typed effects given;
     main_there = scoped.has_main table typed effects given;
+    main_plain = λ x has. given.formals x (passing.main_formal table typed effects given.accepted given.owns given.order given.answered given.passed given.still x has);
   }
 
   -- So each moment of its run is well owned, and none is a trap.

@@ -6,7 +6,7 @@ use Rattle.type_definitions.specs.Types.{Table, full, is_scalar}
 use Rattle.typed_tree.specs.declared.object.Object.{Object}
 use Rattle.typed_tree.specs.Programs.{TypedProgram, text_io}
 use Rattle.flow_paths.specs.Objects.{Typing, object_at, is_variable, is_borrower, is_borrowing, is_observer, is_observing, is_anonymous, view_of}
-use Rattle.flow_paths.specs.Laid.{Temporary, NamedSub, temporary_object, FlowProgram, typing_of, flow_typing, flow_named, flow_program}
+use Rattle.flow_paths.specs.Laid.{Temporary, NamedSub, temporary_object, typing_of, flow_typing, flow_named, flow_program}
 use Rattle.flow_paths.specs.Scopes.{is_temporary}
 use Rattle.flow_paths.specs.Views.{scope_of}
 use Rattle.soundness.specs.Sound.{is_temporary_object}

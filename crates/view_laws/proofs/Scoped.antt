@@ -13,7 +13,7 @@ use Rattle.typed_tree.specs.Trees.{TypedTree}
 use Rattle.typed_tree.specs.declared.object.Object.{Object}
 use Rattle.typed_tree.specs.Programs.{TypedSub, TypedProgram}
 use Rattle.flow_paths.specs.declared.report.Effects.{Effects}
-use Rattle.flow_paths.specs.Instructions.{Declare, Call, EndScope}
+use Rattle.flow_paths.specs.Instructions.{Declare, Call}
 use Rattle.flow_paths.specs.Objects.{Typing, Signature, object_at, sub_at, is_variable, is_anonymous, is_formal, is_package_object, traverses, has_scope_end, view_of}
 use Rattle.flow_paths.specs.Acts.{acts_of}
 use Rattle.flow_paths.specs.Points.{NamedPoint, FlowPoint}
@@ -32,13 +32,12 @@ use Rattle.scope_laws.specs.Code.{roots}
 use Rattle.scope_laws.specs.Order.{named_in, IsSeen}
 use Rattle.scope_laws.specs.Supplied.{IsLeft}
 use Rattle.scope_laws.proofs.Lists.{and_second}
-use Rattle.ready_laws.specs.InOrder.{own_nothing}
 use Rattle.ready_laws.proofs.Elaborated.{Declares, owns_none}
 use Rattle.ready_laws.proofs.Subs.{IsOfBody}
 use Rattle.ready_laws.proofs.Ready as ordered
 use Rattle.ready_laws.proofs.Ready.{seen_has}
 use Rattle.typed_laws.specs.Needed.{IsFine}
-use Rattle.view_laws.specs.InOrder.{no_views, NamesSource}
+use Rattle.view_laws.specs.InOrder.{NamesSource}
 use Rattle.view_laws.specs.Program.{IsViewProgram}
 use Rattle.view_laws.proofs.Acts.{no_anonymous}
 use Rattle.view_laws.proofs.Same as same

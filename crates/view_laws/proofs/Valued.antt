@@ -1,16 +1,13 @@
 -- What waits, where temporaries are of scalar types: it is of such types, and so is what takes it.
-use Rattle.std.proofs.Common.{◌≡◌, refl, sym, ap, ◌∙◌, subst, inl, inr, ℕ, Bool, true, false, not, ◌&&◌, ◌||◌, List, [], ◌∷◌, take, drop, Option, Some, None}
+use Rattle.std.proofs.Common.{◌≡◌, refl, sym, ap, ◌∙◌, subst, inl, inr, ℕ, Bool, true, false, not, ◌&&◌, ◌||◌, List, [], ◌∷◌, take, drop, Some, None}
 use Rattle.std.specs.Prelude.{filter}
-use Rattle.std.specs.List.{AllByRecursion}
 use Rattle.spark_base.specs.Lists.{Has}
-use Rattle.spark_base.proofs.Lists.{Has-map}
 use Rattle.type_definitions.specs.Entries.{boolean}
-use Rattle.type_definitions.specs.Types.{Table, full, is_owning, is_scalar}
-use Rattle.typed_tree.specs.Trees.{TypedTree}
+use Rattle.type_definitions.specs.Types.{Table, full, is_scalar}
 use Rattle.typed_tree.specs.Programs.{TypedProgram}
 use Rattle.flow_paths.specs.declared.report.Effects.{Effects}
 use Rattle.flow_paths.specs.Instructions.{Instruction, Declare, Assign, Call, Evaluate, Hold}
-use Rattle.flow_paths.specs.Objects.{Typing, Signature, object_at, is_anonymous, has_scope_end, traverses, view_of}
+use Rattle.flow_paths.specs.Objects.{Typing, Signature, object_at, has_scope_end, traverses, view_of}
 use Rattle.flow_paths.specs.Names.{has_call}
 use Rattle.flow_paths.specs.Points.{NamedPoint}
 use Rattle.flow_paths.specs.Laid.{FlowProgram, NamedSub, flow_sub, typing_of, flow_typing, flow_program, flow_named}
@@ -22,9 +19,9 @@ use Rattle.soundness.proofs.Points.{flow_at}
 use Rattle.soundness.proofs.Passing.{plain_type, signature_is}
 use Rattle.soundness.proofs.Successors.{not_true}
 use Rattle.soundness.proofs.Taking.{TakesPlainly}
-use Rattle.viewed_soundness.specs.Taken.{GivesPlainly}
 use Rattle.viewed_soundness.proofs.Evaluated.{gives_plainly}
-use Rattle.viewed_steps.specs.Awaited.{Fits, is_held, AreScalar, TakesScalars, FillsTyped, AreNamedResults, AreValued}
+use Rattle.viewed_steps.specs.Awaited.{is_held, AreScalar, TakesScalars, FillsTyped, AreNamedResults}
+use Rattle.viewed_steps.specs.Ready.{AreValued}
 use Rattle.view_laws.specs.Program.{IsViewProgram}
 use Rattle.view_laws.proofs.Acts.{no_anonymous}
 use Rattle.view_laws.proofs.Scoped as scoped
@@ -50,19 +47,20 @@ module _ (table : Table) (typed : TypedProgram) (effects : Effects) (given : IsV
           let scalar = given.temporaries x is in
           (λ j. plain_type s given.owns (object_at s x).of scalar j || no_anonymous (view_of s x) scalar j)
 
+  one_scalar : (x : ℕ) (xs : List ℕ) (b : Bool) → is_temporary_object s x ≡ b → AreScalar s (filter (is_temporary_object s) xs)
+      → AreScalar s (filter (is_temporary_object s) (x ∷ xs))
+  one_scalar x xs true is more = subst (AreScalar s) (sym first) (given.temporaries x is, more)
+    where
+      first : filter (is_temporary_object s) (x ∷ xs) ≡ x ∷ filter (is_temporary_object s) xs
+      first = rw is refl
+  one_scalar x xs false is more = subst (AreScalar s) (sym others) more
+    where
+      others : filter (is_temporary_object s) (x ∷ xs) ≡ filter (is_temporary_object s) xs
+      others = rw is refl
+
   scalars : (xs : List ℕ) → AreScalar s (filter (is_temporary_object s) xs)
   scalars [] = tt
-  scalars (x ∷ xs) = by_kind (is_temporary_object s x) refl
-    where
-      by_kind : (b : Bool) → is_temporary_object s x ≡ b → AreScalar s (filter (is_temporary_object s) (x ∷ xs))
-      by_kind true is = subst (AreScalar s) (sym (first is)) (given.temporaries x is, scalars xs)
-        where
-          first : is_temporary_object s x ≡ true → filter (is_temporary_object s) (x ∷ xs) ≡ x ∷ filter (is_temporary_object s) xs
-          first is = rw is refl
-      by_kind false is = subst (AreScalar s) (sym (others is)) (scalars xs)
-        where
-          others : is_temporary_object s x ≡ false → filter (is_temporary_object s) (x ∷ xs) ≡ filter (is_temporary_object s) xs
-          others is = rw is refl
+  scalars (x ∷ xs) = one_scalar x xs (is_temporary_object s x) refl (scalars xs)
 
   module _ (named : NamedSub) (has : Has (flow_named table typed) named) (p : NamedPoint) (there : Has named.points p) where
     plainly : (calls : Bool) → (calls_procedures p.instr ≡ true → calls ≡ false) → TakesPlainly s calls
@@ -79,7 +77,7 @@ module _ (table : Table) (typed : TypedProgram) (effects : Effects) (given : IsV
     takes_scalars (Hold v) is = gives_plainly s v (plainly (has_call v) (λ calls. not_true (has_call v) (sym (ap calls_procedures is) ∙ calls)))
     takes_scalars i is = tt
 
-    called_plainly : {A : Type 0} → calls_procedures p.instr ≡ false → ((r n : ℕ) → (sub_of program n).result ≡ Some r → is_scalar (full s.table r) ≡ true)
+    called_plainly : calls_procedures p.instr ≡ false → ((r n : ℕ) → (sub_of program n).result ≡ Some r → is_scalar (full s.table r) ≡ true)
         × (is_scalar (full s.table boolean) ≡ true)
     called_plainly functions = elim given.results [
       | inr plain ↦ (λ r n is. plain.0 n r (ap (λ (z : Signature). z.result) (signature_is program n) ∙ is), plain.1)
@@ -103,6 +101,7 @@ module _ (table : Table) (typed : TypedProgram) (effects : Effects) (given : IsV
   pub are_valued : AreValued table typed
   are_valued = record {
     lasting = λ named has p there x stored. unheld x;
+    passed = λ named has p there n actuals result is x names. unheld x;
     takes = λ named has p there. inl (scalars (take (taken p.instr) p.scope), takes_scalars named has p there p.instr refl);
     fills = λ named has p there. fills_typed named has p there p.instr refl (drop (taken p.instr) p.scope) ((scoped.are_scoped table typed effects given).supplied named has p there).1;
   }

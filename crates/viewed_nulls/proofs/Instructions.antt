@@ -5,12 +5,11 @@ use Rattle.spark_base.specs.declared.position.Pos.{Pos}
 use Rattle.place_names.specs.declared.act.Act.{Act}
 use Rattle.place_names.specs.declared.act.Act.TheVariants as act
 use Rattle.place_names.specs.declared.fact.Fact.{Fact}
-use Rattle.type_definitions.specs.declared.table.Shape.TheVariants as shape
-use Rattle.type_definitions.specs.Types.{Table, shape_of, full}
+use Rattle.type_definitions.specs.Types.{Table, full}
 use Rattle.typed_tree.specs.Trees.{TypedTree, Name, NoMore, More}
 use Rattle.typed_tree.specs.Programs.{TypedProgram}
 use Rattle.flow_paths.specs.declared.report.Effects.{Effects}
-use Rattle.flow_paths.specs.Instructions.{Instruction, Skip, Declare, Assign, Call, Output, Input, Release, Test, Choose, Start, Next, Evaluate, LeaveLoop, Hold, EndScope, Finish, Fall}
+use Rattle.flow_paths.specs.Instructions.{Instruction, Declare, Assign, Hold, Finish}
 use Rattle.flow_paths.specs.Objects.{Typing, object_at, is_anonymous, is_observer, view_of}
 use Rattle.flow_paths.specs.Names.{has_call, waiting as waits_in, name_of, first}
 use Rattle.flow_paths.specs.Acts.{acts_of, acts_in, source_acts, observe, declared_acts}
@@ -26,7 +25,7 @@ use Rattle.machine.specs.Owners.{waiting_in}
 use Rattle.owned_ways.specs.Ways.{Way, AllowsAll}
 use Rattle.soundness.specs.Seen.{IsNear, home, is_view_formal}
 use Rattle.soundness.specs.Sound.{calls_procedures, IsNoCall}
-use Rattle.typed_laws.specs.Needed.{IsFine, Source, FirstSource, FirstWrites, FirstStays}
+use Rattle.typed_laws.specs.Needed.{IsFine, Source, FirstSource}
 use Rattle.soundness.proofs.Numbers.{index_law}
 use Rattle.soundness.proofs.Points.{flow_at}
 use Rattle.soundness.proofs.Scalars.{acts, acts_append}
@@ -45,7 +44,8 @@ use Rattle.null_places.specs.Agrees.{Agrees}
 use Rattle.null_places.specs.Compares.{Compares, ComparesIn}
 use Rattle.null_places.proofs.Only.{OnlyOwners}
 use Rattle.null_places.proofs.Laws.{Premises, Values}
-use Rattle.null_places.proofs.Instructions.{SameStep, twin, declare_on, assign_on, release_on, input_on, skip_same, fall_same, test_on, choose_on, leave_loop_on, operand_on, output_on, line_same, start_on, next_same}
+use Rattle.null_places.proofs.Instructions.{SameStep, twin, declare_on, assign_on, end_scope_same}
+use Rattle.null_places.proofs.Each.{each_by}
 use Rattle.viewed_nulls.proofs.Viewed.{viewed_premises, IsReadyIn, viewed_values}
 use Rattle.viewed_nulls.proofs.Sources.{view_declared_same, view_assigned_same}
 
@@ -187,73 +187,17 @@ module _ (table : Table) (typed : TypedProgram) (effects : Effects) (input : Lis
           ]
       assigns target e is (k, never, source) plainly takes compares allowed keep = absurd never
 
-      -- ---- the others
-
-      writes : (text : TypedTree) (line : Bool) → FirstWrites s text → Plainly (Output text line) → TakesIn (Output text line) → Compares s text
-          → AllowsAll facts (acts_by (Output text line)) → Same (Output text line)
-      unfolding acts_in Compares has_call waits_in
-      writes (More e rest) line (last, text) plainly takes compares allowed =
-          output_on t ready.accepted.settled ready.owns asks Ready laws facts so only n agrees on e rest line last text
-          (takes_as (taken (Output (More e rest) line)) (waits_in e) (start t).waits on (ap (λ z. waits_in e + waits_in z) last ∙ nothing_more (waits_in e)) takes)
-          (plainly (has_call e) (λ none. (or_both (has_call e) (has_call rest) (not_true (has_call e || has_call rest) none)).0)) compares.0 allowed
-      writes NoMore line text plainly takes compares allowed = line_same t ready.accepted.settled ready.owns asks Ready laws facts so only n agrees line
-      writes other_text line never plainly takes compares allowed = absurd never
-
-      reads : (target : TypedTree) → IsFine s named.sub.result (Input target) → Plainly (Input target) → TakesIn (Input target) → Compares s target
-          → AllowsAll facts (acts_by (Input target)) → Same (Input target)
-      unfolding Compares has_call waits_in
-      reads (Name q x path u) (k, (leads, type), scalar) plainly takes compares allowed =
-          input_on t ready.accepted.settled ready.owns asks Ready laws facts so only n agrees on q x u path leads takes
-          (plainly (has_call path) (λ none. not_true (has_call path) none)) compares allowed
-      reads target (k, never, scalar) plainly takes compares allowed = absurd never
-
-      releases : (target : TypedTree) → IsFine s named.sub.result (Release target) → Plainly (Release target) → TakesIn (Release target) → Compares s target
-          → AllowsAll facts (acts_by (Release target)) → Keep (acts_by (Release target)) → Same (Release target)
-      unfolding Compares has_call waits_in
-      releases (Name q x path u) (k, d, (leads, type), access) plainly takes compares allowed keep =
-          release_on t ready.accepted.settled ready.owns asks Ready laws facts so only n agrees on q x u d path
-          (subst (λ z. shape_of s.table z ≡ shape.Access d false true) (sym type) access) leads takes
-          (plainly (has_call path) (λ none. not_true (has_call path) none)) compares allowed
-          (keep_both (is_observer s) (acts (acts_in s path)) (act.Free (name_of x path) ∷ [])
-          (subst Keep (acts_append (acts_in s path) (record { pos = q; act = act.Free (name_of x path) } ∷ [])) keep)).1
-      releases target (k, d, never, access) plainly takes compares allowed keep = absurd never
-
-      leaves : (e : TypedTree) → FirstStays s e → Plainly (LeaveLoop e) → TakesIn (LeaveLoop e) → Compares s e → AllowsAll facts (acts_by (LeaveLoop e)) → Same (LeaveLoop e)
-      unfolding acts_in Compares has_call waits_in
-      leaves (More e rest) (last, stays) plainly takes compares allowed =
-          leave_loop_on t ready.accepted.settled ready.owns asks Ready laws facts so only n agrees on e rest last stays
-          (takes_as (taken (LeaveLoop (More e rest))) (waits_in e) (start t).waits on (ap (λ z. waits_in e + waits_in z) last ∙ nothing_more (waits_in e)) takes)
-          (plainly (has_call e) (λ none. (or_both (has_call e) (has_call rest) (not_true (has_call e || has_call rest) none)).0)) compares.0 allowed
-      leaves NoMore text plainly takes compares allowed = skip_same t ready.accepted.settled ready.owns asks Ready laws facts so only n agrees
-      leaves e never plainly takes compares allowed = absurd never
-
-      -- Each instruction that is no call, but for returns and for ends of scopes and of calls.
-      pub each_same : (i : Instruction) → p.instr ≡ i → IsNoCall i → (i ≡ Finish → ⊥) → ((x : ℕ) → i ≡ EndScope x → ⊥) → ((e : TypedTree) → i ≡ Hold e → Same (Hold e))
+      -- Each instruction that is no call, but for returns and for ends of calls.
+      pub each_same : (i : Instruction) → p.instr ≡ i → IsNoCall i → (i ≡ Finish → ⊥) → ((e : TypedTree) → i ≡ Hold e → Same (Hold e))
           → IsFine s named.sub.result i → Plainly i → TakesIn i → ComparesIn s i → AllowsAll facts (acts_by i) → Keep (acts_by i) → Same i
-      each_same Skip is calls end going hold text plainly takes compares allowed keep = skip_same t ready.accepted.settled ready.owns asks Ready laws facts so only n agrees
-      each_same (Declare x e) is calls end going hold text plainly takes compares allowed keep = declares x e is text plainly takes compares allowed keep
-      each_same (Assign target e) is calls end going hold text plainly takes compares allowed keep = assigns target e is text plainly takes compares allowed keep
-      each_same (Call sub actuals result) is calls end going hold text plainly takes compares allowed keep = absurd (calls sub actuals result refl)
-      each_same (Output text line) is calls end going hold writing plainly takes compares allowed keep = writes text line writing plainly takes compares allowed
-      each_same (Input target) is calls end going hold text plainly takes compares allowed keep = reads target text plainly takes compares allowed
-      each_same (Release e) is calls end going hold text plainly takes compares allowed keep = releases e text plainly takes compares allowed keep
-      each_same (Test e) is calls end going hold stays plainly takes compares allowed keep =
-          test_on t ready.accepted.settled ready.owns asks Ready laws facts so only n agrees on e stays takes (plainly (has_call e) (λ none. not_true (has_call e) none)) compares allowed
-      each_same (Choose e choices) is calls end going hold stays plainly takes compares allowed keep =
-          choose_on t ready.accepted.settled ready.owns asks Ready laws facts so only n agrees on e choices stays takes
-          (plainly (has_call e) (λ none. not_true (has_call e) none)) compares allowed
-      each_same (Start x reversed low high) is calls end going hold (scalar, stays, stays') plainly takes compares allowed keep =
-          let two = takes_both (waits_in low) (waits_in high) (start t).waits on takes in
-          start_on t ready.accepted.settled ready.owns asks Ready laws facts so only n agrees two.0 on x low high stays stays' two.1 two.2
-          (plainly (has_call low) (λ none. (both_not (has_call low) (has_call high) none).0))
-          (plainly (has_call high) (λ none. (both_not (has_call low) (has_call high) none).1)) compares.0 compares.1 allowed
-      each_same (Next x reversed low high) is calls end going hold scalar plainly takes compares allowed keep =
-          next_same t ready.accepted.settled ready.owns asks Ready laws facts so only n agrees x reversed scalar
-      each_same (Evaluate temporary e op) is calls end going hold stays plainly takes compares allowed keep =
-          operand_on t ready.accepted.settled ready.owns asks Ready laws facts so only n agrees on e op stays takes
-          (plainly (has_call e) (λ none. (let no : false ≡ true = none in cc))) compares allowed
-      each_same (LeaveLoop e) is calls end going hold text plainly takes compares allowed keep = leaves e text plainly takes compares allowed
-      each_same (Hold e) is calls end going hold text plainly takes compares allowed keep = hold e refl
-      each_same (EndScope x) is calls end going hold text plainly takes compares allowed keep = absurd (going x refl)
-      each_same Finish is calls end going hold text plainly takes compares allowed keep = absurd (end refl)
-      each_same Fall is calls end going hold text plainly takes compares allowed keep = fall_same t ready.accepted.settled ready.owns asks Ready laws facts so only n agrees
+      each_same i is no_call end hold text plainly takes compares allowed keep =
+          each_by t ready.accepted.settled ready.owns asks Ready laws facts so only n agrees on named.sub.result
+          (kept_roots own 0 own.objects (sub_facts own named.sub named.points)) p.pos i no_call end
+          (record {
+            declares = λ x e same. declares x e (is ∙ same) (subst (IsFine s named.sub.result) same text) (subst Plainly same plainly) (subst TakesIn same takes)
+                (subst (ComparesIn s) same compares) (subst (λ z. AllowsAll facts (acts_by z)) same allowed) (subst (λ z. Keep (acts_by z)) same keep);
+            assigns = λ target e same. assigns target e (is ∙ same) (subst (IsFine s named.sub.result) same text) (subst Plainly same plainly) (subst TakesIn same takes)
+                (subst (ComparesIn s) same compares) (subst (λ z. AllowsAll facts (acts_by z)) same allowed) (subst (λ z. Keep (acts_by z)) same keep);
+            holds = hold;
+            ends = λ x same. end_scope_same t n agrees only x;
+          }) text plainly takes compares allowed keep

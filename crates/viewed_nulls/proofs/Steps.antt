@@ -126,7 +126,7 @@ module _ (table : Table) (typed : TypedProgram) (effects : Effects) (input : Lis
           kept = kept;
           holds = record { held = λ y k view at. holds.held y k (λ fading. no_end fading.0 fading.1) view at; only = holds.only };
         }) only n agrees p.instr refl no_call
-        (λ is. (let no : Declare x v ≡ Finish = sym e ∙ is in cc)) no_end (λ w is. absurd (let no : Declare x v ≡ Hold w = sym e ∙ is in cc))
+        (λ is. (let no : Declare x v ≡ Finish = sym e ∙ is in cc)) (λ w is. absurd (let no : Declare x v ≡ Hold w = sym e ∙ is in cc))
         (standing.fine table typed effects input ready state top [] [] named p frames of_sub at_point)
         (subst (λ i. (calls : Bool) → (calls_procedures i ≡ true → calls ≡ false) → TakesPlainly s calls) (sym e) (λ calls none_there. inl (none_there (ap not none))))
         (subst (λ i. Takes (taken i) (start first_turn).waits (start first_turn).waits) (sym e) (no_takes v none (start first_turn).waits))
@@ -273,7 +273,7 @@ module _ (table : Table) (typed : TypedProgram) (effects : Effects) (input : Lis
       goes_plainly no_call end =
           own_instructions.each_same table typed effects input ready state top.frame outer named p other alone views facts_now _
           (innermost.orderly table typed effects input ready state top below more_frames rest named p frames deep stages running awaiting of_sub at_point path views viewed_before kept scope holds placed_before above) []
-          so only n agrees p.instr refl no_call end going
+          so only n agrees p.instr refl no_call end
           (λ v is. returns v named.sub.result is refl (subst (IsFine s named.sub.result) is text) (subst (ComparesIn s) is compares)
           (subst (λ i. AllowsAll facts_now (acts_of_main i)) is (allowed_now no_call end)) (subst (λ i. AllKeep (is_observer s) (acts_of_main i)) is keeps_there))
           text (plainly p.instr refl) (takes_of p.instr refl) compares (allowed_now no_call end) keeps_there

@@ -581,7 +581,7 @@ module _ (h : Here) (settled : IsSettled h.typing.table) (hands : List Waiting) 
           (matches_scalar h.typing t (object_at h.typing x).of fits plain) other_type)
       own_there (inr own) other_type = own
 
-  one_given : (before on : List (List machine.Word)) (mode_of : Mode) (owning access : Bool) (x : ℕ) (e : TypedTree) → ByModeFor mode_of owning → IsKind x → IsActualTo h.typing x mode_of e
+  pub one_given : (before on : List (List machine.Word)) (mode_of : Mode) (owning access : Bool) (x : ℕ) (e : TypedTree) → ByModeFor mode_of owning → IsKind x → IsActualTo h.typing x mode_of e
       → IsCopiedName mode_of e → Takes (waits_in e) before on
       → AllowsAll facts (acts (head_of h.typing own_law procedure mode_of e)) → Quiet (at on) (λ a. IsGiven x mode_of e a) (passed h (passing_by mode_of owning access) x e (at before))
   one_given before on mode.In owning access x e fits kind actual copied takes allowed =
@@ -617,7 +617,7 @@ module _ (h : Here) (settled : IsSettled h.typing.table) (hands : List Waiting) 
       (λ more are. (refl, (is, are))))
   all_given before on (x ∷ formals) actuals kinds stay copied takes allowed = ((ap at takes), refl)
 
-  laid_one : (x : ℕ) (mode_of : Mode) (e : TypedTree) (a : Passed) → IsGiven x mode_of e a → IsLaidOne h.typing h.frame x mode_of e a
+  pub laid_one : (x : ℕ) (mode_of : Mode) (e : TypedTree) (a : Passed) → IsGiven x mode_of e a → IsLaidOne h.typing h.frame x mode_of e a
   laid_one x mode.In e (Value ws) is = is
   laid_one x mode.In e (From k) is = absurd is
   laid_one x mode.In e (To k) is = absurd is

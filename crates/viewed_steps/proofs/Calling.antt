@@ -72,7 +72,7 @@ use Rattle.viewed_steps.specs.Awaited.{AreFor, AreValuesBut, temporaries_of, las
 use Rattle.viewed_steps.proofs.Waited.{temporary_first, leads_temporaries, within_lasting, lasting_more, Shares, plain_unheld}
 use Rattle.viewed_steps.specs.Sound.{HoldsAt, ArePlaced, NoneAbove, ViewStage, stages_of, GoneElsewhere, Disturbs, IsWaiting, AreWaiting, calls_one, LeadsAlong, IsResting, IsKindOfFormal, IsScalarObject, AreReturned}
 use Rattle.viewed_steps.specs.Ready.{IsReady, roots_passed, IsCalled}
-use Rattle.viewed_steps.specs.Taken.{AreCarried, TakenBy, AreTaken}
+use Rattle.viewed_steps.specs.Taken.{TakenBy, AreTaken, AreCarried}
 use Rattle.viewed_steps.proofs.Lent.{Spare, spare_both, loans_stay}
 use Rattle.viewed_steps.proofs.Placed.{within_on, lasts_more, scope_on, placed_on}
 use Rattle.viewed_steps.proofs.Ended.{none_some}
@@ -501,7 +501,7 @@ module _ (table : Table) (typed : TypedProgram) (effects : Effects) (input : Lis
             by_result : (o : Option ℕ) → (sub_of program n).result ≡ o
                 → ((r : Report) → Has (overlap_reports s (alias.passed formals actuals)) r → ⊥) ⊎ ((x : ℕ) → Has formals x → IsScalarObject s x)
             by_result (Some of) answers = inr (λ x has. ready.class.functions n of
-                (ap (λ (z : Signature). z.result) (signature_is program n) ∙ answers) x (subst (λ z. Has z x) (sym (ap (λ (z : Signature). z.formals) (signature_is program n))) has))
+                (ap (λ (z : Signature). z.result) (signature_is program n) ∙ answers) x (subst (λ z. Has z x) (sym (ap (λ (z : Signature). z.formals) (signature_is program n))) has) (called.formals x has))
             by_result None none = inl (λ r has.
                 no_call_reports program effects ready.accepted.no_reports (flow_sub own named)
                 (standing.in_program table typed effects input ready state top older outer named p frames of_sub at_point) main_turn.point
@@ -521,7 +521,7 @@ module _ (table : Table) (typed : TypedProgram) (effects : Effects) (input : Lis
               | inr within ↦ within
               | inl shared_object ↦ absurd (true_false (is_package_object s y) shared_object mine)
             ])))
-            (ready.passing.lasting named (standing.named_in table typed effects input ready state top older outer named p frames of_sub at_point) p
+            (ready.valued.passed named (standing.named_in table typed effects input ready state top older outer named p frames of_sub at_point) p
             (standing.point_in_named table typed effects input ready state top older outer named p frames of_sub at_point) n actuals result e y has)
 
         all_passed_ways : (ways_taken : List Way) × ArePassedOn s depth facts_called next_there formals passed ways_taken

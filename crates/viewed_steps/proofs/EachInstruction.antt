@@ -18,7 +18,7 @@ use Rattle.typed_tree.specs.Trees.{TypedTree, TypedCode, Name, NoMore, More}
 use Rattle.typed_tree.specs.Programs.{TypedProgram}
 use Rattle.flow_paths.specs.declared.report.Effects.{Effects}
 use Rattle.flow_paths.specs.Instructions.{Instruction, Skip, Declare, Assign, Call, Output, Input, Release, Test, Choose, Start, Next, Evaluate, LeaveLoop, Hold, EndScope, Finish, Fall}
-use Rattle.flow_paths.specs.Objects.{Typing, object_at, is_anonymous, is_package_object, is_observer, view_of, traverses, has_scope_end}
+use Rattle.flow_paths.specs.Objects.{Typing, object_at, is_anonymous, is_package_object, is_observer, view_of, has_scope_end}
 use Rattle.flow_paths.specs.Names.{has_call, waiting as waits_in, name_of}
 use Rattle.flow_paths.specs.Acts as flow
 use Rattle.flow_paths.specs.Acts.{acts_in}
@@ -150,40 +150,11 @@ module _ (table : Table) (typed : TypedProgram) (effects : Effects) (input : Lis
     abbrev acts_of_main : Instruction → List Act
     acts_of_main i = standing.acts_here table typed effects input ready state top older outer named p frames of_sub at_point i
 
-    abbrev allowed_now : Spare s (standing.acts_by table typed effects input ready state top older outer named p frames of_sub at_point s p.instr) → AllowsAll own_facts (acts_of_main p.instr)
-        → AllowsAll facts_now (acts_of_main p.instr)
-    allowed_now = innermost.allowed_now table typed effects input ready state top below more_frames rest named p frames deep stages running awaiting of_sub at_point path views viewed_before kept scope holds placed_before above
-
     abbrev viewed : Viewed (home s depth) (is_observer s) other views (view_here s state) facts_now
     viewed = innermost.viewed table typed effects input ready state top below more_frames rest named p frames deep stages running awaiting of_sub at_point path views viewed_before kept scope holds placed_before above
 
-    abbrev apart_from_them : (done : List Act) (v : Views) (view : ways.View) → ((x : ℕ) (w : Way) → v.way x ≡ Some w → is_anonymous (view_of s x) ≡ true)
-        → Viewed (home s depth) (is_observer s) other v view (after done facts_now)
-        → Viewed (home s depth) (is_observer s) (known_gone (home s depth) (GoneElsewhere program effects older)) v view (after done own_facts)
-    apart_from_them = innermost.apart_from_them table typed effects input ready state top below more_frames rest named p frames deep stages running awaiting of_sub at_point path views viewed_before kept scope holds placed_before above
-
-    abbrev placed_by : (some all : List Fact) (v : Views) (scope_there : List ℕ) → ((h : ℕ) (m : PlaceName) → is_observer s h ≡ true → Has some (Lent Observed h m) → Has all (Lent Observed h m))
-        → ArePlaced program some v scope_there → ArePlaced program all v scope_there
-    placed_by = innermost.placed_by table typed effects input ready state top below more_frames rest named p frames deep stages running awaiting of_sub at_point path views viewed_before kept scope holds placed_before above
-
     abbrev placed : ArePlaced program facts_now views p.scope
     placed = innermost.placed table typed effects input ready state top below more_frames rest named p frames deep stages running awaiting of_sub at_point path views viewed_before kept scope holds placed_before above
-
-    abbrev own_loans : (done : List Act) (h : ℕ) (m : PlaceName) → is_observer s h ≡ true → Has (after done facts_now) (Lent Observed h m)
-        → Has (after done own_facts) (Lent Observed h m)
-    own_loans = innermost.own_loans table typed effects input ready state top below more_frames rest named p frames deep stages running awaiting of_sub at_point path views viewed_before kept scope holds placed_before above
-
-    abbrev not_handed : (name : PlaceName) → Has handed_on (Moved name) → is_package_object s name.root ≡ false → ⊥
-    not_handed = innermost.not_handed table typed effects input ready state top below more_frames rest named p frames deep stages running awaiting of_sub at_point path views viewed_before kept scope holds placed_before above
-
-    abbrev not_lent : (x : ℕ) → is_package_object s x ≡ false → (l : Loan) (name : PlaceName) → other.lent l name → name.root ≡ x → ⊥
-    not_lent = innermost.not_lent table typed effects input ready state top below more_frames rest named p frames deep stages running awaiting of_sub at_point path views viewed_before kept scope holds placed_before above
-
-    abbrev not_lent_home : (x : ℕ) (l : Loan) (name : PlaceName) → other.lent l name → name.root ≡ x → depth ≡ home s depth x → ⊥
-    not_lent_home = innermost.not_lent_home table typed effects input ready state top below more_frames rest named p frames deep stages running awaiting of_sub at_point path views viewed_before kept scope holds placed_before above
-
-    abbrev plain_traversal : traverses s.table named.sub.result ≡ false
-    plain_traversal = innermost.plain_traversal table typed effects input ready state top below more_frames rest named p frames deep stages running awaiting of_sub at_point path views viewed_before kept scope holds placed_before above
 
     abbrev not_at_home : (x : ℕ) (name : PlaceName) → Has handed_on (Moved name) → name.root ≡ x → depth ≡ home s depth x → ⊥
     not_at_home = innermost.not_at_home table typed effects input ready state top below more_frames rest named p frames deep stages running awaiting of_sub at_point path views viewed_before kept scope holds placed_before above
@@ -211,9 +182,6 @@ module _ (table : Table) (typed : TypedProgram) (effects : Effects) (input : Lis
 
     abbrev viewed_easy : Plain → Viewed (home s depth) (is_observer s) other views (view_here s easy.state) facts_now × Kept s state.memory (waiting_in easy.state)
     viewed_easy = innermost.viewed_easy table typed effects input ready state top below more_frames rest named p frames deep stages running awaiting of_sub at_point path views viewed_before kept scope holds placed_before above
-
-    abbrev lasts_left : (r x : ℕ) → Lasts program p.scope r x → Lasts program left_scope r x
-    lasts_left = innermost.lasts_left table typed effects input ready state top below more_frames rest named p frames deep stages running awaiting of_sub at_point path views viewed_before kept scope holds placed_before above
 
     abbrev placed_left : (facts : List Fact) → ArePlaced program facts views p.scope → ArePlaced program facts views left_scope
     placed_left = innermost.placed_left table typed effects input ready state top below more_frames rest named p frames deep stages running awaiting of_sub at_point path views viewed_before kept scope holds placed_before above
@@ -305,7 +273,7 @@ module _ (table : Table) (typed : TypedProgram) (effects : Effects) (input : Lis
       more y within = brought_more p.instr going left_scope y within
 
       lasts_behind : (r z : ℕ) → Lasts program p.scope r z → Lasts program (scope_behind p) r z
-      lasts_behind r z lasts = lasts_more program left_scope (scope_behind p) r z more (lasts_left r z lasts)
+      lasts_behind r z lasts = lasts_more program left_scope (scope_behind p) r z more ((innermost.lasts_left table typed effects input ready state top below more_frames rest named p frames deep stages running awaiting of_sub at_point path views viewed_before kept scope holds placed_before above) r z lasts)
 
       abbrev pub Good : List Fact → State → Type 0
       Good fs st = IsGood easy ready.accepted.settled ready.owns other alone no_in_formals views ready.class.parts_named may refl refl views fs st
@@ -392,15 +360,15 @@ module _ (table : Table) (typed : TypedProgram) (effects : Effects) (input : Lis
       pub free : (x : ℕ) (v : TypedTree) → p.instr ≡ Declare x v
           → ((y : ℕ) (w : Way) → views.way y ≡ Some w → IsElsewhere (home s depth) depth x w)
           × ((l : Loan) (name : PlaceName) → other.lent l name → name.root ≡ x → depth ≡ home s depth x → ⊥)
-      free x v e = (λ y w has. free_views x v e y w has, not_lent_home x)
+      free x v e = (λ y w has. free_views x v e y w has, (innermost.not_lent_home table typed effects input ready state top below more_frames rest named p frames deep stages running awaiting of_sub at_point path views viewed_before kept scope holds placed_before above) x)
 
       unused : (x : ℕ) (v : TypedTree) → p.instr ≡ Declare x v → is_package_object s x ≡ false → Unused other.lent views facts_now x
       unused x v e mine = record {
         unmoved = λ name has root. elim (from_both (Moved name) has) [
           | inl mine_fact ↦ packages.new_before table typed effects input ready state top older outer named p frames of_sub at_point path x v e name mine_fact root
-          | inr there ↦ not_handed name there (ap (is_package_object s) root ∙ mine)
+          | inr there ↦ (innermost.not_handed table typed effects input ready state top below more_frames rest named p frames deep stages running awaiting of_sub at_point path views viewed_before kept scope holds placed_before above) name there (ap (is_package_object s) root ∙ mine)
         ];
-        unlent = not_lent x mine;
+        unlent = (innermost.not_lent table typed effects input ready state top below more_frames rest named p frames deep stages running awaiting of_sub at_point path views viewed_before kept scope holds placed_before above) x mine;
         untaken = λ z w has off root. unrooted x v e (number_of (views.up z)) z mine (placed z w has).up root;
       }
 
@@ -762,7 +730,7 @@ module _ (table : Table) (typed : TypedProgram) (effects : Effects) (input : Lis
 
       pub spares : (p.instr ≡ Finish → ⊥) → sparing
       spares end =
-          spare_acts (record { typing = s; result = named.sub.result; roots = standing.roots table typed effects input ready state top older outer named p frames of_sub at_point }) p.pos p.instr plain_traversal no_calls going end
+          spare_acts (record { typing = s; result = named.sub.result; roots = standing.roots table typed effects input ready state top older outer named p frames of_sub at_point }) p.pos p.instr (innermost.plain_traversal table typed effects input ready state top below more_frames rest named p frames deep stages running awaiting of_sub at_point path views viewed_before kept scope holds placed_before above) no_calls going end
 
       lent_on : sparing → (h : ℕ) (n : PlaceName) → Has facts_now (Lent Observed h n) → Has (after (acts_of_main p.instr) facts_now) (Lent Observed h n)
       lent_on spare h n has = loans_stay s (standing.acts_by table typed effects input ready state top older outer named p frames of_sub at_point s p.instr) spare facts_now Observed h n has
@@ -799,14 +767,14 @@ module _ (table : Table) (typed : TypedProgram) (effects : Effects) (input : Lis
           standing.goes_to_next table typed effects input ready state top older outer named p frames of_sub at_point path no_calls after_step waits loops next.0 next.2 q.0 q.1 (frames_then next.0 next.1) deep stages turned_views
           (running.0, running.1, wait_still after_step (lasting_of s (scope_behind p)) inside_then stay well.viewed.far)
           (standing.waits_next table typed effects input ready state top older outer named p frames of_sub at_point path waits loops next.0 next.2 are, others_await none)
-          (apart_from_them (acts_of_main p.instr) turned_views (view_here s after_step) well.holds.only well.viewed) well.kept
+          ((innermost.apart_from_them table typed effects input ready state top below more_frames rest named p frames deep stages running awaiting of_sub at_point path views viewed_before kept scope holds placed_before above) (acts_of_main p.instr) turned_views (view_here s after_step) well.holds.only well.viewed) well.kept
           (scope_on s ready.owns after_step.memory depth (scope_behind p) (q.0).scope (in_scope after_step.memory (lasting_of s (scope_behind p)) inside_then) q.2)
           (record {
             held = λ x n lasts view e. well.holds.held x n view e;
             within = λ x n view e. (let own_way = well.holds.held x n view e in (placed_next x own_way.0 own_way.1).within);
             only = well.holds.only;
           })
-          (placed_by (after (acts_of_main p.instr) facts_now) (after (acts_of_main p.instr) own_facts) turned_views (q.0).scope (own_loans (acts_of_main p.instr)) placed_next)
+          ((innermost.placed_by table typed effects input ready state top below more_frames rest named p frames deep stages running awaiting of_sub at_point path views viewed_before kept scope holds placed_before above) (after (acts_of_main p.instr) facts_now) (after (acts_of_main p.instr) own_facts) turned_views (q.0).scope ((innermost.own_loans table typed effects input ready state top below more_frames rest named p frames deep stages running awaiting of_sub at_point path views viewed_before kept scope holds placed_before above) (acts_of_main p.instr)) placed_next)
           (still_above after_step.memory stay) views
           (steps_on no_calls end going (refl, refl, refl) (turned_so turned_views turned) refl)
 
@@ -822,6 +790,6 @@ module _ (table : Table) (typed : TypedProgram) (effects : Effects) (input : Lis
           let left = left_after fills in
           let text = standing.fine table typed effects input ready state top older outer named p frames of_sub at_point in
           let both = each_instruction plain left p.instr refl other_one text
-          (allowed_now (spares end) (standing.allowed table typed effects input ready state top older outer named p frames of_sub at_point path no_calls))
+          ((innermost.allowed_now table typed effects input ready state top below more_frames rest named p frames deep stages running awaiting of_sub at_point path views viewed_before kept scope holds placed_before above) (spares end) (standing.allowed table typed effects input ready state top older outer named p frames of_sub at_point path no_calls))
           (standing.keeps_there table typed effects input ready state top older outer named p frames of_sub at_point) in
           then_on left (spares end) end none (turn main_turn p.instr) both.0 both.1 (others_keep main_turn named.sub.result p.instr text other_one)

@@ -1,5 +1,5 @@
 -- What waits in frames: the values of the temporaries in scope, one for each.
-use Rattle.std.specs.Prelude.{◌≡◌, ◌⊎◌, ℕ, Bool, true, false, not, ◌&&◌, List, [], ◌∷◌, take, drop, filter, length, Option, Some, None, if◌then◌else◌}
+use Rattle.std.specs.Prelude.{◌≡◌, ◌⊎◌, ℕ, Bool, true, false, not, ◌&&◌, List, [], ◌∷◌, take, filter, length, Option, Some, None, if◌then◌else◌}
 use Rattle.std.specs.List.{AllByRecursion}
 use Rattle.spark_base.specs.Lists.{Has}
 use Rattle.type_definitions.specs.Entries.{boolean}
@@ -14,7 +14,6 @@ use Rattle.flow_paths.specs.Points.{NamedPoint, FlowPoint}
 use Rattle.flow_paths.specs.Laid.{FlowSub, FlowProgram, NamedSub, flow_typing, flow_program, flow_named}
 use Rattle.flow_paths.specs.Scopes.{taken}
 use Rattle.machine.specs.States.{Waiting, sub_of}
-use Rattle.soundness.specs.Ready.{stored_at}
 use Rattle.soundness.specs.Sound.{is_temporary_object, has_returned, IsNamedSub, IsAtPoint, Stage}
 use Rattle.viewed_soundness.specs.Taken.{GivesPlainly}
 
@@ -116,12 +115,3 @@ abbrev pub AreNamedResults : FlowProgram → Type 0
 AreNamedResults program =
     (sub : FlowSub) → Has program.subs sub → (p : FlowPoint) → Has sub.points p → (n : ℕ) (actuals : TypedTree) (result : Option ℕ)
     → p.instr ≡ Call n actuals result → (t : ℕ) → (sub_of program n).result ≡ Some t → is_anonymous (full program.table t) ≡ false
-
--- At each point.
-pub record AreValued (table : Table) (typed : TypedProgram) : Type 0 where
-  -- what is stored at is none of these
-  pub lasting : (sub : NamedSub) → Has (flow_named table typed) sub → (p : NamedPoint) → Has sub.points p → (x : ℕ) → Has (stored_at p.instr) x
-      → is_held (flow_typing (flow_program table typed)) x ≡ false
-  pub takes : (sub : NamedSub) → Has (flow_named table typed) sub → (p : NamedPoint) → Has sub.points p → IsTaken (flow_typing (flow_program table typed)) p
-  pub fills : (sub : NamedSub) → Has (flow_named table typed) sub → (p : NamedPoint) → Has sub.points p
-      → FillsTyped (flow_program table typed) p.instr (drop (taken p.instr) p.scope)

@@ -2,7 +2,7 @@
 --
 -- A frame that waits for a call to end has its views still: what was called names no object of the
 -- frame, and leaves package objects alone of which a part is lent.
-use Rattle.std.specs.Prelude.{suc, ◌≡◌, ◌⊎◌, ◌<◌, ℕ, true, false, List, [], ◌∷◌, map, get_or, Option, Some, None}
+use Rattle.std.specs.Prelude.{◌≡◌, ◌⊎◌, ◌<◌, ℕ, true, false, List, [], ◌∷◌, map, get_or, Option, Some, None, suc}
 use Rattle.spark_base.specs.Lists.{Has}
 use Rattle.spark_base.specs.declared.position.Pos.{Pos}
 use Rattle.place_names.specs.declared.act.Mode.TheVariants as mode
@@ -55,7 +55,7 @@ pub record IsViewClass (program : FlowProgram) : Type 0 where
   pub results : AreNamedResults program
   pub formals : (x : ℕ) → is_formal (flow_typing program) x ≡ true → IsKindOfFormal (flow_typing program) x
   pub functions : (n t : ℕ) → (sub_at (flow_typing program) n).result ≡ Some t → (x : ℕ) → Has (sub_at (flow_typing program) n).formals x
-      → IsScalarObject (flow_typing program) x
+      → is_formal (flow_typing program) x ≡ true → IsScalarObject (flow_typing program) x
   pub copied : (sub : FlowSub) → Has program.subs sub → (p : FlowPoint) → Has sub.points p → (n : ℕ) (actuals : TypedTree) (result : Option ℕ)
       → p.instr ≡ Call n actuals result → ((x : ℕ) → Has (sub_of program n).formals x → is_formal (flow_typing program) x ≡ true)
       → AreCopied (flow_typing program) (sub_of program n).formals actuals
