@@ -36,7 +36,8 @@ use Rattle.viewed_facts.proofs.Calls.{carried_told, home_below, lower, passed_of
 use Rattle.viewed_steps.specs.Taken.{AreCarried}
 use Rattle.owned_ways.proofs.Dropped.{named_base}
 use Rattle.viewed_facts.proofs.Frames.{between_named, IsDefiniteHere}
-use Rattle.viewed_facts.proofs.Stepping.{told_next, told_left}
+use Rattle.viewed_facts.proofs.Told.{told_next}
+use Rattle.viewed_facts.proofs.ScopeEnds.{told_left}
 
 module _ (table : Table) (typed : TypedProgram) (effects : Effects) (input : List ℕ) (ready : IsReady table typed effects) where
   abbrev program : FlowProgram

@@ -34,7 +34,8 @@ use Rattle.exact_facts.specs.Exact.{NoneFails, checks_of}
 use Rattle.viewed_facts.proofs.Spots.{spots_none}
 use Rattle.exact_facts.proofs.Spots.{call_same, ways_same}
 use Rattle.viewed_facts.specs.Exact.{IsDefiniteOf, ExcusedHold}
-use Rattle.viewed_facts.proofs.Stepping.{checks_hold, ended_checks_hold}
+use Rattle.viewed_facts.proofs.Stepping.{checks_hold}
+use Rattle.viewed_facts.proofs.ScopeEnds.{ended_checks_hold}
 
 pub end_or : (i : Instruction) → ((x : ℕ) × (i ≡ EndScope x)) ⊎ ((x : ℕ) → i ≡ EndScope x → ⊥)
 end_or (EndScope x) = inl (x, refl)

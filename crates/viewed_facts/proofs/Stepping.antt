@@ -1,6 +1,6 @@
--- In a step of a procedure that is no call, of a program that is ready: facts of all frames stay exact, and no leak check
--- fails that is excused.
-use Rattle.std.proofs.Common.{◌≡◌, eqb-true, refl, sym, ap, ◌∙◌, subst, inl, inr, ℕ, suc, Bool, true, false, not, List, [], ◌∷◌, ◌++◌, map, drop, length, append_assoc, append-nil, ◌+◌, Option, Some, None, nat_lt, int_le, ◌&&◌, if◌then◌else◌, ◌⊎◌, take}
+-- In a step of a subprogram that is neither a call nor the end of a scope, of a program that is ready: facts without an
+-- element stay exact, and no leak check fails that is excused.
+use Rattle.std.proofs.Common.{◌≡◌, refl, sym, ap, ◌∙◌, subst, inl, inr, ℕ, suc, Bool, true, false, not, List, [], ◌∷◌, ◌++◌, map, drop, length, append-nil, ◌+◌, Option, Some, None, nat_lt, int_le, ◌&&◌, if◌then◌else◌, ◌⊎◌, take}
 use Rattle.viewed_facts.proofs.Stored.{then_placed}
 use Rattle.viewed_facts.proofs.Evaluated.{ExactTo, checked_exact}
 use Rattle.soundness.proofs.Lasting.{keeps}
@@ -9,7 +9,6 @@ use Rattle.viewed_soundness.specs.Taken.{GivesPlainly}
 use Rattle.place_names.specs.declared.rule.Loan.TheVariants.{Borrowed}
 use Rattle.spark_base.specs.Lists.{Has}
 use Rattle.spark_base.specs.declared.position.Pos.{Pos}
-use Rattle.spark_base.proofs.Lists.{Has-append_left, Has-append_right, Has-map_from}
 use Rattle.place_names.specs.declared.selector.Sel.{Sel}
 use Rattle.place_names.specs.declared.selector.Sel.TheVariants as sel
 use Rattle.place_names.specs.declared.act.Act.{Act}
@@ -17,8 +16,8 @@ use Rattle.place_names.specs.declared.act.Act.TheVariants as act
 use Rattle.place_names.specs.declared.act.Placed.{Placed}
 use Rattle.place_names.specs.declared.fact.Fact.{Fact}
 use Rattle.place_names.specs.declared.fact.Fact.TheVariants.{Moved}
-use Rattle.place_names.specs.Names.{Name as PlaceName, object, extend}
-use Rattle.place_names.specs.Facts.{removes, effect}
+use Rattle.place_names.specs.Names.{Name as PlaceName, extend}
+use Rattle.place_names.specs.Facts.{effect}
 use Rattle.type_definitions.specs.Types.{Table, is_scalar, full, shape_of, parts}
 use Rattle.type_definitions.specs.declared.table.Shape.TheVariants as shape
 use Rattle.typed_tree.specs.Trees.{TypedTree, TypedCode, Name, NoMore, More, Call as CallIn}
@@ -27,17 +26,17 @@ use Rattle.typed_tree.specs.Programs.{TypedProgram}
 use Rattle.flow_paths.specs.declared.report.Effects.{Effects}
 use Rattle.flow_paths.specs.declared.point.LeakSpot.{LeakSpot}
 use Rattle.flow_paths.specs.Instructions.{Instruction, Skip, Declare, Assign, Call, Output, Input, Release, Test, Choose, Start, Next, Evaluate, LeaveLoop, Hold, EndScope, Finish, Fall}
-use Rattle.flow_paths.specs.Objects.{Typing, object_at, is_anonymous, is_package_object, is_borrower, is_observer, view_of, designated}
+use Rattle.flow_paths.specs.Objects.{Typing, object_at, is_anonymous, is_package_object, is_observer, view_of, designated}
 use Rattle.flow_paths.specs.Names.{has_call, name_of, waiting as waits_in}
 use Rattle.flow_paths.specs.Acts as flow
 use Rattle.flow_paths.specs.Acts.{acts_in, leaks_of, spot, stored_acts, assigned_to}
 use Rattle.flow_paths.specs.Points.{NamedPoint}
 use Rattle.flow_paths.specs.Laid.{FlowSub, FlowProgram, NamedSub, number_in, flow_sub, typing_of, flow_typing, flow_program, flow_named}
-use Rattle.flow_paths.specs.Paths.{PathPoint, path_point, ControlPath, facts_before}
-use Rattle.flow_paths.specs.Effects.{act_writes, path_points, called_acts}
+use Rattle.flow_paths.specs.Paths.{PathPoint, ControlPath}
+use Rattle.flow_paths.specs.Effects.{path_points}
 use Rattle.flow_paths.specs.LeakPlan.{IsExcused}
 use Rattle.flow_paths.specs.Scopes.{taken}
-use Rattle.machine.specs.Memory.{Memory, Place, undeclared, declared, stored, words_of}
+use Rattle.machine.specs.Memory.{Memory, Place, declared, stored, words_of}
 use Rattle.machine.specs.Words as machine
 use Rattle.machine.specs.Words.{fits_type}
 use Rattle.machine.specs.Calls.{checks_at}
@@ -52,16 +51,13 @@ use Rattle.machine.specs.Run.{step}
 use Rattle.owned_ways.specs.Ways.{Way, Told, after, AllowsAll}
 use Rattle.soundness.specs.Seen.{home, seen, IsNear, is_view_formal}
 use Rattle.soundness.specs.Typed.{Kept}
-use Rattle.soundness.specs.Sound.{Stage, facts_of, AreStages, IsRunnable, IsNoCall, IsTrap, InScope, Uses, IsNamedSub, IsAtPoint, view_of as view_here}
-use Rattle.typed_laws.specs.Needed.{IsFine, Leads, Source, FirstSource, FirstWrites, FirstStays, Stays, Returns}
-use Rattle.soundness.proofs.Contents.{bool_cases}
+use Rattle.soundness.specs.Sound.{Stage, facts_of, AreStages, IsRunnable, IsNoCall, IsTrap, InScope, IsNamedSub, IsAtPoint, view_of as view_here}
+use Rattle.typed_laws.specs.Needed.{IsFine, Source, FirstSource, FirstWrites, FirstStays, Stays, Returns}
 use Rattle.soundness.proofs.Scalars.{after_append, acts, acts_append}
-use Rattle.soundness.proofs.Points.{flow_at, path_there}
 use Rattle.soundness.proofs.Taking.{Takes, takes_as, takes_both, nothing_more, no_takes}
 use Rattle.soundness.proofs.Eased.{eased}
 use Rattle.soundness.proofs.Continued.{got_with, released_with, started_with, input_eased, release_eased, start_eased}
 use Rattle.soundness.proofs.Operands.{handed_over, hold_is}
-use Rattle.soundness.specs.Ready.{Fills}
 use Rattle.soundness.proofs.Inherited.{after_splits}
 use Rattle.soundness.proofs.Around.{IsFar}
 use Rattle.owned_loans.specs.Views.{Around, known_gone, Views, Viewed, IsThrough}
@@ -69,11 +65,10 @@ use Rattle.viewed_soundness.specs.Holds.{IsNamed, AllKeep}
 use Rattle.viewed_soundness.proofs.Names.{plain_named, true_false}
 use Rattle.viewed_soundness.proofs.Evaluated.{keep_both}
 use Rattle.viewed_soundness.proofs.Outcomes.{named_plain, IsGood, Leads_on, assigned_acts}
-use Rattle.viewed_steps.specs.Sound.{IsResting, HoldsAt, ArePlaced, NoneAbove, ViewStage, stages_of, GoneElsewhere, AreWaiting, IsStoredAt, AreTurned, AreLeft}
+use Rattle.viewed_steps.specs.Sound.{IsResting, HoldsAt, ArePlaced, NoneAbove, ViewStage, stages_of, GoneElsewhere, AreWaiting}
 use Rattle.viewed_steps.specs.Awaited.{AreAwaited, lasting_of, AreScalar, temporaries_of, TakesScalars, TakesAlone}
 use Rattle.viewed_steps.specs.Ready.{AreOrderly, IsReady}
 use Rattle.viewed_steps.proofs.Sources.{leads_or}
-use Rattle.viewed_steps.proofs.Lent.{spare_has}
 use Rattle.viewed_steps.proofs.Waiting.{StandsBetween, beside_them, handed}
 use Rattle.viewed_steps.proofs.Standing as standing
 use Rattle.viewed_steps.proofs.Packages as packages
@@ -84,16 +79,14 @@ use Rattle.viewed_steps.proofs.Released.{Releases, released_on as sound_released
 use Rattle.viewed_steps.proofs.Read.{Gets, got_on as sound_got_on}
 use Rattle.viewed_steps.proofs.Rounds.{Starts, started_on as sound_started_on}
 use Rattle.exact_facts.specs.Exact.{NoneFails, Knows, checks_of}
-use Rattle.exact_facts.proofs.Frames.{after_more, after_keeps}
-use Rattle.exact_facts.proofs.Stepping.{excused_knows}
-use Rattle.exact_facts.proofs.Spots.{leaks_same, object_same}
 use Rattle.exact_facts.proofs.Instructions.{none_made}
-use Rattle.viewed_facts.specs.Exact.{IsDefiniteBy, IsDefiniteOf, IsExact}
-use Rattle.viewed_facts.proofs.Instructions.{ExactOn, value_on, waits_exact, source_exact, declare_on, assign_on, skip_exact, end_scope_checked, end_scope_exact, turned_exact, then_declared, then_stored}
-use Rattle.viewed_facts.proofs.Viewing.{view_parts, view_declared_on, view_assigned_on, reborrow_unmoved}
+use Rattle.viewed_facts.specs.Exact.{IsDefiniteOf, IsExact}
+use Rattle.viewed_facts.proofs.Instructions.{ExactOn, value_on, waits_exact, source_exact, declare_on, assign_on, skip_exact, then_declared, then_stored}
+use Rattle.viewed_facts.proofs.Viewing.{view_parts, view_declared_on, view_assigned_on}
 use Rattle.viewed_facts.proofs.Releases.{released_on}
 use Rattle.viewed_facts.proofs.Loops.{next_exact, started_on, output_on, line_exact, got_on}
-use Rattle.viewed_facts.proofs.Frames.{elsewhere as moved_elsewhere, spare_keeps, IsDefiniteHere, beside_told, apart_told}
+use Rattle.viewed_facts.proofs.Frames.{elsewhere as moved_elsewhere}
+use Rattle.viewed_facts.proofs.Here as here
 
 module _ (table : Table) (typed : TypedProgram) (effects : Effects) (input : List ℕ) (ready : IsReady table typed effects) where
   abbrev program : FlowProgram
@@ -148,9 +141,8 @@ module _ (table : Table) (typed : TypedProgram) (effects : Effects) (input : Lis
     abbrev elsewhere : Way → Type 0
     elsewhere = moved_elsewhere table typed effects unmoved_stage local state (suc (length rest)) (below ∷ more_frames) between views (innermost.own_views table typed effects input ready state top below more_frames rest named p frames deep stages running awaiting of_sub at_point path views viewed_before kept scope holds placed_before above)
 
-    away : (w : Way) → elsewhere w → (IsNear (suc (length rest)) w → ⊥) ⊎ IsThrough (home s (suc (length rest))) other.lent Borrowed w
-    away w (inl e) = inl e.0
-    away w (inr e) = inr e.0
+    abbrev away : (w : Way) → elsewhere w → (IsNear (suc (length rest)) w → ⊥) ⊎ IsThrough (home s (suc (length rest))) other.lent Borrowed w
+    away = here.away table typed effects input ready state top below more_frames rest named p frames deep stages running awaiting of_sub at_point path views viewed_before kept scope holds placed_before above exact_before
 
     abbrev at : Turn
     at = standing.t table typed effects input ready state top older outer named p frames of_sub at_point
@@ -182,22 +174,8 @@ module _ (table : Table) (typed : TypedProgram) (effects : Effects) (input : Lis
     abbrev none_taken : ℕ → ℕ → Type 0
     none_taken a b = ⊥
 
-    -- the facts of the innermost frame, and of those around
-    told_here : Told (seen s state.memory [] []) (IsDefiniteHere table typed effects unmoved_stage local (suc (length rest)) views own_facts (below ∷ more_frames))
-    told_here w l (inr (g, has, definite)) reaches = exact_before w l (g, inr has, definite) reaches
-    told_here w l (inl definite) reaches =
-        exact_before w l (
-          record { stage = top; views = views },
-          inl refl,
-          subst (λ d. IsDefiniteBy (home s d) views (facts_of program effects top) w) (sym deep)
-              (subst (λ z. IsDefiniteBy (home s depth) views z w) (sym (standing.facts_are table typed effects input ready state top older outer named p frames of_sub at_point path)) definite),
-        ) reaches
-
-    exact : IsExact s (home s depth) views elsewhere state.memory facts_now
-    exact = beside_told table typed effects unmoved_stage local state depth older between views own_views (seen s state.memory [] []) own_facts told_here
-
-    own_more : (f : Fact) → Has own_facts f → Has facts_now f
-    own_more f has = Has-append_left own_facts around f has
+    abbrev exact : IsExact s (home s depth) views elsewhere state.memory facts_now
+    exact = here.exact table typed effects input ready state top below more_frames rest named p frames deep stages running awaiting of_sub at_point path views viewed_before kept scope holds placed_before above exact_before
 
     abbrev Excused : LeakSpot → Type 0
     Excused = IsExcused points top.frame.next
@@ -214,11 +192,6 @@ module _ (table : Table) (typed : TypedProgram) (effects : Effects) (input : Lis
     abbrev acts_by : Instruction → List Act
     acts_by i = standing.acts_here table typed effects input ready state top older outer named p frames of_sub at_point i
 
-    agreed : standing.acts_by table typed effects input ready state top older outer named p frames of_sub at_point s p.instr ≡ standing.acts_by table typed effects input ready state top older outer named p frames of_sub at_point own p.instr
-    agreed = standing.acts_agree table typed effects input ready state top older outer named p frames of_sub at_point
-
-    -- ---- what the instruction takes
-
     abbrev given_words : List (List machine.Word)
     given_words = (start at).waits
 
@@ -231,77 +204,32 @@ module _ (table : Table) (typed : TypedProgram) (effects : Effects) (input : Lis
     abbrev takes_of : Plain → (i : Instruction) → p.instr ≡ i → Takes (taken i) given_words []
     takes_of = innermost.takes_of table typed effects input ready state top below more_frames rest named p frames deep stages running awaiting of_sub at_point path views viewed_before kept scope holds placed_before above
 
-    -- the step without the values that it takes
     abbrev easy : Turn
     easy = eased at
 
     abbrev viewed_easy : Plain → Viewed (home s depth) (is_observer s) other views (view_here s easy.state) facts_now × Kept s state.memory (waiting_in easy.state)
     viewed_easy = innermost.viewed_easy table typed effects input ready state top below more_frames rest named p frames deep stages running awaiting of_sub at_point path views viewed_before kept scope holds placed_before above
 
-    -- the acts of the point are those of its instruction, and then what is called
-    split_by : (i : Instruction) → p.instr ≡ i → (path_point points top.frame.next).acts ≡ placed_by i ++ called_acts program effects p.pos p.instr
-    split_by i is =
-        ap (λ (z : PathPoint). z.acts) (path_there own named top.frame.next p at_point program effects)
-        ∙ ap (λ z. z ++ called_acts program effects p.pos p.instr) (sym agreed)
-        ∙ ap (λ j. placed_by j ++ called_acts program effects p.pos p.instr) is
-
-    -- what spots of a name know, before some acts
-    knows : (i : Instruction) → p.instr ≡ i → (front others : List Placed) → placed_by i ≡ front ++ others → (pos : Pos) (name : PlaceName) (qs : List (List Sel))
+    abbrev knows : (i : Instruction) → p.instr ≡ i → (front others : List Placed) → placed_by i ≡ front ++ others → (pos : Pos) (name : PlaceName) (qs : List (List Sel))
         → Knows Excused pos name (length front) (after (acts front) facts_now) qs
-    knows i is front others split pos name qs q has excused =
-        let known = excused_knows points top.frame.next top.before (standing.path_here table typed effects input ready state top older outer named p frames of_sub at_point path) front (others ++ called_acts program effects p.pos p.instr)
-        (split_by i is ∙ ap (λ z. z ++ called_acts program effects p.pos p.instr) split ∙ append_assoc front others (called_acts program effects p.pos p.instr))
-        (spot pos name (length front) q) refl excused in
-        (known.0, after_more (acts front) facts_now own_facts own_more (Moved (extend name q)) known.1)
+    knows = here.knows table typed effects input ready state top below more_frames rest named p frames deep stages running awaiting of_sub at_point path views viewed_before kept scope holds placed_before above exact_before
 
-    fine_here : IsFine s named.sub.result p.instr
-    fine_here = standing.fine table typed effects input ready state top older outer named p frames of_sub at_point
+    abbrev fine_here : IsFine s named.sub.result p.instr
+    fine_here = here.fine_here table typed effects input ready state top below more_frames rest named p frames deep stages running awaiting of_sub at_point path views viewed_before kept scope holds placed_before above exact_before
 
-    leaks_there : IsNoCall p.instr → leaks_of (frame_by s) p.pos p.instr ≡ leaks_of (frame_by own) p.pos p.instr
-    leaks_there calls =
-        leaks_same s own (standing.agree table typed effects input ready) named.sub.result (standing.roots table typed effects input ready state top older outer named p frames of_sub at_point) p.pos p.instr calls fine_here
-        (λ x is. object_same table typed x (subst (λ i. Fills s i (drop (taken p.instr) p.scope)) is (standing.supplied table typed effects input ready state top older outer named p frames of_sub at_point).1))
-
-    -- what was handed on stays where no act writes it
-    writes_none : (name : PlaceName) → (Uses effects top.frame.sub name.root → ⊥) → is_package_object s name.root ≡ true → (a : Placed) → Has (placed_by p.instr) a
-        → act_writes name.root a.act ≡ false
-    writes_none name spared shared a has = elim (bool_cases (act_writes name.root a.act)) [
-      | inr e ↦ e
-      | inl e ↦ absurd (spared (innermost.act_uses table typed effects input ready state top below more_frames rest named p frames deep stages running awaiting of_sub at_point path views viewed_before kept scope holds placed_before above name.root shared (flow_at own named p) (standing.in_sub table typed effects input ready state top older outer named p frames of_sub at_point) a
-          (subst (λ z. Has z a) agreed has) (inl e)))
-    ]
-
-    after_around : ((name : PlaceName) → (Uses effects top.frame.sub name.root → ⊥) → is_package_object s name.root ≡ true → (a : Placed) → Has (placed_by p.instr) a
-        → removes a.act (Moved name) ≡ false) → (name : PlaceName) → Has around (Moved name) → Has (after (acts_by p.instr) facts_now) (Moved name)
-    after_around leaves name has =
-        let found = innermost.unused_here table typed effects input ready state top below more_frames rest named p frames deep stages running awaiting of_sub at_point path views viewed_before kept scope holds placed_before above name has in
-        after_keeps (acts_by p.instr) facts_now (Moved name)
-        (λ a there. (
-        let from = Has-map_from (λ (z : Placed). z.act) (placed_by p.instr) a there in
-        ap (λ z. removes z (Moved name)) (sym from.2) ∙ leaves name found.1 found.0 from.0 from.1))
-        (Has-append_right own_facts around (Moved name) has)
-
-    -- what the frames have after the step, from what is exact for the innermost one
-    all_told : (next : Memory) (later : Views) → ((x : ℕ) (w : Way) → later.way x ≡ Some w → is_anonymous (view_of s x) ≡ true) → IsNoCall p.instr
-        → ((name : PlaceName) → Has around (Moved name) → Has (after (acts_by p.instr) facts_now) (Moved name))
-        → IsExact s (home s depth) later elsewhere next (after (acts_by p.instr) facts_now)
-        → Told (seen s next [] []) (IsDefiniteHere table typed effects unmoved_stage local depth later (facts_before points (top.frame.next ∷ top.before)) older)
-    all_told next later only no_calls kept_around exact_there =
-        subst (λ z. Told (seen s next [] []) (IsDefiniteHere table typed effects unmoved_stage local depth later z older))
-        (sym (standing.facts_on table typed effects input ready state top older outer named p frames of_sub at_point path no_calls))
-        (apart_told table typed effects unmoved_stage local state depth older between later (λ x w has. local x (only x w has)) (seen s next [] []) (after (acts_by p.instr) facts_now) (after (acts_by p.instr) own_facts)
-        (after_more (acts_by p.instr) facts_now own_facts own_more) kept_around exact_there)
+    abbrev leaks_there : IsNoCall p.instr → leaks_of (frame_by s) p.pos p.instr ≡ leaks_of (frame_by own) p.pos p.instr
+    leaks_there = here.leaks_there table typed effects input ready state top below more_frames rest named p frames deep stages running awaiting of_sub at_point path views viewed_before kept scope holds placed_before above exact_before
 
     -- ---- an instruction that isn't the end of a scope
 
     module _ (going : (x : ℕ) → p.instr ≡ EndScope x → ⊥) (no_calls : IsNoCall p.instr) where
-      abbrev ExactAt : List Fact → List LeakSpot → Outcome → Type 0
+      abbrev pub ExactAt : List Fact → List LeakSpot → Outcome → Type 0
       ExactAt facts spots outcome = ExactOn easy ready.accepted.settled ready.owns other alone no_formals views ready.class.parts_named none_taken refl refl elsewhere away Excused facts spots outcome
 
       abbrev Exacts : Instruction → Type 0
       Exacts i = ExactAt (after (acts_by i) facts_now) (spots_by i) (turn at i)
 
-      good : Plainly → IsGood easy ready.accepted.settled ready.owns other alone no_formals views ready.class.parts_named none_taken refl refl views facts_now easy.state
+      pub good : Plainly → IsGood easy ready.accepted.settled ready.owns other alone no_formals views ready.class.parts_named none_taken refl refl views facts_now easy.state
       good plain = record {
         viewed = (viewed_easy plain.0).0;
         kept = (viewed_easy plain.0).1;
@@ -758,7 +686,7 @@ module _ (table : Table) (typed : TypedProgram) (effects : Effects) (input : Lis
         each_instruction Finish is end text allowed_there keep = absurd (end refl)
         each_instruction Fall is end text allowed_there keep = tt
 
-      allowed_there : (p.instr ≡ Finish → ⊥) → AllowsAll facts_now (acts_by p.instr)
+      pub allowed_there : (p.instr ≡ Finish → ⊥) → AllowsAll facts_now (acts_by p.instr)
       allowed_there end = innermost.allowed_now table typed effects input ready state top below more_frames rest named p frames deep stages running awaiting of_sub at_point path views viewed_before kept scope holds placed_before above (each.spares table typed effects input ready state top below more_frames rest named p frames deep stages running awaiting of_sub at_point path views viewed_before kept scope holds placed_before above going no_calls end) (standing.allowed table typed effects input ready state top older outer named p frames of_sub at_point path no_calls)
 
       instruction_exact : (p.instr ≡ Finish → ⊥) → Exacts p.instr
@@ -768,7 +696,7 @@ module _ (table : Table) (typed : TypedProgram) (effects : Effects) (input : Lis
       ]
 
       -- Where the step goes on, facts are exact after its acts; and of the leak checks of the point none fails that is excused.
-      main_exact : (p.instr ≡ Finish → ⊥) → ExactAt (after (acts_by p.instr) facts_now) at.point.leaks (step program input state)
+      pub main_exact : (p.instr ≡ Finish → ⊥) → ExactAt (after (acts_by p.instr) facts_now) at.point.leaks (step program input state)
       main_exact end =
           subst (λ z. ExactAt (after (acts_by p.instr) facts_now) z (step program input state)) (leaks_there no_calls)
           (subst (ExactAt (after (acts_by p.instr) facts_now) (spots_by p.instr)) (sym (standing.step_is table typed effects input ready state top older outer named p frames of_sub at_point))
@@ -780,153 +708,3 @@ module _ (table : Table) (typed : TypedProgram) (effects : Effects) (input : Lis
           its_checks : (outcome : Outcome) → ExactAt (after (acts_by p.instr) facts_now) at.point.leaks outcome → NoneFails Excused at.point.leaks (checks_of outcome)
           its_checks (Goes after_step) on = on.1
           its_checks (Ends how after_step) on = on
-
-      -- ---- facts of all frames
-
-      kept_around : (p.instr ≡ Finish → ⊥) → (name : PlaceName) → Has around (Moved name) → Has (after (acts_by p.instr) facts_now) (Moved name)
-      kept_around end name has =
-          after_around (λ name spared shared a there.
-          spare_keeps s name a.act (spare_has s (placed_by p.instr) (each.spares table typed effects input ready state top below more_frames rest named p frames deep stages running awaiting of_sub at_point path views viewed_before kept scope holds placed_before above going no_calls end) a there) (writes_none name spared shared a there)) name has
-
-      -- no moved name is rooted in a view that is declared or assigned
-      assigned_unmoved : Plainly → (q : Pos) (x u : ℕ) (e : TypedTree) → p.instr ≡ Assign (Name q x NoMore u) e → (p.instr ≡ Finish → ⊥)
-          → is_anonymous (view_of s x) ≡ true → is_observer s x ≡ false
-          → (n : PlaceName) → Has (after (acts_by p.instr) facts_now) (Moved n) → n.root ≡ x → ⊥
-      unfolding Leads waits_in
-      assigned_unmoved plain q x u e is end view borrows n has root = by_fine (subst (IsFine s named.sub.result) is fine_here)
-        where
-          by_fine : IsFine s None (Assign (Name q x NoMore u) e) → ⊥
-          by_fine (v, (leads, type), source) =
-              let found = orderly.assigned q x u e is view in
-              from_name found.0 found.1 found.3 found.2 found.4 (found.6 borrows) (subst (λ z. Source s z e) (sym (leads ∙ type)) source) leads
-            where
-              from_name : (r : Pos) (y w : ℕ) (path_of : TypedTree) → e ≡ Name r y path_of w → y ≡ x → Source s (object_at s x).of e → (object_at s x).of ≡ u → ⊥
-              from_name r y w path_of here_is itself source_there of =
-                  let instr_is : p.instr ≡ Assign (Name q x NoMore (object_at s x).of) (Name r y path_of w) =
-                  is ∙ (λ j. Assign (Name q x NoMore (sym of j)) (here_is j)) in
-                  let takes : Takes (waits_in path_of) given_words [] =
-                  takes_as (taken (Assign (Name q x NoMore (object_at s x).of) (Name r y path_of w))) (waits_in path_of) given_words [] (nothing_more (waits_in path_of))
-                  (takes_of plain.0 (Assign (Name q x NoMore (object_at s x).of) (Name r y path_of w)) instr_is) in
-                  reborrow_unmoved easy ready.accepted.settled ready.owns other alone no_formals views ready.class.parts_named none_taken refl refl elsewhere away Excused given_words p.pos q r x y w path_of view (ready.orderly.local x view).0 (home_frame x (local x view))
-                  (subst (Source s (object_at s x).of) here_is source_there) takes borrows itself facts_now (good plain)
-                  (subst (λ i. AllowsAll facts_now (acts_by i)) instr_is (allowed_there end)) n (subst (λ i. Has (after (acts_by i) facts_now) (Moved n)) instr_is has) root
-
-      -- what a view gets isn't what a function gave
-      plain_there : (q : Pos) (x u : ℕ) (e : TypedTree) → p.instr ≡ Assign (Name q x NoMore u) e → is_anonymous (view_of s x) ≡ true → IsFine s None (Assign (Name q x NoMore u) e) → Plainly
-      unfolding Leads
-      plain_there q x u e is view (v, (leads, type), source) =
-          let target : Assign (Name q x NoMore u) e ≡ Assign (Name q x NoMore (object_at s x).of) e = ap (λ z. Assign (Name q x NoMore z) e) (sym leads) in
-          let found = orderly.assigned q x (object_at s x).of e (is ∙ target) view in
-          elim (innermost.taken_there table typed effects input ready state top below more_frames rest named p frames deep stages running awaiting of_sub at_point path views viewed_before kept scope holds placed_before above) [
-            | inl plain ↦ plain
-            | inr taken_alone ↦ absurd (elim taken_alone.8 [
-              | inl (y, other_instr) ↦ (let never : Assign (Name q x NoMore u) e ≡ Declare y (More (CallIn taken_alone.3 taken_alone.4 taken_alone.5) NoMore) = sym is ∙ other_instr in cc)
-              | inr (inl (r, y, steps_there, w, same, calls)) ↦ (
-                  let there : Assign (Name q x NoMore u) e ≡ Assign (Name r y steps_there w) (CallIn taken_alone.3 taken_alone.4 taken_alone.5) = sym is ∙ same in
-                  by_source e taken_alone.3 taken_alone.4 taken_alone.5 found.0 found.1 found.2 found.3 (assigned_same there) found.4)
-              | inr (inr other_instr) ↦ (let never : Assign (Name q x NoMore u) e ≡ Hold (More (CallIn taken_alone.3 taken_alone.4 taken_alone.5) NoMore) = sym is ∙ other_instr in cc)
-            ])
-          ]
-        where
-          assigned_same : {a b c d : TypedTree} → Assign a b ≡ Assign c d → b ≡ d
-          assigned_same e = cc
-
-          by_source : (e : TypedTree) (k : Pos) (n : ℕ) (actuals : TypedTree) (r : Pos) (y : ℕ) (steps_there : TypedTree) (w : ℕ)
-              → e ≡ CallIn k n actuals → e ≡ Name r y steps_there w → ⊥
-          by_source e k n actuals r y steps_there w is same = cc
-
-      stored_unmoved : (p.instr ≡ Finish → ⊥) → ((n : PlaceName) → Has (after (acts_by p.instr) own_facts) (Moved n) → is_observer s n.root ≡ false)
-          → (x : ℕ) → is_anonymous (view_of s x) ≡ true → IsStoredAt p.instr x → (n : PlaceName) → Has (after (acts_by p.instr) facts_now) (Moved n) → n.root ≡ x → ⊥
-      stored_unmoved end clear x view stored n has root =
-          elim (after_splits (acts_by p.instr) facts_now own_facts around (innermost.from_both table typed effects input ready state top below more_frames rest named p frames deep stages running awaiting of_sub at_point path views viewed_before kept scope holds placed_before above) (Moved n) has) [
-            | inr there ↦ innermost.not_handed table typed effects input ready state top below more_frames rest named p frames deep stages running awaiting of_sub at_point path views viewed_before kept scope holds placed_before above n there (ap (is_package_object s) root ∙ local x view)
-            | inl mine ↦ elim stored [
-              | inl (v, e) ↦ packages.new_after table typed effects input ready state top older outer named p frames of_sub at_point path x v e no_calls n mine root
-              | inr (q, u, e, is) ↦ elim (bool_cases (is_observer s x)) [
-                | inl sees ↦ true_false (is_observer s x) sees (ap (is_observer s) (sym root) ∙ clear n mine)
-                | inr borrows ↦ assigned_unmoved (plain_there q x u e is view (subst (IsFine s named.sub.result) is fine_here)) q x u e is end view borrows n has root
-              ]
-            ]
-          ]
-
-      -- They are exact after the step, too, with the views then.
-      pub told_next : (p.instr ≡ Finish → ⊥) → (next : State) → step program input state ≡ Goes next → (later : Views)
-          → ((x : ℕ) (w : Way) → later.way x ≡ Some w → is_anonymous (view_of s x) ≡ true)
-          → ((n : PlaceName) → Has (facts_before points (top.frame.next ∷ top.before)) (Moved n) → is_observer s n.root ≡ false) → AreTurned p.instr views later
-          → Told (seen s next.memory [] []) (IsDefiniteHere table typed effects unmoved_stage local depth later (facts_before points (top.frame.next ∷ top.before)) older)
-      told_next end next is later only clear turned =
-          all_told next.memory later only no_calls (kept_around end)
-          (turned_exact easy ready.accepted.settled ready.owns other alone no_formals views ready.class.parts_named none_taken refl refl elsewhere away Excused next.memory later (after (acts_by p.instr) facts_now) holds.only
-          (λ x w has. elim (turned x w has) [
-            | inl old ↦ inl old
-            | inr stored ↦ inr (λ n moved root.
-                stored_unmoved end (λ m has_it. clear m (subst (λ z. Has z (Moved m)) (sym (standing.facts_on table typed effects input ready state top older outer named p frames of_sub at_point path no_calls)) has_it)) x (only x w has) stored n moved root)
-          ])
-          (goes_exact (step program input state) is (main_exact end)))
-        where
-          goes_exact : (outcome : Outcome) → outcome ≡ Goes next → ExactAt (after (acts_by p.instr) facts_now) at.point.leaks outcome
-              → IsExact s (home s depth) views elsewhere next.memory (after (acts_by p.instr) facts_now)
-          goes_exact (Goes after_step) same_step on = (
-              let state_same : after_step ≡ next = cc in
-              subst (λ (z : State). IsExact s (home s depth) views elsewhere z.memory (after (acts_by p.instr) facts_now)) state_same on.0)
-          goes_exact (Ends how after_step) same_step on = cc
-
-    -- ---- the end of a scope
-
-    module _ (y : ℕ) (is : p.instr ≡ EndScope y) where
-      plain_end : Plainly
-      plain_end = innermost.plain_here table typed effects input ready state top below more_frames rest named p frames deep stages running awaiting of_sub at_point path views viewed_before kept scope holds placed_before above (λ call by. elim by [
-        | inl (z, other_instr) ↦ (let never : EndScope y ≡ Declare z (More call NoMore) = sym is ∙ other_instr in cc)
-        | inr (inl (r, z, steps_there, w, other_instr, calls)) ↦ (let never : EndScope y ≡ Assign (Name r z steps_there w) call = sym is ∙ other_instr in cc)
-        | inr (inr other_instr) ↦ (let never : EndScope y ≡ Hold (More call NoMore) = sym is ∙ other_instr in cc)
-      ])
-
-      no_call_there : IsNoCall p.instr
-      no_call_there n actuals result same = (let never : EndScope y ≡ Call n actuals result = sym is ∙ same in cc)
-
-      not_shared : is_package_object s y ≡ false
-      not_shared = ready.scoped.ends named (innermost.named_there table typed effects input ready state top below more_frames rest named p frames deep stages running awaiting of_sub at_point path views viewed_before kept scope holds placed_before above) p (innermost.point_there_now table typed effects input ready state top below more_frames rest named p frames deep stages running awaiting of_sub at_point path views viewed_before kept scope holds placed_before above) y is
-
-      scope_checks : NoneFails Excused (spots_by (EndScope y)) (checks_of (turn at (EndScope y)))
-      scope_checks =
-          end_scope_checked easy ready.accepted.settled ready.owns other alone no_formals views ready.class.parts_named none_taken refl refl elsewhere away Excused y facts_now (viewed_easy plain_end.0).0 exact p.pos 0
-          (knows (EndScope y) is [] (placed_by (EndScope y)) refl p.pos (object y) (parts s.table (object_at s y).of))
-
-      pub ended_checks_hold : NoneFails Excused at.point.leaks (checks_of (step program input state))
-      ended_checks_hold =
-          subst (λ z. NoneFails Excused z (checks_of (step program input state))) (leaks_there no_call_there)
-          (subst (λ o. NoneFails Excused (spots_by p.instr) (checks_of o)) (sym (standing.step_is table typed effects input ready state top older outer named p frames of_sub at_point))
-          (subst (λ i. NoneFails Excused (spots_by i) (checks_of (turn at i))) (sym is) scope_checks))
-
-      abbrev IsLeft : Outcome → Type 0
-      IsLeft (Goes next) = next.memory ≡ undeclared depth y state.memory
-      IsLeft (Ends how next) = Unit {0}
-
-      ended_around : (name : PlaceName) → Has around (Moved name) → Has (after (acts_by p.instr) facts_now) (Moved name)
-      ended_around name has =
-          after_around (λ name spared shared a there. by_act name shared a (subst (λ i. Has (placed_by i) a) is there)) name has
-        where
-          by_root : (name : PlaceName) → is_package_object s name.root ≡ true → removes (act.EndScope y (is_borrower s y)) (Moved name) ≡ false
-          by_root name shared = elim (bool_cases (removes (act.EndScope y (is_borrower s y)) (Moved name))) [
-            | inr e ↦ e
-            | inl e ↦ absurd (true_false (is_package_object s name.root) shared (ap (is_package_object s) (eqb-true name.root y e) ∙ not_shared))
-          ]
-
-          by_act : (name : PlaceName) → is_package_object s name.root ≡ true → (a : Placed) → Has (placed_by (EndScope y)) a → removes a.act (Moved name) ≡ false
-          by_act name shared a (inl same_act) = ap (λ (z : Placed). removes z.act (Moved name)) (sym same_act) ∙ by_root name shared
-          by_act name shared a (inr never) = absurd never
-
-      pub told_left : (next : State) → step program input state ≡ Goes next → (later : Views)
-          → ((x : ℕ) (w : Way) → later.way x ≡ Some w → is_anonymous (view_of s x) ≡ true) → AreLeft y views later
-          → Told (seen s next.memory [] []) (IsDefiniteHere table typed effects unmoved_stage local depth later (facts_before points (top.frame.next ∷ top.before)) older)
-      told_left next goes later only left =
-          all_told next.memory later only no_call_there ended_around
-          (subst (λ z. IsExact s (home s depth) later elsewhere z (after (acts_by p.instr) facts_now)) (sym memory_is)
-          (subst (λ i. IsExact s (home s depth) later elsewhere (undeclared depth y state.memory) (after (acts_by i) facts_now)) (sym is)
-          (end_scope_exact easy ready.accepted.settled ready.owns other alone no_formals views ready.class.parts_named none_taken refl refl elsewhere away Excused later y (is_borrower s y) (home_frame y not_shared) facts_now (viewed_easy plain_end.0).0 (innermost.not_lent table typed effects input ready state top below more_frames rest named p frames deep stages running awaiting of_sub at_point path views viewed_before kept scope holds placed_before above y not_shared) holds.only left exact)))
-        where
-          left_there : IsLeft (step program input state)
-          left_there = subst IsLeft (sym (standing.step_is table typed effects input ready state top older outer named p frames of_sub at_point)) (subst (λ i. IsLeft (turn at i)) (sym is) refl)
-
-          memory_is : next.memory ≡ undeclared depth y state.memory
-          memory_is = subst IsLeft goes left_there
