@@ -198,7 +198,7 @@ module _ (table : Table) (typed : TypedProgram) (effects : Effects) (input : Lis
       abbrev x : ℕ
       x = alone_taken.0
 
-      abbrev call : TypedTree
+      abbrev pub call : TypedTree
       call = CallIn alone_taken.3 alone_taken.4 alone_taken.5
 
       -- one value is taken
@@ -228,12 +228,12 @@ module _ (table : Table) (typed : TypedProgram) (effects : Effects) (input : Lis
               let some : length (temporaries_of s (x ∷ [])) ≡ 1 = ap (λ z. length (temporaries_of s z)) (sym first_only) ∙ count_one in absurd (omega (arith, none, some)))
 
       -- A value of the type of the temporary.
-      abbrev IsFirst : Waiting → Type 0
+      abbrev pub IsFirst : Waiting → Type 0
       IsFirst v =
           (v.of ≡ (object_at s x).of) × (length v.words ≡ words s.table v.of) × (waiting_in state ≡ v ∷ waiting_in easy.state)
           × (given_words ≡ v.words ∷ [])
 
-      first_value : (v : Waiting) × IsFirst v
+      pub first_value : (v : Waiting) × IsFirst v
       first_value = by_waits top.frame.waits refl
         where
           taken_all : AreFor s (take (taken p.instr) top.frame.waits) (x ∷ [])
@@ -322,10 +322,10 @@ module _ (table : Table) (typed : TypedProgram) (effects : Effects) (input : Lis
             by_kind true view = (let found = orderly.declared y v is view in absurd (no_name found.0 found.1 found.2 found.3 found.4))
             by_kind false e = refl
 
-        named_object : IsNamed s.table (object_at s y).of
+        pub named_object : IsNamed s.table (object_at s y).of
         named_object = plain_named s.table (object_at s y).of owner
 
-        acts_same : acts_of_main (Declare y v) ≡ acts (acts_in s held_call)
+        pub acts_same : acts_of_main (Declare y v) ≡ acts (acts_in s held_call)
         unfolding acts_in
         acts_same =
             let kinds = not_views s y named_object in
@@ -333,7 +333,7 @@ module _ (table : Table) (typed : TypedProgram) (effects : Effects) (input : Lis
             (if is_observer s y then flow.source_acts s held_call (flow.observe s y) else acts_in s v)) kinds.0
             ∙ ap (λ b. if b then flow.source_acts s held_call (flow.observe s y) else acts_in s v) kinds.1)
 
-        source_here : Source s (object_at s y).of held_call
+        pub source_here : Source s (object_at s y).of held_call
         source_here = (subst (IsFine s named.sub.result) is (standing.fine table typed effects input ready state top older outer named p frames of_sub at_point)).1
 
         facts_same : after (acts (acts_in s held_call)) facts_now ≡ after (acts_of_main (Declare y v)) facts_now
@@ -375,10 +375,10 @@ module _ (table : Table) (typed : TypedProgram) (effects : Effects) (input : Lis
         text_there : IsFine s named.sub.result (Assign target held_call)
         text_there = subst (IsFine s named.sub.result) is (standing.fine table typed effects input ready state top older outer named p frames of_sub at_point)
 
-        leads_there : Leads s (object_at s y).of path_there u
+        pub leads_there : Leads s (object_at s y).of path_there u
         leads_there = text_there.1.0
 
-        source_there : Source s u held_call
+        pub source_there : Source s u held_call
         source_there = subst (λ z. Source s z held_call) (sym text_there.1.1) text_there.2
 
         plain_target : is_anonymous (full s.table u) ≡ false
@@ -398,19 +398,19 @@ module _ (table : Table) (typed : TypedProgram) (effects : Effects) (input : Lis
                   no_source found.0 found.1 found.2 found.3 found.4)
             ])
 
-        named_target : IsNamed s.table u
+        pub named_target : IsNamed s.table u
         named_target = plain_named s.table u plain_target
 
-        acts_there : acts_of_main (Assign target held_call) ≡ acts (acts_in s path_there) ++ act.Write (name_of y path_there) ∷ []
+        pub acts_there : acts_of_main (Assign target held_call) ≡ acts (acts_in s path_there) ++ act.Write (name_of y path_there) ∷ []
         unfolding acts_in
         acts_there =
             ap acts (assigned_acts s p.pos y u target path_there held_call named_target leads_there)
             ∙ acts_append (acts_in s path_there) (record { pos = r; act = act.Write (name_of y path_there) } ∷ [])
 
-        allowed_steps : AllowsAll facts_now (acts (acts_in s path_there) ++ act.Write (name_of y path_there) ∷ [])
+        pub allowed_steps : AllowsAll facts_now (acts (acts_in s path_there) ++ act.Write (name_of y path_there) ∷ [])
         allowed_steps = subst (AllowsAll facts_now) acts_there (subst (λ i. AllowsAll facts_now (acts_of_main i)) is (allowed_there end))
 
-        plain_root : is_observer s y ≡ false
+        pub plain_root : is_observer s y ≡ false
         plain_root =
             (keep_both (is_observer s) (acts (acts_in s path_there)) (act.Write (name_of y path_there) ∷ [])
             (subst (AllKeep (is_observer s)) acts_there (subst (λ i. AllKeep (is_observer s) (acts_of_main i)) is keeps_there))).1.0
