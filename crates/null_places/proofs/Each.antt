@@ -33,7 +33,7 @@ use Rattle.null_places.proofs.Laws.{Premises, Values}
 use Rattle.null_places.proofs.Instructions.{SameStep, twin, release_on, input_on, skip_same, fall_same, test_on, choose_on, leave_loop_on, operand_on, output_on, line_same, start_on, next_same}
 
 module _ (t : Turn) (settled : IsSettled (typing t).table) (own_law : OwnsByShape (typing t).table) (asks : Premises (here t))
-    (ready : Memory → List Waiting → List Fact → Type 0) (values : Values (here t) own_law asks ready) (facts : List Fact)
+    (ready : Memory → List Waiting → List Fact → Type 0) (values : Values (here t) asks ready) (facts : List Fact)
     (so : ready t.state.memory (waiting_in t.state) facts) (only : OnlyOwners (typing t) t.state.memory) (n : Memory) (agrees : Agrees t.state.memory n)
     (on : List (List machine.Word)) (result : Option ℕ) (roots : List ℕ) (pos : Pos) where
   abbrev pub Same : Instruction → Type 0

@@ -36,7 +36,7 @@ use Rattle.null_places.proofs.Laws.{Premises, Behaves, Values, GivenBy, IsAt, Is
 use Rattle.null_places.proofs.Scalars.{copy_same, place_then, scalar_on, steps_on}
 
 module _ (h : Here) (settled : IsSettled h.typing.table) (own_law : OwnsByShape h.typing.table) (asks : Premises h)
-    (ready : Memory → List Waiting → List Fact → Type 0) (values : Values h own_law asks ready) where
+    (ready : Memory → List Waiting → List Fact → Type 0) (values : Values h asks ready) where
   abbrev Same : {A : Type 0} → Evaluated A → Evaluated A → Type 0
   Same x y = SameTo h.typing x y
 
@@ -67,20 +67,20 @@ module _ (h : Here) (settled : IsSettled h.typing.table) (own_law : OwnsByShape 
 
   -- ---- names
 
-  module _ (m : Memory) (hands : List Waiting) (facts : List Fact) (law : Behaves h asks m hands facts own_law) (x : ℕ) (steps : TypedTree) (t : ℕ) where
+  module _ (m : Memory) (hands : List Waiting) (facts : List Fact) (law : Behaves h asks m hands facts) (x : ℕ) (steps : TypedTree) (t : ℕ) where
     abbrev at : List (List machine.Word) → Now
     at ws = record { memory = m; waits = ws }
 
     abbrev IsThere : List (List machine.Word) → Place → Now → Type 0
-    IsThere on k n = IsAt h asks m hands facts on t k n
+    IsThere on k n = (n ≡ record { memory = m; waits = on }) × IsAt h asks m hands facts t k
 
     abbrev IsWhole : List (List machine.Word) → Place → Now → Type 0
-    IsWhole on k n = IsWholeAt h asks m hands facts on t k n
+    IsWhole on k n = (n ≡ record { memory = m; waits = on }) × IsWholeAt h asks m hands facts t k
 
     -- what a place has is taken, where its type owns
     owner_same : (on : List (List machine.Word)) → is_owning h.typing.table t ≡ true → (k : Place) (n n' : Now) → IsWhole on k n → SameNow h.typing n n'
         → Same (held_or_taken h AsValue k n) (held_or_taken h AsValue k n')
-    owner_same on owns k n n' (is, l, spot, of, none) same =
+    owner_same on owns k n n' (is, (l, spot, of, none)) same =
         subst (λ z. SameNow h.typing z n' → SameTo h.typing (taken h k z) (taken h k n')) (sym is) (λ now. (
           words_agree h.typing m n'.memory now.0 k none,
           subst (λ b. SameNow h.typing (if b then record (at on) { memory = moved_out h.typing k m } else (at on)) (if b then record n' { memory = moved_out h.typing k n'.memory } else n'))
@@ -91,7 +91,7 @@ module _ (h : Here) (settled : IsSettled h.typing.table) (own_law : OwnsByShape 
     -- a copy of what doesn't own
     plain_same : (on : List (List machine.Word)) → is_owning h.typing.table t ≡ false → (k : Place) (n n' : Now) → IsThere on k n → SameNow h.typing n n'
         → Same (held_or_taken h AsValue k n) (held_or_taken h AsValue k n')
-    plain_same on plain k n n' (is, l, spot, of) same =
+    plain_same on plain k n n' (is, (l, spot, of)) same =
         let own : is_owning h.typing.table k.of ≡ false = ap (is_owning h.typing.table) of ∙ plain in
         copy_same h k n n' (subst (λ (z : Now). NoneGone (slots_of h.typing z.memory k)) (sym is)
         (spot_whole h.typing settled m hands law.only law.kept k l spot (plain_whole h.typing settled m hands k l spot ((keeps h.typing settled own_law).ownerless k.of own)))) own same
@@ -107,7 +107,7 @@ module _ (h : Here) (settled : IsSettled h.typing.table) (own_law : OwnsByShape 
     name_by before on lead takes calls compares allowed mine kept true owns n' same =
         let is : used h.typing (name_of x steps) t ≡ act.Move (name_of x steps) (parts h.typing.table t) =
         ap (λ b. if b then act.Move (name_of x steps) (parts h.typing.table t) else act.Read (name_of x steps)) owns in
-        place_then h settled own_law asks m hands facts law before on x t steps (held_or_taken h AsValue) (held_or_taken h AsValue) (IsWhole on)
+        place_then h settled own_law asks m hands facts law before on x t steps (held_or_taken h AsValue) (held_or_taken h AsValue) (IsWholeAt h asks m hands facts t)
         (λ way goes. law.move on x t steps way goes owns (subst (Allows facts) is mine) (subst (λ z. asks.keeps (z ∷ [])) is kept))
         (law.steps (object_at h.typing x).of t steps lead before on takes calls allowed).0
         n' (steps_on h settled own_law asks m hands facts law (object_at h.typing x).of t steps lead before on takes calls compares allowed n' same)
@@ -115,7 +115,7 @@ module _ (h : Here) (settled : IsSettled h.typing.table) (own_law : OwnsByShape 
     name_by before on lead takes calls compares allowed mine kept false owns n' same =
         let is : used h.typing (name_of x steps) t ≡ act.Read (name_of x steps) =
         ap (λ b. if b then act.Move (name_of x steps) (parts h.typing.table t) else act.Read (name_of x steps)) owns in
-        place_then h settled own_law asks m hands facts law before on x t steps (held_or_taken h AsValue) (held_or_taken h AsValue) (IsThere on)
+        place_then h settled own_law asks m hands facts law before on x t steps (held_or_taken h AsValue) (held_or_taken h AsValue) (IsAt h asks m hands facts t)
         (λ way goes. law.read on x t steps way goes (subst (Allows facts) is mine))
         (law.steps (object_at h.typing x).of t steps lead before on takes calls allowed).0
         n' (steps_on h settled own_law asks m hands facts law (object_at h.typing x).of t steps lead before on takes calls compares allowed n' same)

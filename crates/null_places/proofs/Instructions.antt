@@ -45,7 +45,7 @@ use Rattle.null_places.proofs.Memories.{NoneGone, words_agree, cell_agree, store
 use Rattle.null_places.proofs.Only.{OnlyOwners, stored_only, declared_only, undeclared_only, freed_only}
 use Rattle.null_places.proofs.Places.{spot_whole, plain_whole}
 use Rattle.null_places.proofs.Walks.{SameNow, SameTo, then_same, simply}
-use Rattle.null_places.proofs.Laws.{Premises, Behaves, Values, GivenBy, Found, IsAt, IsWholeAt, checked_by}
+use Rattle.null_places.proofs.Laws.{Premises, Behaves, Values, GivenBy, IsAt, IsWholeAt, checked_by}
 use Rattle.null_places.proofs.Scalars.{place_on, scalar_on, text_on}
 use Rattle.null_places.proofs.Evaluated.{checked_same, value_on}
 
@@ -210,7 +210,7 @@ module _ (t : Turn) (n : Memory) (agrees : Agrees t.state.memory n) where
 -- ---- each instruction
 
 module _ (t : Turn) (settled : IsSettled (typing t).table) (own_law : OwnsByShape (typing t).table) (asks : Premises (here t))
-    (ready : Memory → List Waiting → List Fact → Type 0) (values : Values (here t) own_law asks ready) (facts : List Fact)
+    (ready : Memory → List Waiting → List Fact → Type 0) (values : Values (here t) asks ready) (facts : List Fact)
     (so : ready t.state.memory (waiting_in t.state) facts) (only : OnlyOwners (typing t) t.state.memory) (n : Memory) (agrees : Agrees t.state.memory n) where
   abbrev h : Here
   h = here t
@@ -230,7 +230,7 @@ module _ (t : Turn) (settled : IsSettled (typing t).table) (own_law : OwnsByShap
   at_start : SameNow (typing t) at (start (twin t n))
   at_start = (agrees, refl, only)
 
-  law : Behaves h asks t.state.memory hands facts own_law
+  law : Behaves h asks t.state.memory hands facts
   law = values.behaves t.state.memory hands facts so only
 
   scalar : (before on : List (List machine.Word)) (e : TypedTree) → Stays (typing t) e → Takes (waits_in e) before on → asks.calls (has_call e) → Compares (typing t) e
@@ -330,7 +330,7 @@ module _ (t : Turn) (settled : IsSettled (typing t).table) (own_law : OwnsByShap
       (λ still. simply (typing t) (place_of h (Name p x path u) (record { memory = i.memory; waits = mid })) (place_of h (Name p x path u) j)
       (λ k now. Done (record { words = ws; place = k }) now) (λ k now. Done (record { words = ws; place = k }) now)
       (place_on h settled own_law asks i.memory (v ∷ hands) behind_facts there mid on p x u path lead takes calls compares each.0
-      (IsAt h asks i.memory (v ∷ hands) behind_facts on u) (λ way goes. there.write on x u path way goes writes) j still).0 (λ k a b last. (refl, last))) now
+      (IsAt h asks i.memory (v ∷ hands) behind_facts u) (λ way goes. there.write on x u path way goes writes) j still).0 (λ k a b last. (refl, last))) now
 
   pub assign_on : (mid on : List (List machine.Word)) (p : Pos) (x u : ℕ) (path e : TypedTree) → is_anonymous (full (typing t).table u) ≡ false → asks.takes u
       → Gives (typing t) u e → Leads (typing t) (object_at (typing t) x).of path u → asks.calls (has_call e) → asks.calls (has_call path)
@@ -368,11 +368,11 @@ module _ (t : Turn) (settled : IsSettled (typing t).table) (own_law : OwnsByShap
       let stay = (law.steps (object_at (typing t) x).of u path lead (start t).waits on takes calls each.0).1 in
       let frees : Allows facts (act.Free (name_of x path)) = subst (λ z. Allows z (act.Free (name_of x path))) stay each.1.0 in
       let place = place_on h settled own_law asks t.state.memory hands facts law (start t).waits on p x u path lead takes calls compares each.0
-      (IsWholeAt h asks t.state.memory hands facts on u) (λ way goes. law.free on x u path way goes d access frees keep) (start (twin t n)) at_start in
-      step_then t n agrees (Found (IsWholeAt h asks t.state.memory hands facts on u))
+      (IsWholeAt h asks t.state.memory hands facts u) (λ way goes. law.free on x u path way goes d access frees keep) (start (twin t n)) at_start in
+      step_then t n agrees (Quiet (record { memory = t.state.memory; waits = on }) (IsWholeAt h asks t.state.memory hands facts u))
       (place_of h (Name p x path u) at) (place_of h (Name p x path u) (start (twin t n))) f g place.1 place.0
       (λ k i j found now.
-      let none : NoneGone (slots_of (typing t) i.memory k) = subst (λ (z : Now). NoneGone (slots_of (typing t) z.memory k)) (sym found.0) found.4 in
+      let none : NoneGone (slots_of (typing t) i.memory k) = subst (λ (z : Now). NoneGone (slots_of (typing t) z.memory k)) (sym found.0) (found.1).3 in
       released_same t n agrees p f g one two k i.memory j.memory now.0 now.2 (words_of (typing t) i.memory k) refl
       (sym (words_agree (typing t) i.memory j.memory now.0 k none)))
 
@@ -417,7 +417,7 @@ module _ (t : Turn) (settled : IsSettled (typing t).table) (own_law : OwnsByShap
       let actual : Allows facts (out_act (name_of x path)) = subst (λ z. Allows z (out_act (name_of x path))) stay each.1.0 in
       let writes : Allows facts (act.Write (name_of x path)) = (λ g has. switched (breaks_O3 (name_of x path) g) _ _ (actual g has)) in
       let place = place_on h settled own_law asks t.state.memory hands facts law (start t).waits on p x u path lead takes calls compares each.0
-      (IsAt h asks t.state.memory hands facts on u) (λ way goes. law.write on x u path way goes writes) (start (twin t n)) at_start in
+      (IsAt h asks t.state.memory hands facts u) (λ way goes. law.write on x u path way goes writes) (start (twin t n)) at_start in
       step_simply t n agrees (place_of h (Name p x path u) at) (place_of h (Name p x path u) (start (twin t n))) f g place.0
       (λ k i j now. got_same t n agrees f g one two k i.memory j.memory now.0 now.2)
 

@@ -4,7 +4,6 @@
 use Rattle.std.proofs.Common.{◌≡◌, ℕ, Bool, true, false, ◌||◌, List, [], ◌∷◌, ◌++◌, length, if◌then◌else◌}
 use Rattle.place_names.specs.declared.act.Act.{Act}
 use Rattle.place_names.specs.declared.act.Act.TheVariants as act
-use Rattle.place_names.specs.declared.act.Mode.{Mode}
 use Rattle.place_names.specs.declared.act.Placed.{Placed}
 use Rattle.place_names.specs.declared.fact.Fact.{Fact}
 use Rattle.type_definitions.specs.declared.table.Shape.TheVariants as shape
@@ -18,27 +17,18 @@ use Rattle.machine.specs.Words as machine
 use Rattle.machine.specs.Memory.{Memory, Place, slots_of}
 use Rattle.machine.specs.Evaluate.{Here, Now, Use, AsValue, part_type, Evaluated, Done, Raises, Traps, followed_by, evaluate, steps_of, checked, variable_place, walked}
 use Rattle.machine.specs.Evaluate as run
-use Rattle.machine.specs.Calls.{passed}
 use Rattle.machine.specs.Typed.{is_record, is_array}
-use Rattle.machine.specs.Owners.{is_in}
 use Rattle.machine.specs.States.{Waiting}
 use Rattle.owned_ways.specs.Ways.{Loc, Allows, after, AllowsAll}
-use Rattle.soundness.specs.Typed.{Matches, OwnsByShape, Kept, Spot}
+use Rattle.soundness.specs.Typed.{Matches, Kept, Spot}
 use Rattle.soundness.specs.Sound.{goes_through_none}
-use Rattle.soundness.specs.Ready.{IsActualBy}
 use Rattle.typed_laws.specs.Needed.{Stays, Leads, Gives}
 use Rattle.soundness.proofs.Scalars.{acts}
 use Rattle.soundness.proofs.Taking.{Takes}
 use Rattle.soundness.proofs.Stays.{Quiet, One}
-use Rattle.soundness.proofs.Passing.{IsLaid, way_by, head_acts}
 use Rattle.null_places.proofs.Memories.{NoneGone}
 use Rattle.null_places.proofs.Only.{OnlyOwners}
 use Rattle.null_places.proofs.Walks.{SameNow, SameTo}
-
--- What is known of a place, if one is found.
-abbrev pub Found : (Place → Now → Type 0) → Evaluated Place → Type 0
-Found known (Done k n) = known k n
-Found known x = Unit {0}
 
 module _ (h : Here) where
   -- What is asked of the text.
@@ -60,32 +50,31 @@ module _ (h : Here) where
 
   module _ (asks : Premises) (m : Memory) (hands : List Waiting) (facts : List Fact) where
     -- The place of a name is in a location,
-    abbrev pub IsAt : List (List machine.Word) → ℕ → Place → Now → Type 0
-    IsAt on t k n = (n ≡ record { memory = m; waits = on }) × (l : Loc) × Spot h.typing m hands k l × (k.of ≡ t)
+    abbrev pub IsAt : ℕ → Place → Type 0
+    IsAt t k = (l : Loc) × Spot h.typing m hands k l × (k.of ≡ t)
 
     -- and nothing that it has is gone.
-    abbrev pub IsWholeAt : List (List machine.Word) → ℕ → Place → Now → Type 0
-    IsWholeAt on t k n =
-        (n ≡ record { memory = m; waits = on }) × (l : Loc) × Spot h.typing m hands k l × (k.of ≡ t) × NoneGone (slots_of h.typing m k)
+    abbrev pub IsWholeAt : ℕ → Place → Type 0
+    IsWholeAt t k = (l : Loc) × Spot h.typing m hands k l × (k.of ≡ t) × NoneGone (slots_of h.typing m k)
 
     -- This is known of the place where a name leads; and it leads to the same in memories that agree.
-    abbrev pub Finds : List (List machine.Word) → ℕ → List run.Step → (Place → Now → Type 0) → Type 0
+    abbrev pub Finds : List (List machine.Word) → ℕ → List run.Step → (Place → Type 0) → Type 0
     Finds on x way known =
-        Found known (walked h.typing way (variable_place h x) (record { memory = m; waits = on }))
+        Quiet (record { memory = m; waits = on }) known (walked h.typing way (variable_place h x) (record { memory = m; waits = on }))
         × ((n' : Now) → SameNow h.typing (record { memory = m; waits = on }) n'
         → SameTo h.typing (walked h.typing way (variable_place h x) (record { memory = m; waits = on })) (walked h.typing way (variable_place h x) n'))
 
     abbrev pub LeadsSame : List (List machine.Word) → ℕ → ℕ → List run.Step → Type 0
-    LeadsSame on x t way = Finds on x way (IsAt on t)
+    LeadsSame on x t way = Finds on x way (IsAt t)
 
     abbrev pub LeadsWhole : List (List machine.Word) → ℕ → ℕ → List run.Step → Type 0
-    LeadsWhole on x t way = Finds on x way (IsWholeAt on t)
+    LeadsWhole on x t way = Finds on x way (IsWholeAt t)
 
     abbrev pub Stay : List Placed → Type 0
     Stay ps = after (acts ps) facts ≡ facts
 
     -- How names and scalar expressions behave, under acts that the facts allow.
-    pub record Behaves (own_law : OwnsByShape h.typing.table) : Type 0 where
+    pub record Behaves : Type 0 where
       pub kept : Kept h.typing m hands
       pub only : OnlyOwners h.typing m
       pub quiet : (u : Use) (e : TypedTree) → Stays h.typing e → (before on : List (List machine.Word)) → Takes (waiting e) before on
@@ -95,10 +84,6 @@ module _ (h : Here) where
           → asks.calls (has_call steps) → AllowsAll facts (acts (acts_in h.typing steps))
           → Quiet (record { memory = m; waits = on }) (λ way. asks.goes t u steps way) (steps_of h steps (record { memory = m; waits = before }))
           × Stay (acts_in h.typing steps)
-      pub passed : (x : ℕ) (mode_of : Mode) (e : TypedTree) → IsActualBy h.typing mode_of e → (is_in mode_of ≡ false → goes_through_none e ≡ true)
-          → (before on : List (List machine.Word)) → Takes (waiting e) before on → asks.calls (has_call e)
-          → AllowsAll facts (acts (head_acts h.typing own_law mode_of e))
-          → Quiet (record { memory = m; waits = on }) (λ a. IsLaid h.typing a) (passed h (way_by h.typing own_law mode_of) x e (record { memory = m; waits = before }))
       -- a name that is read, written or stored at
       pub read : (on : List (List machine.Word)) (x t : ℕ) (steps : TypedTree) (way : List run.Step) → asks.goes (object_at h.typing x).of t steps way
           → Allows facts (act.Read (name_of x steps)) → LeadsSame on x t way
@@ -139,8 +124,8 @@ module _ (h : Here) where
 
   -- In memories of which this is known, names and scalar expressions behave, and what may own gives a
   -- value, in a memory of which it is known.
-  pub record Values (own_law : OwnsByShape h.typing.table) (asks : Premises) (ready : Memory → List Waiting → List Fact → Type 0) : Type 0 where
-    pub behaves : (m : Memory) (hands : List Waiting) (facts : List Fact) → ready m hands facts → OnlyOwners h.typing m → Behaves asks m hands facts own_law
+  pub record Values (asks : Premises) (ready : Memory → List Waiting → List Fact → Type 0) : Type 0 where
+    pub behaves : (m : Memory) (hands : List Waiting) (facts : List Fact) → ready m hands facts → OnlyOwners h.typing m → Behaves asks m hands facts
     pub given : (e : TypedTree) (want : ℕ) → Gives h.typing want e → asks.calls (has_call e) → (before on : List (List machine.Word)) → Takes (waiting e) before on
         → (m : Memory) (hands : List Waiting) (facts : List Fact) → ready m hands facts → AllowsAll facts (acts (acts_in h.typing e))
         → asks.takes want → asks.keeps (acts (acts_in h.typing e))

@@ -1,8 +1,7 @@
 -- Names and expressions in programs without borrowers and observers: how a name leads, and what its
 -- place has.
-use Rattle.std.proofs.Common.{◌≡◌, refl, sym, ap, ◌∙◌, subst, inl, inr, ℕ, Bool, true, false, ◌||◌, List, []}
+use Rattle.std.proofs.Common.{◌≡◌, refl, sym, ap, ◌∙◌, subst, inl, inr, ℕ, Bool, true, false, ◌||◌, List, [], map}
 use Rattle.place_names.specs.declared.act.Act.TheVariants as act
-use Rattle.place_names.specs.declared.act.Mode.{Mode}
 use Rattle.place_names.specs.declared.fact.Fact.{Fact}
 use Rattle.place_names.specs.declared.fact.Fact.TheVariants.{Moved}
 use Rattle.place_names.specs.declared.rule.Rule.TheVariants.{O2}
@@ -13,14 +12,13 @@ use Rattle.type_definitions.specs.declared.table.Shape.TheVariants as shape
 use Rattle.type_definitions.specs.Types.{shape_of, parts}
 use Rattle.typed_tree.specs.Trees.{TypedTree}
 use Rattle.flow_paths.specs.Objects.{object_at}
-use Rattle.flow_paths.specs.Names.{waiting, name_of}
-use Rattle.flow_paths.specs.Acts.{acts_in}
+use Rattle.flow_paths.specs.Names.{name_of}
+use Rattle.flow_paths.specs.Acts.{acts_in, actual_values}
 use Rattle.machine.specs.Words as machine
 use Rattle.machine.specs.Memory.{Memory, Place, slots_of}
 use Rattle.machine.specs.Evaluate.{Here, Now, Evaluated, Done, Raises, Traps, evaluate, variable_place, walked}
 use Rattle.machine.specs.Evaluate as run
-use Rattle.machine.specs.Calls.{Passed, passed}
-use Rattle.machine.specs.Owners.{is_in}
+use Rattle.machine.specs.Calls.{Passed, all_passed}
 use Rattle.machine.specs.States.{Waiting, Leak}
 use Rattle.owned_ways.specs.Ways.{OfVariable, Loc, OfRoot, Way, Object, Reaches, IsRooted, Past, Named, IsMoved, Excused, Allows, after, AllowsAll, along}
 use Rattle.owned_ways.specs.Ways as ways
@@ -30,14 +28,14 @@ use Rattle.owned_ways.proofs.Assigned.{test_fails, either_left, named_rooted, mo
 use Rattle.part_offsets.specs.Parts.{IsSettled}
 use Rattle.soundness.specs.Seen.{content, trunk, seen, home, IsNear, is_view_formal}
 use Rattle.soundness.specs.Typed.{OwnsByShape, Spot}
-use Rattle.soundness.specs.Sound.{goes_through_none}
-use Rattle.soundness.specs.Ready.{IsActualBy}
+use Rattle.soundness.specs.Sound.{goes_through_none, AreCopied}
+use Rattle.soundness.specs.Ready.{AreActuals}
 use Rattle.typed_laws.specs.Needed.{IndexLaw}
 use Rattle.soundness.proofs.Near.{named_near, past_near, near_along}
 use Rattle.soundness.proofs.Walks.{way_along, Walked}
 use Rattle.soundness.proofs.Scalars.{acts, read_way, look_way, number_along, named_along}
-use Rattle.soundness.proofs.Taking.{Takes, TakesPlainly, both_plainly}
-use Rattle.soundness.proofs.Passing.{IsLaid, way_by, head_acts, IsGiven, one_on, given_laid}
+use Rattle.soundness.proofs.Taking.{TakesPlainly, both_plainly}
+use Rattle.soundness.proofs.Passing.{way_of, TakesAll, AreLaid, AreGiven, all_on, all_laid}
 use Rattle.soundness.proofs.Stays.{Quiet, Goes, taking, steps_taking, name_on}
 use Rattle.soundness.proofs.Freeing.{free_way}
 use Rattle.soundness.proofs.Lasting.{keeps}
@@ -47,7 +45,7 @@ use Rattle.null_places.proofs.Only.{OnlyOwners}
 use Rattle.null_places.proofs.Places.{IsWhole, spot_whole, access_whole, unmoved_whole}
 use Rattle.null_places.proofs.Walks.{SameNow, SameTo, walk_same}
 use Rattle.null_places.proofs.Direct.{has_deref, past_deref, selectors_direct}
-use Rattle.null_places.proofs.Laws.{Found, Premises, IsAt, IsWholeAt, LeadsSame, LeadsWhole, Behaves, GivenBy, Values}
+use Rattle.null_places.proofs.Laws.{Premises, IsAt, IsWholeAt, LeadsSame, LeadsWhole, Behaves, GivenBy, Values}
 
 -- a comparison with null keeps what it names from being moved
 look_clean : (at_home : ℕ → ℕ) (facts : List Fact) (w : Way) → Allows facts (act.Look (ways.name_of w)) → IsMoved at_home facts w → ⊥
@@ -130,16 +128,16 @@ module _ (h : Here) (settled : IsSettled h.typing.table) (leaks : List Leak) (ot
     name_here on x t steps way goes clean =
         name_on h settled hands leaks m [] other facts ready.kept ready.sound alone live index_law own_law all_named on x steps t way goes clean
 
-    found_at : (on : List (List machine.Word)) (w : Way) (t : ℕ) (y : Evaluated Place) → WalkedTo on w t y → Found (IsAt h (plain_premises h) m hands facts on t) y
-    found_at on w t (Done k n) (l, is, spot, reaches, of) = (is, l, spot, of)
-    found_at on w t (Raises e n) is = tt
-    found_at on w t (Traps e n) is = tt
+    found_at : (on : List (List machine.Word)) (w : Way) (t : ℕ) (y : Evaluated Place) → WalkedTo on w t y → Quiet (at on) (λ k. IsAt h (plain_premises h) m hands facts t k) y
+    found_at on w t (Done k n) (l, is, spot, reaches, of) = (is, (l, spot, of))
+    found_at on w t (Raises e n) is = is
+    found_at on w t (Traps e n) is = is
 
     found_whole : (on : List (List machine.Word)) (w : Way) (t : ℕ) → ((k : Place) (l : Loc) → Spot h.typing m hands k l → Reaches (seen h.typing m hands leaks) w l
-        → k.of ≡ t → NoneGone (slots_of h.typing m k)) → (y : Evaluated Place) → WalkedTo on w t y → Found (IsWholeAt h (plain_premises h) m hands facts on t) y
-    found_whole on w t none (Done k n) (l, is, spot, reaches, of) = (is, l, spot, of, none k l spot reaches of)
-    found_whole on w t none (Raises e n) is = tt
-    found_whole on w t none (Traps e n) is = tt
+        → k.of ≡ t → NoneGone (slots_of h.typing m k)) → (y : Evaluated Place) → WalkedTo on w t y → Quiet (at on) (λ k. IsWholeAt h (plain_premises h) m hands facts t k) y
+    found_whole on w t none (Done k n) (l, is, spot, reaches, of) = (is, (l, spot, of, none k l spot reaches of))
+    found_whole on w t none (Raises e n) is = is
+    found_whole on w t none (Traps e n) is = is
 
     leads : (on : List (List machine.Word)) (x t : ℕ) (steps : TypedTree) (way : List run.Step) → Along x t steps way → Clean x steps
         → LeadsSame h (plain_premises h) m hands facts on x t way
@@ -210,24 +208,25 @@ module _ (h : Here) (settled : IsSettled h.typing.table) (leaks : List Leak) (ot
 
     -- ---- actuals
 
-    laid : (on : List (List machine.Word)) (mode_of : Mode) (e : TypedTree) (y : Evaluated Passed)
-        → Quiet (at on) (λ a. IsGiven h settled hands leaks m [] other facts ready.kept ready.sound alone live index_law own_law all_named mode_of e a) y
-        → Quiet (at on) (λ a. IsLaid h.typing a) y
-    laid on mode_of e (Done a n) (same, given) =
-        (same, given_laid h settled hands leaks m [] other facts ready.kept ready.sound alone live index_law own_law all_named mode_of e a given)
-    laid on mode_of e (Raises x n) is = is
-    laid on mode_of e (Traps x n) is = is
-
-    actual : (x : ℕ) (mode_of : Mode) (e : TypedTree) → IsActualBy h.typing mode_of e → (is_in mode_of ≡ false → goes_through_none e ≡ true)
-        → (before on : List (List machine.Word)) → Takes (waiting e) before on → AllowsAll facts (acts (head_acts h.typing own_law mode_of e))
-        → Quiet (at on) (λ a. IsLaid h.typing a) (passed h (way_by h.typing own_law mode_of) x e (at before))
-    actual x mode_of e by direct before on takes allowed =
-        laid on mode_of e (passed h (way_by h.typing own_law mode_of) x e (at before))
-        (one_on h settled hands leaks m [] other facts ready.kept ready.sound alone live index_law own_law all_named before on mode_of x e by direct takes allowed)
+    -- what is passed is a value of one word, or a place in a variable
+    pub plain_laid : (before on : List (List machine.Word)) (formals : List ℕ) (actuals : TypedTree) → AreActuals h.typing formals actuals → AreCopied h.typing formals actuals
+        → TakesAll formals actuals before on → AllowsAll facts (acts (actual_values h.typing (map (way_of h.typing own_law) formals) actuals))
+        → Quiet (at on) (λ passed. AreLaid h.typing passed) (all_passed h (map (way_of h.typing own_law) formals) formals actuals (at before))
+    plain_laid before on formals actuals stay copied takes allowed =
+        laid (all_passed h (map (way_of h.typing own_law) formals) formals actuals (at before))
+        (all_on h settled hands leaks m [] other facts ready.kept ready.sound alone live index_law own_law all_named before on formals actuals stay copied takes allowed)
+      where
+        laid : (y : Evaluated (List Passed))
+            → Quiet (at on) (λ passed. AreGiven h settled hands leaks m [] other facts ready.kept ready.sound alone live index_law own_law all_named formals actuals passed) y
+            → Quiet (at on) (λ passed. AreLaid h.typing passed) y
+        laid (Done passed n) (same, given) =
+            (same, all_laid h settled hands leaks m [] other facts ready.kept ready.sound alone live index_law own_law all_named formals actuals passed given)
+        laid (Raises x n) is = is
+        laid (Traps x n) is = is
 
     -- ---- all together
 
-    pub plain_behaves : Behaves h (plain_premises h) m hands facts own_law
+    pub plain_behaves : Behaves h (plain_premises h) m hands facts
     plain_behaves = record {
       kept = ready.kept;
       only = only;
@@ -235,7 +234,6 @@ module _ (h : Here) (settled : IsSettled h.typing.table) (leaks : List Leak) (ot
           taking h settled hands leaks m [] other facts ready.kept ready.sound alone live index_law own_law all_named u e stays before on takes allowed;
       steps = λ t u path lead before on takes calls allowed.
           steps_taking h settled hands leaks m [] other facts ready.kept ready.sound alone live index_law own_law all_named t u path lead before on takes allowed;
-      passed = λ x mode_of e by direct before on takes calls allowed. actual x mode_of e by direct before on takes allowed;
       read = λ on x t path way goes reads.
           leads on x t path way goes (clean_by x path (λ z. Allows facts (act.Read z)) reads (λ w mine. read_way (home h.typing h.frame) facts w mine));
       write = λ on x t path way goes writes.
@@ -255,7 +253,7 @@ module _ (h : Here) (settled : IsSettled h.typing.table) (leaks : List Leak) (ot
   given_by on want hands facts (Raises e n) given = tt
   given_by on want hands facts (Traps e n) none = none
 
-  pub plain_values : Values h own_law (plain_premises h)
+  pub plain_values : Values h (plain_premises h)
       (λ m hands facts. Ready h settled leaks [] other alone (keeps h.typing settled own_law) no_formals index_law own_law all_named m hands facts)
   plain_values = record {
     behaves = λ m hands facts ready only. plain_behaves m hands facts ready only;

@@ -16,6 +16,7 @@ use Rattle.type_definitions.specs.Types.{shape_of, full, is_owning, is_scalar, v
 use Rattle.typed_tree.specs.Trees.{TypedTree, Number, Literal, Text, Name, Component as IntoComponent, Designated, Element, Call, EndOfFile, Parens, Image, Unary, Binary, Short, IsNull, Aggregate, Alike, New, NoMore, More}
 use Rattle.typed_tree.specs.Trees as typed
 use Rattle.flow_paths.specs.Objects.{object_at, is_anonymous, view_of as view_of_object, Passing, ByValue}
+use Rattle.flow_paths.specs.Objects as objects
 use Rattle.flow_paths.specs.Names.{has_call, waiting, name_of}
 use Rattle.flow_paths.specs.Acts.{used, acts_in, actual_values}
 use Rattle.machine.specs.Words.{component_type, fits_type}
@@ -36,13 +37,13 @@ use Rattle.soundness.proofs.Steps.{no_leaf}
 use Rattle.soundness.proofs.Scalars.{after_append, allows_both, acts, acts_append}
 use Rattle.soundness.proofs.Contents.{bool_cases}
 use Rattle.soundness.proofs.Taking.{Takes, takes_as, takes_both, takes_zero}
-use Rattle.soundness.proofs.Passing.{IsLaid, AreLaid, TakesAll, way_by, way_of, head_acts, head_values, head_reads, reads_keep}
+use Rattle.soundness.proofs.Passing.{way_by, way_of, head_acts, head_values, head_reads, reads_keep}
 use Rattle.soundness.proofs.Stays.{Quiet, One, Any, quiet_then, quiet_from}
 use Rattle.null_places.specs.Compares.{Compares}
 use Rattle.null_places.proofs.Memories.{itself, NoneGone, words_agree}
 use Rattle.null_places.proofs.Places.{spot_whole, plain_whole}
 use Rattle.null_places.proofs.Walks.{SameNow, SameTo, then_same, simply}
-use Rattle.null_places.proofs.Laws.{Premises, Behaves, Found, Finds, IsAt, IsWholeAt}
+use Rattle.null_places.proofs.Laws.{Premises, Behaves, Finds, IsAt, IsWholeAt}
 
 -- ---- operators
 
@@ -111,7 +112,7 @@ scalar_owns (shape.Same of) f e = cc
 -- ---- names and expressions
 
 module _ (h : Here) (settled : IsSettled h.typing.table) (own_law : OwnsByShape h.typing.table) (asks : Premises h) (m : Memory) (hands : List Waiting) (facts : List Fact)
-    (law : Behaves h asks m hands facts own_law) where
+    (law : Behaves h asks m hands facts) where
   abbrev SameNowAt : List (List machine.Word) → Now → Type 0
   SameNowAt ws n = SameNow h.typing (record { memory = m; waits = ws }) n
 
@@ -122,19 +123,19 @@ module _ (h : Here) (settled : IsSettled h.typing.table) (own_law : OwnsByShape 
   not_owning t e = own_law t ∙ scalar_owns (shape_of h.typing.table t) (is_owning h.typing.table) e
 
   -- what a place of a scalar type has isn't gone
-  scalar_none : (k : Place) (l : Loc) (t : ℕ) → Spot h.typing m hands k l → k.of ≡ t → is_scalar (full h.typing.table t) ≡ true → NoneGone (slots_of h.typing m k)
+  pub scalar_none : (k : Place) (l : Loc) (t : ℕ) → Spot h.typing m hands k l → k.of ≡ t → is_scalar (full h.typing.table t) ≡ true → NoneGone (slots_of h.typing m k)
   scalar_none k l t spot of scalar =
       spot_whole h.typing settled m hands law.only law.kept k l spot
       (plain_whole h.typing settled m hands k l spot (λ p. no_leaf h.typing.table settled k.of (ap (λ z. is_scalar (full h.typing.table z)) of ∙ scalar) p))
 
-  abbrev IsThere : List (List machine.Word) → ℕ → Place → Now → Type 0
-  IsThere on t k n = IsAt h asks m hands facts on t k n
+  abbrev IsThere : ℕ → Place → Type 0
+  IsThere t k = IsAt h asks m hands facts t k
 
   read_same : (on : List (List machine.Word)) (u : Use) (t : ℕ) → is_scalar (full h.typing.table t) ≡ true → (k : Place) (n n' : Now)
-      → IsThere on t k n → SameNow h.typing n n' → SameTo h.typing (held_or_taken h u k n) (held_or_taken h u k n')
-  read_same on AsView t scalar k n n' (is, l, spot, of) same =
+      → (n ≡ record { memory = m; waits = on }) × IsThere t k → SameNow h.typing n n' → SameTo h.typing (held_or_taken h u k n) (held_or_taken h u k n')
+  read_same on AsView t scalar k n n' (is, (l, spot, of)) same =
       view_same h k n n' (subst (λ (z : Now). NoneGone (slots_of h.typing z.memory k)) (sym is) (scalar_none k l t spot of scalar)) same
-  read_same on AsValue t scalar k n n' (is, l, spot, of) same =
+  read_same on AsValue t scalar k n n' (is, (l, spot, of)) same =
       copy_same h k n n' (subst (λ (z : Now). NoneGone (slots_of h.typing z.memory k)) (sym is) (scalar_none k l t spot of scalar))
       (ap (is_owning h.typing.table) of ∙ not_owning t scalar) same
 
@@ -151,11 +152,11 @@ module _ (h : Here) (settled : IsSettled h.typing.table) (own_law : OwnsByShape 
 
   -- a name whose steps are evaluated, and what is done with its place
   pub place_then : {A : Type 0} (before on : List (List machine.Word)) (x t : ℕ) (steps : TypedTree) (f g : Place → Now → Evaluated A)
-      (known : Place → Now → Type 0)
+      (known : Place → Type 0)
       → ((way : List run.Step) → asks.goes (object_at h.typing x).of t steps way → Finds h asks m hands facts on x way known)
       → Quiet (record { memory = m; waits = on }) (λ way. asks.goes (object_at h.typing x).of t steps way) (steps_of h steps (record { memory = m; waits = before })) → (n' : Now)
       → SameTo h.typing (steps_of h steps (record { memory = m; waits = before })) (steps_of h steps n')
-      → ((k : Place) (n n' : Now) → known k n → SameNow h.typing n n' → SameTo h.typing (f k n) (g k n'))
+      → ((k : Place) (n n' : Now) → (n ≡ record { memory = m; waits = on }) × known k → SameNow h.typing n n' → SameTo h.typing (f k n) (g k n'))
       → SameTo h.typing (followed_by (steps_of h steps (record { memory = m; waits = before })) (λ way now. followed_by (walked h.typing way (variable_place h x) now) f))
       (followed_by (steps_of h steps n') (λ way now. followed_by (walked h.typing way (variable_place h x) now) g))
   place_then before on x t steps f g known finds q n' same next =
@@ -163,15 +164,16 @@ module _ (h : Here) (settled : IsSettled h.typing.table) (own_law : OwnsByShape 
       (λ way now. followed_by (walked h.typing way (variable_place h x) now) f) (λ way now. followed_by (walked h.typing way (variable_place h x) now) g) q same
       (λ way n n'' p now. subst (λ z. SameTo h.typing (followed_by (walked h.typing way (variable_place h x) z) f) (followed_by (walked h.typing way (variable_place h x) n'') g)) (sym p.0)
       (let found = finds way p.1 in
-      then_same h.typing (Found known) (walked h.typing way (variable_place h x) (at on))
+      then_same h.typing (QuietAt on known) (walked h.typing way (variable_place h x) (at on))
       (walked h.typing way (variable_place h x) n'') f g found.0
       (found.1 n'' (subst (λ z. SameNow h.typing z n'') p.0 now)) next))
 
-  abbrev IsWhole : List (List machine.Word) → ℕ → Place → Now → Type 0
-  IsWhole on t k n = IsWholeAt h asks m hands facts on t k n
+  abbrev IsWhole : ℕ → Place → Type 0
+  IsWhole t k = IsWholeAt h asks m hands facts t k
 
-  pub none_there : (on : List (List machine.Word)) (t : ℕ) (k : Place) (n : Now) → IsWholeAt h asks m hands facts on t k n → NoneGone (slots_of h.typing n.memory k)
-  none_there on t k n found = subst (λ (z : Now). NoneGone (slots_of h.typing z.memory k)) (sym found.0) found.4
+  pub none_there : (on : List (List machine.Word)) (t : ℕ) (k : Place) (n : Now) → (n ≡ record { memory = m; waits = on }) × IsWholeAt h asks m hands facts t k
+      → NoneGone (slots_of h.typing n.memory k)
+  none_there on t k n found = subst (λ (z : Now). NoneGone (slots_of h.typing z.memory k)) (sym found.0) (found.1).3
 
   -- the value that waits first
   waited_same : (n n' : Now) → SameNow h.typing n n' → SameTo h.typing (run.waited n) (run.waited n')
@@ -196,7 +198,7 @@ module _ (h : Here) (settled : IsSettled h.typing.table) (own_law : OwnsByShape 
         let each = split_allowed (acts_in h.typing steps) (record { pos = p; act = used h.typing (name_of x steps) t } ∷ []) allowed in
         let inner = law.steps (object_at h.typing x).of t steps lead before on takes calls each.1 in
         let reads : Allows facts (act.Read (name_of x steps)) = subst (Allows facts) is (each.0 inner.1).0 in
-        place_then before on x t steps (held_or_taken h u) (held_or_taken h u) (IsThere on t)
+        place_then before on x t steps (held_or_taken h u) (held_or_taken h u) (IsThere t)
         (λ way goes. law.read on x t steps way goes reads)
         inner.0 n' (steps_on (object_at h.typing x).of t steps lead before on takes calls compares each.1 n' same)
         (λ k n n'' found now. read_same on u t scalar k n n'' found now)
@@ -251,7 +253,7 @@ module _ (h : Here) (settled : IsSettled h.typing.table) (own_law : OwnsByShape 
         let looks : Allows facts (act.Look (name_of x steps)) = (each.0 inner.1).0 in
         simply h.typing (evaluate h AsView (Name p x steps t) (at before)) (evaluate h AsView (Name p x steps t) n')
         (λ ws now. Done (truth (if run.is_null ws then equal else not equal)) now) (λ ws now. Done (truth (if run.is_null ws then equal else not equal)) now)
-        (place_then before on x t steps (held_or_taken h AsView) (held_or_taken h AsView) (IsWhole on t)
+        (place_then before on x t steps (held_or_taken h AsView) (held_or_taken h AsView) (IsWhole t)
         (λ way goes. law.look on x t steps way goes d c b is looks)
         inner.0 n' (steps_on (object_at h.typing x).of t steps lead before on takes calls compares each.1 n' same)
         (λ k n n'' found now. view_same h k n n'' (none_there on t k n found) now))
@@ -298,22 +300,14 @@ module _ (h : Here) (settled : IsSettled h.typing.table) (own_law : OwnsByShape 
 
   -- ---- places
 
-  known_then : (on : List (List machine.Word)) (x t : ℕ) (steps : TypedTree) (known : Place → Now → Type 0)
-      → ((way : List run.Step) → asks.goes (object_at h.typing x).of t steps way → Finds h asks m hands facts on x way known) → (y : Evaluated (List run.Step))
-      → Quiet (at on) (λ way. asks.goes (object_at h.typing x).of t steps way) y → Found known (followed_by y (λ way now. walked h.typing way (variable_place h x) now))
-  known_then on x t steps known finds (Done way n) (same, goes) =
-      subst (λ z. Found known (walked h.typing way (variable_place h x) z)) (sym same) (finds way goes).0
-  known_then on x t steps known finds (Raises e n) q = tt
-  known_then on x t steps known finds (Traps e n) q = tt
-
   -- a place that is found, and what is known of it
   pub place_on : (before on : List (List machine.Word)) (p : Pos) (x t : ℕ) (steps : TypedTree) → Leads h.typing (object_at h.typing x).of steps t
       → Takes (waiting steps) before on → asks.calls (has_call steps) → Compares h.typing steps
-      → AllowsAll facts (acts (acts_in h.typing steps)) → (known : Place → Now → Type 0)
+      → AllowsAll facts (acts (acts_in h.typing steps)) → (known : Place → Type 0)
       → ((way : List run.Step) → asks.goes (object_at h.typing x).of t steps way → Finds h asks m hands facts on x way known)
       → (n' : Now) → SameNow h.typing (record { memory = m; waits = before }) n'
       → SameTo h.typing (place_of h (Name p x steps t) (record { memory = m; waits = before })) (place_of h (Name p x steps t) n')
-      × Found known (place_of h (Name p x steps t) (record { memory = m; waits = before }))
+      × Quiet (record { memory = m; waits = on }) known (place_of h (Name p x steps t) (record { memory = m; waits = before }))
   place_on before on p x t steps lead takes calls compares allowed known finds n' same =
       let q = (law.steps (object_at h.typing x).of t steps lead before on takes calls allowed).0 in (
         then_same h.typing (QuietAt on (λ way. asks.goes (object_at h.typing x).of t steps way)) (steps_of h steps (at before)) (steps_of h steps n')
@@ -321,7 +315,8 @@ module _ (h : Here) (settled : IsSettled h.typing.table) (own_law : OwnsByShape 
             (steps_on (object_at h.typing x).of t steps lead before on takes calls compares allowed n' same)
             (λ way n n'' p now. subst (λ z. SameTo h.typing (walked h.typing way (variable_place h x) z) (walked h.typing way (variable_place h x) n'')) (sym p.0)
             ((finds way p.1).1 n'' (subst (λ z. SameNow h.typing z n'') p.0 now))),
-        known_then on x t steps known finds (steps_of h steps (at before)) q,
+        quiet_then (at on) (λ way. asks.goes (object_at h.typing x).of t steps way) known (steps_of h steps (at before))
+            (λ way now. walked h.typing way (variable_place h x) now) q (λ way goes. (finds way goes).0),
       )
 
   -- ---- strings
@@ -369,122 +364,171 @@ module _ (h : Here) (settled : IsSettled h.typing.table) (own_law : OwnsByShape 
       itself_there ws = (itself m, refl, law.only)
   text_on before on e writes takes calls compares allowed n' same = absurd writes
 
-  -- ---- actuals of formals of scalar types
+  -- ---- actuals
 
   if_same : (b : Bool) (x y x' y' : Evaluated (List machine.Word)) → SameTo h.typing x x' → SameTo h.typing y y' → SameTo h.typing (if b then x else y) (if b then x' else y')
   if_same true x y x' y' p q = p
   if_same false x y x' y' p q = q
 
-  value_there : (x : ℕ) (ws : List machine.Word) (n n' : Now) → SameNow h.typing n n'
-      → SameTo h.typing (followed_by (checked h (type_of h x) ws n) value_passed) (followed_by (checked h (type_of h x) ws n') value_passed)
-  value_there x ws n n' same = by_test (fits_type h.typing.table (type_of h x) ws)
+  if_quiet : (on : List (List machine.Word)) (b : Bool) (x y : Evaluated (List machine.Word)) → Quiet (at on) One x → Quiet (at on) One y → Quiet (at on) One (if b then x else y)
+  if_quiet on true x y p q = p
+  if_quiet on false x y p q = q
+
+  checked_there : (x : ℕ) (ws : List machine.Word) (f : List machine.Word → Now → Evaluated Passed) → (n n' : Now) → SameNow h.typing n n'
+      → ((us : List machine.Word) (i j : Now) → SameNow h.typing i j → SameTo h.typing (f us i) (f us j))
+      → SameTo h.typing (followed_by (checked h (type_of h x) ws n) f) (followed_by (checked h (type_of h x) ws n') f)
+  checked_there x ws f n n' same next = by_test (fits_type h.typing.table (type_of h x) ws)
     where
-      by_test : (b : Bool) → SameTo h.typing (followed_by (if b then Done ws n else Raises run.ConstraintError n) value_passed)
-          (followed_by (if b then Done ws n' else Raises run.ConstraintError n') value_passed)
-      by_test true = (refl, same)
+      by_test : (b : Bool) → SameTo h.typing (followed_by (if b then Done ws n else Raises run.ConstraintError n) f)
+          (followed_by (if b then Done ws n' else Raises run.ConstraintError n') f)
+      by_test true = next ws n n' same
       by_test false = (refl, same)
 
-  passed_same : (before on : List (List machine.Word)) (x : ℕ) (e : TypedTree) → Stays h.typing e → Takes (waiting e) before on → asks.calls (has_call e) → Compares h.typing e
-      → AllowsAll facts (acts (acts_in h.typing e)) → (n' : Now) → SameNowAt before n'
-      → SameTo h.typing (passed h ByValue x e (at before)) (passed h ByValue x e n')
-  passed_same before on x e stays takes calls compares allowed n' same =
-      let b : Bool = is_anonymous (view_of_object h.typing x) in
-      let last : List machine.Word → Now → Evaluated Passed = (λ ws now. followed_by (checked h (type_of h x) ws now) value_passed) in
-      simply h.typing (if b then viewed h e (at before) else value h e (at before)) (if b then viewed h e n' else value h e n') last last
-      (if_same b (viewed h e (at before)) (value h e (at before)) (viewed h e n') (value h e n')
-      (scalar_on AsView e stays before on takes calls compares allowed n' same) (scalar_on AsValue e stays before on takes calls compares allowed n' same))
-      (λ ws n n'' now. value_there x ws n n'' now)
-
-  any_quiet : {A : Type 0} (on : List (List machine.Word)) (P : A → Type 0) (x : Evaluated A) → Quiet (at on) P x → Quiet (at on) (Any {A = A}) x
-  any_quiet on P (Done a n) q = (q.0, tt)
-  any_quiet on P (Raises e n) q = q
-  any_quiet on P (Traps e n) q = q
-
-  read_back : (x : ℕ) (k : Place) (n n' : Now) → NoneGone (slots_of h.typing n.memory k) → SameNow h.typing n n'
-      → SameTo h.typing (followed_by (checked h (type_of h x) (words_of h.typing n.memory k) n) (λ ws now. Done (From k) now))
-      (followed_by (checked h (type_of h x) (words_of h.typing n'.memory k) n') (λ ws now. Done (From k) now))
-  read_back x k n n' none same =
-      subst (λ z. SameTo h.typing (followed_by (checked h (type_of h x) (words_of h.typing n.memory k) n) (λ ws now. Done (From k) now))
-      (followed_by (checked h (type_of h x) z n') (λ ws now. Done (From k) now))) (words_agree h.typing n.memory n'.memory same.0 k none)
-      (by_test (words_of h.typing n.memory k) (fits_type h.typing.table (type_of h x) (words_of h.typing n.memory k)))
+  checked_quiet : (on : List (List machine.Word)) (x : ℕ) (ws : List machine.Word) → Quiet (at on) (Any {A = List machine.Word}) (checked h (type_of h x) ws (at on))
+  checked_quiet on x ws = by_test (fits_type h.typing.table (type_of h x) ws)
     where
-      by_test : (ws : List machine.Word) (b : Bool)
-          → SameTo h.typing (followed_by (if b then Done ws n else Raises run.ConstraintError n) (λ ws now. Done (From k) now))
-          (followed_by (if b then Done ws n' else Raises run.ConstraintError n') (λ ws now. Done (From k) now))
-      by_test ws true = (refl, same)
-      by_test ws false = (refl, same)
+      by_test : (b : Bool) → Quiet (at on) (Any {A = List machine.Word}) (if b then Done ws (at on) else Raises run.ConstraintError (at on))
+      by_test true = (refl, tt)
+      by_test false = refl
 
-  -- an actual, by the mode of its formal
-  given_same : (before on : List (List machine.Word)) (mode_of : Mode) (x : ℕ) (e : TypedTree) → IsActualBy h.typing mode_of e
-      → (is_in mode_of ≡ false → goes_through_none e ≡ true)
-      → Takes (waiting e) before on → asks.calls (has_call e) → Compares h.typing e → AllowsAll facts (acts (head_acts h.typing own_law mode_of e)) → (n' : Now) → SameNowAt before n'
-      → SameTo h.typing (passed h (way_by h.typing own_law mode_of) x e (at before)) (passed h (way_by h.typing own_law mode_of) x e n')
+  -- What is passed is the same, and nothing changes.
+  abbrev pub PassedSame : List (List machine.Word) → List (List machine.Word) → Passing → ℕ → TypedTree → Type 0
+  PassedSame before on how x e =
+      ((n' : Now) → SameNow h.typing (record { memory = m; waits = before }) n' → SameTo h.typing (passed h how x e (record { memory = m; waits = before })) (passed h how x e n'))
+      × Quiet (record { memory = m; waits = on }) (Any {A = Passed}) (passed h how x e (record { memory = m; waits = before }))
+
+  -- the value of a scalar expression
+  pub value_passed_same : (before on : List (List machine.Word)) (x : ℕ) (e : TypedTree) → Stays h.typing e → Takes (waiting e) before on → asks.calls (has_call e) → Compares h.typing e
+      → AllowsAll facts (acts (acts_in h.typing e)) → PassedSame before on ByValue x e
+  value_passed_same before on x e stays takes calls compares allowed =
+      let b : Bool = is_anonymous (view_of_object h.typing x) in
+      let last : List machine.Word → Now → Evaluated Passed = (λ ws now. followed_by (checked h (type_of h x) ws now) value_passed) in (
+        (λ n' same. simply h.typing (if b then viewed h e (at before) else value h e (at before)) (if b then viewed h e n' else value h e n') last last
+            (if_same b (viewed h e (at before)) (value h e (at before)) (viewed h e n') (value h e n')
+            (scalar_on AsView e stays before on takes calls compares allowed n' same) (scalar_on AsValue e stays before on takes calls compares allowed n' same))
+            (λ ws n n'' now. checked_there x ws value_passed n n'' now (λ us i j still. (refl, still)))),
+        quiet_then (at on) One Any (if b then viewed h e (at before) else value h e (at before)) last
+            (if_quiet on b (viewed h e (at before)) (value h e (at before)) (law.quiet AsView e stays before on takes calls allowed).0
+            (law.quiet AsValue e stays before on takes calls allowed).0)
+            (λ ws one. quiet_then (at on) Any Any (checked h (type_of h x) ws (at on)) value_passed (checked_quiet on x ws) (λ us any. (refl, tt))),
+      )
+
+  -- a place that is written, and one that is read, too, of which nothing is gone
+  pub to_passed_same : (before on : List (List machine.Word)) (owning access : Bool) (x : ℕ) (p : Pos) (y u : ℕ) (path : TypedTree) → Leads h.typing (object_at h.typing y).of path u
+      → Takes (waiting path) before on → asks.calls (has_call path) → Compares h.typing path → AllowsAll facts (acts (acts_in h.typing path))
+      → (known : Place → Type 0) → ((way : List run.Step) → asks.goes (object_at h.typing y).of u path way → Finds h asks m hands facts on y way known)
+      → PassedSame before on (objects.Place mode.Out owning access) x (Name p y path u)
+  to_passed_same before on owning access x p y u path lead takes calls compares allowed known finds = (
+    (λ n' same. simply h.typing (place_of h (Name p y path u) (at before)) (place_of h (Name p y path u) n') (λ k now. Done (To k) now) (λ k now. Done (To k) now)
+        (place_on before on p y u path lead takes calls compares allowed known finds n' same).0 (λ k n n'' now. (refl, now))),
+    quiet_then (at on) known Any (place_of h (Name p y path u) (at before)) (λ k now. Done (To k) now)
+        (place_on before on p y u path lead takes calls compares allowed known finds (at before) (itself m, refl, law.only)).1 (λ k is. (refl, tt)),
+  )
+
+  abbrev read_back : ℕ → Place → Now → Evaluated Passed
+  read_back x k now = followed_by (checked h (type_of h x) (words_of h.typing now.memory k) now) (λ ws now. Done (From k) now)
+
+  back_same : (x : ℕ) (k : Place) (n n' : Now) → NoneGone (slots_of h.typing n.memory k) → SameNow h.typing n n' → SameTo h.typing (read_back x k n) (read_back x k n')
+  back_same x k n n' none same =
+      subst (λ z. SameTo h.typing (read_back x k n) (followed_by (checked h (type_of h x) z n') (λ ws now. Done (From k) now))) (words_agree h.typing n.memory n'.memory same.0 k none)
+      (checked_there x (words_of h.typing n.memory k) (λ ws now. Done (From k) now) n n' same (λ us i j still. (refl, still)))
+
+  pub from_passed_same : (before on : List (List machine.Word)) (owning access : Bool) (x : ℕ) (p : Pos) (y u : ℕ) (path : TypedTree) → Leads h.typing (object_at h.typing y).of path u
+      → Takes (waiting path) before on → asks.calls (has_call path) → Compares h.typing path → AllowsAll facts (acts (acts_in h.typing path))
+      → (known : Place → Type 0) → ((k : Place) → known k → NoneGone (slots_of h.typing m k))
+      → ((way : List run.Step) → asks.goes (object_at h.typing y).of u path way → Finds h asks m hands facts on y way known)
+      → PassedSame before on (objects.Place mode.InOut owning access) x (Name p y path u)
+  from_passed_same before on owning access x p y u path lead takes calls compares allowed known none finds = (
+    (λ n' same. (
+        let place = place_on before on p y u path lead takes calls compares allowed known finds n' same in
+        then_same h.typing (Quiet (at on) known) (place_of h (Name p y path u) (at before)) (place_of h (Name p y path u) n') (read_back x) (read_back x) place.1 place.0
+        (λ k n n'' found now. back_same x k n n'' (subst (λ (z : Now). NoneGone (slots_of h.typing z.memory k)) (sym found.0) (none k found.1)) now))),
+    quiet_then (at on) known Any (place_of h (Name p y path u) (at before)) (read_back x)
+        (place_on before on p y u path lead takes calls compares allowed known finds (at before) (itself m, refl, law.only)).1
+        (λ k is. quiet_then (at on) Any Any (checked h (type_of h x) (words_of h.typing m k) (at on)) (λ ws now. Done (From k) now)
+        (checked_quiet on x (words_of h.typing m k)) (λ ws any. (refl, tt))),
+  )
+
+  -- ---- all of them, by how each one is passed
+
+  module _ (how : ℕ → Passing) (Actual : ℕ → TypedTree → Type 0) (head : ℕ → TypedTree → List Placed)
+      (one : (x : ℕ) (e : TypedTree) → Actual x e → (before on : List (List machine.Word)) → Takes (waiting e) before on → asks.calls (has_call e) → Compares h.typing e
+      → AllowsAll facts (acts (head x e)) → PassedSame before on (how x) x e)
+      (stay : (x : ℕ) (e : TypedTree) → Actual x e → after (acts (head x e)) facts ≡ facts)
+      (split : (x : ℕ) (e : TypedTree) → Actual x e → (ways : List Passing) (rest : TypedTree)
+      → actual_values h.typing (how x ∷ ways) (More e rest) ≡ head x e ++ actual_values h.typing ways rest) where
+    abbrev pub AllActual : List ℕ → TypedTree → Type 0
+    AllActual (x ∷ formals) (More e rest) = Actual x e × AllActual formals rest
+    AllActual formals actuals = Unit {0}
+
+    pub all_by : (before on : List (List machine.Word)) (formals : List ℕ) (actuals : TypedTree) → AllActual formals actuals → Takes (waiting actuals) before on
+        → asks.calls (has_call actuals) → Compares h.typing actuals → AllowsAll facts (acts (actual_values h.typing (map how formals) actuals))
+        → (n' : Now) → SameNow h.typing (record { memory = m; waits = before }) n'
+        → SameTo h.typing (all_passed h (map how formals) formals actuals (record { memory = m; waits = before })) (all_passed h (map how formals) formals actuals n')
+    unfolding Compares has_call waiting
+    all_by before on [] actuals are takes calls compares allowed n' same = (refl, same)
+    all_by before on (x ∷ formals) (More e rest) (is, are) takes calls compares allowed n' same =
+        let two = takes_both (waiting e) (waiting rest) before on takes in
+        let each = allows_both facts (acts (head x e)) (acts (actual_values h.typing (map how formals) rest))
+        (subst (AllowsAll facts) (acts_append (head x e) (actual_values h.typing (map how formals) rest))
+        (subst (λ z. AllowsAll facts (acts z)) (split x e is (map how formals) rest) allowed)) in
+        let calling = asks.both_calls (has_call e) (has_call rest) calls in
+        let first = one x e is before two.0 two.1 calling.0 compares.0 each.0 in
+        let next : Passed → Now → Evaluated (List Passed) = (λ a now. followed_by (all_passed h (map how formals) formals rest now) (λ more now. Done (a ∷ more) now)) in
+        then_same h.typing (QuietAt two.0 (Any {A = Passed})) (passed h (how x) x e (at before)) (passed h (how x) x e n') next next first.1 (first.0 n' same)
+        (λ a n n'' q now. subst (λ z. SameTo h.typing (next a z) (next a n'')) (sym q.0)
+        (simply h.typing (all_passed h (map how formals) formals rest (at two.0)) (all_passed h (map how formals) formals rest n'') (λ more now. Done (a ∷ more) now) (λ more now. Done (a ∷ more) now)
+        (all_by two.0 on formals rest are two.2 calling.1 compares.1
+        (subst (λ z. AllowsAll z (acts (actual_values h.typing (map how formals) rest))) (stay x e is) each.1) n''
+        (subst (λ z. SameNow h.typing z n'') q.0 now))
+        (λ more k k' last. (refl, last))))
+    all_by before on (x ∷ formals) actuals are takes calls compares allowed n' same = (refl, same)
+
+  -- ---- of scalar types
+
+  abbrev Scalar_actual : ℕ → TypedTree → Type 0
+  Scalar_actual x e = IsActualBy h.typing (object_at h.typing x).mode e × (is_in (object_at h.typing x).mode ≡ false → goes_through_none e ≡ true)
+
+  scalar_by : (mode_of : Mode) (x : ℕ) (e : TypedTree) → IsActualBy h.typing mode_of e → (is_in mode_of ≡ false → goes_through_none e ≡ true)
+      → (before on : List (List machine.Word)) → Takes (waiting e) before on → asks.calls (has_call e) → Compares h.typing e
+      → AllowsAll facts (acts (head_acts h.typing own_law mode_of e)) → PassedSame before on (way_by h.typing own_law mode_of) x e
   unfolding Compares goes_through_none has_call waiting
-  given_same before on mode.In x e stays direct takes calls compares allowed n' same = passed_same before on x e stays takes calls compares allowed n' same
-  given_same before on mode.Out x (Name p y path u) (t, (lead, type), plain) direct takes calls compares allowed n' same =
-      simply h.typing (place_of h (Name p y path u) (at before)) (place_of h (Name p y path u) n') (λ k now. Done (To k) now) (λ k now. Done (To k) now)
-      (place_on before on p y u path lead takes calls compares allowed (IsThere on u) (λ way goes. law.direct on y u path way goes (direct refl)) n' same).0 (λ k n n'' now. (refl, now))
-  given_same before on mode.Out x e (t, never, plain) direct takes calls compares allowed n' same = absurd never
-  given_same before on mode.InOut x (Name p y path u) (t, (lead, type), plain) direct takes calls compares allowed n' same =
-      let place = place_on before on p y u path lead takes calls compares allowed (IsThere on u) (λ way goes. law.direct on y u path way goes (direct refl)) n' same in
-      let back : Place → Now → Evaluated Passed =
-      (λ k now. followed_by (checked h (type_of h x) (words_of h.typing now.memory k) now) (λ ws now. Done (From k) now)) in
-      then_same h.typing (Found (IsThere on u)) (place_of h (Name p y path u) (at before)) (place_of h (Name p y path u) n') back back place.1 place.0
-      (λ k n n'' found now. read_back x k n n'' (subst (λ (z : Now). NoneGone (slots_of h.typing z.memory k)) (sym found.0)
-      (scalar_none k found.1 u found.2 found.3 (subst (λ z. is_scalar (full h.typing.table z) ≡ true) (sym type) plain))) now)
-  given_same before on mode.InOut x e (t, never, plain) direct takes calls compares allowed n' same = absurd never
+  scalar_by mode.In x e stays direct before on takes calls compares allowed = value_passed_same before on x e stays takes calls compares allowed
+  scalar_by mode.Out x (Name p y path u) (t, (lead, type), plain) direct before on takes calls compares allowed =
+      to_passed_same before on false false x p y u path lead takes calls compares allowed (IsThere u) (λ way goes. law.direct on y u path way goes (direct refl))
+  scalar_by mode.Out x e (t, never, plain) direct before on takes calls compares allowed = absurd never
+  scalar_by mode.InOut x (Name p y path u) (t, (lead, type), plain) direct before on takes calls compares allowed =
+      from_passed_same before on false false x p y u path lead takes calls compares allowed (IsThere u)
+      (λ k there. scalar_none k there.0 u there.1 there.2 (subst (λ z. is_scalar (full h.typing.table z) ≡ true) (sym type) plain))
+      (λ way goes. law.direct on y u path way goes (direct refl))
+  scalar_by mode.InOut x e (t, never, plain) direct before on takes calls compares allowed = absurd never
 
-  abbrev ways_of : List ℕ → List Passing
-  ways_of formals = map (way_of h.typing own_law) formals
+  abbrev Scalar_head : ℕ → TypedTree → List Placed
+  Scalar_head x e = head_acts h.typing own_law (object_at h.typing x).mode e
+
+  scalar_one : (x : ℕ) (e : TypedTree) → Scalar_actual x e → (before on : List (List machine.Word)) → Takes (waiting e) before on → asks.calls (has_call e)
+      → Compares h.typing e → AllowsAll facts (acts (Scalar_head x e)) → PassedSame before on (way_of h.typing own_law x) x e
+  scalar_one x e is before on takes calls compares allowed = scalar_by (object_at h.typing x).mode x e is.0 is.1 before on takes calls compares allowed
+
+  scalar_stay : (x : ℕ) (e : TypedTree) → Scalar_actual x e → after (acts (Scalar_head x e)) facts ≡ facts
+  scalar_stay x e is = reads_keep (Scalar_head x e) (head_reads h.typing own_law (object_at h.typing x).mode e is.0) facts
+
+  scalar_split : (x : ℕ) (e : TypedTree) → Scalar_actual x e → (ways : List Passing) (rest : TypedTree)
+      → actual_values h.typing (way_of h.typing own_law x ∷ ways) (More e rest) ≡ Scalar_head x e ++ actual_values h.typing ways rest
+  scalar_split x e is ways rest = head_values h.typing own_law (object_at h.typing x).mode e ways rest
+
+  all_scalar : (formals : List ℕ) (actuals : TypedTree) → AreActuals h.typing formals actuals → AreCopied h.typing formals actuals
+      → AllActual (way_of h.typing own_law) Scalar_actual Scalar_head scalar_one scalar_stay scalar_split formals actuals
+  all_scalar [] actuals stay copied = tt
+  all_scalar (x ∷ formals) (More e rest) stay copied = ((stay.0, copied.0), all_scalar formals rest stay.1 copied.1)
+  all_scalar (x ∷ formals) actuals stay copied = tt
 
   pub all_on : (before on : List (List machine.Word)) (formals : List ℕ) (actuals : TypedTree) → AreActuals h.typing formals actuals → AreCopied h.typing formals actuals
       → Takes (waiting actuals) before on → asks.calls (has_call actuals)
-      → Compares h.typing actuals → AllowsAll facts (acts (actual_values h.typing (map (way_of h.typing own_law) formals) actuals)) → (n' : Now) → SameNowAt before n'
-      → SameTo h.typing (all_passed h (map (way_of h.typing own_law) formals) formals actuals (at before)) (all_passed h (map (way_of h.typing own_law) formals) formals actuals n')
-  unfolding Compares has_call waiting
-  all_on before on [] actuals stay copied takes calls compares allowed n' same = (refl, same)
-  all_on before on (x ∷ formals) (More e rest) stay copied takes calls compares allowed n' same =
-      let mode_of : Mode = (object_at h.typing x).mode in
-      let two = takes_both (waiting e) (waiting rest) before on takes in
-      let both : AllowsAll facts (acts (head_acts h.typing own_law mode_of e ++ actual_values h.typing (ways_of formals) rest)) =
-      subst (λ z. AllowsAll facts (acts z)) (head_values h.typing own_law mode_of e (ways_of formals) rest) allowed in
-      let each = allows_both facts (acts (head_acts h.typing own_law mode_of e)) (acts (actual_values h.typing (ways_of formals) rest))
-      (subst (AllowsAll facts) (acts_append (head_acts h.typing own_law mode_of e) (actual_values h.typing (ways_of formals) rest)) both) in
-      let still : after (acts (head_acts h.typing own_law mode_of e)) facts ≡ facts =
-      reads_keep (head_acts h.typing own_law mode_of e) (head_reads h.typing own_law mode_of e stay.0) facts in
-      let calling = asks.both_calls (has_call e) (has_call rest) calls in
-      let quiet_there = any_quiet two.0 _ (passed h (way_by h.typing own_law mode_of) x e (at before))
-      (law.passed x mode_of e stay.0 copied.0 before two.0 two.1 calling.0 each.0) in
-      let next : Passed → Now → Evaluated (List Passed) = (λ a now. followed_by (all_passed h (ways_of formals) formals rest now) (λ more now. Done (a ∷ more) now)) in
-      then_same h.typing (QuietAt two.0 (Any {A = Passed})) (passed h (way_by h.typing own_law mode_of) x e (at before)) (passed h (way_by h.typing own_law mode_of) x e n') next next quiet_there
-      (given_same before two.0 mode_of x e stay.0 copied.0 two.1 calling.0 compares.0 each.0 n' same)
-      (λ a n n'' q now. subst (λ z. SameTo h.typing (next a z) (next a n'')) (sym q.0)
-      (simply h.typing (all_passed h (ways_of formals) formals rest (at two.0)) (all_passed h (ways_of formals) formals rest n'') (λ more now. Done (a ∷ more) now) (λ more now. Done (a ∷ more) now)
-      (all_on two.0 on formals rest stay.1 copied.1 two.2 calling.1 compares.1 (subst (λ z. AllowsAll z (acts (actual_values h.typing (ways_of formals) rest))) still each.1) n''
-      (subst (λ z. SameNow h.typing z n'') q.0 now))
-      (λ more k k' last. (refl, last))))
-  all_on before on (x ∷ formals) actuals stay copied takes calls compares allowed n' same = (refl, same)
-
-  -- And what is passed is a value of one word, or a place in a variable.
-  pub all_quiet : (before on : List (List machine.Word)) (formals : List ℕ) (actuals : TypedTree) → AreActuals h.typing formals actuals → AreCopied h.typing formals actuals
-      → TakesAll formals actuals before on → asks.calls (has_call actuals) → AllowsAll facts (acts (actual_values h.typing (map (way_of h.typing own_law) formals) actuals))
-      → Quiet (record { memory = m; waits = on }) (λ passed. AreLaid h.typing passed)
-      (all_passed h (map (way_of h.typing own_law) formals) formals actuals (record { memory = m; waits = before }))
-  unfolding has_call
-  all_quiet before on [] actuals stay copied takes calls allowed = (ap at takes, tt)
-  all_quiet before on (x ∷ formals) (More e rest) stay copied (mid, takes, more) calls allowed =
-      let mode_of : Mode = (object_at h.typing x).mode in
-      let calling = asks.both_calls (has_call e) (has_call rest) calls in
-      let each = allows_both facts (acts (head_acts h.typing own_law mode_of e)) (acts (actual_values h.typing (ways_of formals) rest))
-      (subst (AllowsAll facts) (acts_append (head_acts h.typing own_law mode_of e) (actual_values h.typing (ways_of formals) rest))
-      (subst (λ z. AllowsAll facts (acts z)) (head_values h.typing own_law mode_of e (ways_of formals) rest) allowed)) in
-      let still : after (acts (head_acts h.typing own_law mode_of e)) facts ≡ facts =
-      reads_keep (head_acts h.typing own_law mode_of e) (head_reads h.typing own_law mode_of e stay.0) facts in
-      quiet_from (at mid) (at on) (λ a. IsLaid h.typing a) (λ passed. AreLaid h.typing passed) refl (passed h (way_by h.typing own_law mode_of) x e (at before))
-      (λ a now. followed_by (all_passed h (ways_of formals) formals rest now) (λ more_passed now. Done (a ∷ more_passed) now))
-      (law.passed x mode_of e stay.0 copied.0 before mid takes calling.0 each.0)
-      (λ a is. quiet_then (at on) (λ passed. AreLaid h.typing passed) (λ passed. AreLaid h.typing passed) (all_passed h (ways_of formals) formals rest (at mid))
-      (λ more_passed now. Done (a ∷ more_passed) now)
-      (all_quiet mid on formals rest stay.1 copied.1 more calling.1 (subst (λ z. AllowsAll z (acts (actual_values h.typing (ways_of formals) rest))) still each.1))
-      (λ more_passed are. (refl, (is, are))))
-  all_quiet before on (x ∷ formals) actuals stay copied takes calls allowed = (ap at takes, tt)
+      → Compares h.typing actuals → AllowsAll facts (acts (actual_values h.typing (map (way_of h.typing own_law) formals) actuals))
+      → (n' : Now) → SameNow h.typing (record { memory = m; waits = before }) n'
+      → SameTo h.typing (all_passed h (map (way_of h.typing own_law) formals) formals actuals (record { memory = m; waits = before }))
+      (all_passed h (map (way_of h.typing own_law) formals) formals actuals n')
+  all_on before on formals actuals stay copied takes calls compares allowed n' same =
+      all_by (way_of h.typing own_law) Scalar_actual Scalar_head scalar_one scalar_stay scalar_split before on formals actuals
+      (all_scalar formals actuals stay copied) takes calls compares allowed n' same

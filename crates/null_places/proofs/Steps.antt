@@ -24,6 +24,7 @@ use Rattle.flow_paths.specs.Effects.{act_writes, act_reads, flow_sub_at, path_po
 use Rattle.flow_paths.specs.Scopes.{taken}
 use Rattle.machine.specs.Words as machine
 use Rattle.machine.specs.Memory.{Memory}
+use Rattle.machine.specs.Calls.{all_passed}
 use Rattle.machine.specs.Evaluate.{Here}
 use Rattle.machine.specs.States.{Waiting, Frame, State, Goes, sub_of}
 use Rattle.machine.specs.Step.{Turn, turn, start}
@@ -41,7 +42,8 @@ use Rattle.soundness.proofs.Points.{flow_at, sub_there, sub_at_number, sub_in_ra
 use Rattle.soundness.proofs.Inherited.{allowed_beside, is_open, apart_allows}
 use Rattle.soundness.proofs.Used.{writes_used, reads_used}
 use Rattle.soundness.proofs.Around.{IsFar, far_alone, inherited}
-use Rattle.soundness.proofs.Passing.{ArePlain, way_of, AreReads, read_open, values_read, passed_by}
+use Rattle.soundness.proofs.Passing.{ArePlain, way_of, AreLaid, takes_each, AreReads, read_open, values_read, passed_by}
+use Rattle.soundness.proofs.Stays.{Quiet}
 use Rattle.soundness.proofs.Waits.{drop_none, or_both}
 use Rattle.soundness.proofs.Waited.{Shares, shares}
 use Rattle.soundness.proofs.Taking.{Takes, takes_as, takes_both, no_takes, TakesPlainly, nothing_more}
@@ -57,8 +59,10 @@ use Rattle.null_places.specs.Compares.{Compares, ComparesIn, AreCompared}
 use Rattle.null_places.proofs.Only.{OnlyOwners}
 use Rattle.null_places.proofs.Laws.{Premises, Values}
 use Rattle.null_places.proofs.Each.{each_by}
-use Rattle.null_places.proofs.Calls.{call_same, finish_same}
-use Rattle.null_places.proofs.Plain.{plain_premises, IsReadyIn, plain_values}
+use Rattle.null_places.proofs.Calls.{scalars_passed, scalars_back, call_same, finish_same}
+use Rattle.null_places.proofs.Scalars.{all_on as all_same}
+use Rattle.null_places.proofs.Walks.{SameTo}
+use Rattle.null_places.proofs.Plain.{plain_premises, IsReadyIn, plain_laid, plain_values}
 use Rattle.null_places.proofs.Instructions.{SameStepBy, SameStep, twin, both_are, step_simply, source_same, declare_on, assign_on, end_scope_same, skip_same}
 
 module _ (table : Table) (typed : TypedProgram) (effects : Effects) (input : List ℕ) (ready : IsReady table typed effects)
@@ -112,7 +116,7 @@ module _ (table : Table) (typed : TypedProgram) (effects : Effects) (input : Lis
     abbrev ready_in : Memory → List Waiting → List Fact → Type 0
     ready_in m hands known = IsReadyIn h ready.accepted.settled state.leaks other alone no_views index_law ready.owns ready.class.all_named m hands known
 
-    laws : Values h ready.owns asks ready_in
+    laws : Values h asks ready_in
     laws = plain_values h ready.accepted.settled state.leaks other alone no_views index_law ready.owns ready.class.all_named
 
     so : ready_in state.memory (waiting_in state) facts
@@ -296,7 +300,7 @@ module _ (table : Table) (typed : TypedProgram) (effects : Effects) (input : Lis
     ready_there m hands known =
         IsReadyIn (steps.here turn_here) ready.accepted.settled state.leaks far alone_there no_views index_law ready.owns ready.class.all_named m hands known
 
-    laws_there : Values (steps.here turn_here) ready.owns (plain_premises (steps.here turn_here)) ready_there
+    laws_there : Values (steps.here turn_here) (plain_premises (steps.here turn_here)) ready_there
     laws_there = plain_values (steps.here turn_here) ready.accepted.settled state.leaks far alone_there no_views index_law ready.owns ready.class.all_named
 
     so_now : ready_there state.memory (waiting_in state) facts_now
@@ -429,10 +433,17 @@ module _ (table : Table) (typed : TypedProgram) (effects : Effects) (input : Lis
 
       calls_it : SameHere (Call k actuals result)
       calls_it =
-          call_same turn_here ready.accepted.settled ready.owns (plain_premises (steps.here turn_here)) facts_now
-          (laws_there.behaves state.memory (waiting_in state) facts_now so_now only) n agrees k actuals
-          scalar_formals ways_are called.actuals_stay copied_there [] (takes_of (Call k actuals result) e)
-          (plainly (Call k actuals result) e (has_call actuals) (λ none. call_plain result none)) (subst (ComparesIn s) e compares_here) values_allowed
+          let each = takes_each formals actuals (start turn_here).waits [] (takes_of (Call k actuals result) e) in
+          call_same turn_here ready.accepted.settled n agrees k actuals only each.0 (λ passed. AreLaid s passed)
+          (subst (λ z. Quiet (record { memory = state.memory; waits = each.0 }) (λ passed. AreLaid s passed) (all_passed (steps.here turn_here) z formals actuals (start turn_here))) (sym ways_are)
+          (plain_laid (steps.here turn_here) ready.accepted.settled state.leaks far alone_there no_views index_law ready.owns ready.class.all_named state.memory (waiting_in state) facts_now so_now only
+          (start turn_here).waits each.0 formals actuals called.actuals_stay copied_there each.1 values_allowed))
+          (subst (λ z. SameTo s (all_passed (steps.here turn_here) z formals actuals (start turn_here)) (all_passed (steps.here turn_here) z formals actuals (start (twin turn_here n)))) (sym ways_are)
+          (all_same (steps.here turn_here) ready.accepted.settled ready.owns (plain_premises (steps.here turn_here)) state.memory (waiting_in state) facts_now
+          (laws_there.behaves state.memory (waiting_in state) facts_now so_now only) (start turn_here).waits [] formals actuals called.actuals_stay copied_there
+          (takes_of (Call k actuals result) e) (plainly (Call k actuals result) e (has_call actuals) (λ none. call_plain result none)) (subst (ComparesIn s) e compares_here) values_allowed
+          (start (twin turn_here n)) (agrees, refl, only)))
+          (λ passed laid. scalars_passed s ready.accepted.settled ready.owns (waiting_in state) (suc (length outer)) formals passed scalar_formals laid state.memory kept)
 
     pub main_same : SameAt state n
     main_same =
@@ -440,7 +451,7 @@ module _ (table : Table) (typed : TypedProgram) (effects : Effects) (input : Lis
         (step_is table typed effects input ready (record state { memory = n }) top older outer named p frames of_sub at_point)
         (elim (finish_or p.instr) [
           | inl is ↦ subst SameHere (sym is)
-              (finish_same turn_here ready.accepted.settled ready.owns n agrees kept only running.1.0 below.frame rest refl)
+              (finish_same turn_here n agrees (scalars_back turn_here ready.accepted.settled ready.owns (waiting_in state) top.frame.returns running.1.0 state.memory kept) only below.frame rest refl)
           | inr going ↦ elim (call_or p.instr) [
             | inr calls ↦ goes_plainly calls going
             | inl call ↦ subst SameHere (sym call.3) (calls_it call.0 call.1 call.2 call.3)

@@ -75,7 +75,7 @@ module _ (table : Table) (typed : TypedProgram) (effects : Effects) (input : Lis
     abbrev pub asks : Premises (steps.here t)
     asks = viewed_premises (steps.here t) ready.class.parts_named
 
-    pub laws : Values (steps.here t) ready.owns asks Ready
+    pub laws : Values (steps.here t) asks Ready
     laws = viewed_values (steps.here t) ready.accepted.settled state.leaks other alone no_formals index_law ready.owns v ready.class.parts_named
 
     abbrev acts_by : Instruction → List Act

@@ -3,6 +3,8 @@ pub mod Names
 pub mod Viewed
 pub mod Sources
 -- instructions, steps, and the law
+pub mod Actuals
+pub mod Passed
 pub mod Instructions
 pub mod Steps
 pub mod Runs

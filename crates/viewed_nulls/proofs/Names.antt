@@ -18,6 +18,7 @@ use Rattle.soundness.specs.Typed.{Kept, Spot}
 use Rattle.soundness.proofs.Near.{named_near, near_along}
 use Rattle.soundness.proofs.Walks.{way_along, Lead, Walked}
 use Rattle.soundness.proofs.Scalars.{number_along, named_along}
+use Rattle.soundness.proofs.Stays.{Quiet}
 use Rattle.owned_loans.specs.Views.{Around, Views, expand, ExcusedBy, Viewed}
 use Rattle.owned_loans.proofs.Ways.{Lifted, lifted_root}
 use Rattle.owned_loans.proofs.Safe.{OpenWhole, Unborrowed, Unmoved}
@@ -33,7 +34,6 @@ use Rattle.null_places.proofs.Memories.{NoneGone, words_agree, cell_agree}
 use Rattle.null_places.proofs.Only.{OnlyOwners}
 use Rattle.null_places.proofs.Places.{IsWhole, spot_whole, plain_whole, access_whole, unmoved_whole}
 use Rattle.null_places.proofs.Walks.{SameNow, SameTo, walk_same}
-use Rattle.null_places.proofs.Laws.{Found}
 
 module _ (h : Here) (settled : IsSettled h.typing.table) (hands : List Waiting) (leaks : List Leak) (m : Memory) (waits : List (List machine.Word))
     (other : Around (home h.typing h.frame)) (facts : List Fact) (v : Views) (kept : Kept h.typing m hands)
@@ -141,31 +141,31 @@ module _ (h : Here) (settled : IsSettled h.typing.table) (hands : List Waiting) 
   WalkedTo w t y = Walked s settled hands leaks m waits w t y
 
   -- What is known where a name leads.
-  abbrev pub AtPlace : ℕ → Place → Now → Type 0
-  AtPlace t k n = (n ≡ record { memory = m; waits = waits }) × (l : Loc) × Spot h.typing m hands k l × (k.of ≡ t)
+  abbrev pub AtPlace : ℕ → Place → Type 0
+  AtPlace t k = (l : Loc) × Spot h.typing m hands k l × (k.of ≡ t)
 
-  abbrev pub WholePlace : ℕ → Place → Now → Type 0
-  WholePlace t k n = (n ≡ record { memory = m; waits = waits }) × (l : Loc) × Spot h.typing m hands k l × (k.of ≡ t) × NoneGone (slots_of h.typing m k)
+  abbrev pub WholePlace : ℕ → Place → Type 0
+  WholePlace t k = (l : Loc) × Spot h.typing m hands k l × (k.of ≡ t) × NoneGone (slots_of h.typing m k)
 
-  pub found_at : (w : Way) (t : ℕ) (y : Evaluated Place) → Walked h.typing settled hands leaks m waits w t y → Found (AtPlace t) y
-  found_at w t (Done k n) (l, is, spot, reaches, of) = (is, l, spot, of)
-  found_at w t (Raises e n) is = tt
-  found_at w t (Traps e n) is = tt
+  pub found_at : (w : Way) (t : ℕ) (y : Evaluated Place) → Walked h.typing settled hands leaks m waits w t y → Quiet (record { memory = m; waits = waits }) (λ k. AtPlace t k) y
+  found_at w t (Done k n) (l, is, spot, reaches, of) = (is, (l, spot, of))
+  found_at w t (Raises e n) is = is
+  found_at w t (Traps e n) is = is
 
   found_whole : (w : Way) (t : ℕ) → ((k : Place) (l : Loc) → Spot s m hands k l → Reaches view_here w l → k.of ≡ t → IsWhole s settled m hands l)
-      → (y : Evaluated Place) → WalkedTo w t y → Found (WholePlace t) y
-  found_whole w t whole (Done k n) (l, is, spot, reaches, of) = (is, l, spot, of, spot_whole s settled m hands only kept k l spot (whole k l spot reaches of))
-  found_whole w t whole (Raises e n) is = tt
-  found_whole w t whole (Traps e n) is = tt
+      → (y : Evaluated Place) → WalkedTo w t y → Quiet here_now (λ k. WholePlace t k) y
+  found_whole w t whole (Done k n) (l, is, spot, reaches, of) = (is, (l, spot, of, spot_whole s settled m hands only kept k l spot (whole k l spot reaches of)))
+  found_whole w t whole (Raises e n) is = is
+  found_whole w t whole (Traps e n) is = is
 
-  raised : (t : ℕ) (y : Evaluated Place) → IsRaised h settled hands leaks m waits other facts v kept viewed holds alone live m y → Found (WholePlace t) y
-  raised t (Raises e n) is = tt
+  raised : (t : ℕ) (y : Evaluated Place) → IsRaised h settled hands leaks m waits other facts v kept viewed holds alone live m y → Quiet here_now (λ k. WholePlace t k) y
+  raised t (Raises e n) is = is
   raised t (Done k n) none = absurd none
   raised t (Traps e n) none = absurd none
 
   -- the word of a view
   pub view_whole : (x t : ℕ) (way : List run.Step) → Starts s.table (object_at s x).of way t → is_anonymous (view_of_shape (shape_of s.table t)) ≡ true
-      → IsOpen x (way_along way (variable x)) → Found (WholePlace t) (walked h.typing way (variable_place h x) (record { memory = m; waits = waits }))
+      → IsOpen x (way_along way (variable x)) → Quiet (record { memory = m; waits = waits }) (λ k. WholePlace t k) (walked h.typing way (variable_place h x) (record { memory = m; waits = waits }))
   view_whole x t way starts view opens =
       found_whole (expand v (way_along way (variable x))) t
       (λ k l spot reaches of. plain_whole s settled m hands k l spot (view_leaf s.table settled k.of (ap (λ z. is_anonymous (view_of_shape (shape_of s.table z))) of ∙ view)))
@@ -194,7 +194,7 @@ module _ (h : Here) (settled : IsSettled h.typing.table) (hands : List Waiting) 
     -- an access value that an owner has
     access_there : (x t d : ℕ) (c : Bool) (way : List run.Step) → shape_of s.table t ≡ shape.Access d c true
         → (is_observer s x ≡ true → Lifted v (way_along way (variable x))) → IsRooted (expand v (way_along way (variable x))) → OpensWhole x (way_along way (variable x))
-        → (y : Evaluated Place) → WalkedTo (expand v (way_along way (variable x))) t y → Found (WholePlace t) y
+        → (y : Evaluated Place) → WalkedTo (expand v (way_along way (variable x))) t y → Quiet here_now (λ k. WholePlace t k) y
     access_there x t d c way is lifted rooted opens y there =
         let u : Way = way_along way (variable x) in
         let named : Named (home s h.frame) u = named_along (home s h.frame) way (variable x) refl in
@@ -204,7 +204,7 @@ module _ (h : Here) (settled : IsSettled h.typing.table) (hands : List Waiting) 
 
     pub access_found : (x t d : ℕ) (c : Bool) (way : List run.Step) → Starts s.table (object_at s x).of way t → shape_of s.table t ≡ shape.Access d c true
         → IsOpen x (way_along way (variable x)) → OpensWhole x (way_along way (variable x))
-        → Found (WholePlace t) (walked h.typing way (variable_place h x) (record { memory = m; waits = waits }))
+        → Quiet (record { memory = m; waits = waits }) (λ k. WholePlace t k) (walked h.typing way (variable_place h x) (record { memory = m; waits = waits }))
     access_found x t d c way starts is opens whole =
         let u : Way = way_along way (variable x) in
         let named : Named (home s h.frame) u = named_along (home s h.frame) way (variable x) refl in
@@ -228,7 +228,7 @@ module _ (h : Here) (settled : IsSettled h.typing.table) (hands : List Waiting) 
     -- a place of which no part is moved or borrowed
     pub owner_found : (x t : ℕ) (way : List run.Step) → Starts s.table (object_at s x).of way t → is_observer s x ≡ false
         → IsOpen x (way_along way (variable x)) → Unborrowed facts (way_along way (variable x)) → Unmoved facts (way_along way (variable x))
-        → Found (WholePlace t) (walked h.typing way (variable_place h x) (record { memory = m; waits = waits }))
+        → Quiet (record { memory = m; waits = waits }) (λ k. WholePlace t k) (walked h.typing way (variable_place h x) (record { memory = m; waits = waits }))
     owner_found x t way starts plain opens unborrowed clean =
         let u : Way = way_along way (variable x) in
         let named : Named (home s h.frame) u = named_along (home s h.frame) way (variable x) refl in

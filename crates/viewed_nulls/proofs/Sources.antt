@@ -87,10 +87,10 @@ module _ (t : Turn) (settled : IsSettled (typing t).table) (own_law : OwnsByShap
   abbrev ready_in : Memory → List Waiting → List Fact → Type 0
   ready_in m' hands' known = IsReadyIn h settled t.state.leaks other alone no_formals index_law own_law v parts_named m' hands' known
 
-  laws : Values h own_law asks ready_in
+  laws : Values h asks ready_in
   laws = viewed_values h settled t.state.leaks other alone no_formals index_law own_law v parts_named
 
-  law : Behaves h asks m hands facts own_law
+  law : Behaves h asks m hands facts
   law = viewed_behaves h settled t.state.leaks other alone no_formals index_law own_law v parts_named m hands facts so only
 
   live : (w : Way) (l : Loc) → IsRooted w → Reaches (seen s m hands t.state.leaks) w l → (content s m hands (trunk l)).owns ≡ true
@@ -136,7 +136,7 @@ module _ (t : Turn) (settled : IsSettled (typing t).table) (own_law : OwnsByShap
       → (n' : Now) → SameNow s at n' → SameTo s (evaluate h AsView (Name p y path u) at) (evaluate h AsView (Name p y path u) n')
   unfolding evaluate
   source_same on p y u d c b path lead is calls takes compares allowed clears n' same =
-      place_then h settled own_law asks m hands facts law waits on y u path (held_or_taken h AsView) (held_or_taken h AsView) (IsWholeAt h asks m hands facts on u)
+      place_then h settled own_law asks m hands facts law waits on y u path (held_or_taken h AsView) (held_or_taken h AsView) (IsWholeAt h asks m hands facts u)
       (λ way goes. leads_to on y u d c b path way goes is clears)
       (law.steps (object_at s y).of u path lead waits on takes calls allowed).0 n'
       (steps_on h settled own_law asks m hands facts law (object_at s y).of u path lead waits on takes calls compares allowed n' same)

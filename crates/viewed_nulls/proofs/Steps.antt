@@ -1,6 +1,6 @@
 -- Each step of a sound state is the same in memories that agree, in a program with borrowers and
 -- observers that is ready.
-use Rattle.std.proofs.Common.{◌≡◌, refl, sym, ap, ◌∙◌, subst, ◌⊎◌, inl, inr, ℕ, suc, Bool, true, false, not, ◌||◌, List, [], ◌∷◌, ◌++◌, length, append-nil, Option, Some, None, if◌then◌else◌}
+use Rattle.std.proofs.Common.{◌≡◌, refl, sym, ap, ◌∙◌, subst, ◌⊎◌, inl, inr, ℕ, suc, Bool, true, false, not, ◌||◌, List, [], ◌∷◌, ◌++◌, length, is_some, append-nil, Option, Some, None, if◌then◌else◌}
 use Rattle.spark_base.specs.Lists.{Has}
 use Rattle.place_names.specs.declared.act.Act.{Act}
 use Rattle.place_names.specs.declared.act.Act.TheVariants as act
@@ -10,7 +10,7 @@ use Rattle.typed_tree.specs.Trees.{TypedTree, NoMore, More}
 use Rattle.typed_tree.specs.Programs.{TypedProgram}
 use Rattle.flow_paths.specs.declared.report.Effects.{Effects}
 use Rattle.flow_paths.specs.Instructions.{Instruction, Declare, Call, Hold, EndScope, Finish}
-use Rattle.flow_paths.specs.Objects.{Typing, is_anonymous, is_observer}
+use Rattle.flow_paths.specs.Objects.{Typing, sub_at, passings, is_anonymous, is_observer}
 use Rattle.flow_paths.specs.Names.{has_call, waiting as waits_in}
 use Rattle.flow_paths.specs.Acts as flow
 use Rattle.flow_paths.specs.Acts.{acts_in}
@@ -20,6 +20,7 @@ use Rattle.flow_paths.specs.Laid.{FlowSub, FlowProgram, NamedSub, flow_sub, typi
 use Rattle.flow_paths.specs.Paths.{ControlPath}
 use Rattle.flow_paths.specs.Effects.{path_points}
 use Rattle.machine.specs.Memory.{Memory}
+use Rattle.machine.specs.Calls.{Passed, all_passed}
 use Rattle.machine.specs.States.{Waiting, Frame, State, Goes, sub_of}
 use Rattle.machine.specs.Step.{Turn, turn, start}
 use Rattle.machine.specs.Step as steps
@@ -28,30 +29,36 @@ use Rattle.machine.specs.Run.{step}
 use Rattle.owned_ways.specs.Ways.{Way, AllowsAll}
 use Rattle.soundness.specs.Seen.{IsNear, home, is_view_formal}
 use Rattle.soundness.specs.Typed.{Kept}
-use Rattle.soundness.specs.Sound.{calls_procedures, Stage, facts_of, AreStages, AreAwaited, IsResting, IsRunnable, IsNoCall, IsPlain, InScope, IsNamedSub, IsAtPoint, view_of as view_here}
+use Rattle.soundness.specs.Sound.{calls_procedures, Stage, facts_of, AreStages, AreAwaited, awaited, IsRunnable, IsNoCall, IsPlain, InScope, IsNamedSub, IsAtPoint, view_of as view_here}
 use Rattle.typed_laws.specs.Needed.{IsFine, Source, Gives, Returns}
 use Rattle.soundness.proofs.Numbers.{index_law}
 use Rattle.soundness.proofs.Scalars.{acts}
 use Rattle.soundness.proofs.Successors.{not_true, finish_or, call_or}
 use Rattle.soundness.proofs.Operands.{handed_over, hold_is}
 use Rattle.soundness.proofs.Waits.{or_both}
+use Rattle.soundness.proofs.Eased.{eased}
+use Rattle.soundness.proofs.Stays.{Quiet}
 use Rattle.soundness.proofs.Taking.{Takes, takes_as, no_takes, TakesPlainly, nothing_more}
 use Rattle.owned_loans.specs.Views.{Around, known_gone, Views, Viewed}
 use Rattle.viewed_soundness.specs.Holds.{IsNamed, AllKeep}
 use Rattle.viewed_soundness.proofs.Outcomes.{named_plain}
-use Rattle.viewed_steps.specs.Sound.{HoldsAt, ArePlaced, NoneAbove, ViewStage, stages_of, GoneElsewhere, AreWaiting, IsRunning, IsSound}
+use Rattle.viewed_steps.specs.Sound.{IsResting, HoldsAt, ArePlaced, NoneAbove, ViewStage, stages_of, GoneElsewhere, AreWaiting, IsRunning, IsSound}
 use Rattle.viewed_steps.specs.Ready.{IsReady}
 use Rattle.viewed_steps.proofs.Read.{scalar_named}
 use Rattle.viewed_steps.proofs.Standing as standing
 use Rattle.viewed_steps.proofs.Innermost as innermost
 use Rattle.viewed_steps.proofs.EachInstruction as each
 use Rattle.viewed_steps.proofs.Calling as calling
+use Rattle.viewed_steps.proofs.CallEnds as ends
 use Rattle.null_places.specs.Agrees.{Agrees}
 use Rattle.null_places.specs.Compares.{Compares, ComparesIn, AreCompared}
 use Rattle.null_places.proofs.Only.{OnlyOwners}
 use Rattle.null_places.proofs.Laws.{Premises, Values}
 use Rattle.null_places.proofs.Instructions.{SameStepBy, SameStep, twin, both_are, goes_same, step_simply, source_same, end_scope_same}
-use Rattle.null_places.proofs.Calls.{call_same, finish_same}
+use Rattle.null_places.proofs.Walks.{SameTo}
+use Rattle.null_places.proofs.Calls.{AreWhollyPassed, AreWhollyBack, call_same, finish_same}
+use Rattle.viewed_nulls.proofs.Actuals.{all_same}
+use Rattle.viewed_nulls.proofs.Passed.{passed_wholly, back_wholly}
 use Rattle.viewed_nulls.proofs.Viewed.{viewed_premises, IsReadyIn, viewed_values}
 use Rattle.viewed_nulls.proofs.Instructions as own_instructions
 
@@ -147,7 +154,7 @@ module _ (table : Table) (typed : TypedProgram) (effects : Effects) (input : Lis
   module _ (state : State) (top : Stage) (below : ViewStage) (more_frames : List ViewStage) (rest : List Frame) (named : NamedSub) (p : NamedPoint)
       (frames : state.frames ≡ top.frame ∷ (below.stage.frame ∷ rest)) (deep : top.depth ≡ suc (length rest))
       (stages : AreStages (stages_of (below ∷ more_frames)) (below.stage.frame ∷ rest))
-      (running : IsRunnable table typed top.frame.sub × IsResting s top × AreWaiting table typed effects state top.frame.sub (below ∷ more_frames))
+      (running : IsRunnable table typed top.frame.sub × IsResting s top × AreWaiting table typed effects state top.frame.sub top.frame.returns (below ∷ more_frames))
       (awaiting : AreAwaited table typed 0 (top ∷ stages_of (below ∷ more_frames)))
       (of_sub : IsNamedSub (flow_named table typed) top.frame.sub named) (at_point : IsAtPoint named.points top.frame.next p)
       (path : ControlPath (path_points program effects (sub_of program top.frame.sub)) top.before top.frame.next) (views : Views)
@@ -209,7 +216,7 @@ module _ (table : Table) (typed : TypedProgram) (effects : Effects) (input : Lis
       abbrev ready_in : Memory → List Waiting → List Fact → Type 0
       ready_in m hands known = IsReadyIn (steps.here main_turn) ready.accepted.settled state.leaks other alone no_formals index_law ready.owns views ready.class.parts_named m hands known
 
-      laws : Values (steps.here main_turn) ready.owns asks ready_in
+      laws : Values (steps.here main_turn) asks ready_in
       laws = viewed_values (steps.here main_turn) ready.accepted.settled state.leaks other alone no_formals index_law ready.owns views ready.class.parts_named
 
       takes_of : (i : Instruction) → p.instr ≡ i → Takes (taken i) (start main_turn).waits []
@@ -284,23 +291,103 @@ module _ (table : Table) (typed : TypedProgram) (effects : Effects) (input : Lis
       call_plain k actuals None none = not_true (has_call actuals) none
       call_plain k actuals (Some u) none = cc
 
-      calls_it : (k : ℕ) (actuals : TypedTree) (result : Option ℕ) → p.instr ≡ Call k actuals result → Goal (Call k actuals result)
-      calls_it k actuals result e =
-          let called = calling.called table typed effects input ready state top below more_frames rest named p frames deep stages running awaiting of_sub at_point path views viewed_before kept scope holds placed_before above k actuals result e in
-          call_same main_turn ready.accepted.settled ready.owns asks facts_now (laws.behaves state.memory (waiting_in state) facts_now so only) n agrees k actuals
-          (calling.scalar_formals table typed effects input ready state top below more_frames rest named p frames deep stages running awaiting of_sub at_point path views viewed_before kept scope holds placed_before above k actuals result e)
-          (calling.ways_are table typed effects input ready state top below more_frames rest named p frames deep stages running awaiting of_sub at_point path views viewed_before kept scope holds placed_before above k actuals result e)
-          called.actuals_stay
-          (calling.copied_there table typed effects input ready state top below more_frames rest named p frames deep stages running awaiting of_sub at_point path views viewed_before kept scope holds placed_before above k actuals result e)
-          [] (takes_of (Call k actuals result) e) (plainly (Call k actuals result) e (has_call actuals) (λ none. call_plain k actuals result none)) (subst (ComparesIn s) e compares)
-          (calling.values_allowed table typed effects input ready state top below more_frames rest named p frames deep stages running awaiting of_sub at_point path views viewed_before kept scope holds placed_before above k actuals result e)
+      module _ (k : ℕ) (actuals : TypedTree) (result : Option ℕ) (e : p.instr ≡ Call k actuals result) where
+        abbrev formals : List ℕ
+        formals = (sub_of program k).formals
+
+        abbrev easy : State
+        easy = (eased main_turn).state
+
+        -- with the values that wait under plain types
+        so_easy : IsReadyIn (steps.here main_turn) ready.accepted.settled state.leaks other alone no_formals index_law ready.owns views ready.class.parts_named
+            state.memory (waiting_in (eased main_turn).state) facts_now
+        so_easy = record {
+          viewed = (innermost.viewed_easy table typed effects input ready state top below more_frames rest named p frames deep stages running awaiting of_sub at_point path views viewed_before kept scope holds placed_before above).0;
+          kept = (innermost.viewed_easy table typed effects input ready state top below more_frames rest named p frames deep stages running awaiting of_sub at_point path views viewed_before kept scope holds placed_before above).1;
+          holds = calling.holds_now table typed effects input ready state top below more_frames rest named p frames deep stages running awaiting of_sub at_point path views viewed_before kept scope holds placed_before above k actuals result e;
+        }
+
+        abbrev Given : List Passed → Type 0
+        Given passed = calling.Given table typed effects input ready state top below more_frames rest named p frames deep stages running awaiting of_sub at_point path views viewed_before kept scope holds placed_before above k actuals result e passed
+
+        quiet_there : Quiet (calling.then_now table typed effects input ready state top below more_frames rest named p frames deep stages running awaiting of_sub at_point path views viewed_before kept scope holds placed_before above k actuals result e) Given
+            (all_passed (steps.here main_turn) (passings s (sub_at s k)) formals actuals (start main_turn))
+        quiet_there =
+            subst (λ z. Quiet (calling.then_now table typed effects input ready state top below more_frames rest named p frames deep stages running awaiting of_sub at_point path views viewed_before kept scope holds placed_before above k actuals result e) Given (all_passed (steps.here main_turn) z formals actuals (start main_turn)))
+            (sym (calling.ways_are table typed effects input ready state top below more_frames rest named p frames deep stages running awaiting of_sub at_point path views viewed_before kept scope holds placed_before above k actuals result e))
+            (calling.passed_quiet table typed effects input ready state top below more_frames rest named p frames deep stages running awaiting of_sub at_point path views viewed_before kept scope holds placed_before above k actuals result e)
+
+        same_there : SameTo s (all_passed (steps.here main_turn) (passings s (sub_at s k)) formals actuals (start main_turn))
+            (all_passed (steps.here main_turn) (passings s (sub_at s k)) formals actuals (start (twin main_turn n)))
+        same_there =
+            subst (λ z. SameTo s (all_passed (steps.here main_turn) z formals actuals (start main_turn)) (all_passed (steps.here main_turn) z formals actuals (start (twin main_turn n))))
+            (sym (calling.ways_are table typed effects input ready state top below more_frames rest named p frames deep stages running awaiting of_sub at_point path views viewed_before kept scope holds placed_before above k actuals result e))
+            (all_same (steps.here main_turn) ready.accepted.settled state.leaks other alone no_formals index_law ready.owns views ready.class.parts_named state.memory (waiting_in easy)
+            facts_now so_easy only (not (is_some (sub_of program k).result)) (start main_turn).waits [] facts_now so_easy.viewed formals actuals
+            (calling.kinds table typed effects input ready state top below more_frames rest named p frames deep stages running awaiting of_sub at_point path views viewed_before kept scope holds placed_before above k actuals result e)
+            (calling.called table typed effects input ready state top below more_frames rest named p frames deep stages running awaiting of_sub at_point path views viewed_before kept scope holds placed_before above k actuals result e).actuals_stay
+            (calling.copied_there table typed effects input ready state top below more_frames rest named p frames deep stages running awaiting of_sub at_point path views viewed_before kept scope holds placed_before above k actuals result e)
+            (takes_of (Call k actuals result) e) (plainly (Call k actuals result) e (has_call actuals) (λ none. call_plain k actuals result none)) (subst (ComparesIn s) e compares)
+            (calling.values_allowed table typed effects input ready state top below more_frames rest named p frames deep stages running awaiting of_sub at_point path views viewed_before kept scope holds placed_before above k actuals result e)
+            (calling.copies_allowed table typed effects input ready state top below more_frames rest named p frames deep stages running awaiting of_sub at_point path views viewed_before kept scope holds placed_before above k actuals result e)
+            (start (twin main_turn n)) (agrees, refl, only))
+
+        whole_there : (passed : List Passed) → Given passed → AreWhollyPassed s (suc (suc (length rest))) formals passed state.memory
+        whole_there passed given =
+            passed_wholly s ready.accepted.settled ready.owns no_formals (waiting_in easy) state.leaks (suc (length rest)) views
+            (calling.facts_called table typed effects input ready state top below more_frames rest named p frames deep stages running awaiting of_sub at_point path views viewed_before kept scope holds placed_before above k actuals result e)
+            (calling.next_there table typed effects input ready state top below more_frames rest named p frames deep stages running awaiting of_sub at_point path views viewed_before kept scope holds placed_before above k actuals result e)
+            (calling.other_all table typed effects input ready state top below more_frames rest named p frames deep stages running awaiting of_sub at_point path views viewed_before kept scope holds placed_before above k actuals result e passed given)
+            formals passed
+            (calling.ways_taken table typed effects input ready state top below more_frames rest named p frames deep stages running awaiting of_sub at_point path views viewed_before kept scope holds placed_before above k actuals result e passed given)
+            state.memory
+            (calling.all_passed_ways table typed effects input ready state top below more_frames rest named p frames deep stages running awaiting of_sub at_point path views viewed_before kept scope holds placed_before above k actuals result e passed given).1
+            (calling.open_there table typed effects input ready state top below more_frames rest named p frames deep stages running awaiting of_sub at_point path views viewed_before kept scope holds placed_before above k actuals result e passed given)
+            so_easy.kept
+            (calling.well_all table typed effects input ready state top below more_frames rest named p frames deep stages running awaiting of_sub at_point path views viewed_before kept scope holds placed_before above k actuals result e passed given)
+            (calling.blank_formals table typed effects input ready state top below more_frames rest named p frames deep stages running awaiting of_sub at_point path views viewed_before kept scope holds placed_before above k actuals result e passed given)
+
+        calls_it : Goal (Call k actuals result)
+        calls_it =
+            call_same main_turn ready.accepted.settled n agrees k actuals only (calling.taken_there table typed effects input ready state top below more_frames rest named p frames deep stages running awaiting of_sub at_point path views viewed_before kept scope holds placed_before above k actuals result e).0
+            Given quiet_there same_there whole_there
+
+    -- ---- the end of a call
+
+    -- of what is copied back nothing is gone
+    ends_whole : p.instr ≡ Finish → AreWhollyBack main_turn top.frame.returns state.memory
+    ends_whole is =
+        by_rest rest more_frames refl stages running.2
+        (innermost.viewed_own table typed effects input ready state top below more_frames rest named p frames deep stages running awaiting of_sub at_point path views viewed_before kept scope holds placed_before above) awaiting.1
+      where
+        by_rest : (r : List Frame) (m : List ViewStage) → rest ≡ r → AreStages (stages_of (below ∷ m)) (below.stage.frame ∷ r)
+            → AreWaiting table typed effects state top.frame.sub top.frame.returns (below ∷ m)
+            → Viewed (home s (suc (length rest))) (is_observer s) (known_gone (home s (suc (length rest))) (GoneElsewhere program effects (below ∷ m))) views (view_here s state)
+            (standing.facts table typed effects input ready state top older outer named p frames of_sub at_point path)
+            → AreAwaited table typed (awaited (sub_of program top.frame.sub) top.before) (stages_of (below ∷ m))
+            → AreWhollyBack main_turn top.frame.returns state.memory
+        by_rest [] [] same there waiting well still = subst (λ z. AreWhollyBack main_turn z state.memory) (sym waiting.1) tt
+        by_rest [] (h ∷ m) same there waiting well still = absurd there.2
+        by_rest (f ∷ r) [] same there waiting well still = absurd there.2
+        by_rest (f ∷ r) (h ∷ m) same there waiting well still =
+            let stages_there : AreStages (stages_of (below ∷ (h ∷ m))) (below.stage.frame ∷ rest) =
+            subst (λ z. AreStages (stages_of (below ∷ (h ∷ m))) (below.stage.frame ∷ z)) (sym same) there in
+            back_wholly main_turn ready.accepted.settled ready.owns no_formals (waiting_in state) state.leaks below.stage.depth
+            (ends.deep_low table typed effects input ready state top below more_frames rest named p frames deep stages running awaiting of_sub at_point path views viewed_before kept scope holds placed_before above h m stages_there waiting well still is)
+            below.views (facts_of program effects below.stage) waiting.0.point.scope
+            (ends.around_low table typed effects input ready state top below more_frames rest named p frames deep stages running awaiting of_sub at_point path views viewed_before kept scope holds placed_before above h m stages_there waiting well still is)
+            (ends.free_low table typed effects input ready state top below more_frames rest named p frames deep stages running awaiting of_sub at_point path views viewed_before kept scope holds placed_before above h m stages_there waiting well still is)
+            (ends.whole_low table typed effects input ready state top below more_frames rest named p frames deep stages running awaiting of_sub at_point path views viewed_before kept scope holds placed_before above h m stages_there waiting well still is)
+            (ends.none_kept table typed effects input ready state top below more_frames rest named p frames deep stages running awaiting of_sub at_point path views viewed_before kept scope holds placed_before above h m stages_there waiting well still is)
+            top.frame.returns below.stage.returns state.memory waiting.0.taken kept
+            (ends.viewed_low table typed effects input ready state top below more_frames rest named p frames deep stages running awaiting of_sub at_point path views viewed_before kept scope holds placed_before above h m stages_there waiting well still is)
 
     pub main_same : SameAt state n
     main_same =
         both_are main_turn _ _ _ _ (standing.step_is table typed effects input ready state top older outer named p frames of_sub at_point)
         (standing.step_is table typed effects input ready (record state { memory = n }) top older outer named p frames of_sub at_point)
         (elim (finish_or p.instr) [
-          | inl is ↦ subst Goal (sym is) (finish_same main_turn ready.accepted.settled ready.owns n agrees kept only running.1.0 below.stage.frame rest refl)
+          | inl is ↦ subst Goal (sym is) (finish_same main_turn n agrees (ends_whole is) only below.stage.frame rest refl)
           | inr end ↦ elim (end_or p.instr) [
             | inl (y, is) ↦ subst Goal (sym is) (end_scope_same main_turn n agrees only y)
             | inr going ↦ elim (call_or p.instr) [

@@ -1,7 +1,6 @@
 -- Names and expressions in programs with borrowers and observers behave as instructions ask.
 use Rattle.std.proofs.Common.{◌≡◌, refl, sym, ap, ◌∙◌, subst, inl, ℕ, Bool, true, false, List, [], ◌∷◌}
 use Rattle.place_names.specs.declared.act.Act.TheVariants as act
-use Rattle.place_names.specs.declared.act.Mode.{Mode}
 use Rattle.place_names.specs.declared.fact.Fact.{Fact}
 use Rattle.place_names.specs.declared.rule.Loan.TheVariants.{Borrowed}
 use Rattle.place_names.specs.Names.{Name as PlaceName}
@@ -9,14 +8,12 @@ use Rattle.type_definitions.specs.declared.table.Shape.TheVariants as shape
 use Rattle.type_definitions.specs.Types.{Table, shape_of, view_of as view_of_shape, parts}
 use Rattle.typed_tree.specs.Trees.{TypedTree}
 use Rattle.flow_paths.specs.Objects.{object_at, is_anonymous, is_observer}
-use Rattle.flow_paths.specs.Names.{waiting, name_of}
+use Rattle.flow_paths.specs.Names.{name_of}
 use Rattle.flow_paths.specs.Acts.{acts_in}
 use Rattle.machine.specs.Words as machine
 use Rattle.machine.specs.Memory.{Memory, Place}
 use Rattle.machine.specs.Evaluate.{Here, Now, Use, AsValue, Evaluated, Done, Raises, Traps, evaluate, steps_of, variable_place, walked}
 use Rattle.machine.specs.Evaluate as run
-use Rattle.machine.specs.Calls.{Passed, passed}
-use Rattle.machine.specs.Owners.{is_in}
 use Rattle.machine.specs.States.{Waiting, Leak}
 use Rattle.owned_ways.specs.Ways.{OfVariable, Loc, OfRoot, Way, Object, All, Reaches, IsRooted, Past, Named, Allows, after, AllowsAll}
 use Rattle.owned_ways.specs.Ways as ways
@@ -25,13 +22,10 @@ use Rattle.part_offsets.specs.Parts.{IsSettled}
 use Rattle.soundness.specs.Seen.{IsNear, content, trunk, seen, home, is_view_formal}
 use Rattle.soundness.specs.Typed.{OwnsByShape, Spot}
 use Rattle.soundness.specs.Sound.{goes_through_none}
-use Rattle.soundness.specs.Ready.{IsActualBy}
 use Rattle.typed_laws.specs.Needed.{IndexLaw}
 use Rattle.soundness.proofs.Walks.{way_along, past_along, Lead, walk}
 use Rattle.soundness.proofs.Scalars.{acts, number_along}
-use Rattle.soundness.proofs.Taking.{Takes, TakesPlainly, both_plainly}
-use Rattle.soundness.proofs.Passing.{IsLaid, way_by, head_acts}
-use Rattle.soundness.proofs.Stays.{Quiet}
+use Rattle.soundness.proofs.Taking.{TakesPlainly, both_plainly}
 use Rattle.soundness.proofs.Lasting.{keeps}
 use Rattle.owned_loans.specs.Views.{Around, Views, expand, ExcusedBy}
 use Rattle.owned_loans.proofs.Safe.{Open, OpenWhole}
@@ -40,7 +34,6 @@ use Rattle.viewed_soundness.specs.Holds.{IsNamed, PartsAreNamed, AllKeep}
 use Rattle.viewed_soundness.proofs.Names.{Starts, name_walked}
 use Rattle.viewed_soundness.proofs.Stays.{Goes, taking, steps_taking}
 use Rattle.viewed_soundness.proofs.Evaluated.{keep_both, matches_named, part_named, Ready, GivenOn, live_trunk, evaluated_on}
-use Rattle.viewed_steps.proofs.Called.{IsGiven, one_given, given_laid}
 use Rattle.null_places.proofs.Only.{OnlyOwners}
 use Rattle.null_places.proofs.Walks.{walk_same}
 use Rattle.null_places.proofs.Direct.{has_deref, past_deref, selectors_direct}
@@ -178,26 +171,9 @@ module _ (h : Here) (settled : IsSettled h.typing.table) (leaks : List Leak) (ot
             let none : has_deref (ways.sels_of (way_along way (variable x))) ≡ false = ap has_deref (goes.sels (variable x)) ∙ selectors_direct steps direct in
             let no : true ≡ false = sym (past_deref z (way_along way (variable x)) past) ∙ none in cc
 
-    -- ---- actuals
-
-    laid : (on : List (List machine.Word)) (mode_of : Mode) (e : TypedTree) (y : Evaluated Passed)
-        → Quiet (at on) (λ a. IsGiven h settled hands leaks m on other facts v ready.kept ready.viewed ready.holds alone live index_law own_law parts_named mode_of e a) y
-        → Quiet (at on) (λ a. IsLaid h.typing a) y
-    laid on mode_of e (Done a n) (same, given) =
-        (same, given_laid h settled hands leaks m on other facts v ready.kept ready.viewed ready.holds alone live index_law own_law parts_named mode_of e a given)
-    laid on mode_of e (Raises x n) is = is
-    laid on mode_of e (Traps x n) is = is
-
-    actual : (x : ℕ) (mode_of : Mode) (e : TypedTree) → IsActualBy h.typing mode_of e → (is_in mode_of ≡ false → goes_through_none e ≡ true)
-        → (before on : List (List machine.Word)) → Takes (waiting e) before on → AllowsAll facts (acts (head_acts h.typing own_law mode_of e))
-        → Quiet (at on) (λ a. IsLaid h.typing a) (passed h (way_by h.typing own_law mode_of) x e (at before))
-    actual x mode_of e by direct before on takes allowed =
-        laid on mode_of e (passed h (way_by h.typing own_law mode_of) x e (at before))
-        (one_given h settled hands leaks m on other facts v ready.kept ready.viewed ready.holds alone live index_law own_law parts_named before on mode_of x e by direct takes allowed)
-
     -- ---- all together
 
-    pub viewed_behaves : Behaves h (viewed_premises h parts_named) m hands facts own_law
+    pub viewed_behaves : Behaves h (viewed_premises h parts_named) m hands facts
     viewed_behaves = record {
       kept = ready.kept;
       only = only;
@@ -205,7 +181,6 @@ module _ (h : Here) (settled : IsSettled h.typing.table) (leaks : List Leak) (ot
           taking h settled hands leaks m [] other facts v ready.kept ready.viewed ready.holds alone live index_law own_law parts_named u e stays before on takes allowed;
       steps = λ t u path lead before on takes calls allowed.
           steps_taking h settled hands leaks m [] other facts v ready.kept ready.viewed ready.holds alone live index_law own_law parts_named t u path lead before on takes allowed;
-      passed = λ x mode_of e by direct before on takes calls allowed. actual x mode_of e by direct before on takes allowed;
       read = λ on x t path way goes reads.
           leads on x t path way goes (read_open facts (way_along way (variable x)) (of_way x t path way goes (λ z. Allows facts (act.Read z)) reads));
       write = λ on x t path way goes writes.
@@ -225,7 +200,7 @@ module _ (h : Here) (settled : IsSettled h.typing.table) (leaks : List Leak) (ot
   given_by on want hands facts (Raises e n) given = tt
   given_by on want hands facts (Traps e n) none = none
 
-  pub viewed_values : Values h own_law (viewed_premises h parts_named)
+  pub viewed_values : Values h (viewed_premises h parts_named)
       (λ m hands facts. Ready h settled leaks [] other alone (keeps h.typing settled own_law) no_formals index_law own_law v parts_named m hands facts)
   viewed_values = record {
     behaves = λ m hands facts ready only. viewed_behaves m hands facts ready only;

@@ -91,7 +91,7 @@ module _ (t : Turn) (settled : IsSettled (typing t).table) (own_law : OwnsByShap
     pub low : (w : Way) (g y : ℕ) → base_of w ≡ OfRoot (OfVariable g y) → g < depth → (c : ℕ)
         → Reaches (seen (typing t) m hands leaks) w (OfCell c) → Reaches (seen (typing t) n hands leaks) w (OfCell c)
 
-  left_more : (r : Return) (rest : List Return) (w : Way) → IsLeft (r ∷ rest) w → IsLeft rest w
+  pub left_more : (r : Return) (rest : List Return) (w : Way) → IsLeft (r ∷ rest) w → IsLeft rest w
   left_more r rest w (x, base, none) = (x, base, λ q has. none q (inr has))
 
   not_above : (y : ℕ) → home s depth y ≡ suc depth → ⊥
@@ -130,7 +130,7 @@ module _ (t : Turn) (settled : IsSettled (typing t).table) (own_law : OwnsByShap
     abbrev observer : ℕ → Bool
     observer = is_observer s
 
-    formal_inside : IsInside s (suc depth) formal root
+    pub formal_inside : IsInside s (suc depth) formal root
     formal_inside = record {
       object = r.formal;
       steps = [];
@@ -156,7 +156,7 @@ module _ (t : Turn) (settled : IsSettled (typing t).table) (own_law : OwnsByShap
     abbrev second : Around (home s depth)
     second = away rest (to ∷ ways)
 
-    clean : (w : Way) → Under root w → ExcusedBy (home s depth) v first facts w → ⊥
+    pub clean : (w : Way) → Under root w → ExcusedBy (home s depth) v first facts w → ⊥
     clean w under (inl (inr gone_there)) =
         let t = first.through w gone_there in
         not_named (home s depth) (suc depth) r.formal not_above t.0 t.1 (sym (base_under t.0 w t.2) ∙ base_under root w under)
@@ -376,7 +376,7 @@ module _ (t : Turn) (settled : IsSettled (typing t).table) (own_law : OwnsByShap
 
   -- ---- all of them
 
-  taken_base : (m : Memory) (returns : List Return) (ways : List Way) → AreTaken s m depth facts scope returns ways → (k : Way) → Has ways k
+  pub taken_base : (m : Memory) (returns : List Return) (ways : List Way) → AreTaken s m depth facts scope returns ways → (k : Way) → Has ways k
       → (y : ℕ) × (base_of k ≡ OfRoot (OfVariable depth y))
   taken_base m [] ways none k has = absurd (subst (λ z. Has z k) none has)
   taken_base m (r ∷ rest) [] taken k has = absurd has
@@ -385,7 +385,7 @@ module _ (t : Turn) (settled : IsSettled (typing t).table) (own_law : OwnsByShap
       ((one.0).inside.object, ap base_of (sym same) ∙ inside_base s depth r.to to (one.0).inside)
   taken_base m (r ∷ rest) (to ∷ ways) (inr (one, apart, another, more)) k (inr has) = taken_base m rest ways more k has
 
-  taken_on : (m n : Memory) (returns : List Return) (ways : List Way)
+  pub taken_on : (m n : Memory) (returns : List Return) (ways : List Way)
       → ((k : Place) (w : Way) → Has ways w → (there : IsInside s depth k w) → IsBare s depth k w m there → IsBare s depth k w n there)
       → AreTaken s m depth facts scope returns ways → AreTaken s n depth facts scope returns ways
   taken_on m n [] ways bare none = none

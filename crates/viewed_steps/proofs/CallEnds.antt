@@ -240,16 +240,16 @@ module _ (table : Table) (typed : TypedProgram) (effects : Effects) (input : Lis
         (well : Viewed (home s depth) (is_observer s) (known_gone (home s depth) (GoneElsewhere program effects (below ∷ (h ∷ others)))) views (view_here s state) own_facts)
         (still_awaited : AreAwaited table typed (awaited (sub_of program top.frame.sub) top.before) (stages_of (below ∷ (h ∷ others))))
         (is : p.instr ≡ Finish) where
-      abbrev low : ℕ
+      abbrev pub low : ℕ
       low = below.stage.depth
 
       low_is : below.stage.depth ≡ length rest
       low_is = stages_there.1
 
-      abbrev waits : IsWaiting table typed effects state top.frame.sub top.frame.returns below
+      abbrev pub waits : IsWaiting table typed effects state top.frame.sub top.frame.returns below
       waits = waiting.0
 
-      abbrev their_facts : List Fact
+      abbrev pub their_facts : List Fact
       their_facts = facts_of program effects below.stage
 
       between_low : (g : ViewStage) → Has (h ∷ others) g → StandsBetween table typed effects unmoved_stage local state below.stage.depth g
@@ -258,10 +258,10 @@ module _ (table : Table) (typed : TypedProgram) (effects : Effects) (input : Lis
           (let same_depth = low_is in omega (arith, same_depth)) waiting.1 g has
 
       -- what concerns the frame below
-      abbrev around_low : Around (home s below.stage.depth)
+      abbrev pub around_low : Around (home s below.stage.depth)
       around_low = known_gone (home s below.stage.depth) (GoneElsewhere program effects (h ∷ others))
 
-      free_low : (k : ℕ) (w : Way) → ways.Under (ways.Object (ways.OfHand k)) w → GoneElsewhere program effects (h ∷ others) w → ⊥
+      pub free_low : (k : ℕ) (w : Way) → ways.Under (ways.Object (ways.OfHand k)) w → GoneElsewhere program effects (h ∷ others) w → ⊥
       free_low k w under away_there =
           let root = gone_low table typed effects unmoved_stage local state below.stage.depth (h ∷ others) between_low w away_there in
           hand_base (sym (base_under (ways.Object (ways.OfHand k)) w under) ∙ root.2)
@@ -269,16 +269,16 @@ module _ (table : Table) (typed : TypedProgram) (effects : Effects) (input : Lis
           hand_base : {k f x : ℕ} → OfRoot (ways.OfHand k) ≡ OfRoot (OfVariable f x) → ⊥
           hand_base e = cc
 
-      whole_low : (x : ℕ) (w : Way) → ways.base_of w ≡ OfRoot (OfVariable (suc below.stage.depth) x) → GoneElsewhere program effects (h ∷ others) w → ⊥
+      pub whole_low : (x : ℕ) (w : Way) → ways.base_of w ≡ OfRoot (OfVariable (suc below.stage.depth) x) → GoneElsewhere program effects (h ∷ others) w → ⊥
       whole_low x w base away_there =
           let root = gone_low table typed effects unmoved_stage local state below.stage.depth (h ∷ others) between_low w away_there in
           let frames_same = (same_variable root.0 root.1 (suc below.stage.depth) x (sym root.2 ∙ base)).0 in
           let less = root.3 in omega (arith, frames_same, less)
 
-      none_kept : (w : Way) (n : ℕ) → around_low.kept w n → ⊥
+      pub none_kept : (w : Way) (n : ℕ) → around_low.kept w n → ⊥
       none_kept w n keeps_it = keeps_it
 
-      deep_low : length (below.stage.frame ∷ rest) ≡ suc below.stage.depth
+      pub deep_low : length (below.stage.frame ∷ rest) ≡ suc below.stage.depth
       deep_low = ap suc (sym low_is)
 
       -- the state as the frame below sees it
@@ -328,7 +328,7 @@ module _ (table : Table) (typed : TypedProgram) (effects : Effects) (input : Lis
               named_base (home s depth) w at_home
               ∙ ap (λ f. OfRoot (OfVariable f (number_of w))) (ap (λ z. if z then 0 else depth) own_object ∙ deep_low)
 
-      viewed_low : ViewedLow top.frame.returns below.stage.returns state.memory
+      pub viewed_low : ViewedLow top.frame.returns below.stage.returns state.memory
       viewed_low = record {
         owned = well.owned;
         covered = well.covered;

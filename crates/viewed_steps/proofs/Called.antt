@@ -653,7 +653,7 @@ module _ (h : Here) (settled : IsSettled h.typing.table) (hands : List Waiting) 
   naming_keeps None owning access known = refl
   naming_keeps (Some w) owning access known = read_effect w.name known
 
-  head_acted : (mode_of : Mode) (owning access : Bool) (x : ℕ) (e : TypedTree) (a : Passed) (known : List Fact) → ByModeFor mode_of owning → IsGiven x mode_of e a → ViewedWith known
+  pub head_acted : (mode_of : Mode) (owning access : Bool) (x : ℕ) (e : TypedTree) (a : Passed) (known : List Fact) → ByModeFor mode_of owning → IsGiven x mode_of e a → ViewedWith known
       → ViewedWith (after (acts (actual_act (passing_by mode_of owning access) e)) known)
   head_acted mode.In owning access x e a known fits is there =
       subst (λ b. ViewedWith (after (acts (actual_act (if b then objects.Place mode.In b access else ByValue) e)) known)) (sym (fits refl)) there

@@ -272,10 +272,10 @@ module _ (table : Table) (typed : TypedProgram) (effects : Effects) (input : Lis
         | inr (inr is) ↦ (let never : Call n actuals result ≡ Hold (More call NoMore) = sym e ∙ is in cc)
       ])
 
-      abbrev procedure : Bool
+      abbrev pub procedure : Bool
       procedure = not (is_some (sub_of program n).result)
 
-      abbrev ways_there : List Passing
+      abbrev pub ways_there : List Passing
       ways_there = map (passing s (not (is_some (sub_of program n).result))) formals
 
       pub ways_are : passings s (sub_at s n) ≡ ways_there
@@ -286,7 +286,7 @@ module _ (table : Table) (typed : TypedProgram) (effects : Effects) (input : Lis
       abbrev pub values : List Placed
       values = flow.actual_values s ways_there actuals
 
-      abbrev copies : List Placed
+      abbrev pub copies : List Placed
       copies = flow.actual_acts ways_there actuals
 
       values_are : standing.acts_by table typed effects input ready state top older outer named p frames of_sub at_point s p.instr ≡ values ++ copies
@@ -304,13 +304,13 @@ module _ (table : Table) (typed : TypedProgram) (effects : Effects) (input : Lis
           ∙ ap (λ i. acts (values ++ copies) ++ acts (called_acts program effects p.pos i)) e
           ∙ ap (λ z. acts (values ++ copies) ++ z) (called_are program effects ready.accepted.effects_are p.pos n actuals result)
 
-      abbrev facts_called : List Fact
+      abbrev pub facts_called : List Fact
       facts_called = after (acts (values ++ copies)) own_facts
 
       abbrev called_beside : List Fact
       called_beside = after (acts (values ++ copies)) facts_now
 
-      each_allowed : AllowsAll own_facts (acts (values ++ copies)) × AllowsAll facts_called (globals_of program effects n)
+      pub each_allowed : AllowsAll own_facts (acts (values ++ copies)) × AllowsAll facts_called (globals_of program effects n)
       each_allowed =
           allows_both own_facts (acts (values ++ copies)) (globals_of program effects n)
           (subst (AllowsAll own_facts) call_acts (standing.allowed_whole table typed effects input ready state top older outer named p frames of_sub at_point path))
@@ -318,11 +318,17 @@ module _ (table : Table) (typed : TypedProgram) (effects : Effects) (input : Lis
       spare_call : Spare s (values ++ copies)
       spare_call = spare_both s values copies (spare_reads s values reads_there) (spare_copies s ready.owns procedure formals actuals)
 
-      pub values_allowed : AllowsAll facts_now (acts values)
-      values_allowed =
-          (allows_both facts_now (acts values) (acts copies) (subst (AllowsAll facts_now) (acts_append values copies)
+      both_allowed : AllowsAll facts_now (acts values) × AllowsAll (after (acts values) facts_now) (acts copies)
+      both_allowed =
+          allows_both facts_now (acts values) (acts copies) (subst (AllowsAll facts_now) (acts_append values copies)
           (subst (λ z. AllowsAll facts_now (acts z)) values_are
-          (allowed_now (subst (Spare s) (sym values_are) spare_call) (subst (λ z. AllowsAll own_facts (acts z)) (sym values_are) each_allowed.0))))).0
+          (allowed_now (subst (Spare s) (sym values_are) spare_call) (subst (λ z. AllowsAll own_facts (acts z)) (sym values_are) each_allowed.0))))
+
+      pub values_allowed : AllowsAll facts_now (acts values)
+      values_allowed = both_allowed.0
+
+      pub copies_allowed : AllowsAll facts_now (acts copies)
+      copies_allowed = subst (λ z. AllowsAll z (acts copies)) (reads_keep values reads_there facts_now) both_allowed.1
 
       not_end : (x : ℕ) → p.instr ≡ EndScope x → ⊥
       not_end x is = (let no : Call n actuals result ≡ EndScope x = sym e ∙ is in cc)
@@ -378,7 +384,7 @@ module _ (table : Table) (typed : TypedProgram) (effects : Effects) (input : Lis
       globals = globals_are program effects ready.accepted.effects_are n
 
       -- the successor, at which the frame waits
-      call_point : (k : ℕ) × (successor main_turn 0 ≡ Some k) × Has main_turn.point.next k
+      pub call_point : (k : ℕ) × (successor main_turn 0 ≡ Some k) × Has main_turn.point.next k
       call_point = successor_there main_turn 0 (subst (λ z. 0 < z) (sym (successors_there ∙ ap successors e)) below_one)
 
       abbrev waits_with : List Way → Stage
@@ -424,7 +430,7 @@ module _ (table : Table) (typed : TypedProgram) (effects : Effects) (input : Lis
           lent_spared program effects ready.accepted.effects_are n called.text_io facts_called each_allowed.1 l h name
           (subst (λ z. Has z (Lent l h name)) facts_there has) shared disturbs
 
-      at_successor : (q : NamedPoint) × IsAtPoint named.points call_point.0 q × Leads s (scope_behind p) q.scope
+      pub at_successor : (q : NamedPoint) × IsAtPoint named.points call_point.0 q × Leads s (scope_behind p) q.scope
       at_successor = standing.next_at table typed effects input ready state top older outer named p frames of_sub at_point path call_point.0 call_point.2
 
       brought_more : (r : Option ℕ) (x : ℕ) → is_within x left_scope ≡ true → is_within x (brought (Call n actuals r) left_scope) ≡ true
@@ -478,15 +484,15 @@ module _ (table : Table) (typed : TypedProgram) (effects : Effects) (input : Lis
 
       -- ---- what is passed
 
-      abbrev next_there : List ℕ
+      abbrev pub next_there : List ℕ
       next_there = lasting_of s (at_successor.0).scope
 
       -- the state is sound with views under the facts after the acts, and so it is beside the others
       module _ (passed : List Passed) (given : Given passed) where
-        abbrev other_all : Around (home s depth)
+        abbrev pub other_all : Around (home s depth)
         other_all = known_gone (home s depth) (GoneElsewhere program effects older)
 
-        well_all : Viewed (home s depth) (is_observer s) other_all views (view_here s easy.state) facts_called
+        pub well_all : Viewed (home s depth) (is_observer s) other_all views (view_here s easy.state) facts_called
         well_all = apart_from_them (acts (values ++ copies)) views (view_here s easy.state) holds.only (acted_now passed given)
 
         -- what is taken
@@ -524,7 +530,7 @@ module _ (table : Table) (typed : TypedProgram) (effects : Effects) (input : Lis
             (ready.valued.passed named (standing.named_in table typed effects input ready state top older outer named p frames of_sub at_point) p
             (standing.point_in_named table typed effects input ready state top older outer named p frames of_sub at_point) n actuals result e y has)
 
-        all_passed_ways : (ways_taken : List Way) × ArePassedOn s depth facts_called next_there formals passed ways_taken
+        pub all_passed_ways : (ways_taken : List Way) × ArePassedOn s depth facts_called next_there formals passed ways_taken
             × ((k : Way) → Has ways_taken k → IsNamedBy s formals actuals k)
         all_passed_ways =
             all_passed_on s ready.owns depth facts_called next_there procedure formals actuals passed own_facts (given_laid passed given) kinds
@@ -535,10 +541,10 @@ module _ (table : Table) (typed : TypedProgram) (effects : Effects) (input : Lis
             (subst (λ z. AllowsAll z (acts copies)) (reads_keep values reads_there own_facts)
             (allows_both own_facts (acts values) (acts copies) (subst (AllowsAll own_facts) (acts_append values copies) each_allowed.0)).1)
 
-        abbrev ways_taken : List Way
+        abbrev pub ways_taken : List Way
         ways_taken = all_passed_ways.0
 
-        open_there : IsOpen s ready.accepted.settled ready.owns no_in_formals (waiting_in easy.state) state.leaks depth views facts_called next_there other_all ways_taken
+        pub open_there : IsOpen s ready.accepted.settled ready.owns no_in_formals (waiting_in easy.state) state.leaks depth views facts_called next_there other_all ways_taken
         open_there = record {
           free = λ k w under gone. (let root = gone_low table typed effects unmoved_stage local state depth older between w gone in
               hand_base (sym (base_under (ways.Object (ways.OfHand k)) w under) ∙ root.2));
@@ -554,7 +560,7 @@ module _ (table : Table) (typed : TypedProgram) (effects : Effects) (input : Lis
             hand_base is = cc
 
         -- the formals have nothing yet
-        blank_formals : AreBlank s ready.accepted.settled ready.owns no_in_formals (waiting_in easy.state) state.leaks depth views facts_called next_there state.memory formals
+        pub blank_formals : AreBlank s ready.accepted.settled ready.owns no_in_formals (waiting_in easy.state) state.leaks depth views facts_called next_there state.memory formals
         blank_formals x has q = by_word (word_in s.table (content s state.memory [] (ways.OfRoot (ways.OfVariable (suc depth) x))) q) refl
           where
             by_word : (w : ways.Word) → word_in s.table (content s state.memory [] (ways.OfRoot (ways.OfVariable (suc depth) x))) q ≡ w

@@ -206,7 +206,7 @@ module _ (s : Typing) (settled : IsSettled s.table) (own_law : OwnsByShape s.tab
     named_to : Named (home s depth) to
     named_to = inside_named s settled depth k to passed.inside
 
-    clean : (w : Way) → Under to w → ExcusedBy (home s depth) v other facts w → ⊥
+    pub clean : (w : Way) → Under to w → ExcusedBy (home s depth) v other facts w → ⊥
     clean w under (inl moved) =
         clean_away (home s depth) (is_observer s) other v (seen s m hands leaks) facts viewed to w (named_to, plain_name)
         (λ h n has over. passed.unlent Borrowed h n has over) whole (subst (λ z. Under z w) (sym itself) under) moved
@@ -255,7 +255,7 @@ module _ (s : Typing) (settled : IsSettled s.table) (own_law : OwnsByShape s.tab
         ap (λ z. word_in s.table (record { of = (object_at s x).of; slots = z; owns = not (is_view_formal s x) }) p)
         (other_base (suc depth) x (frames_differ depth (passed.inside).object (suc depth) x (λ e. omega (arith, e)))) ∙ blank p
 
-    viewed_next : Viewed (home s depth) (is_observer s) with_it v (seen s next hands leaks) facts
+    pub viewed_next : Viewed (home s depth) (is_observer s) with_it v (seen s next hands leaks) facts
     viewed_next =
         declared_viewed s settled (home s depth) (is_observer s) with_it v mid got hands leaks facts (suc depth) x viewed_mid
         (λ h w under o. elim o [
@@ -267,7 +267,7 @@ module _ (s : Typing) (settled : IsSettled s.table) (own_law : OwnsByShape s.tab
         hand_base : {h f x : ℕ} → OfRoot (OfHand h) ≡ OfRoot (OfVariable f x) → ⊥
         hand_base e = cc
 
-    kept_next : Kept s next hands
+    pub kept_next : Kept s next hands
     kept_next = declared_kept s settled mid (suc depth) x got hands kept_mid long passed.fits
 
     bare_mid : (p : List Step) (c : ℕ) → word_in s.table (content s mid [] (OfRoot (OfVariable depth (passed.inside).object))) (p ++ (passed.inside).steps) ≡ Held c → ⊥

@@ -1,0 +1,161 @@
+-- Of what a call passes nothing is gone, nor of the formals that it copies back.
+use Rattle.std.proofs.Common.{◌≡◌, refl, sym, ◌∙◌, subst, ◌⊎◌, inl, inr, ℕ, suc, false, List, [], ◌∷◌, ◌++◌, length}
+use Rattle.place_names.specs.declared.fact.Fact.{Fact}
+use Rattle.flow_paths.specs.Objects.{Typing, is_observer}
+use Rattle.machine.specs.Words as machine
+use Rattle.machine.specs.Memory.{Memory, Place, words_of, moved_out, stored, declared}
+use Rattle.machine.specs.Evaluate.{variable_place}
+use Rattle.machine.specs.Calls.{Passed, Value, From, To, with_formal}
+use Rattle.machine.specs.States.{Waiting, Leak, Return}
+use Rattle.machine.specs.Step.{Turn, typing, here}
+use Rattle.owned_ways.specs.Ways.{Step, OfVariable, OfHand, Loc, OfRoot, Way, Object, Under, along, base_of}
+use Rattle.owned_ways.proofs.Locations.{under_along, under_itself}
+use Rattle.part_offsets.specs.Parts.{IsSettled}
+use Rattle.soundness.specs.Seen.{seen, home, is_view_formal}
+use Rattle.soundness.specs.Typed.{OwnsByShape, Kept, Spot, IsFixed}
+use Rattle.soundness.specs.Sound.{IsCopied}
+use Rattle.soundness.proofs.Passing.{IsLaid}
+use Rattle.soundness.proofs.Fixed.{fixed_one}
+use Rattle.soundness.proofs.Returning.{formal_fixed}
+use Rattle.owned_loans.specs.Views.{Around, Views, ExcusedBy, Viewed}
+use Rattle.owned_loans.proofs.Moves.{same_viewed}
+use Rattle.viewed_steps.specs.Taken.{IsInside, AreTaken}
+use Rattle.viewed_steps.proofs.Between.{gone_also, more_gone}
+use Rattle.viewed_steps.proofs.Carried.{inside_at, inside_spot, inside_reached, inside_rooted, inside_owns}
+use Rattle.viewed_steps.proofs.Alike.{Enters, with_one, moved_there, stored_there, one_then}
+use Rattle.viewed_steps.proofs.Entered as entered
+use Rattle.viewed_steps.proofs.Entered.{ArePassedOn, IsOpen, AreBlank}
+use Rattle.viewed_steps.proofs.Backed as backed
+use Rattle.viewed_steps.proofs.Backed.{AwayBy, ViewedAway}
+use Rattle.null_places.proofs.Places.{spot_whole, unmoved_whole, moved_only}
+use Rattle.null_places.proofs.Calls.{IsWholly, IsWhollyPassed, AreWhollyPassed, fixed_wholly, AreWhollyBack}
+
+-- Of a place in a variable nothing is gone, where nothing says so of its way and what goes on from it.
+pub inside_wholly : (s : Typing) (settled : IsSettled s.table) (no_formals : (x : ℕ) → is_view_formal s x ≡ false) (hands : List Waiting) (leaks : List Leak) (f depth : ℕ) (v : Views)
+    (facts : List Fact) (other : Around (home s depth)) (k : Place) (to : Way) → IsInside s f k to → (m : Memory) → Kept s m hands
+    → Viewed (home s depth) (is_observer s) other v (seen s m hands leaks) facts → ((w : Way) → Under to w → ExcusedBy (home s depth) v other facts w → ⊥) → IsWholly s k m
+inside_wholly s settled no_formals hands leaks f depth v facts other k to inside m typed viewed clean only =
+    let at : Loc = inside_at s f k to inside in
+    let spot : Spot s m hands k at = inside_spot s f k to inside m hands in (
+      spot_whole s settled m hands only typed k at spot
+          (unmoved_whole s settled m hands leaks (ExcusedBy (home s depth) v other facts) viewed.known to at (inside_rooted s f k to inside)
+          (inside_reached s f k to inside (seen s m hands leaks)) (inside_owns s f k to inside m hands (no_formals inside.object))
+          (λ p said. clean (along to p) (under_along to to p (under_itself to)) said)),
+      moved_only s settled m hands only typed k at spot,
+    )
+
+-- ---- what is passed
+
+module _ (s : Typing) (settled : IsSettled s.table) (own_law : OwnsByShape s.table) (no_formals : (x : ℕ) → is_view_formal s x ≡ false)
+    (hands : List Waiting) (leaks : List Leak) (depth : ℕ) (v : Views) (facts : List Fact) (scope : List ℕ) where
+  plain_wholly : (a : Passed) → IsLaid s a → (m : Memory) → Kept s m hands → IsWhollyPassed s a m
+  plain_wholly (Value ws) laid m typed = tt
+  plain_wholly (From k) laid m typed = fixed_wholly s settled own_law hands k laid m typed
+  plain_wholly (To k) laid m typed = fixed_wholly s settled own_law hands k laid m typed
+
+  -- one after the other, with the places that are taken gone
+  pub passed_wholly : (other : Around (home s depth)) (formals : List ℕ) (passed : List Passed) (ways : List Way) (m : Memory)
+      → ArePassedOn s depth facts scope formals passed ways → IsOpen s settled own_law no_formals hands leaks depth v facts scope other ways → Kept s m hands
+      → Viewed (home s depth) (is_observer s) other v (seen s m hands leaks) facts → AreBlank s settled own_law no_formals hands leaks depth v facts scope m formals
+      → AreWhollyPassed s (suc depth) formals passed m
+  passed_wholly other [] passed ways m are open_there typed viewed blank = tt
+  passed_wholly other (x ∷ formals) [] ways m are open_there typed viewed blank = tt
+  passed_wholly other (x ∷ formals) (a ∷ passed) [] m are open_there typed viewed blank =
+      let on = with_one s settled own_law hands leaks (suc depth) x a m are.0.0 are.0.1 typed in
+      let mid : Memory = with_formal s (suc depth) x a m in (
+        plain_wholly a are.0.1 m typed,
+        passed_wholly other formals passed [] mid are.1 open_there on.typed
+            (same_viewed (home s depth) (is_observer s) other v (seen s m hands leaks) (seen s mid hands leaks) facts on.same viewed)
+            (λ y has p. on.hold (suc depth) y p ∙ blank y (inr has) p),
+      )
+  passed_wholly other (x ∷ formals) (a ∷ passed) (to ∷ ways) m (inl are) open_there typed viewed blank =
+      let on = with_one s settled own_law hands leaks (suc depth) x a m are.0.0 are.0.1 typed in
+      let mid : Memory = with_formal s (suc depth) x a m in (
+        plain_wholly a are.0.1 m typed,
+        passed_wholly other formals passed (to ∷ ways) mid are.1 open_there on.typed
+            (same_viewed (home s depth) (is_observer s) other v (seen s m hands leaks) (seen s mid hands leaks) facts on.same viewed)
+            (λ y has p. on.hold (suc depth) y p ∙ blank y (inr has) p),
+      )
+  passed_wholly other (x ∷ formals) (a ∷ passed) (to ∷ ways) m (inr (k, is, one, whole, apart, differ, more)) open_there typed viewed blank =
+      let new = blank x (inl refl) in
+      let next : Memory = declared (suc depth) x (words_of s m k) (moved_out s k m) in
+      let away : Around (home s depth) = gone_also (home s depth) other (λ w. other.gone w ⊎ ((p : List Step) × (w ≡ along to p))) in
+      subst (λ z. AreWhollyPassed s (suc depth) (x ∷ formals) (z ∷ passed) m) (sym is) (
+        inside_wholly s settled no_formals hands leaks depth depth v facts other k to one.inside m typed viewed
+            (entered.clean s settled own_law no_formals hands leaks depth v facts scope other x k to ways one whole apart open_there m typed viewed new),
+        passed_wholly away formals passed ways next more
+            (entered.one_open s settled own_law no_formals hands leaks depth v facts scope other x k to ways one whole apart open_there m typed viewed new)
+            (entered.kept_next s settled own_law no_formals hands leaks depth v facts scope other x k to ways one whole apart open_there m typed viewed new)
+            (entered.viewed_next s settled own_law no_formals hands leaks depth v facts scope other x k to ways one whole apart open_there m typed viewed new)
+            (λ y has p. entered.one_blank s settled own_law no_formals hands leaks depth v facts scope other x k to ways one whole apart open_there m typed viewed new y (differ y has) p
+            (blank y (inr has) p)),
+      )
+
+-- ---- what is copied back
+
+module _ (t : Turn) (settled : IsSettled (typing t).table) (own_law : OwnsByShape (typing t).table) (no_formals : (x : ℕ) → is_view_formal (typing t) x ≡ false)
+    (hands : List Waiting) (leaks : List Leak) (depth : ℕ) (deep : length t.outer ≡ suc depth) (v : Views) (facts : List Fact) (scope : List ℕ)
+    (other : Around (home (typing t) depth))
+    (free : (h : ℕ) (w : Way) → Under (Object (OfHand h)) w → other.gone w → ⊥)
+    (whole : (x : ℕ) (w : Way) → base_of w ≡ OfRoot (OfVariable (suc depth) x) → other.gone w → ⊥)
+    (none : (w : Way) (n : ℕ) → other.kept w n → ⊥) where
+  abbrev s : Typing
+  s = typing t
+
+  abbrev ViewedNow : List Return → List Way → Memory → Type 0
+  ViewedNow returns ways m = ViewedAway t settled own_law no_formals hands leaks depth deep v facts scope other free whole none returns ways m
+
+  -- a scalar one
+  copied_wholly : (r : Return) (rest : List Return) (ways : List Way) (m : Memory) → IsCopied s r → Kept s m hands → ViewedNow (r ∷ rest) ways m
+      → AreTaken s m depth facts scope rest ways
+      → ((next : Memory) → Kept s next hands → ViewedNow rest ways next → AreTaken s next depth facts scope rest ways → AreWhollyBack t rest next)
+      → AreWhollyBack t (r ∷ rest) m
+  copied_wholly r rest ways m copied typed viewed taken more =
+      let formal : Place = variable_place (here t) r.formal in
+      let ws : List machine.Word = words_of s m formal in
+      let fixed : IsFixed s formal = formal_fixed t r.formal copied.0 in
+      let to : IsFixed s r.to = copied.1 in
+      let mid : Memory = moved_out s formal m in
+      let next : Memory = stored s r.to ws mid in
+      let first = moved_there s settled own_law hands leaks formal fixed m typed in
+      let second = stored_there s settled own_law hands leaks r.to copied.1 ws (fixed_one s settled formal fixed m hands typed) mid first.typed in
+      let on : Enters s settled own_law hands leaks m next = one_then s settled own_law hands leaks m mid next first second in (
+        (to.frame, to.object, to.base),
+        fixed_wholly s settled own_law hands formal fixed m typed,
+        more next on.typed
+            (more_gone (home s depth) (is_observer s) v (backed.away t settled own_law no_formals hands leaks depth deep v facts scope other free whole none (r ∷ rest) ways)
+            (AwayBy t settled own_law no_formals hands leaks depth deep v facts scope other free whole none rest ways) (seen s next hands leaks) facts
+            (λ w o. elim o [
+              | inl away_there ↦ inl away_there
+              | inr later ↦ elim later [
+                | inl taken_there ↦ inr (inl taken_there)
+                | inr left ↦ inr (inr (backed.left_more t settled own_law no_formals hands leaks depth deep v facts scope other free whole none r rest w left))
+              ]
+            ])
+            (same_viewed (home s depth) (is_observer s) (backed.away t settled own_law no_formals hands leaks depth deep v facts scope other free whole none (r ∷ rest) ways) v
+            (seen s m hands leaks) (seen s next hands leaks) facts on.same viewed))
+            (backed.taken_on t settled own_law no_formals hands leaks depth deep v facts scope other free whole none m next rest ways
+            (λ k w has there bare p c held. bare p c (sym (on.hold depth there.object (p ++ there.steps)) ∙ held)) taken),
+      )
+
+  pub back_wholly : (returns : List Return) (ways : List Way) (m : Memory) → AreTaken s m depth facts scope returns ways → Kept s m hands → ViewedNow returns ways m → AreWhollyBack t returns m
+  back_wholly [] ways m taken typed viewed = tt
+  back_wholly (r ∷ rest) [] m taken typed viewed =
+      copied_wholly r rest [] m taken.0 typed viewed taken.1 (λ next kept there later. back_wholly rest [] next later kept there)
+  back_wholly (r ∷ rest) (to ∷ ways) m (inl copied) typed viewed =
+      copied_wholly r rest (to ∷ ways) m copied.0 typed viewed copied.1 (λ next kept there later. back_wholly rest (to ∷ ways) next later kept there)
+  back_wholly (r ∷ rest) (to ∷ ways) m (inr (taken, apart, another, more)) typed viewed =
+      let begin = backed.taken_base t settled own_law no_formals hands leaks depth deep v facts scope other free whole none m rest ways more in
+      let next : Memory = stored s r.to (words_of s m (variable_place (here t) r.formal)) (moved_out s (variable_place (here t) r.formal) m) in (
+        (depth, (taken.0).inside.object, (taken.0).inside.base),
+        inside_wholly s settled no_formals hands leaks (suc depth) depth v facts
+            (backed.away t settled own_law no_formals hands leaks depth deep v facts scope other free whole none (r ∷ rest) (to ∷ ways))
+            (variable_place (here t) r.formal) (Object (OfVariable (suc depth) r.formal))
+            (backed.formal_inside t settled own_law no_formals hands leaks depth deep v facts scope other free whole none r rest to ways m taken apart another begin typed viewed) m typed viewed
+            (backed.clean t settled own_law no_formals hands leaks depth deep v facts scope other free whole none r rest to ways m taken apart another begin typed viewed),
+        back_wholly rest ways next
+            (backed.taken_on t settled own_law no_formals hands leaks depth deep v facts scope other free whole none m next rest ways
+            (λ k w has there bare. backed.one_bare t settled own_law no_formals hands leaks depth deep v facts scope other free whole none r rest to ways m taken apart another begin typed viewed k w has there bare) more)
+            (backed.one_kept t settled own_law no_formals hands leaks depth deep v facts scope other free whole none r rest to ways m taken apart another begin typed viewed)
+            (backed.one_viewed t settled own_law no_formals hands leaks depth deep v facts scope other free whole none r rest to ways m taken apart another begin typed viewed),
+      )
