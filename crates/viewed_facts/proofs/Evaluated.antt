@@ -1,5 +1,5 @@
 -- Facts without an element stay exact in expressions, with names through borrowers and observers.
-use Rattle.std.proofs.Common.{◌≡◌, refl, sym, ap, ◌∙◌, subst, ℕ, suc, ◌+◌, Bool, true, false, ◌||◌, List, [], ◌∷◌, ◌++◌, length, get_or, arith, append-nil, if◌then◌else◌, ◌⊎◌}
+use Rattle.std.proofs.Common.{◌≡◌, refl, sym, ap, ◌∙◌, subst, ℕ, suc, ◌+◌, Bool, true, false, ◌||◌, List, [], ◌∷◌, ◌++◌, length, arith, append-nil, if◌then◌else◌, ◌⊎◌}
 use Rattle.viewed_soundness.specs.Taken.{GivesPlainly}
 use Rattle.viewed_facts.proofs.Steps.{IsOthers, of_others}
 use Rattle.place_names.specs.declared.rule.Loan.TheVariants.{Borrowed}
@@ -9,8 +9,7 @@ use Rattle.place_names.specs.declared.fact.Fact.{Fact}
 use Rattle.place_names.specs.Names.{Name as PlaceName}
 use Rattle.place_names.specs.Facts.{effect}
 use Rattle.type_definitions.specs.declared.table.Shape.{Shape}
-use Rattle.type_definitions.specs.declared.table.Shape.TheVariants as shape
-use Rattle.type_definitions.specs.Types.{Table, shape_of, components_of, is_owning, parts}
+use Rattle.type_definitions.specs.Types.{shape_of, is_owning, parts}
 use Rattle.typed_tree.specs.Trees.{TypedTree, Number, Literal, Name, Call, EndOfFile, Parens, Unary, Binary, Short, IsNull, Aggregate, Alike, New, NoMore, More}
 use Rattle.typed_tree.specs.Trees as typed
 use Rattle.flow_paths.specs.Objects.{object_at, is_observer}
@@ -42,18 +41,9 @@ use Rattle.owned_loans.proofs.Allowed.{read_open, move_open}
 use Rattle.owned_loans.proofs.Moves.{named_way}
 use Rattle.viewed_soundness.specs.Holds.{IsNamed, PartsAreNamed, KeepsObserved, AllKeep}
 use Rattle.viewed_soundness.proofs.Stays.{Goes, taking, steps_taking, waited_quiet, name_on}
-use Rattle.viewed_soundness.proofs.Evaluated.{keep_both, matches_named, Ready, GivenOn, live_trunk, checked_on, blank_ready, evaluated_on}
+use Rattle.viewed_soundness.proofs.Evaluated.{keep_both, matches_named, Ready, GivenOn, live_trunk, checked_on, blank_ready, evaluated_on, part_named}
 use Rattle.viewed_facts.specs.Exact.{IsExact}
 use Rattle.viewed_facts.proofs.Memories.{taken_exact, made_exact}
-
--- the types of the parts of an aggregate aren't anonymous
-part_named : (table : Table) → PartsAreNamed table → (t i : ℕ) (sh : Shape) → shape_of table t ≡ sh → is_record sh || is_array sh ≡ true → IsNamed table (part_type sh i)
-part_named table named t i (shape.Fields cs) e made = subst (IsNamed table) (ap (λ z. (get_or (components_of z) i machine.no_component).of) e) (named.component t i)
-part_named table named t i (shape.Elements low high el) e made = subst (IsNamed table) (ap machine.element_of e) (named.element t)
-part_named table named t i (shape.Whole a b) e made = cc
-part_named table named t i (shape.Listed l a b) e made = cc
-part_named table named t i (shape.Access d c n) e made = cc
-part_named table named t i (shape.Same of) e made = cc
 
 module _ (h : Here) (settled : IsSettled h.typing.table) (leaks : List Leak) (waits : List (List machine.Word)) (other : Around (home h.typing h.frame))
     (alone : (w : Way) → IsNear h.frame w → other.gone w → ⊥) (keeps : Keeps h.typing)
