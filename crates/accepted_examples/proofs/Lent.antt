@@ -40,6 +40,7 @@ use Rattle.file_positions.proofs.Cuts.{cut_in_order}
 use Rattle.order_laws.specs.Orderly.{typed_of, typing_in}
 use Rattle.sound_files.specs.Class.{CallsProcedures, FormalsAreScalar, CopyToVariables}
 use Rattle.sound_files.proofs.Classes.{called_alike}
+use Rattle.sound_files.proofs.Owners.{calls_functions}
 use Rattle.viewed_files.proofs.Files.{parsed_called_sound}
 use Rattle.accepted_runs.proofs.Runs.{RunsAreSound}
 use Rattle.accepted_runs.proofs.Views.{AreInSecondViewClass}
@@ -134,7 +135,7 @@ copied = called_alike (program_of files) (λ n actuals.
     (at_any (λ (z : Signature). in_alone z.formals ≡ true) own.subs (record { formals = []; result = None }) refl (each (λ (z : Signature). in_alone z.formals) own.subs ins) n))
 
 pub class : AreInSecondViewClass files
-class = record { main = 2; is_main = is_main; calls = record { results = inl calls; formals = formals; copied = copied } }
+class = record { main = 2; is_main = is_main; calls = calls_functions (program_of files) (record { results = inl calls; formals = formals; copied = copied }) }
 
 -- ---- nothing is reported of it
 

@@ -1,5 +1,5 @@
--- The runs of programs with borrowers and observers that `check` accepts are sound: where formals and results are of
--- scalar types, and so where procedures alone are called, and without formals and calls.
+-- The runs of programs with borrowers and observers that `check` accepts are sound: where results are of scalar types,
+-- and formals too, or of mode `in out`; and so without formals and calls.
 use Rattle.std.proofs.Common.{◌≡◌, inl, ℕ, List, Some}
 use Rattle.spark_base.specs.declared.limits.TheConstants.{TOKENS, SOURCE_BYTES}
 use Rattle.ada_tree.specs.declared.unit.SourceUnit.{SourceUnit}
@@ -9,8 +9,9 @@ use Rattle.flow_paths.specs.declared.report.Effects.{Effects}
 use Rattle.soundness.proofs.Successors.{nothing_procedures}
 use Rattle.program_check.specs.Sources.{flow_of}
 use Rattle.order_laws.specs.Orderly.{typed_of}
-use Rattle.sound_files.specs.Class.{CallsNothing, CallsFunctions}
+use Rattle.sound_files.specs.Class.{CallsNothing, CallsWithOwners}
 use Rattle.sound_files.proofs.Classes.{formless_formals, formless_copied}
+use Rattle.sound_files.proofs.Owners.{calls_functions}
 use Rattle.viewed_files.specs.Class.{IsFormlessText}
 use Rattle.viewed_steps.specs.Ready.{IsReady}
 use Rattle.viewed_steps.proofs.Main.{ready_sound}
@@ -28,13 +29,14 @@ use Rattle.accepted_runs.proofs.Functions.{AreInThirdClass}
 
 -- ---- with calls
 
--- Formals are of scalar types, and so are results, or procedures alone are called. Actuals of modes `out` and `in out`
--- go through no access value.
+-- Formals are of scalar types, or of mode `in out` and of no anonymous access type, those of functions and of the main
+-- procedure of scalar types. Results are of scalar types, or procedures alone are called. Actuals of modes `out` and
+-- `in out` go through no access value, and those for formals of other types than scalar ones belong to no package.
 pub record AreInSecondViewClass (trees : List (List SourceUnit)) : Type 0 where
   -- there is a main procedure, so that there are runs
   pub main : ℕ
   pub is_main : (typed_of (program_of trees)).main ≡ Some main
-  pub calls : CallsFunctions (program_of trees)
+  pub calls : CallsWithOwners (program_of trees)
 
 -- Such a program is ready, as the laws on its steps ask.
 pub passed_called_ready : (texts : List (List ℕ)) (trees : List (List SourceUnit)) (effects : Effects) → Passes texts trees effects → AreInSecondViewClass trees
@@ -60,7 +62,7 @@ accepted_called_sound stored input words names answer command product zero =
 
 -- Programs without anonymous access types that call as above are of this class.
 pub third_second : (trees : List (List SourceUnit)) → AreInThirdClass trees → AreInSecondViewClass trees
-third_second trees class = record { main = class.text.main; is_main = class.text.is_main; calls = class.calls }
+third_second trees class = record { main = class.text.main; is_main = class.text.is_main; calls = calls_functions (program_of trees) class.calls }
 
 -- No subprogram has formals, and none is called. Anonymous access types are allowed.
 pub record AreInViewClass (trees : List (List SourceUnit)) : Type 0 where
@@ -71,11 +73,11 @@ pub first_second : (trees : List (List SourceUnit)) → AreInViewClass trees →
 first_second trees class = record {
   main = class.text.main;
   is_main = class.text.is_main;
-  calls = record {
+  calls = calls_functions (program_of trees) (record {
     results = inl (λ sub has p there. nothing_procedures p.instr (class.calls sub has p there));
     formals = formless_formals (program_of trees) class.text.formless;
     copied = formless_copied (program_of trees) class.text.formless;
-  };
+  });
 }
 
 -- So in this class they are, too.

@@ -33,7 +33,7 @@ use Rattle.soundness.specs.Ready.{IsReady}
 use Rattle.soundness.proofs.Points.{flow_table}
 use Rattle.soundness.proofs.Main.{ready_sound}
 use Rattle.ready_laws.specs.InOrder.{ArePassed}
-use Rattle.ready_laws.proofs.Actuals.{scalar_passed}
+use Rattle.ready_laws.proofs.Actuals.{typed_passed}
 use Rattle.order_laws.specs.Orderly.{typed_of, typing_in, IsOrderly}
 use Rattle.order_laws.proofs.Accepted.{is_in_order, third_ready}
 use Rattle.package_values.proofs.Main.{packages_still}
@@ -94,8 +94,8 @@ module _ (files : List (List SourceUnit)) where
     class = record {
       all_named = λ t d constant named is.
           access_named p text.named t d constant named (subst (λ (rows : Table). shape_of rows t ≡ shape.Access d constant named) (flow_table table (typed_of p)) is);
-      results = plain_results p calls (truths_scalar files apart ended up named no_fault views);
-      temporaries = temporaries_plain p calls (truths_scalar files apart ended up named no_fault views) (integers_scalar files apart ended up named no_fault views) lasts;
+      results = plain_results p calls.results (truths_scalar files apart ended up named no_fault views);
+      temporaries = temporaries_plain p calls.results (truths_scalar files apart ended up named no_fault views) (integers_scalar files apart ended up named no_fault views) lasts;
       formals = scalar_formals p calls.formals;
       copied = λ sub has q there n actuals result is known. copies p calls.copied sub has q there n actuals result is;
     }
@@ -104,7 +104,7 @@ module _ (files : List (List SourceUnit)) where
     passed : ArePassed flow
     passed =
         let laws = table_laws files apart ended up named no_fault views in
-        scalar_passed flow (scalar_formals p calls.formals) (subst (λ (rows : Table). counts (shape_of rows integer) ≡ true) same_table laws.whole)
+        typed_passed flow (subst (λ (rows : Table). counts (shape_of rows integer) ≡ true) same_table laws.whole)
         (subst (λ (rows : Table). lists (shape_of rows boolean) ≡ true) same_table laws.listed)
         (subst (λ (rows : Table). (t : ℕ) → words rows t ≡ words_of (words rows) (shape_of rows t)) same_table laws.word_law)
         (files_steps files apart ended up named no_fault)

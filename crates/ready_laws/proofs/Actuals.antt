@@ -16,7 +16,6 @@ use Rattle.typed_laws.specs.Fine.{Agree, counts, lists}
 use Rattle.typed_laws.specs.Needed.{Matches, Stays, IsPlace}
 use Rattle.typed_laws.proofs.Sound.{matches, stays, leads}
 use Rattle.typed_steps.specs.Steps.{IsPlaceOf, IsViewed, Taken, IsActual, ActualsTaken, IsTypedStep, AreTyped}
-use Rattle.soundness.specs.Sound.{IsProcedureClass}
 use Rattle.soundness.specs.Ready.{IsActualBy, AreActuals}
 use Rattle.soundness.proofs.Passing.{signature_there}
 use Rattle.ready_laws.specs.InOrder.{ArePassed}
@@ -34,11 +33,11 @@ module _ (y : Typing) (whole : counts (shape_of y.table integer) ≡ true) (list
   viewed want (Parens e) plain view = viewed want e plain view
   viewed want e plain view = view
 
-  taken_stays : (want : ℕ) (e : TypedTree) → is_scalar (full y.table want) ≡ true → Taken y want e → Stays y e
+  pub taken_stays : (want : ℕ) (e : TypedTree) → is_scalar (full y.table want) ≡ true → Taken y want e → Stays y e
   taken_stays want e plain (inl has) = stays y whole listed word_law e want has plain
   taken_stays want e plain (inr view) = absurd (viewed want e plain view)
 
-  scalar_back : (t u : ℕ) → Matches y.table t u → is_scalar (full y.table u) ≡ true → is_scalar (full y.table t) ≡ true
+  pub scalar_back : (t u : ℕ) → Matches y.table t u → is_scalar (full y.table u) ≡ true → is_scalar (full y.table t) ≡ true
   scalar_back t u (inl e) plain = ap (λ z. is_scalar (view_of z)) e ∙ plain
   scalar_back t u (inr (a, b)) plain = a
 
@@ -70,24 +69,19 @@ module _ (program : FlowProgram) where
   abbrev s : Typing
   s = flow_typing program
 
-  -- where typing finds no fault, and formals are of scalar types
-  pub scalar_passed : ((x : ℕ) → is_formal s x ≡ true → is_scalar (full program.table (object_at s x).of) ≡ true) → counts (shape_of program.table integer) ≡ true
-      → lists (shape_of program.table boolean) ≡ true → ((t : ℕ) → words program.table t ≡ words_of (words program.table) (shape_of program.table t)) → AreTyped program
-      → ArePassed program
-  scalar_passed formals whole listed word_law typed sub has p there n actuals result is known =
+  -- where typing finds no fault
+  pub typed_passed : counts (shape_of program.table integer) ≡ true → lists (shape_of program.table boolean) ≡ true
+      → ((t : ℕ) → words program.table t ≡ words_of (words program.table) (shape_of program.table t)) → AreTyped program → ArePassed program
+  typed_passed whole listed word_law typed sub has p there n actuals result is known plain =
       let call = subst (λ i. IsTypedStep (flow_typing program) sub.result i) is (typed sub has p there) in
       let same : (sub_at (flow_typing program) n).formals ≡ (sub_of program n).formals = ap (λ (z : Signature). z.formals) (signature_there program.subs n) in
       subst (λ fs. AreActuals (flow_typing program) fs actuals) same
       (actuals_stay (flow_typing program) whole listed word_law (sub_at (flow_typing program) n).formals actuals
-      (λ x formal. formals x (known x (subst (λ fs. Has fs x) same formal))) call.0)
-
-  pub typed_passed : IsProcedureClass program → counts (shape_of program.table integer) ≡ true → lists (shape_of program.table boolean) ≡ true
-      → ((t : ℕ) → words program.table t ≡ words_of (words program.table) (shape_of program.table t)) → AreTyped program → ArePassed program
-  typed_passed class = scalar_passed class.formals
+      (λ x formal. plain x (subst (λ fs. Has fs x) same formal)) call.0)
 
   -- where there are no formals
   pub formless_passed : ((x : ℕ) → is_formal (flow_typing program) x ≡ false) → ArePassed program
-  formless_passed none sub has p there n actuals result is known = by_formals (sub_of program n).formals known
+  formless_passed none sub has p there n actuals result is known plain = by_formals (sub_of program n).formals known
     where
       by_formals : (formals : List ℕ) → ((x : ℕ) → Has formals x → is_formal (flow_typing program) x ≡ true) → AreActuals (flow_typing program) formals actuals
       by_formals [] known = tt

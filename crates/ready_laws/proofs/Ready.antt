@@ -9,7 +9,7 @@ use Rattle.place_names.specs.declared.act.Placed.{Placed}
 use Rattle.place_names.specs.declared.fact.Fact.TheVariants.{Moved}
 use Rattle.place_names.specs.Facts.{adds}
 use Rattle.place_names.specs.Names.{Name as PlaceName}
-use Rattle.type_definitions.specs.Types.{Table, is_owning}
+use Rattle.type_definitions.specs.Types.{Table, full, is_scalar, is_owning}
 use Rattle.typed_tree.specs.Trees.{TypedTree, Name}
 use Rattle.typed_tree.specs.declared.object.Object.{Object}
 use Rattle.typed_tree.specs.Programs.{TypedSub, TypedProgram, text_io}
@@ -358,8 +358,21 @@ module _ (table : Table) (typed : TypedProgram) (effects : Effects) (accepted : 
       let found = answered sub has p there n actuals result is in
       formals_at found.0 found.1 found.3 x (subst (λ m. Has (sub_of program m).formals x) found.2 formal)
 
-  pub are_called : AreCalled table typed
-  are_called sub has p there n actuals result is =
+  -- it can run, and answers where it is asked for a result
+  pub runs_there : (sub : FlowSub) → Has program.subs sub → (p : FlowPoint) → Has sub.points p → (n : ℕ) (actuals : TypedTree) (result : Option ℕ)
+      → p.instr ≡ Call n actuals result → IsRunnable table typed n × (is_some (sub_of program n).result ≡ is_some result)
+  runs_there sub has p there n actuals result is =
+      let found = answered sub has p there n actuals result is in (
+        subst (IsRunnable table typed) (sym found.2)
+            (is_runnable found.0 found.1 found.3 (inr (sub, has, p, there, actuals, result, is ∙ ap (λ m. Call m actuals result) found.2))),
+        ap (λ m. is_some (sub_of program m).result) found.2 ∙ (ap is_some (result_at found.0 found.1 found.3) ∙ found.4),
+      )
+
+  pub text_io_there : is_package_object s 0 ≡ false
+  text_io_there = package_same s own alike 0 ∙ order.text_io
+
+  pub are_called : ((x : ℕ) → is_formal s x ≡ true → is_scalar (full s.table (object_at s x).of) ≡ true) → AreCalled table typed
+  are_called plain sub has p there n actuals result is =
       let found = answered sub has p there n actuals result is in
       let known = formals_known sub has p there n actuals result is in
       record {
@@ -367,7 +380,7 @@ module _ (table : Table) (typed : TypedProgram) (effects : Effects) (accepted : 
             (is_runnable found.0 found.1 found.3 (inr (sub, has, p, there, actuals, result, is ∙ ap (λ m. Call m actuals result) found.2)));
         answers = ap (λ m. is_some (sub_of program m).result) found.2 ∙ (ap is_some (result_at found.0 found.1 found.3) ∙ found.4);
         formals = known;
-        actuals_stay = passed sub has p there n actuals result is known;
+        actuals_stay = passed sub has p there n actuals result is known (λ x formal. plain x (known x formal));
         text_io = package_same s own alike 0 ∙ order.text_io;
       }
 
@@ -456,7 +469,7 @@ module _ (table : Table) (typed : TypedProgram) (effects : Effects) (accepted : 
         record {
           known = known;
           formals = λ x formal. class.formals x (known x formal);
-          actuals_stay = passed sub has p there n actuals result is known;
+          actuals_stay = passed sub has p there n actuals result is known (λ x formal. class.formals x (known x formal));
         }
 
     abbrev IsNewIn : FlowSub → Type 0
@@ -519,7 +532,7 @@ module _ (table : Table) (typed : TypedProgram) (effects : Effects) (accepted : 
       elaborated = are_elaborated;
       packages = packages;
       stands = packages_stand;
-      called = are_called;
+      called = are_called class.formals;
       returning = are_returning;
       main = suc order.number;
       is_main = main_is;

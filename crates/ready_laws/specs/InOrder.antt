@@ -3,7 +3,7 @@
 use Rattle.std.specs.Prelude.{◌≡◌, ℕ, suc, ◌≤◌, ◌<◌, Bool, true, false, not, ◌&&◌, List, ◌∷◌, ◌++◌, length, Option, Some, None, is_some}
 use Rattle.std.specs.List.{list_all}
 use Rattle.spark_base.specs.Lists.{Has}
-use Rattle.type_definitions.specs.Types.{Table, is_owning}
+use Rattle.type_definitions.specs.Types.{Table, full, is_scalar, is_owning}
 use Rattle.typed_tree.specs.Trees.{TypedTree, TypedCode}
 use Rattle.typed_tree.specs.Trees as typed
 use Rattle.typed_tree.specs.Programs.{TypedSub, TypedProgram}
@@ -92,9 +92,11 @@ AreAnswered table program rest =
 abbrev pub AreStill : Table → TypedProgram → TypedSub → Type 0
 AreStill table program first = (p : NamedPoint) → Has (elaboration_points (unnumbered (typing_of table program)) first) p → calls_procedures p.instr ≡ true
 
--- Where the formals of what is called are known as such, the actuals stay within what they name.
+-- Where the formals of what is called are known as such and are of scalar types, the actuals stay within what
+-- they name.
 abbrev pub ArePassed : FlowProgram → Type 0
 ArePassed program =
     (sub : FlowSub) → Has program.subs sub → (p : FlowPoint) → Has sub.points p → (n : ℕ) (actuals : TypedTree) (result : Option ℕ)
     → p.instr ≡ Call n actuals result → ((x : ℕ) → Has (sub_of program n).formals x → is_formal (flow_typing program) x ≡ true)
+    → ((x : ℕ) → Has (sub_of program n).formals x → is_scalar (full program.table (object_at (flow_typing program) x).of) ≡ true)
     → AreActuals (flow_typing program) (sub_of program n).formals actuals

@@ -26,7 +26,7 @@ use Rattle.soundness.proofs.Points.{flow_table, typing_same}
 use Rattle.soundness.proofs.Temporaries.{few_temporaries}
 use Rattle.soundness.proofs.Passing.{signature_is}
 use Rattle.soundness.proofs.Typings.{flow_agrees}
-use Rattle.called_subs.specs.Called.{PointCalls, HaveBodies}
+use Rattle.called_subs.specs.Called.{PointCalls, CodeCalls, HaveBodies}
 use Rattle.called_subs.proofs.Main.{points_asked_at}
 use Rattle.called_subs.proofs.Statements.{IsFineSub, all_subs_fine}
 use Rattle.typed_steps.specs.Steps.{IsTypedStep, AreTyped}
@@ -34,7 +34,7 @@ use Rattle.ready_laws.specs.InOrder.{IsSub, AreCallees, AreAnswered}
 use Rattle.scope_laws.proofs.Lists.{all_has}
 use Rattle.meant_files.specs.Formless.{IsFormless}
 use Rattle.order_laws.specs.Orderly.{typed_of, typing_in, bodies_of}
-use Rattle.sound_files.specs.Class.{CallsProcedures, HasNoFunction, HasScalarFormals, CopiesToVariables, FormalsAreScalar, ResultsAreScalar, CopyToVariables, CallsFunctions}
+use Rattle.sound_files.specs.Class.{CallsProcedures, HasNoFunction, HasScalarFormals, CopiesToVariables, FormalsAreScalar, ResultsAreScalar, CopyToVariables}
 use Rattle.sound_files.proofs.Temporaries.{plain_temporaries}
 use Rattle.sound_files.proofs.Formless.{subs_none}
 use Rattle.sound_files.proofs.Formals.{no_formals}
@@ -43,7 +43,7 @@ use Rattle.sound_files.proofs.Called.{at_number, called_body}
 -- ---- objects
 
 -- After the objects of the text come temporaries.
-object_there : (xs : List Object) (ts : List Temporary) (x : ℕ)
+pub object_there : (xs : List Object) (ts : List Temporary) (x : ℕ)
     → (get_or (xs ++ map temporary_object ts) x text_io ≡ get_or xs x text_io)
     ⊎ (((get_or (xs ++ map temporary_object ts) x text_io).kind ≡ object_kind.Temporary) × ((get_or (xs ++ map temporary_object ts) x text_io).mode ≡ mode.In)
     × (get_or xs x text_io ≡ text_io))
@@ -56,11 +56,11 @@ object_there (o ∷ xs) ts (suc x) = object_there xs ts x
 abbrev temporaries_of : NamedSub → List Temporary
 temporaries_of named = named.temporaries
 
-all_of : {A : Type 0} (P : A → Type 0) (xs : List A) → ((x : A) → Has xs x → P x) → AllByRecursion P xs
+pub all_of : {A : Type 0} (P : A → Type 0) (xs : List A) → ((x : A) → Has xs x → P x) → AllByRecursion P xs
 all_of P [] each = tt
 all_of P (x ∷ xs) each = (each x (inl refl), all_of P xs (λ z has. each z (inr has)))
 
-signature_at : (subs : List TypedSub) (n : ℕ)
+pub signature_at : (subs : List TypedSub) (n : ℕ)
     → (get_or (map signature subs) n (record { formals = []; result = None }) ≡ record { formals = []; result = None })
     ⊎ ((sub : TypedSub) × Has subs sub × (get_or (map signature subs) n (record { formals = []; result = None }) ≡ signature sub))
 signature_at [] n = inl refl
@@ -133,11 +133,14 @@ module _ (p : Program) where
       (subst (PointCalls Copied) same (points_asked_at Copied table (typed_of p) (all_of (IsFineSub Copied) (typed_of p).subs all) i.0 k.0)))
 
   -- Where all subprograms may be called with any actuals, so are calls.
-  pub called_alike : ((n : ℕ) (actuals : TypedTree) → AreCopied (typing_in p) (sub_at (typing_in p) n).formals actuals) → CopyToVariables p
+  pub all_called : (asked : ℕ → TypedTree → Type 0) → ((n : ℕ) (actuals : TypedTree) → asked n actuals) → (sub : TypedSub) → Has (typed_of p).subs sub → CodeCalls asked sub.body
   unfolding typed_program
-  called_alike all sub has =
-      all_has (IsFineSub Copied) (typed_of p).subs sub
-      (all_subs_fine Copied (site_of (known_of p) p.units) (λ d is actuals. all (sub_number (site_of (known_of p) p.units) d) actuals) p.units) has
+  all_called asked all sub has =
+      all_has (IsFineSub asked) (typed_of p).subs sub
+      (all_subs_fine asked (site_of (known_of p) p.units) (λ d is actuals. all (sub_number (site_of (known_of p) p.units) d) actuals) p.units) has
+
+  pub called_alike : ((n : ℕ) (actuals : TypedTree) → AreCopied (typing_in p) (sub_at (typing_in p) n).formals actuals) → CopyToVariables p
+  called_alike = all_called Copied
 
   -- ---- what is called
 
@@ -145,14 +148,16 @@ module _ (p : Program) where
   signature_in [] rest sub d = refl
   signature_in (x ∷ front) rest sub d = signature_in front rest sub d
 
-  result_there : (k : ℕ) (callee : TypedSub) → IsSub (bodies_of p) k callee → (sub_at (flow_typing flow) (suc k)).result ≡ callee.result
+  pub signature_there : (k : ℕ) (callee : TypedSub) → IsSub (bodies_of p) k callee → sub_at (flow_typing flow) (suc k) ≡ signature callee
   unfolding typed_program
-  result_there k callee (front, rest, is, long) =
-      ap (λ (z : Signature). z.result) (signature_same (suc k))
-      ∙ ap (λ (z : Signature). z.result)
-      (ap (λ n. get_or (map signature (bodies_of p)) n (record { formals = []; result = None })) (sym long)
+  signature_there k callee (front, rest, is, long) =
+      signature_same (suc k)
+      ∙ ap (λ n. get_or (map signature (bodies_of p)) n (record { formals = []; result = None })) (sym long)
       ∙ ap (λ xs. get_or (map signature xs) (length front) (record { formals = []; result = None })) is
-      ∙ signature_in front rest callee (record { formals = []; result = None }))
+      ∙ signature_in front rest callee (record { formals = []; result = None })
+
+  result_there : (k : ℕ) (callee : TypedSub) → IsSub (bodies_of p) k callee → (sub_at (flow_typing flow) (suc k)).result ≡ callee.result
+  result_there k callee is = ap (λ (z : Signature). z.result) (signature_there k callee is)
 
   -- Where steps are typed, it has a body, and is a function where the call has a result.
   pub are_answered : HaveBodies p → AreTyped flow → AreAnswered table (typed_of p) (bodies_of p)
@@ -202,13 +207,13 @@ module _ (p : Program) where
 
   -- ---- results and temporaries
 
-  module _ (calls : CallsFunctions p) (truths : is_scalar (full (known_of p).table boolean) ≡ true) where
+  module _ (results : CallsProcedures (flow_program (known_of p).table (typed_of p)) ⊎ ResultsAreScalar p) (truths : is_scalar (full (known_of p).table boolean) ≡ true) where
     same_table : table ≡ flow.table
     same_table = sym (flow_table table (typed_of p))
 
     -- Functions give values of scalar types, or procedures alone are called.
     pub plain_results : CallsProcedures flow ⊎ ArePlainResults (flow_typing flow)
-    plain_results = elim calls.results [
+    plain_results = elim results [
       | inl procedures ↦ inl procedures
       | inr scalar ↦ inr (
         λ n t is.
@@ -221,7 +226,7 @@ module _ (p : Program) where
     pub temporaries_plain : is_scalar (full (known_of p).table integer) ≡ true → ((x : ℕ) → is_temporary (object_at (typing_in p) x).kind ≡ false) → (x : ℕ)
         → is_temporary_object (flow_typing (flow_program (known_of p).table (typed_of p))) x ≡ true
         → is_scalar (full (flow_program (known_of p).table (typed_of p)).table (object_at (flow_typing (flow_program (known_of p).table (typed_of p))) x).of) ≡ true
-    temporaries_plain integers lasts x is = elim calls.results [
+    temporaries_plain integers lasts x is = elim results [
       | inl procedures ↦ absurd (
           let none : false ≡ true =
           sym (lasts x) ∙ sym (ap (λ (z : Typing). is_temporary_object z x) (typing_same table (typed_of p) (few_temporaries table (typed_of p) procedures))) ∙ is in cc)

@@ -15,4 +15,5 @@ pub mod Called
 -- what the third class says as it is laid out
 pub mod Temporaries
 pub mod Classes
+pub mod Owners
 pub mod Examples

@@ -1,19 +1,22 @@
 -- Programs with a main procedure and without anonymous access types, by their text: those without formals and
 -- calls, those that call procedures alone, whose formals are of scalar types, and those that call functions, too,
--- whose results are.
-use Rattle.std.specs.Prelude.{◌≡◌, ◌⊎◌, ℕ, true, Option, Some, None}
+-- whose results are. And programs with formals of types that own.
+use Rattle.std.specs.Prelude.{suc, ◌≡◌, ◌⊎◌, ℕ, true, false, List, ◌∷◌, Option, Some, None}
 use Rattle.spark_base.specs.Lists.{Has}
+use Rattle.place_names.specs.declared.act.Mode.TheVariants as mode
 use Rattle.resolved_tree.specs.Trees.{Code, Program}
 use Rattle.type_definitions.specs.Types.{full, is_scalar}
 use Rattle.type_definitions.specs.Whole.{known_of}
-use Rattle.typed_tree.specs.Trees.{TypedTree}
+use Rattle.typed_tree.specs.Trees.{TypedTree, More}
 use Rattle.typed_tree.specs.Programs.{TypedSub}
 use Rattle.flow_paths.specs.Instructions.{Call}
-use Rattle.flow_paths.specs.Objects.{object_at, sub_at, is_formal}
+use Rattle.flow_paths.specs.Objects.{Typing, object_at, sub_at, is_formal, is_anonymous, is_package_object, view_of}
 use Rattle.flow_paths.specs.Points.{FlowPoint}
 use Rattle.flow_paths.specs.Laid.{FlowSub, FlowProgram, flow_typing, flow_program}
 use Rattle.machine.specs.States.{sub_of}
 use Rattle.soundness.specs.Sound.{calls_nothing, calls_procedures, AreCopied}
+use Rattle.soundness.specs.Ready.{root_of}
+use Rattle.ready_laws.specs.InOrder.{IsSub}
 use Rattle.gathered_laws.specs.Named.{IsNamed}
 use Rattle.called_subs.specs.Called.{CodeCalls}
 use Rattle.order_laws.specs.Orderly.{typed_of, typing_in, bodies_of}
@@ -78,3 +81,46 @@ pub record CallsFunctions (p : Program) : Type 0 where
   -- formals, too, and actuals of modes `out` and `in out` go through no access value
   pub formals : FormalsAreScalar p
   pub copied : CopyToVariables p
+
+-- ---- with formals that own
+
+abbrev pub IsScalarAt : Typing → ℕ → Type 0
+IsScalarAt s x = is_scalar (full s.table (object_at s x).of) ≡ true
+
+-- A formal is of a scalar type, or of mode `in out` and of no anonymous access type.
+abbrev pub FormalsAreKinds : Program → Type 0
+FormalsAreKinds p =
+    (x : ℕ) → is_formal (typing_in p) x ≡ true
+    → IsScalarAt (typing_in p) x ⊎ (((object_at (typing_in p) x).mode ≡ mode.InOut) × (is_anonymous (view_of (typing_in p) x) ≡ false))
+
+-- Formals of functions are of scalar types,
+abbrev pub FunctionsTakeScalars : Program → Type 0
+FunctionsTakeScalars p =
+    (sub : TypedSub) → Has (bodies_of p) sub → (t : ℕ) → sub.result ≡ Some t → (x : ℕ) → Has sub.formals x → is_formal (typing_in p) x ≡ true → IsScalarAt (typing_in p) x
+
+-- and so are those of the main procedure.
+abbrev pub MainTakesScalars : Program → Type 0
+MainTakesScalars p =
+    (n : ℕ) (sub : TypedSub) → (typed_of p).main ≡ Some (suc n) → IsSub (bodies_of p) n sub → (x : ℕ) → Has sub.formals x → is_formal (typing_in p) x ≡ true
+    → IsScalarAt (typing_in p) x
+
+-- An actual for a formal that isn't of a scalar type is rooted in an object that belongs to no package.
+abbrev pub AreOwnActuals : Typing → List ℕ → TypedTree → Type 0
+AreOwnActuals s (x ∷ formals) (More e rest) =
+    (is_formal s x ≡ true → is_scalar (full s.table (object_at s x).of) ≡ false → (y : ℕ) → Has (root_of e) y → is_package_object s y ≡ false)
+    × AreOwnActuals s formals rest
+AreOwnActuals s formals actuals = Unit {0}
+
+abbrev pub PassOwnObjects : Program → Type 0
+PassOwnObjects p =
+    (sub : TypedSub) → Has (typed_of p).subs sub → CodeCalls (λ n actuals. AreOwnActuals (typing_in p) (sub_at (typing_in p) n).formals actuals) sub.body
+
+pub record CallsWithOwners (p : Program) : Type 0 where
+  -- results are of scalar types; or procedures alone are called
+  pub results : CallsProcedures (flow_program (known_of p).table (typed_of p)) ⊎ ResultsAreScalar p
+  pub formals : FormalsAreKinds p
+  pub functions : FunctionsTakeScalars p
+  pub main : MainTakesScalars p
+  -- actuals of modes `out` and `in out` go through no access value
+  pub copied : CopyToVariables p
+  pub passed : PassOwnObjects p

@@ -24,17 +24,22 @@ use Rattle.typed_tree.specs.Trees.{TypedTree, Number, Literal, Text, Name, Compo
 use Rattle.typed_tree.specs.Trees as typed
 use Rattle.flow_paths.specs.Instructions.{Instruction, Skip, Declare, Assign, Output, Input, Release, Test, Choose, Start, Next, Evaluate, LeaveLoop, Hold, EndScope, Finish, Fall}
 use Rattle.flow_paths.specs.Instructions as instruction
-use Rattle.flow_paths.specs.Objects.{Typing, object_at, is_variable, is_borrower, is_observer, is_borrowing, is_observing, is_anonymous, view_of, traverses}
+use Rattle.flow_paths.specs.Objects as objects
+use Rattle.flow_paths.specs.Objects.{Typing, ByValue, passing_by, is_named_access, object_at, is_variable, is_borrower, is_observer, is_borrowing, is_observing, is_anonymous, view_of, traverses}
 use Rattle.flow_paths.specs.Names.{Written, name_of, selectors, written, first, source, whole, has_call}
 use Rattle.flow_paths.specs.Acts.{acts_in, acts_of, used, placed, naming, observe, reborrow, target_pos, index_acts, source_acts, assigned_to, stored_acts, declared_acts, returned_acts, gives_variable, actual_act, actual_acts}
 use Rattle.flow_paths.specs.Views.{changes}
 use Rattle.machine.specs.Words.{component_type, element_of, no_component}
 use Rattle.soundness.specs.Typed.{OwnsByShape}
 use Rattle.soundness.specs.Sound.{IsNoCall}
-use Rattle.soundness.specs.Ready.{IsActualBy, AreActuals}
-use Rattle.soundness.proofs.Passing.{IsRead, AreReads, way_by, way_of}
-use Rattle.typed_laws.specs.Needed.{Stays, Leads, Gives, GivesParts, GivesFirst, Writes, FirstWrites, Source, FirstSource, IsPlace, FirstStays, Returns, IsFine}
+use Rattle.soundness.proofs.Passing.{IsRead, AreReads}
+use Rattle.typed_laws.specs.Needed.{Matches, Stays, Leads, Gives, GivesParts, GivesFirst, Writes, FirstWrites, Source, FirstSource, IsPlace, FirstStays, Returns, IsFine}
 use Rattle.viewed_soundness.specs.Holds.{IsNamed, PartsAreNamed}
+use Rattle.viewed_soundness.proofs.Evaluated.{matches_named}
+use Rattle.viewed_steps.specs.Sound.{IsKindOfFormal}
+use Rattle.viewed_steps.specs.Ready.{IsActualTo, AreActualsTo}
+use Rattle.viewed_steps.proofs.Read.{scalar_named}
+use Rattle.viewed_steps.proofs.Called.{way_to, in_plain}
 use Rattle.scope_laws.specs.Code.{roots}
 use Rattle.scope_laws.specs.Order.{named_in}
 use Rattle.view_laws.specs.InOrder.{is_call, NamesSource}
@@ -653,29 +658,44 @@ module _ (s : Typing) (own_law : OwnsByShape s.table) (parts_named : PartsAreNam
       by a (m, inr e) = subst (IsGood xs) (sym e) (good_quiet xs (act.Look m) ((λ name none. none), (λ k f. cc)))
 
   -- A place that is copied back to: nothing is moved, and no observer is changed.
-  copied_good : (m : Mode) (e : TypedTree) (xs : List ℕ) → IsActualBy s m e → AreGood (actual_act (way_by s own_law m) e) xs
-  copied_good mode.In e xs actual = λ a has. absurd has
-  copied_good mode.Out (Name p x steps t) xs (u, there, plain) =
-      good_one (placed p (act.Actual (name_of x steps) mode.Out false false)) xs (
-        (λ name none. absurd none),
-        (λ m e empty. changed_whole x steps t m there.0 (ap (λ z. is_anonymous (full s.table z)) there.1 ∙ scalar_plain u plain)
-            (let same : name_of x steps ≡ m = cc in same) empty),
+  place_acted : (m : Mode) (owning access : Bool) (p : Pos) (x u t : ℕ) (steps : TypedTree) (xs : List ℕ) → ((k : PlaceName) → adds (act.Actual k m owning access) ≡ [])
+      → ((k n : PlaceName) → changes (act.Actual k m owning access) ≡ Some n → k ≡ n)
+      → IsPlace s (Name p x steps t) u → is_anonymous (full s.table u) ≡ false
+      → AreGood (placed p (act.Actual (name_of x steps) m owning access) ∷ []) xs
+  place_acted m owning access p x u t steps xs none same there plain =
+      good_one (placed p (act.Actual (name_of x steps) m owning access)) xs (
+        (λ f new. absurd (subst (λ z. Has z f) (none (name_of x steps)) new)),
+        (λ n e empty. changed_whole x steps t n there.0 (ap (λ z. is_anonymous (full s.table z)) there.1 ∙ plain) (same (name_of x steps) n e) empty),
       )
-  copied_good mode.Out e xs (u, never, plain) = absurd never
-  copied_good mode.InOut (Name p x steps t) xs (u, there, plain) =
-      good_one (placed p (act.Actual (name_of x steps) mode.InOut false false)) xs (
-        (λ name none. absurd none),
-        (λ m e empty. changed_whole x steps t m there.0 (ap (λ z. is_anonymous (full s.table z)) there.1 ∙ scalar_plain u plain)
-            (let same : name_of x steps ≡ m = cc in same) empty),
-      )
-  copied_good mode.InOut e xs (u, never, plain) = absurd never
 
-  pub copies_good : (formals : List ℕ) (actuals : TypedTree) (xs : List ℕ) → AreActuals s formals actuals
-      → AreGood (actual_acts (map (way_of s own_law) formals) actuals) xs
-  copies_good [] actuals xs stay a has = absurd has
-  copies_good (x ∷ formals) (More e rest) xs stay a has =
-      elim (Has-append_cases (actual_act (way_of s own_law x) e) (actual_acts (map (way_of s own_law) formals) rest) a has) [
-        | inl mine ↦ copied_good (object_at s x).mode e xs stay.0 a mine
-        | inr others ↦ copies_good formals rest xs stay.1 a others
+  -- by the mode
+  copied_good : (x : ℕ) (m : Mode) (owning access : Bool) (e : TypedTree) (xs : List ℕ) → (m ≡ mode.In → owning ≡ false) → IsKindOfFormal s x → IsActualTo s x m e
+      → AreGood (actual_act (passing_by m owning access) e) xs
+  copied_good x mode.In owning access e xs fits kind actual =
+      subst (λ b. AreGood (actual_act (if b then objects.Place mode.In b access else ByValue) e) xs) (sym (fits refl)) (λ a has. absurd has)
+  copied_good x mode.Out owning access (Name p y steps t) xs fits kind (u, there, plain) =
+      place_acted mode.Out owning access p y u t steps xs (λ k. refl) (λ k n e. (let same : k ≡ n = cc in same)) there (scalar_plain u plain)
+  copied_good x mode.Out owning access e xs fits kind (u, never, plain) = absurd never
+  copied_good x mode.InOut owning access (Name p y steps t) xs fits kind (u, there, matches, which) =
+      place_acted mode.InOut owning access p y u t steps xs (λ k. refl) (λ k n e. (let same : k ≡ n = cc in same)) there
+      (named_plain s.table u (matches_named s.table (object_at s x).of u (flipped u (object_at s x).of matches) (named_kind kind)))
+    where
+      flipped : (a b : ℕ) → Matches s.table a b → Matches s.table b a
+      flipped a b (inl e) = inl (sym e)
+      flipped a b (inr (e, f)) = inr (f, e)
+
+      named_kind : IsKindOfFormal s x → IsNamed s.table (object_at s x).of
+      named_kind (inl scalar) = scalar_named s.table (object_at s x).of scalar
+      named_kind (inr (in_out, own)) = own
+  copied_good x mode.InOut owning access e xs fits kind (u, never, matches, which) = absurd never
+
+  pub copies_good : (procedure : Bool) (formals : List ℕ) (actuals : TypedTree) (xs : List ℕ) → ((x : ℕ) → Has formals x → IsKindOfFormal s x) → AreActualsTo s formals actuals
+      → AreGood (actual_acts (map (way_to s own_law procedure) formals) actuals) xs
+  copies_good procedure [] actuals xs kinds stay a has = absurd has
+  copies_good procedure (x ∷ formals) (More e rest) xs kinds stay a has =
+      elim (Has-append_cases (actual_act (way_to s own_law procedure x) e) (actual_acts (map (way_to s own_law procedure) formals) rest) a has) [
+        | inl mine ↦ copied_good x (object_at s x).mode (is_owning s.table (object_at s x).of) (procedure && is_named_access (view_of s x)) e xs
+            (in_plain s own_law procedure x (kinds x (inl refl))) (kinds x (inl refl)) stay.0 a mine
+        | inr others ↦ copies_good procedure formals rest xs (λ y there. kinds y (inr there)) stay.1 a others
       ]
-  copies_good (x ∷ formals) actuals xs stay a has = absurd has
+  copies_good procedure (x ∷ formals) actuals xs kinds stay a has = absurd has

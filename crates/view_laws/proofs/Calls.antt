@@ -1,29 +1,34 @@
 -- The acts of each point, those of calls among them.
-use Rattle.std.proofs.Common.{◌≡◌, sym, ap, subst, inl, inr, ℕ, true, false, List, map, ◌++◌, Option}
+use Rattle.std.proofs.Common.{Bool, not, is_some, ◌≡◌, sym, ap, subst, inl, inr, ℕ, true, false, List, map, ◌++◌, Option}
 use Rattle.spark_base.specs.Lists.{Has}
 use Rattle.spark_base.specs.declared.position.Pos.{Pos}
 use Rattle.spark_base.proofs.Lists.{Has-append_cases}
 use Rattle.place_names.specs.declared.act.Placed.{Placed}
 use Rattle.typed_tree.specs.Trees.{TypedTree}
 use Rattle.flow_paths.specs.Instructions.{Instruction, Call}
-use Rattle.flow_paths.specs.Objects.{object_at, is_variable, is_anonymous, traverses, view_of}
+use Rattle.flow_paths.specs.Objects.{object_at, is_formal, is_variable, is_anonymous, traverses, view_of}
 use Rattle.flow_paths.specs.Acts.{acts_of, actual_values, actual_acts}
 use Rattle.flow_paths.specs.Points.{FlowPoint}
 use Rattle.flow_paths.specs.Laid.{FlowSub, FlowProgram, flow_typing}
 use Rattle.machine.specs.States.{sub_of}
 use Rattle.soundness.specs.Typed.{OwnsByShape}
 use Rattle.soundness.proofs.Successors.{call_or}
-use Rattle.soundness.proofs.Passing.{way_of, values_read, passed_by}
 use Rattle.typed_laws.specs.Needed.{IsFine}
 use Rattle.viewed_soundness.specs.Holds.{PartsAreNamed}
 use Rattle.scope_laws.specs.Order.{named_in}
-use Rattle.ready_laws.proofs.Facts.{IsScalarCall}
+use Rattle.viewed_steps.specs.Sound.{IsKindOfFormal}
+use Rattle.viewed_steps.specs.Ready.{AreActualsTo}
+use Rattle.viewed_steps.proofs.Called.{way_to, values_are_read, passes_to}
 use Rattle.view_laws.specs.InOrder.{NamesSource}
 use Rattle.view_laws.proofs.Acts.{AreGood, instruction_good, reads_good, copies_good}
 
--- Formals of what is called are known as such and are of scalar types, and so is its result.
-abbrev pub IsViewCall : (program : FlowProgram) → OwnsByShape (flow_typing program).table → ℕ → TypedTree → Type 0
-IsViewCall program owns n actuals = IsScalarCall program owns n actuals × (traverses (flow_typing program).table (sub_of program n).result ≡ false)
+-- Formals of what is called are known as such and are of the class, and so are its actuals; its result is of no
+-- anonymous access type.
+pub record IsViewCall (program : FlowProgram) (owns : OwnsByShape (flow_typing program).table) (n : ℕ) (actuals : TypedTree) : Type 0 where
+  pub known : (x : ℕ) → Has (sub_of program n).formals x → is_formal (flow_typing program) x ≡ true
+  pub kinds : (x : ℕ) → Has (sub_of program n).formals x → IsKindOfFormal (flow_typing program) x
+  pub actuals_stay : AreActualsTo (flow_typing program) (sub_of program n).formals actuals
+  pub no_traversal : traverses (flow_typing program).table (sub_of program n).result ≡ false
 
 abbrev pub AreViewCalls : (program : FlowProgram) → OwnsByShape (flow_typing program).table → Type 0
 AreViewCalls program owns =
@@ -34,15 +39,17 @@ module _ (program : FlowProgram) (owns : OwnsByShape program.table) (parts_named
   -- A call reads what its actuals name, and what is copied back to is no observer.
   call_good : (result : Option ℕ) (kept xs : List ℕ) (pos : Pos) (n : ℕ) (actuals : TypedTree) (t : Option ℕ) → IsViewCall program owns n actuals
       → AreGood (flow_typing program) owns parts_named (acts_of (record { typing = flow_typing program; result = result; roots = kept }) pos (Call n actuals t)) xs
-  call_good result kept xs pos n actuals t (plain, no_traversal) =
+  call_good result kept xs pos n actuals t call =
       let formals : List ℕ = (sub_of program n).formals in
-      let values : List Placed = actual_values (flow_typing program) (map (way_of (flow_typing program) owns) formals) actuals in
-      let copies : List Placed = actual_acts (map (way_of (flow_typing program) owns) formals) actuals in
+      let procedure : Bool = not (is_some (sub_of program n).result) in
+      let values : List Placed = actual_values (flow_typing program) (map (way_to (flow_typing program) owns procedure) formals) actuals in
+      let copies : List Placed = actual_acts (map (way_to (flow_typing program) owns procedure) formals) actuals in
       subst (λ z. AreGood (flow_typing program) owns parts_named z xs)
-      (sym (ap (λ ways. actual_values (flow_typing program) ways actuals ++ actual_acts ways actuals) (passed_by program owns n no_traversal plain.formals)))
+      (sym (ap (λ ways. actual_values (flow_typing program) ways actuals ++ actual_acts ways actuals) (passes_to program n call.no_traversal)))
       (λ a has. elim (Has-append_cases values copies a has) [
-        | inl value ↦ reads_good (flow_typing program) owns parts_named values xs (values_read (flow_typing program) owns formals actuals plain.actuals_stay) a value
-        | inr copy ↦ copies_good (flow_typing program) owns parts_named formals actuals xs plain.actuals_stay a copy
+        | inl value ↦ reads_good (flow_typing program) owns parts_named values xs
+            (values_are_read (flow_typing program) owns procedure formals actuals call.kinds call.actuals_stay) a value
+        | inr copy ↦ copies_good (flow_typing program) owns parts_named procedure formals actuals xs call.kinds call.actuals_stay a copy
       ])
 
   pub point_good : ((x : ℕ) → is_anonymous (view_of (flow_typing program) x) ≡ true → is_variable (object_at (flow_typing program) x).kind ≡ true)

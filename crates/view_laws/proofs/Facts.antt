@@ -218,7 +218,7 @@ module _ (table : Table) (typed : TypedProgram) (effects : Effects) (owns : Owns
       -- formals of what is called are known as such
       formals_there : (n : ℕ) (actuals : TypedTree) (t : Option ℕ) → p.instr ≡ Call n actuals t → (x : ℕ) → Has (sub_at s n).formals x → is_formal s x ≡ true
       formals_there n actuals t e x has =
-          let plain = (plainly (flow_sub own named) in_program (flow_at own named p) in_sub n actuals t e).0 in
+          let plain = plainly (flow_sub own named) in_program (flow_at own named p) in_sub n actuals t e in
           plain.known x (subst (λ fs. Has fs x) (ap (λ (z : Signature). z.formals) (signature_there program.subs n)) has)
 
       module _ (n : ℕ) (at_point : IsAtPoint named.points n p) where

@@ -1,12 +1,12 @@
 -- Of a program whose subprograms are in order: formals differ, belong to no package, and are in scope at
 -- first; what is passed is in scope; and where a subprogram ends, formals of its own alone are.
-use Rattle.std.proofs.Common.{◌≡◌, refl, sym, ap, ◌∙◌, subst, inl, inr, ℕ, suc, true, ◌||◌, List, [], ◌∷◌, drop, Option}
+use Rattle.std.proofs.Common.{◌≡◌, refl, sym, ap, ◌∙◌, subst, inl, inr, ℕ, suc, true, ◌||◌, List, [], ◌∷◌, drop, Option, is_some}
 use Rattle.std.specs.Prelude.{reverse}
 use Rattle.spark_base.specs.Lists.{Has}
 use Rattle.spark_base.proofs.Lists.{Has-append_left, Has-append_right}
 use Rattle.place_names.specs.declared.act.Mode.{Mode}
 use Rattle.place_names.specs.declared.act.Mode.TheVariants as mode
-use Rattle.type_definitions.specs.Types.{Table, is_owning}
+use Rattle.type_definitions.specs.Types.{Table, full, is_scalar, is_owning}
 use Rattle.typed_tree.specs.Trees.{TypedTree, More}
 use Rattle.typed_tree.specs.Programs.{TypedSub, TypedProgram}
 use Rattle.flow_paths.specs.declared.report.Effects.{Effects}
@@ -16,10 +16,11 @@ use Rattle.flow_paths.specs.Points.{FlowPoint}
 use Rattle.flow_paths.specs.Laid.{FlowSub, FlowProgram, NamedSub, all_named, named_sub, sub_temporaries, declared_within, typing_of, flow_typing, flow_program, flow_named}
 use Rattle.flow_paths.specs.Scopes.{taken, is_within}
 use Rattle.machine.specs.States.{sub_of}
+use Rattle.typed_laws.specs.Needed.{Matches}
 use Rattle.soundness.specs.Typed.{OwnsByShape}
 use Rattle.soundness.specs.Sound.{Accepted, IsNamedSub, IsRunnable}
 use Rattle.soundness.specs.Ready.{IsActualBy, AreActuals}
-use Rattle.soundness.specs.Ready as ready
+use Rattle.soundness.proofs.Fixed.{matches_scalar}
 use Rattle.soundness.proofs.Points.{sub_there}
 use Rattle.soundness.proofs.Passing.{signature_is}
 use Rattle.soundness.proofs.Typings.{Agree, flow_agrees, package_same, formal_same, formal_object}
@@ -34,6 +35,7 @@ use Rattle.ready_laws.proofs.Ready.{seen_has}
 use Rattle.viewed_steps.specs.Sound.{IsScalarObject}
 use Rattle.viewed_steps.specs.Ready.{AreDifferent, ArePassed, IsActualTo, AreActualsTo, IsCalled, AreCalled}
 use Rattle.viewed_steps.proofs.Placed.{within_on}
+use Rattle.view_laws.specs.Program.{PassActuals}
 use Rattle.view_laws.proofs.Formals.{first_scope, has_within, has_reversed, once_different, passed_named}
 
 -- ---- actuals of scalar types
@@ -51,14 +53,28 @@ module _ (s : Typing) where
       (scalar_actual x (object_at s x).mode e (plain x (inl refl)) are.0, scalar_actuals formals rest (λ y has. plain y (inr has)) are.1)
   scalar_actuals (x ∷ formals) actuals plain are = plain
 
+  plain_actual : (x : ℕ) (m : Mode) (e : TypedTree) → IsScalarObject s x → IsActualTo s x m e → IsActualBy s m e
+  plain_actual x mode.In e plain actual = actual
+  plain_actual x mode.Out e plain actual = actual
+  plain_actual x mode.InOut e plain (t, place, fits, which) = (t, place, scalar_type t (object_at s x).of fits plain)
+    where
+      scalar_type : (t u : ℕ) → Matches s.table t u → is_scalar (full s.table u) ≡ true → is_scalar (full s.table t) ≡ true
+      scalar_type t u (inl e) plain = matches_scalar s u t (inl (sym e)) plain
+      scalar_type t u (inr both) plain = both.0
+
+  pub plain_actuals : (formals : List ℕ) (actuals : TypedTree) → ((x : ℕ) → Has formals x → IsScalarObject s x) → AreActualsTo s formals actuals
+      → AreActuals s formals actuals
+  plain_actuals [] actuals plain are = tt
+  plain_actuals (x ∷ formals) (More e rest) plain are =
+      (plain_actual x (object_at s x).mode e (plain x (inl refl)) are.0, plain_actuals formals rest (λ y has. plain y (inr has)) are.1)
+  plain_actuals (x ∷ formals) actuals plain are = tt
+
 -- ---- the program
 
--- What is passed is as it is asked for.
-abbrev pub PassActuals : FlowProgram → Type 0
-PassActuals program =
-    (sub : FlowSub) → Has program.subs sub → (p : FlowPoint) → Has sub.points p → (n : ℕ) (actuals : TypedTree) (result : Option ℕ)
-    → p.instr ≡ Call n actuals result → ((x : ℕ) → Has (sub_of program n).formals x → is_formal (flow_typing program) x ≡ true)
-    → AreActualsTo (flow_typing program) (sub_of program n).formals actuals
+-- where formals are of scalar types, actuals are such as they are asked for there
+pub weakly_passed : (program : FlowProgram) → PassActuals program → in_order.ArePassed program
+weakly_passed program passes sub has p there n actuals result is known plain =
+    plain_actuals (flow_typing program) (sub_of program n).formals actuals plain (passes sub has p there n actuals result is known)
 
 sub_in : (subs : List TypedSub) (k : ℕ) (sub : TypedSub) → IsSub subs k sub → Has subs sub
 sub_in subs k sub (front, rest, is, long) = subst (λ z. Has z sub) (sym is) (Has-append_right front (sub ∷ rest) sub (inl refl))
@@ -141,8 +157,8 @@ module _ (table : Table) (typed : TypedProgram) (effects : Effects) (accepted : 
         (has_within x (reverse callee.formals) (has_reversed callee.formals x has))
 
   -- the formals of the main procedure are known as such
-  pub main_formal : (x : ℕ) → Has (sub_at s (suc order.number)).formals x → is_formal s x ≡ true
-  main_formal x has =
+  pub main_formals : (x : ℕ) → Has (sub_at s (suc order.number)).formals x → is_formal s x ≡ true
+  main_formals x has =
       formal_same s own alike x
       ∙ (order.local order.main (in_rest order.number order.main order.stands)).formals x
       (subst (λ z. Has z x) (ap (λ (z : Signature). z.formals) (signature_is program (suc order.number)) ∙ formals_are order.number order.main order.stands) has)
@@ -150,10 +166,12 @@ module _ (table : Table) (typed : TypedProgram) (effects : Effects) (accepted : 
   module _ (passed_to : PassActuals (flow_program table typed)) where
     -- what is called is one of the bodies
     by_number : (n k : ℕ) (callee : TypedSub) (actuals : TypedTree) (result : Option ℕ) → n ≡ suc k → IsSub order.rest k callee
-        → AreActualsTo s (sub_of program n).formals actuals → ready.IsCalled table typed n actuals result → IsCalled table typed n actuals result
-    by_number n k callee actuals result same is_sub stay before =
-        subst (λ m. AreActualsTo s (sub_of program m).formals actuals → ready.IsCalled table typed m actuals result → IsCalled table typed m actuals result) (sym same)
-        called_there stay before
+        → AreActualsTo s (sub_of program n).formals actuals → (IsRunnable table typed n × (is_some (sub_of program n).result ≡ is_some result))
+        → ((x : ℕ) → Has (sub_of program n).formals x → is_formal s x ≡ true) → IsCalled table typed n actuals result
+    by_number n k callee actuals result same is_sub stay runs known =
+        subst (λ m. AreActualsTo s (sub_of program m).formals actuals → (IsRunnable table typed m × (is_some (sub_of program m).result ≡ is_some result))
+        → ((x : ℕ) → Has (sub_of program m).formals x → is_formal s x ≡ true) → IsCalled table typed m actuals result) (sym same)
+        called_there stay runs known
       where
         formal : (x : ℕ) → Has (sub_of program (suc k)).formals x → Has callee.formals x
         formal x has = subst (λ z. Has z x) (formals_are k callee is_sub) has
@@ -161,18 +179,19 @@ module _ (table : Table) (typed : TypedProgram) (effects : Effects) (accepted : 
         in_own : (x : ℕ) → Has callee.formals x → Has (objects_of callee) x
         in_own x has = Has-append_left callee.formals (declared_within callee.body) x has
 
-        called_there : AreActualsTo s (sub_of program (suc k)).formals actuals → ready.IsCalled table typed (suc k) actuals result → IsCalled table typed (suc k) actuals result
-        called_there stay before = record {
-          runs = before.runs;
-          answers = before.answers;
-          formals = before.formals;
+        called_there : AreActualsTo s (sub_of program (suc k)).formals actuals → (IsRunnable table typed (suc k) × (is_some (sub_of program (suc k)).result ≡ is_some result))
+            → ((x : ℕ) → Has (sub_of program (suc k)).formals x → is_formal s x ≡ true) → IsCalled table typed (suc k) actuals result
+        called_there stay runs known = record {
+          runs = runs.0;
+          answers = runs.1;
+          formals = known;
           differ = subst AreDifferent (sym (formals_are k callee is_sub))
               (once_different callee.formals (once_left callee.formals (declared_within callee.body)
               (order.bodies callee (ordered.in_subs table typed effects accepted owns order answered passed still callee (in_rest k callee is_sub))).once));
           local = λ x has. package_same s own alike x ∙ (order.local callee (in_rest k callee is_sub)).own x (in_own x (formal x has));
-          begins = λ x has owns. begins_there k callee is_sub before.runs x (formal x has) (ends_there x (before.formals x has) owns);
+          begins = λ x has owns. begins_there k callee is_sub runs.0 x (formal x has) (ends_there x (known x has) owns);
           actuals_stay = stay;
-          text_io = before.text_io;
+          text_io = ordered.text_io_there table typed effects accepted owns order answered passed still;
         }
           where
             ends_there : (x : ℕ) → is_formal s x ≡ true → is_owning s.table (object_at s x).of ≡ true → has_scope_end (setting_from own (laid_out k callee is_sub).0 callee).typing x ≡ true
@@ -183,5 +202,6 @@ module _ (table : Table) (typed : TypedProgram) (effects : Effects) (accepted : 
     pub called_to : AreCalled table typed
     called_to sub has p there n actuals result is =
         let found = answered sub has p there n actuals result is in
-        let before = ordered.are_called table typed effects accepted owns order answered passed still sub has p there n actuals result is in
-        by_number n found.0 found.1 actuals result found.2 found.3 (passed_to sub has p there n actuals result is before.formals) before
+        let known = ordered.formals_known table typed effects accepted owns order answered passed still sub has p there n actuals result is in
+        by_number n found.0 found.1 actuals result found.2 found.3 (passed_to sub has p there n actuals result is known)
+        (ordered.runs_there table typed effects accepted owns order answered passed still sub has p there n actuals result is) known

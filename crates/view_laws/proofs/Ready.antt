@@ -17,7 +17,6 @@ use Rattle.viewed_steps.specs.Ready.{AreOrderly, ViewsAreOrderly, IsReady}
 use Rattle.viewed_steps.proofs.Main.{ready_sound}
 use Rattle.view_laws.specs.Program.{IsViewProgram}
 use Rattle.view_laws.proofs.Enclosing.{itself, transitive}
-use Rattle.view_laws.proofs.Passing.{PassActuals, scalar_actuals}
 use Rattle.view_laws.proofs.Passing as passing
 use Rattle.view_laws.proofs.Scoped as scoped
 use Rattle.view_laws.proofs.Valued as valued
@@ -96,14 +95,10 @@ module _ (table : Table) (typed : TypedProgram) (effects : Effects) (given : IsV
   class = record {
     parts_named = given.parts_named;
     results = valued.named_results table typed effects given;
-    formals = λ x formal. inl (given.formals x formal);
-    functions = λ n of is x has formal. given.formals x formal;
+    formals = given.formals;
+    functions = given.functions;
     copied = given.copied;
   }
-
-  passed_to : PassActuals program
-  passed_to sub has p there n actuals result is known =
-      scalar_actuals s (sub_of program n).formals actuals (λ x formal. given.formals x (known x formal)) (given.passed sub has p there n actuals result is known)
 
   pub views_ready : IsReady table typed effects
   views_ready = record {
@@ -115,7 +110,7 @@ module _ (table : Table) (typed : TypedProgram) (effects : Effects) (given : IsV
     new = scoped.are_new table typed effects given;
     elaborated = scoped.are_elaborated table typed effects given;
     orderly = views_orderly;
-    called = passing.called_to table typed effects given.accepted given.owns given.order given.answered given.passed given.still passed_to;
+    called = passing.called_to table typed effects given.accepted given.owns given.order given.answered given.passed given.still given.passes;
     returning = scoped.are_returning table typed effects given;
     valued = valued.are_valued table typed effects given;
     packages = scoped.packages table typed effects given;
@@ -123,7 +118,7 @@ module _ (table : Table) (typed : TypedProgram) (effects : Effects) (given : IsV
     main = suc given.order.number;
     is_main = scoped.main_is table typed effects given;
     main_there = scoped.has_main table typed effects given;
-    main_plain = λ x has. given.formals x (passing.main_formal table typed effects given.accepted given.owns given.order given.answered given.passed given.still x has);
+    main_plain = given.main_plain;
   }
 
   -- So each moment of its run is well owned, and none is a trap.

@@ -106,9 +106,6 @@ module _ (table : Table) (typed : TypedProgram) (effects : Effects) (given : IsV
   pub are_scoped : AreScoped table typed
   are_scoped = ordered.are_scoped table typed effects given.accepted given.owns given.order given.answered given.passed given.still
 
-  pub are_called : AreCalled table typed
-  are_called = ordered.are_called table typed effects given.accepted given.owns given.order given.answered given.passed given.still
-
   pub are_returning : AreReturning program effects
   are_returning = ordered.are_returning table typed effects given.accepted given.owns given.order given.answered given.passed given.still
 
@@ -155,20 +152,20 @@ module _ (table : Table) (typed : TypedProgram) (effects : Effects) (given : IsV
 
   pub plainly : AreViewCalls program given.owns
   plainly sub has p there n actuals result is =
-      let called = are_called sub has p there n actuals result is in (
-        record {
-          known = called.formals;
-          formals = λ x formal. given.formals x (called.formals x formal);
-          actuals_stay = called.actuals_stay;
-        },
-        by_result (sub_of program n).result refl,
-      )
+      let known = ordered.formals_known table typed effects given.accepted given.owns given.order given.answered given.passed given.still sub has p there n actuals result is in
+      record {
+        known = known;
+        kinds = λ x formal. given.formals x (known x formal);
+        actuals_stay = given.passes sub has p there n actuals result is known;
+        no_traversal = by_result (sub_of program n).result refl;
+      }
     where
       plain_result : (of : ℕ) → (sub_of program n).result ≡ Some of → is_scalar (full s.table of) ≡ true
       plain_result of answer = elim given.results [
         | inr plain ↦ plain.0 n of (ap (λ (z : Signature). z.result) (signature_is program n) ∙ answer)
         | inl procedures ↦ absurd (not_called n actuals result (sym (ap calls_procedures is) ∙ procedures sub has p there)
-            (sym (are_called sub has p there n actuals result is).answers ∙ ap is_some answer))
+            (sym (ordered.runs_there table typed effects given.accepted given.owns given.order given.answered given.passed given.still sub has p there n actuals result is).1
+            ∙ ap is_some answer))
       ]
 
       by_result : (r : Option ℕ) → (sub_of program n).result ≡ r → traverses s.table r ≡ false
@@ -190,7 +187,7 @@ module _ (table : Table) (typed : TypedProgram) (effects : Effects) (given : IsV
     -- formals of what is called are known as such
     formals_there : (n : ℕ) (actuals : TypedTree) (t : Option ℕ) → p.instr ≡ Call n actuals t → (x : ℕ) → Has (sub_at s n).formals x → is_formal s x ≡ true
     formals_there n actuals t e x formal =
-        (plainly (flow_sub own named) (in_program named has) (flow_at own named p) in_sub n actuals t e).0.known x
+        (plainly (flow_sub own named) (in_program named has) (flow_at own named p) in_sub n actuals t e).known x
         (subst (λ fs. Has fs x) (ap (λ (z : Signature). z.formals) (signature_there program.subs n)) formal)
 
     -- its acts are the same by the text and as the program is laid out

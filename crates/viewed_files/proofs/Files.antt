@@ -1,7 +1,8 @@
 -- Borrowers and observers of files that break no rule are in order, and the runs of their program are sound where
 -- nothing is reported and formals and results are of scalar types.
-use Rattle.std.proofs.Common.{◌≡◌, refl, sym, ◌∙◌, subst, ◌⊎◌, ℕ, Bool, true, false, List, [], ◌∷◌, Some, None}
+use Rattle.std.proofs.Common.{◌≡◌, refl, sym, ◌∙◌, subst, ◌⊎◌, inl, inr, ℕ, Bool, true, false, List, [], ◌∷◌, Some, None}
 use Rattle.spark_base.specs.Lists.{Has}
+use Rattle.spark_base.proofs.Lists.{Has-append_right}
 use Rattle.ada_lexer.specs.Tokens.{Cut}
 use Rattle.ada_tree.specs.declared.unit.SourceUnit.{SourceUnit}
 use Rattle.name_events.specs.Outline.{source_events}
@@ -15,7 +16,7 @@ use Rattle.type_definitions.specs.declared.table.Shape.{Shape}
 use Rattle.type_definitions.specs.declared.table.Shape.TheVariants as shape
 use Rattle.type_definitions.specs.declared.judgement.View.{View}
 use Rattle.type_definitions.specs.declared.judgement.View.TheVariants as view
-use Rattle.type_definitions.specs.Types.{Table, full, is_scalar, shape_of, words, words_of}
+use Rattle.type_definitions.specs.Types.{Table, full, view_of, is_scalar, shape_of, words, words_of}
 use Rattle.type_definitions.specs.Entries.{integer, boolean, marked}
 use Rattle.type_definitions.specs.Expressions.{is_anonymous}
 use Rattle.type_definitions.specs.Whole.{outside, known_of, type_fault}
@@ -47,8 +48,8 @@ use Rattle.soundness.specs.Typed.{OwnsByShape}
 use Rattle.soundness.specs.Sound.{Accepted, ArePlainResults, RunIsSound}
 use Rattle.soundness.proofs.Points.{flow_table}
 use Rattle.viewed_soundness.specs.Holds.{PartsAreNamed}
-use Rattle.ready_laws.specs.InOrder.{IsInOrder, AreAnswered, AreStill, ArePassed}
-use Rattle.ready_laws.proofs.Actuals.{scalar_passed}
+use Rattle.ready_laws.specs.InOrder.{IsInOrder, IsSub, AreAnswered, AreStill, ArePassed}
+use Rattle.ready_laws.proofs.Actuals.{typed_passed}
 use Rattle.order_laws.specs.Orderly.{typed_of, typing_in, bodies_of, IsOrderly}
 use Rattle.order_laws.proofs.Accepted.{is_in_order}
 use Rattle.order_laws.proofs.Faults.{units_faultless}
@@ -61,19 +62,22 @@ use Rattle.meant_files.specs.Typed.{AreTyped}
 use Rattle.meant_files.proofs.Main.{files_denote}
 use Rattle.meant_files.proofs.Main as meant
 use Rattle.meant_files.proofs.Codes as codes
-use Rattle.sound_files.specs.Class.{CallsProcedures, CallsFunctions}
+use Rattle.sound_files.specs.Class.{CallsProcedures, CallsWithOwners}
 use Rattle.sound_files.proofs.Laws.{table_laws, files_declared, integers_scalar, truths_scalar}
 use Rattle.sound_files.proofs.Called.{files_bodies}
-use Rattle.sound_files.proofs.Classes.{scalar_formals, copies, are_answered, plain_results, temporaries_plain}
+use Rattle.sound_files.proofs.Owners.{kinds_there, functions_there, main_there, passed_there}
+use Rattle.sound_files.proofs.Classes.{copies, are_answered, plain_results, temporaries_plain}
 use Rattle.typed_files.proofs.Main.{files_fine, files_steps}
 use Rattle.sound_files.proofs.Main.{files_orderly}
 use Rattle.viewed_steps.specs.Ready.{IsReady}
 use Rattle.viewed_steps.proofs.Main.{ready_sound}
 use Rattle.view_laws.specs.InOrder.{AreViewsInOrder}
-use Rattle.view_laws.specs.Program.{IsViewProgram}
+use Rattle.viewed_steps.specs.Sound.{IsKindOfFormal}
+use Rattle.view_laws.specs.Program.{PassActuals, IsViewProgram}
 use Rattle.view_laws.proofs.Ready.{views_ready}
 use Rattle.viewed_files.proofs.Sources.{scalar_plain}
 use Rattle.viewed_files.proofs.Named.{named_sources}
+use Rattle.viewed_files.proofs.Passed.{actuals_passed}
 use Rattle.viewed_files.proofs.Main.{IsGiven, views_in_order}
 
 heads : (x y : TypedSub) (xs ys : List TypedSub) → x ∷ xs ≡ y ∷ ys → x ≡ y
@@ -81,6 +85,15 @@ heads x y xs ys e = cc
 
 tails : (x y : TypedSub) (xs ys : List TypedSub) → x ∷ xs ≡ y ∷ ys → xs ≡ ys
 tails x y xs ys e = cc
+
+named_type : (z : Shape) → flow.is_anonymous (view_of z) ≡ false → (d : ℕ) (c n : Bool) → z ≡ shape.Access d c n → n ≡ true
+named_type (shape.Access e k true) plain d c n is = cc
+named_type (shape.Access e true false) plain d c n is = cc
+named_type (shape.Access e false false) plain d c n is = cc
+named_type z plain d c n is = cc
+
+sub_in : (subs : List TypedSub) (k : ℕ) (sub : TypedSub) → IsSub subs k sub → Has subs sub
+sub_in subs k sub (front, rest, is, long) = subst (λ z. Has z sub) (sym is) (Has-append_right front (sub ∷ rest) sub (inl refl))
 
 same_anonymous : (w : View) → is_anonymous w ≡ false → flow.is_anonymous w ≡ false
 same_anonymous (view.Access d k true) e = refl
@@ -174,11 +187,14 @@ module _ (files : List (List SourceUnit)) where
     unfolding typed_program
     subs_are = refl
 
-    -- Formals are of scalar types, and so are results, or procedures alone are called. Then the program is ready,
+    -- Of the class with formals that own, the program is ready,
     module _ (main : ℕ) (is_main : (typed_of p).main ≡ Some main) (effects : Effects) (are : AreEffects flow_of_files effects) (none : AreReports flow_of_files effects [])
-        (calls : CallsFunctions p) where
+        (calls : CallsWithOwners p) where
       formals_plain : (x : ℕ) → flow.is_formal (typing_in p) x ≡ true → flow.is_anonymous (flow.view_of (typing_in p) x) ≡ false
-      formals_plain x is = scalar_plain (flow.view_of (typing_in p) x) (calls.formals x is)
+      formals_plain x is = elim (calls.formals x is) [
+        | inl plain ↦ scalar_plain (flow.view_of (typing_in p) x) plain
+        | inr (back, plain) ↦ plain
+      ]
 
       accepted : Accepted table (typed_of p) effects
       accepted = record {
@@ -221,13 +237,28 @@ module _ (files : List (List SourceUnit)) where
       integers = integers_scalar files apart ended up named no_fault files_views
 
       results : CallsProcedures flow_of_files ⊎ ArePlainResults (flow_typing flow_of_files)
-      results = plain_results p calls truths
+      results = plain_results p calls.results truths
 
       passed : ArePassed flow_of_files
       passed =
-          scalar_passed flow_of_files (scalar_formals p calls.formals) (subst (λ (rows : Table). counts (shape_of rows integer) ≡ true) same_table laws.whole)
+          typed_passed flow_of_files (subst (λ (rows : Table). counts (shape_of rows integer) ≡ true) same_table laws.whole)
           (subst (λ (rows : Table). lists (shape_of rows boolean) ≡ true) same_table laws.listed)
           (subst (λ (rows : Table). (t : ℕ) → words rows t ≡ words_of (words rows) (shape_of rows t)) same_table laws.word_law) typed
+
+      kinds : (x : ℕ) → flow.is_formal (flow_typing flow_of_files) x ≡ true → IsKindOfFormal (flow_typing flow_of_files) x
+      kinds x is = elim (kinds_there p calls.formals x is) [
+        | inl plain ↦ inl plain
+        | inr (back, plain) ↦ inr (back, named_type (shape_of flow_of_files.table (flow.object_at (flow_typing flow_of_files) x).of) plain)
+      ]
+
+      passes : PassActuals flow_of_files
+      passes =
+          actuals_passed flow_of_files (subst (λ (rows : Table). counts (shape_of rows integer) ≡ true) same_table laws.whole)
+          (subst (λ (rows : Table). lists (shape_of rows boolean) ≡ true) same_table laws.listed)
+          (subst (λ (rows : Table). (t : ℕ) → words rows t ≡ words_of (words rows) (shape_of rows t)) same_table laws.word_law) typed kinds (passed_there p calls.passed)
+
+      main_in : IsSub (bodies_of p) order.number order.main
+      main_in = subst (λ rest. IsSub rest order.number order.main) (sym rest_is) order.stands
 
       view_program : IsViewProgram table (typed_of p) effects
       view_program = record {
@@ -235,13 +266,16 @@ module _ (files : List (List SourceUnit)) where
         owns = owns;
         parts_named = subst PartsAreNamed same_table parts_named;
         results = results;
-        temporaries = temporaries_plain p calls truths integers order.lasting;
-        formals = scalar_formals p calls.formals;
+        temporaries = temporaries_plain p calls.results truths integers order.lasting;
+        formals = kinds;
+        functions = functions_there p calls.functions;
         copied = λ sub has q there n actuals result is known. copies p calls.copied sub has q there n actuals result is;
         sources = named_sources flow_of_files typed results;
         order = order;
         answered = subst (AreAnswered table (typed_of p)) rest_is (are_answered p (files_bodies files up named) typed);
+        passes = passes;
         passed = passed;
+        main_plain = main_there p calls.main order.number order.main order.is_main main_in (text_orderly.formals order.main (sub_in (bodies_of p) order.number order.main main_in));
         still = subst (AreStill table (typed_of p)) first_is (packages_still p no_fault text_orderly.written);
         views = views_here;
       }
@@ -255,11 +289,11 @@ module _ (files : List (List SourceUnit)) where
 
   -- So it is if the files are parsed from texts: then their positions are as in a text.
   pub parsed_called_ready : (texts : List (List Cut)) → AreParsed 0 texts files → name_fault files ≡ None → type_fault p ≡ None → (main : ℕ) → (typed_of p).main ≡ Some main
-      → (effects : Effects) → AreEffects flow_of_files effects → AreReports flow_of_files effects [] → CallsFunctions p → IsReady table (typed_of p) effects
+      → (effects : Effects) → AreEffects flow_of_files effects → AreReports flow_of_files effects [] → CallsWithOwners p → IsReady table (typed_of p) effects
   parsed_called_ready texts parsed named no_fault =
       files_called_ready (files_apart texts files parsed) (files_ended (identified files) texts files parsed) (events_ascend texts files parsed) named no_fault
 
   pub parsed_called_sound : (texts : List (List Cut)) → AreParsed 0 texts files → name_fault files ≡ None → type_fault p ≡ None → (main : ℕ) → (typed_of p).main ≡ Some main
-      → (effects : Effects) → AreEffects flow_of_files effects → AreReports flow_of_files effects [] → CallsFunctions p → (input : List ℕ) → RunIsSound table (typed_of p) input
+      → (effects : Effects) → AreEffects flow_of_files effects → AreReports flow_of_files effects [] → CallsWithOwners p → (input : List ℕ) → RunIsSound table (typed_of p) input
   parsed_called_sound texts parsed named no_fault =
       files_called_sound (files_apart texts files parsed) (files_ended (identified files) texts files parsed) (events_ascend texts files parsed) named no_fault

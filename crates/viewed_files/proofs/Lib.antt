@@ -8,4 +8,5 @@ pub mod Units
 pub mod Roots
 pub mod Main
 pub mod Named
+pub mod Passed
 pub mod Files

@@ -1,0 +1,145 @@
+-- What the class with formals that own says of the program as it is laid out, and that the third class is a part of it.
+use Rattle.std.proofs.Common.{◌≡◌, refl, sym, ap, ◌∙◌, subst, ◌⊎◌, inl, inr, ℕ, suc, Bool, true, false, not, ◌&&◌, List, [], ◌∷◌, get_or, Option, Some, None, is_some}
+use Rattle.spark_base.specs.Lists.{Has}
+use Rattle.place_names.specs.declared.act.Mode.TheVariants as mode
+use Rattle.resolved_tree.specs.Trees.{Program}
+use Rattle.type_definitions.specs.Types.{Table, full, is_scalar}
+use Rattle.type_definitions.specs.Whole.{known_of}
+use Rattle.typed_tree.specs.declared.object.Object.{Object}
+use Rattle.typed_tree.specs.Trees.{TypedTree, More}
+use Rattle.typed_tree.specs.Programs.{TypedSub, typed_program}
+use Rattle.flow_paths.specs.Instructions.{Call}
+use Rattle.flow_paths.specs.Objects.{Typing, Signature, object_at, sub_at, is_formal_kind, is_formal, is_state, is_anonymous, is_package_object, view_of}
+use Rattle.flow_paths.specs.Points.{FlowPoint}
+use Rattle.flow_paths.specs.Laid.{FlowSub, FlowProgram, flow_typing, flow_program}
+use Rattle.machine.specs.States.{no_sub, sub_of}
+use Rattle.machine.specs.Run.{no_point}
+use Rattle.soundness.specs.Ready.{root_of}
+use Rattle.soundness.proofs.Passing.{signature_is}
+use Rattle.soundness.proofs.Typings.{Agree, flow_agrees}
+use Rattle.called_subs.specs.Called.{PointCalls}
+use Rattle.called_subs.proofs.Main.{points_asked_at}
+use Rattle.called_subs.proofs.Statements.{IsFineSub}
+use Rattle.ready_laws.specs.InOrder.{IsSub}
+use Rattle.order_laws.specs.Orderly.{typed_of, typing_in, bodies_of}
+use Rattle.sound_files.specs.Class.{IsScalarAt, AreOwnActuals, FormalsAreScalar, FormalsAreKinds, FunctionsTakeScalars, MainTakesScalars, PassOwnObjects, CallsFunctions, CallsWithOwners}
+use Rattle.sound_files.proofs.Called.{at_number}
+use Rattle.sound_files.proofs.Classes.{all_of, signature_at, signature_same, signature_there, all_called}
+
+module _ (p : Program) where
+  abbrev table : Table
+  table = (known_of p).table
+
+  abbrev flow : FlowProgram
+  flow = flow_program table (typed_of p)
+
+  abbrev wide : Typing
+  wide = flow_typing flow
+
+  abbrev own : Typing
+  own = typing_in p
+
+  alike : Agree wide own
+  alike = flow_agrees table (typed_of p)
+
+  -- A formal is the same object in both typings.
+  formal_there : (x : ℕ) → is_formal wide x ≡ true → object_at wide x ≡ object_at own x
+  formal_there x is = elim (alike.object x) [
+    | inl same ↦ same
+    | inr (a, b) ↦ absurd (let no : false ≡ true = sym a.1 ∙ is in cc)
+  ]
+
+  formal_own : (x : ℕ) → is_formal wide x ≡ true → is_formal own x ≡ true
+  formal_own x is = ap (λ (o : Object). is_formal_kind o.kind) (sym (formal_there x is)) ∙ is
+
+  package_there : (x : ℕ) → is_package_object wide x ≡ is_package_object own x
+  package_there x = elim (alike.object x) [
+    | inl same ↦ ap (λ (o : Object). is_some o.«package» && not (is_state o.kind)) same
+    | inr (a, b) ↦ a.2 ∙ sym b.2
+  ]
+
+  scalar_there : (x : ℕ) → is_formal wide x ≡ true → is_scalar (full wide.table (object_at wide x).of) ≡ is_scalar (full own.table (object_at own x).of)
+  scalar_there x is = ap (λ (rows : Table). is_scalar (full rows (object_at wide x).of)) alike.table ∙ ap (λ (o : Object). is_scalar (full own.table o.of)) (formal_there x is)
+
+  scalar_wide : (x : ℕ) → is_formal wide x ≡ true → IsScalarAt own x → IsScalarAt wide x
+  scalar_wide x is plain = scalar_there x is ∙ plain
+
+  -- ---- formals
+
+  pub kinds_there : FormalsAreKinds p → (x : ℕ) → is_formal wide x ≡ true
+      → IsScalarAt wide x ⊎ (((object_at wide x).mode ≡ mode.InOut) × (is_anonymous (view_of wide x) ≡ false))
+  kinds_there all x is = elim (all x (formal_own x is)) [
+    | inl plain ↦ inl (scalar_wide x is plain)
+    | inr (back, named) ↦ inr (
+      ap (λ (o : Object). o.mode) (formal_there x is) ∙ back,
+      ap (λ (rows : Table). is_anonymous (full rows (object_at wide x).of)) alike.table ∙ ap (λ (o : Object). is_anonymous (full own.table o.of)) (formal_there x is) ∙ named,
+    )
+  ]
+
+  functions_own : FunctionsTakeScalars p → (n t x : ℕ) → (sub_at own n).result ≡ Some t → Has (sub_at own n).formals x → is_formal own x ≡ true → IsScalarAt own x
+  unfolding typed_program
+  functions_own all n t x result has is = elim (signature_at (typed_of p).subs n) [
+    | inl none ↦ absurd (let no : None ≡ Some t = sym (ap (λ (z : Signature). z.result) none) ∙ result in cc)
+    | inr (sub, inl first, at) ↦ absurd (let no : None ≡ Some t = ap (λ (z : TypedSub). z.result) first ∙ sym (ap (λ (z : Signature). z.result) at) ∙ result in cc)
+    | inr (sub, inr there, at) ↦ all sub there t (sym (ap (λ (z : Signature). z.result) at) ∙ result) x (subst (λ (z : Signature). Has z.formals x) at has) is
+  ]
+
+  pub functions_there : FunctionsTakeScalars p → (n t : ℕ) → (sub_at wide n).result ≡ Some t → (x : ℕ) → Has (sub_at wide n).formals x → is_formal wide x ≡ true
+      → IsScalarAt wide x
+  functions_there all n t result x has is =
+      scalar_wide x is
+      (functions_own all n t x (sym (ap (λ (z : Signature). z.result) (signature_same p n)) ∙ result)
+      (subst (λ (z : Signature). Has z.formals x) (signature_same p n) has) (formal_own x is))
+
+  formal_wide : (x : ℕ) → is_formal own x ≡ true → is_formal wide x ≡ true
+  formal_wide x is = elim (alike.object x) [
+    | inl same ↦ ap (λ (o : Object). is_formal_kind o.kind) same ∙ is
+    | inr (a, b) ↦ absurd (let no : false ≡ true = sym b.1 ∙ is in cc)
+  ]
+
+  pub main_there : MainTakesScalars p → (n : ℕ) (sub : TypedSub) → (typed_of p).main ≡ Some (suc n) → IsSub (bodies_of p) n sub
+      → ((x : ℕ) → Has sub.formals x → is_formal own x ≡ true) → (x : ℕ) → Has (sub_at wide (suc n)).formals x → IsScalarAt wide x
+  main_there all n sub main stands known x has =
+      let there : Has sub.formals x = subst (λ (z : Signature). Has z.formals x) (signature_there p n sub stands) has in
+      scalar_wide x (formal_wide x (known x there)) (all n sub main stands x there (known x there))
+
+  -- ---- actuals
+
+  abbrev Passed : ℕ → TypedTree → Type 0
+  Passed n actuals = AreOwnActuals own (sub_at own n).formals actuals
+
+  passed_same : (formals : List ℕ) (actuals : TypedTree) → AreOwnActuals own formals actuals → AreOwnActuals wide formals actuals
+  passed_same (x ∷ formals) (More e rest) h =
+      ((λ is owns y has. package_there y ∙ h.0 (formal_own x is) (sym (scalar_there x is) ∙ owns) y has), passed_same formals rest h.1)
+  passed_same formals actuals h = tt
+
+  pub passed_there : PassOwnObjects p → (sub : FlowSub) → Has flow.subs sub → (q : FlowPoint) → Has sub.points q → (n : ℕ) (actuals : TypedTree) (result : Option ℕ)
+      → q.instr ≡ Call n actuals result → AreOwnActuals wide (sub_of flow n).formals actuals
+  passed_there all sub has q there n actuals result is =
+      let i = at_number flow.subs sub no_sub has in
+      let k = at_number sub.points q no_point there in
+      let same : (get_or (sub_of flow i.0).points k.0 no_point).instr ≡ Call n actuals result
+      = ap (λ (z : FlowSub). (get_or z.points k.0 no_point).instr) i.1 ∙ ap (λ (z : FlowPoint). z.instr) k.1 ∙ is in
+      let formals : (sub_at own n).formals ≡ (sub_of flow n).formals
+      = sym (ap (λ (z : Signature). z.formals) (signature_same p n)) ∙ ap (λ (z : Signature). z.formals) (signature_is flow n) in
+      subst (λ fs. AreOwnActuals wide fs actuals) formals
+      (passed_same (sub_at own n).formals actuals
+      (subst (PointCalls Passed) same (points_asked_at Passed table (typed_of p) (all_of (IsFineSub Passed) (typed_of p).subs all) i.0 k.0)))
+
+  -- ---- the third class
+
+  scalar_passed : FormalsAreScalar p → (formals : List ℕ) (actuals : TypedTree) → AreOwnActuals own formals actuals
+  scalar_passed all (x ∷ formals) (More e rest) =
+      ((λ is owns y has. absurd (let no : true ≡ false = sym (all x is) ∙ owns in cc)), scalar_passed all formals rest)
+  scalar_passed all formals actuals = tt
+
+  -- It is a part of this one.
+  pub calls_functions : CallsFunctions p → CallsWithOwners p
+  calls_functions calls = record {
+    results = calls.results;
+    formals = λ x is. inl (calls.formals x is);
+    functions = λ sub has t result x formal is. calls.formals x is;
+    main = λ n sub main stands x formal is. calls.formals x is;
+    copied = calls.copied;
+    passed = all_called p Passed (λ n actuals. scalar_passed calls.formals (sub_at own n).formals actuals);
+  }
