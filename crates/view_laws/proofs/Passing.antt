@@ -12,7 +12,6 @@ use Rattle.typed_tree.specs.Programs.{TypedSub, TypedProgram}
 use Rattle.flow_paths.specs.declared.report.Effects.{Effects}
 use Rattle.flow_paths.specs.Instructions.{Instruction, Declare, Call, Finish}
 use Rattle.flow_paths.specs.Objects.{Typing, Signature, object_at, sub_at, is_formal, is_anonymous, is_package_object, has_scope_end, view_of}
-use Rattle.flow_paths.specs.Points.{FlowPoint}
 use Rattle.flow_paths.specs.Laid.{FlowSub, FlowProgram, NamedSub, all_named, named_sub, sub_temporaries, declared_within, typing_of, flow_typing, flow_program, flow_named}
 use Rattle.flow_paths.specs.Scopes.{taken, is_within}
 use Rattle.machine.specs.States.{sub_of}

@@ -24,7 +24,7 @@ use Rattle.flow_paths.specs.Effects.{path_points}
 use Rattle.flow_paths.specs.Scopes.{is_ready}
 use Rattle.machine.specs.States.{sub_of}
 use Rattle.soundness.specs.Sound.{IsNamedSub, IsProcedure, calls_procedures, is_temporary_object}
-use Rattle.soundness.specs.Ready.{AreScoped, AreNew, AreElaborated, AreCalled, AreReturning, IsSupplied}
+use Rattle.soundness.specs.Ready.{AreScoped, AreNew, AreElaborated, AreReturning, IsSupplied}
 use Rattle.soundness.proofs.Points.{IsLaid, flow_at}
 use Rattle.soundness.proofs.Typings.{Agree, flow_agrees, instruction_same, package_same}
 use Rattle.soundness.proofs.Passing.{plain_type, signature_is, signature_there}

@@ -108,4 +108,4 @@ module _ (table : Table) (typed : TypedProgram) (effects : Effects) (given : IsV
 
   pub named_results : AreNamedResults program
   named_results sub has p there n actuals result is t answer =
-      ap (λ z. traverses s.table z) (sym answer) ∙ (scoped.plainly table typed effects given sub has p there n actuals result is).1
+      ap (λ z. traverses s.table z) (sym answer) ∙ (scoped.plainly table typed effects given sub has p there n actuals result is).no_traversal
