@@ -40,18 +40,6 @@ use Rattle.view_laws.proofs.Formals.{first_scope, has_within, has_reversed, once
 -- ---- actuals of scalar types
 
 module _ (s : Typing) where
-  scalar_actual : (x : ℕ) (m : Mode) (e : TypedTree) → IsScalarObject s x → IsActualBy s m e → IsActualTo s x m e
-  scalar_actual x mode.In e plain actual = actual
-  scalar_actual x mode.Out e plain actual = actual
-  scalar_actual x mode.InOut e plain (t, place, scalar) = (t, place, inr (scalar, plain), inl scalar)
-
-  pub scalar_actuals : (formals : List ℕ) (actuals : TypedTree) → ((x : ℕ) → Has formals x → IsScalarObject s x) → AreActuals s formals actuals
-      → AreActualsTo s formals actuals
-  scalar_actuals [] actuals plain are = λ x has. absurd has
-  scalar_actuals (x ∷ formals) (More e rest) plain are =
-      (scalar_actual x (object_at s x).mode e (plain x (inl refl)) are.0, scalar_actuals formals rest (λ y has. plain y (inr has)) are.1)
-  scalar_actuals (x ∷ formals) actuals plain are = plain
-
   plain_actual : (x : ℕ) (m : Mode) (e : TypedTree) → IsScalarObject s x → IsActualTo s x m e → IsActualBy s m e
   plain_actual x mode.In e plain actual = actual
   plain_actual x mode.Out e plain actual = actual

@@ -62,11 +62,15 @@ module _ (y : Typing) (whole : counts (shape_of y.table integer) ≡ true) (list
           (found.0, found.1, scalar_back y whole listed word_law found.0 (object_at y x).of found.2 (scalar_of mode.Out is out_and_in))
       by_mode mode.InOut is g =
           let place = rw is at g in
-          let found = named_place x place.0 e place.1 place.2 in
-          (found.0, found.1, found.2, elim (true_or (is_scalar (full y.table (object_at y x).of))) [
-            | inl plain ↦ inl (scalar_back y whole listed word_law found.0 (object_at y x).of found.2 plain)
-            | inr owns ↦ inr (own formal owns)
-          ])
+          let found = named_place x place.0 e place.1 place.2 in (
+            found.0,
+            found.1,
+            found.2,
+            elim (true_or (is_scalar (full y.table (object_at y x).of))) [
+              | inl plain ↦ inl (scalar_back y whole listed word_law found.0 (object_at y x).of found.2 plain)
+              | inr owns ↦ inr (own formal owns)
+            ],
+          )
 
   actuals_to : (formals : List ℕ) (actuals : TypedTree) → ((x : ℕ) → Holds formals x → is_formal y x ≡ true) → ((x : ℕ) → is_formal y x ≡ true → IsKindOfFormal y x)
       → AreOwnActuals y formals actuals → ActualsTaken y formals actuals → AreActualsTo y formals actuals

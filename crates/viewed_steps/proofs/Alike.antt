@@ -1,23 +1,20 @@
 -- Scalar places and formals of scalar types: owners see nothing of what is put into them, nor of what is
 -- copied back.
-use Rattle.std.proofs.Common.{◌≡◌, refl, sym, ap, ◌∙◌, subst, inl, inr, ℕ, ◌+◌, Bool, true, false, List, [], ◌∷◌, ◌++◌, take, drop, length, get_or, if◌then◌else◌}
+use Rattle.std.proofs.Common.{◌≡◌, refl, sym, ap, ◌∙◌, subst, inl, ℕ, ◌+◌, Bool, true, false, List, [], ◌∷◌, ◌++◌, take, drop, length, get_or, if◌then◌else◌}
 use Rattle.std.proofs.lemmas.List.{length-map}
-use Rattle.spark_base.specs.Lists.{Has}
 use Rattle.type_definitions.specs.Types.{shape_of, words, full, is_scalar}
 use Rattle.flow_paths.specs.Objects.{Typing, object_at, is_anonymous, view_of}
 use Rattle.machine.specs.Words.{access_offsets, fits_type}
 use Rattle.machine.specs.Words as machine
 use Rattle.machine.specs.Memory.{Slot, Memory, Base, Place, fresh, no_slot, variable_slots, slots_at, slots_of, words_of, gone_at, with_slots, stored, moved_out, declared}
 use Rattle.machine.specs.Memory as memory
-use Rattle.machine.specs.Evaluate.{Now, Evaluated, Done, Raises, Traps, ConstraintError, followed_by, variable_place}
-use Rattle.machine.specs.Calls.{Passed, Value, From, To, passed, with_formal, with_formals}
-use Rattle.machine.specs.States.{Waiting, Leak, Return}
-use Rattle.machine.specs.Step.{Turn, typing, here, copied_back}
+use Rattle.machine.specs.Evaluate.{Now, Evaluated, Done, Raises, Traps, ConstraintError, followed_by}
+use Rattle.machine.specs.Calls.{Passed, Value, From, To, with_formal}
+use Rattle.machine.specs.States.{Waiting, Leak}
 use Rattle.owned_ways.specs.Ways.{Step, OfVariable, Loc, OfRoot, IsSame}
 use Rattle.part_offsets.specs.Parts.{type_in, has_part, IsSettled}
 use Rattle.soundness.specs.Seen.{content, word_in, seen}
 use Rattle.soundness.specs.Typed.{Matches, OwnsByShape, Kept, Spot, IsFixed}
-use Rattle.soundness.specs.Sound.{IsCopied}
 use Rattle.soundness.proofs.Memories.{put_other, marked_length}
 use Rattle.soundness.proofs.Steps.{plain_end, room, taken_slots}
 use Rattle.soundness.proofs.Keeping.{scalar}
@@ -25,8 +22,8 @@ use Rattle.soundness.proofs.Lasting.{lengths, less_kept, put_away, declared_kept
 use Rattle.soundness.proofs.Fixed.{matches_scalar, plain_word, fixed_at, fixed_spot, fixed_one, put_word, put_same_view}
 use Rattle.soundness.proofs.Loops.{same_word, scalar_same}
 use Rattle.soundness.proofs.Stays.{One}
-use Rattle.soundness.proofs.Passing.{IsLaid, AreLaid}
-use Rattle.soundness.proofs.Returning.{Backs, copied_is, formal_fixed}
+use Rattle.soundness.proofs.Passing.{IsLaid}
+use Rattle.soundness.proofs.Returning.{Backs}
 use Rattle.viewed_soundness.proofs.Names.{true_false, view_access}
 use Rattle.viewed_soundness.proofs.Outcomes.{named_plain}
 use Rattle.viewed_steps.proofs.Read.{scalar_named}
@@ -151,15 +148,6 @@ module _ (s : Typing) (settled : IsSettled s.table) (own_law : OwnsByShape s.tab
       (one_formal f x (machine.default s.table (object_at s x).of) (moved_out s k m) plain
       (lengths s.table (object_at s x).of ∙ plain_word s settled (object_at s x).of plain) first.typed)
 
-  pub all_entered : (f : ℕ) (formals : List ℕ) (passed : List Passed) (m : Memory) → ((x : ℕ) → Has formals x → Scalar x) → AreLaid s passed → Kept s m hands
-      → Enters m (with_formals s f formals passed m)
-  all_entered f [] passed m plain are typed = nothing m typed
-  all_entered f (x ∷ formals) [] m plain are typed = nothing m typed
-  all_entered f (x ∷ formals) (a ∷ rest) m plain are typed =
-      let first = with_one f x a m (plain x (inl refl)) are.0 typed in
-      one_then m (with_formal s f x a m) (with_formals s f formals rest (with_formal s f x a m)) first
-      (all_entered f formals rest (with_formal s f x a m) (λ y has. plain y (inr has)) are.1 first.typed)
-
 -- ---- formals are copied back
 
 pub backs_on : (Q R : Memory → Type 0) → ((m : Memory) → Q m → R m) → (y : Evaluated Memory) → Backs Q y → Backs R y
@@ -171,26 +159,3 @@ pub if_back : (Q : Memory → Type 0) (b : Bool) (ws : List machine.Word) (begun
     → Backs Q (f ws begun) → Backs Q (followed_by (if b then Done ws begun else Raises ConstraintError begun) f)
 if_back Q true ws begun f q = q
 if_back Q false ws begun f q = tt
-
-module _ (t : Turn) (settled : IsSettled (typing t).table) (own_law : OwnsByShape (typing t).table) (hands : List Waiting) (leaks : List Leak) where
-  abbrev On : Memory → Memory → Type 0
-  On m n = Enters (typing t) settled own_law hands leaks m n
-
-  pub all_back : (returns : List Return) → ((r : Return) → Has returns r → IsCopied (typing t) r) → (begun : Now)
-      → Kept (typing t) begun.memory hands → Backs (λ m. On begun.memory m) (copied_back t returns begun)
-  all_back [] copied begun typed = nothing (typing t) settled own_law hands leaks begun.memory typed
-  all_back (r ∷ rest) copied begun typed =
-      let is : IsCopied (typing t) r = copied r (inl refl) in
-      let formal : Place = variable_place (here t) r.formal in
-      let ws : List machine.Word = words_of (typing t) begun.memory formal in
-      let fixed : IsFixed (typing t) formal = formal_fixed t r.formal is.0 in
-      let mid : Memory = moved_out (typing t) formal begun.memory in
-      let next : Memory = stored (typing t) r.to ws mid in
-      let first = moved_there (typing t) settled own_law hands leaks formal fixed begun.memory typed in
-      let second = stored_there (typing t) settled own_law hands leaks r.to is.1 ws (fixed_one (typing t) settled formal fixed begun.memory hands typed) mid first.typed in
-      subst (Backs (λ m. On begun.memory m)) (sym (copied_is t r rest begun is.1))
-      (if_back (λ m. On begun.memory m) (fits_type (typing t).table r.to.of ws) ws begun
-      (λ us n. copied_back t rest (record n { memory = stored (typing t) r.to us (moved_out (typing t) formal n.memory) }))
-      (backs_on (λ m. On next m) (λ m. On begun.memory m)
-      (λ m on. one_then (typing t) settled own_law hands leaks begun.memory next m (one_then (typing t) settled own_law hands leaks begun.memory mid next first second) on)
-      (copied_back t rest (record begun { memory = next })) (all_back rest (λ q has. copied q (inr has)) (record begun { memory = next }) second.typed)))
