@@ -20,7 +20,7 @@ use Rattle.accepted_runs.specs.Passed.{Passes}
 use Rattle.accepted_runs.proofs.Passing.{Passed, product_passed}
 use Rattle.accepted_runs.proofs.Parsed.{are_parsed}
 use Rattle.accepted_runs.proofs.Runs.{RunsAreWithNull}
-use Rattle.accepted_runs.proofs.Views.{AreInSecondViewClass, AreInViewClass, passed_called_ready, passed_called_scalars, first_second}
+use Rattle.accepted_runs.proofs.Views.{AreInSecondViewClass, AreInViewClass, passed_called_ready, first_second}
 
 pub passed_called_with_null : (texts : List (List ℕ)) (trees : List (List SourceUnit)) (effects : Effects) → Passes texts trees effects → AreInSecondViewClass trees
     → RunsAreWithNull trees
@@ -28,7 +28,6 @@ passed_called_with_null texts trees effects passes class input =
     viewed_runs (known_of (program_of trees)).table (typed_of (program_of trees)) effects input (passed_called_ready texts trees effects passes class)
     (typed_compared (flow_of trees)
     (parsed_steps trees passes.cuts (are_parsed texts 0 TOKENS passes.cuts trees passes.cut passes.parsed) passes.named passes.typed))
-    (passed_called_scalars texts trees effects passes class)
 
 -- If the tool answers a check with status 0, and the program is in this class, its runs give the same
 -- with null in moved places.

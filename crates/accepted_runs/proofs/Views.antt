@@ -15,7 +15,7 @@ use Rattle.sound_files.proofs.Owners.{calls_functions}
 use Rattle.viewed_files.specs.Class.{IsFormlessText}
 use Rattle.viewed_steps.specs.Ready.{IsReady}
 use Rattle.viewed_steps.proofs.Main.{ready_sound}
-use Rattle.viewed_files.proofs.Files.{AreScalarsGiven, parsed_called_scalars, parsed_called_ready}
+use Rattle.viewed_files.proofs.Files.{parsed_called_ready}
 use Rattle.command_words.specs.Words.{Check}
 use Rattle.run_command.specs.Answers.{Answer}
 use Rattle.spark_tool.specs.Commands.{command_of}
@@ -43,13 +43,6 @@ pub passed_called_ready : (texts : List (List ℕ)) (trees : List (List SourceUn
     → IsReady (known_of (program_of trees)).table (typed_of (program_of trees)) effects
 passed_called_ready texts trees effects passes class =
     parsed_called_ready trees passes.cuts (are_parsed texts 0 TOKENS passes.cuts trees passes.cut passes.parsed) passes.named passes.typed class.main class.is_main
-    effects passes.effects_are passes.none class.calls
-
--- and what it takes of what calls give is scalar.
-pub passed_called_scalars : (texts : List (List ℕ)) (trees : List (List SourceUnit)) (effects : Effects) → Passes texts trees effects → AreInSecondViewClass trees
-    → AreScalarsGiven (flow_of trees)
-passed_called_scalars texts trees effects passes class =
-    parsed_called_scalars trees passes.cuts (are_parsed texts 0 TOKENS passes.cuts trees passes.cut passes.parsed) passes.named passes.typed class.main class.is_main
     effects passes.effects_are passes.none class.calls
 
 pub passed_called_sound : (texts : List (List ℕ)) (trees : List (List SourceUnit)) (effects : Effects) → Passes texts trees effects → AreInSecondViewClass trees

@@ -104,12 +104,6 @@ whole_named : (z : Shape) (d : ℕ) (c n : Bool) → counts z ≡ true → z ≡
 whole_named (shape.Access e k m) d c n whole is = cc
 whole_named z d c n whole is = cc
 
--- Procedures alone are called, or all results are of scalar types; and temporaries are of scalar types.
-abbrev pub AreScalarsGiven : FlowProgram → Type 0
-AreScalarsGiven program =
-    (CallsProcedures program ⊎ ArePlainResults (flow_typing program))
-    × ((x : ℕ) → is_temporary_object (flow_typing program) x ≡ true → is_scalar (full program.table (flow.object_at (flow_typing program) x).of) ≡ true)
-
 module _ (files : List (List SourceUnit)) where
   abbrev p : Program
   p = program_of files
@@ -289,10 +283,6 @@ module _ (files : List (List SourceUnit)) where
       pub files_called_ready : IsReady table (typed_of p) effects
       files_called_ready = views_ready table (typed_of p) effects view_program
 
-      -- and what waits is scalar, as long as results are;
-      pub files_called_scalars : AreScalarsGiven flow_of_files
-      files_called_scalars = (results, temporaries_plain p calls.results truths integers order.lasting)
-
       -- so each moment of each run is well owned, and none is a trap.
       pub files_called_sound : (input : List ℕ) → RunIsSound table (typed_of p) input
       files_called_sound input = ready_sound table (typed_of p) effects input files_called_ready
@@ -302,11 +292,6 @@ module _ (files : List (List SourceUnit)) where
       → (effects : Effects) → AreEffects flow_of_files effects → AreReports flow_of_files effects [] → CallsWithOwners p → IsReady table (typed_of p) effects
   parsed_called_ready texts parsed named no_fault =
       files_called_ready (files_apart texts files parsed) (files_ended (identified files) texts files parsed) (events_ascend texts files parsed) named no_fault
-
-  pub parsed_called_scalars : (texts : List (List Cut)) → AreParsed 0 texts files → name_fault files ≡ None → type_fault p ≡ None → (main : ℕ) → (typed_of p).main ≡ Some main
-      → (effects : Effects) → AreEffects flow_of_files effects → AreReports flow_of_files effects [] → CallsWithOwners p → AreScalarsGiven flow_of_files
-  parsed_called_scalars texts parsed named no_fault =
-      files_called_scalars (files_apart texts files parsed) (files_ended (identified files) texts files parsed) (events_ascend texts files parsed) named no_fault
 
   pub parsed_called_sound : (texts : List (List Cut)) → AreParsed 0 texts files → name_fault files ≡ None → type_fault p ≡ None → (main : ℕ) → (typed_of p).main ≡ Some main
       → (effects : Effects) → AreEffects flow_of_files effects → AreReports flow_of_files effects [] → CallsWithOwners p → (input : List ℕ) → RunIsSound table (typed_of p) input
