@@ -45,7 +45,7 @@ use Rattle.typed_laws.specs.Fine.{Laws, counts, lists}
 use Rattle.typed_steps.specs.Steps.{AreTyped as AreStepsTyped}
 use Rattle.typed_points.specs.Meant.{AreMeantUnits, typing_meant}
 use Rattle.soundness.specs.Typed.{OwnsByShape}
-use Rattle.soundness.specs.Sound.{is_temporary_object, Accepted, ArePlainResults, RunIsSound}
+use Rattle.soundness.specs.Sound.{Accepted, ArePlainResults, RunIsSound}
 use Rattle.soundness.proofs.Points.{flow_table}
 use Rattle.viewed_soundness.specs.Holds.{PartsAreNamed}
 use Rattle.ready_laws.specs.InOrder.{IsInOrder, IsSub, AreAnswered, AreStill, ArePassed}
