@@ -29,14 +29,14 @@ use Rattle.exact_facts.specs.Exact.{IsExact, NoneFails}
 use Rattle.exact_facts.proofs.Parts.{plain_leaf}
 use Rattle.exact_facts.proofs.Memories.{sels_part, named_part, end_plain, told_seen}
 
-failed_gone : (p : Pos) (w : machine.Word) (g : Bool) → g ≡ true → failed_at p w g ≡ []
+pub failed_gone : (p : Pos) (w : machine.Word) (g : Bool) → g ≡ true → failed_at p w g ≡ []
 failed_gone p (machine.Cell n) true e = refl
 failed_gone p (machine.Cell n) false e = cc
 failed_gone p (machine.Int v) g e = refl
 failed_gone p (machine.Enumerated v) g e = refl
 failed_gone p machine.Null g e = refl
 
-is_gone : (w : machine.Word) (g : Bool) → owner_at w g ≡ Gone → g ≡ true
+pub is_gone : (w : machine.Word) (g : Bool) → owner_at w g ≡ Gone → g ≡ true
 is_gone w true e = refl
 is_gone (machine.Cell n) false e = cc
 is_gone (machine.Int v) false e = cc

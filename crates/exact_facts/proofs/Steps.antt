@@ -73,7 +73,7 @@ named_variable home (Lost n) named = absurd named
 named_variable home (Into w i) named = named_variable home w named
 named_variable home (All w) named = named_variable home w named
 
-variable_rooted : (w : Way) → IsOfVariable w → IsRooted w
+pub variable_rooted : (w : Way) → IsOfVariable w → IsRooted w
 variable_rooted (Object r) is = tt
 variable_rooted (Lost n) is = absurd is
 variable_rooted (Into w i) is = variable_rooted w is

@@ -133,26 +133,26 @@ module _ (h : Here) (settled : IsSettled h.typing.table) (own_law : OwnsByShape 
   mutual
     unfolding Gives GivesParts GivesFirst Stays Compares evaluate initial parts_of acts_in has_call waiting
 
-    pub value_on : (e : TypedTree) (want : ℕ) → Gives h.typing want e → asks.calls (has_call e) → (before on : List (List machine.Word))
+    pub value_on : (e : TypedTree) (want : ℕ) → Gives h.typing want e → asks.calls (has_call e) → asks.gives e → (before on : List (List machine.Word))
         → Takes (waiting e) before on → Compares h.typing e
         → (m : Memory) (hands : List Waiting) (facts : List Fact) → ready m hands facts → AllowsAll facts (acts (acts_in h.typing e)) → OnlyOwners h.typing m
         → asks.takes want → asks.keeps (acts (acts_in h.typing e)) → (n' : Now) → SameNow h.typing (record { memory = m; waits = before }) n'
         → Same (evaluate h AsValue e (record { memory = m; waits = before })) (evaluate h AsValue e n')
-    value_on (Number v) want scalar calls before on takes compares m hands facts so allowed only own keep n' same = (refl, same)
-    value_on (Literal v) want scalar calls before on takes compares m hands facts so allowed only own keep n' same = (refl, same)
-    value_on EndOfFile want scalar calls before on takes compares m hands facts so allowed only own keep n' same = (refl, same)
-    value_on typed.Null want one calls before on takes compares m hands facts so allowed only own keep n' same = (refl, same)
-    value_on (Parens e) want gives calls before on takes compares m hands facts so allowed only own keep n' same =
-        value_on e want gives calls before on takes compares m hands facts so allowed only own keep n' same
-    value_on (Unary op e) want (scalar, stays) calls before on takes compares m hands facts so allowed only own keep n' same =
+    value_on (Number v) want scalar calls own_calls before on takes compares m hands facts so allowed only own keep n' same = (refl, same)
+    value_on (Literal v) want scalar calls own_calls before on takes compares m hands facts so allowed only own keep n' same = (refl, same)
+    value_on EndOfFile want scalar calls own_calls before on takes compares m hands facts so allowed only own keep n' same = (refl, same)
+    value_on typed.Null want one calls own_calls before on takes compares m hands facts so allowed only own keep n' same = (refl, same)
+    value_on (Parens e) want gives calls own_calls before on takes compares m hands facts so allowed only own keep n' same =
+        value_on e want gives calls (asks.held e own_calls) before on takes compares m hands facts so allowed only own keep n' same
+    value_on (Unary op e) want (scalar, stays) calls own_calls before on takes compares m hands facts so allowed only own keep n' same =
         scalar_value (Unary op e) stays before on takes calls compares m hands facts so allowed only n' same
-    value_on (Binary op a b) want (scalar, stays, stays') calls before on takes compares m hands facts so allowed only own keep n' same =
+    value_on (Binary op a b) want (scalar, stays, stays') calls own_calls before on takes compares m hands facts so allowed only own keep n' same =
         scalar_value (Binary op a b) (stays, stays') before on takes calls compares m hands facts so allowed only n' same
-    value_on (Short op p a q b) want (scalar, stays, stays') calls before on takes compares m hands facts so allowed only own keep n' same =
+    value_on (Short op p a q b) want (scalar, stays, stays') calls own_calls before on takes compares m hands facts so allowed only own keep n' same =
         scalar_value (Short op p a q b) (stays, stays') before on takes calls compares m hands facts so allowed only n' same
-    value_on (IsNull equal e) want (scalar, stays) calls before on takes compares m hands facts so allowed only own keep n' same =
+    value_on (IsNull equal e) want (scalar, stays) calls own_calls before on takes compares m hands facts so allowed only own keep n' same =
         scalar_value (IsNull equal e) stays before on takes calls compares m hands facts so allowed only n' same
-    value_on (Name p x steps t) want (lead, fits) calls before on takes compares m hands facts so allowed only own keep n' same =
+    value_on (Name p x steps t) want (lead, fits) calls own_calls before on takes compares m hands facts so allowed only own keep n' same =
         let name : PlaceName = name_of x steps in
         let law = values.behaves m hands facts so only in
         let last : List Placed = record { pos = p; act = used h.typing name t } ∷ [] in
@@ -162,46 +162,47 @@ module _ (h : Here) (settled : IsSettled h.typing.table) (own_law : OwnsByShape 
         (subst (λ z. Allows z (used h.typing name t)) inner.1 each.1.0)
         (asks.both_keep (acts (acts_in h.typing steps)) (used h.typing name t ∷ []) (subst asks.keeps (acts_append (acts_in h.typing steps) last) keep)).1
         (is_owning h.typing.table t) refl n' same
-    value_on (New t (More e rest)) want (d, c, n, is, fits, (none, gives)) calls before on takes compares m hands facts so allowed only own keep n' same =
+    value_on (New t (More e rest)) want (d, c, n, is, fits, (none, gives)) calls own_calls before on takes compares m hands facts so allowed only own keep n' same =
         let acts_same : acts_in h.typing e ++ acts_in h.typing rest ≡ acts_in h.typing e = ap (λ z. acts_in h.typing e ++ acts_in h.typing z) none ∙ append-nil (acts_in h.typing e) in
         let alone_there : waiting e + waiting rest ≡ waiting e = ap (λ z. waiting e + waiting z) none ∙ nothing_more (waiting e) in
         let now : Now = record { memory = m; waits = before } in
         allocated_same t (followed_by (evaluate h AsValue e now) (checked h t)) (followed_by (evaluate h AsValue e n') (checked h t))
         (checked_same t (evaluate h AsValue e now) (evaluate h AsValue e n')
-        (value_on e t gives (asks.both_calls (has_call e) (has_call rest) calls).0 before on (takes_as (waiting e + waiting rest) (waiting e) before on alone_there takes)
+        (value_on e t gives (asks.both_calls (has_call e) (has_call rest) calls).0 (asks.both_give e rest (asks.made t (More e rest) own_calls)).0 before on (takes_as (waiting e + waiting rest) (waiting e) before on alone_there takes)
         compares.0 m hands facts so (subst (λ z. AllowsAll facts (acts z)) acts_same allowed) only (asks.new want t d c n is fits)
         (subst (λ z. asks.keeps (acts z)) acts_same keep) n' same))
-    value_on (New t NoMore) want (d, c, n, is, fits, none) calls before on takes compares m hands facts so allowed only own keep n' same =
+    value_on (New t NoMore) want (d, c, n, is, fits, none) calls own_calls before on takes compares m hands facts so allowed only own keep n' same =
         allocated_same t (Done (default h.typing.table t) (record { memory = m; waits = before })) (Done (default h.typing.table t) n') (refl, same)
-    value_on (New t v) want (d, c, n, is, fits, none) calls before on takes compares m hands facts so allowed only own keep n' same = absurd none
-    value_on (Aggregate t es) want (fits, made, count, gives) calls before on takes compares m hands facts so allowed only own keep n' same =
-        parts_same es t 0 gives calls before on takes compares m hands facts so allowed only made keep n' same
-    value_on (Alike t e) want (fits, array, plain, gives) calls before on takes compares m hands facts so allowed only own keep n' same =
+    value_on (New t v) want (d, c, n, is, fits, none) calls own_calls before on takes compares m hands facts so allowed only own keep n' same = absurd none
+    value_on (Aggregate t es) want (fits, made, count, gives) calls own_calls before on takes compares m hands facts so allowed only own keep n' same =
+        parts_same es t 0 gives calls (asks.filled t es own_calls) before on takes compares m hands facts so allowed only made keep n' same
+    value_on (Alike t e) want (fits, array, plain, gives) calls own_calls before on takes compares m hands facts so allowed only own keep n' same =
         let now : Now = record { memory = m; waits = before } in
         let el : ℕ = machine.element_type h.typing.table t in
         let repeats : List machine.Word → Now → Evaluated (List machine.Word) = (λ ws n. Done (machine.repeated (machine.element_count h.typing.table t) ws) n) in
         subst (λ z. SameTo h.typing z (evaluate h AsValue (Alike t e) n')) (regrouped (evaluate h AsValue e now) (checked h el) repeats)
         (subst (SameTo h.typing (followed_by (followed_by (evaluate h AsValue e now) (checked h el)) repeats)) (regrouped (evaluate h AsValue e n') (checked h el) repeats)
         (simply h.typing (followed_by (evaluate h AsValue e now) (checked h el)) (followed_by (evaluate h AsValue e n') (checked h el)) repeats repeats
-        (checked_same el (evaluate h AsValue e now) (evaluate h AsValue e n') (value_on e el gives calls before on takes compares m hands facts so allowed only (asks.element t) keep n' same))
+        (checked_same el (evaluate h AsValue e now) (evaluate h AsValue e n') (value_on e el gives calls (asks.alike t e own_calls) before on takes compares m hands facts so allowed only (asks.element t) keep n' same))
         (λ ws n n'' last. (refl, last))))
     -- the result of a function waits
-    value_on (Call p sub actuals) want gives calls before on takes compares m hands facts so allowed only own keep n' same = (
+    value_on (Call p sub actuals) want gives calls own_calls before on takes compares m hands facts so allowed only own keep n' same = (
       ap (λ ws. get_or ws 0 []) same.1,
       (same.0, ap (drop 1) same.1, same.2),
     )
-    value_on e want gives calls before on takes compares m hands facts so allowed only own keep n' same = absurd gives
+    value_on e want gives calls own_calls before on takes compares m hands facts so allowed only own keep n' same = absurd gives
 
     -- the parts of an aggregate from the i-th on
-    parts_same : (es : TypedTree) (t i : ℕ) → GivesParts h.typing t i es → asks.calls (has_call es) → (before on : List (List machine.Word))
+    parts_same : (es : TypedTree) (t i : ℕ) → GivesParts h.typing t i es → asks.calls (has_call es) → asks.gives es → (before on : List (List machine.Word))
         → Takes (waiting es) before on → Compares h.typing es
         → (m : Memory) (hands : List Waiting) (facts : List Fact) → ready m hands facts → AllowsAll facts (acts (acts_in h.typing es)) → OnlyOwners h.typing m
         → is_record (shape_of h.typing.table t) || is_array (shape_of h.typing.table t) ≡ true → asks.keeps (acts (acts_in h.typing es)) → (n' : Now) → SameNow h.typing (record { memory = m; waits = before }) n'
         → Same (parts_of h t i es (record { memory = m; waits = before })) (parts_of h t i es n')
-    parts_same (More e rest) t i gives calls before on takes compares m hands facts so allowed only made keep n' same =
+    parts_same (More e rest) t i gives calls own_calls before on takes compares m hands facts so allowed only made keep n' same =
         let now : Now = record { memory = m; waits = before } in
         let u : ℕ = part_type (shape_of h.typing.table t) i in
         let both = asks.both_calls (has_call e) (has_call rest) calls in
+        let own_both = asks.both_give e rest own_calls in
         let names = asks.both_keep (acts (acts_in h.typing e)) (acts (acts_in h.typing rest)) (subst asks.keeps (acts_append (acts_in h.typing e) (acts_in h.typing rest)) keep) in
         let part = asks.part t i made in
         let two = takes_both (waiting e) (waiting rest) before on takes in
@@ -211,16 +212,16 @@ module _ (h : Here) (settled : IsSettled h.typing.table) (own_law : OwnsByShape 
         let next : List machine.Word → Now → Evaluated (List machine.Word) =
         (λ ws now. followed_by (parts_of h t (suc i) rest now) (λ more now. Done (ws ++ more) now)) in
         let given = checked_by h ready two.0 u u hands between (evaluate h AsValue e now)
-        (values.given e u gives.0 both.0 before two.0 two.1 m hands facts so each.0 part names.0) in
+        (values.given e u gives.0 both.0 own_both.0 before two.0 two.1 m hands facts so each.0 part names.0) in
         let first = checked_same u (evaluate h AsValue e now) (evaluate h AsValue e n')
-        (value_on e u gives.0 both.0 before two.0 two.1 compares.0 m hands facts so each.0 only part names.0 n' same) in
+        (value_on e u gives.0 both.0 own_both.0 before two.0 two.1 compares.0 m hands facts so each.0 only part names.0 n' same) in
         subst (λ z. SameTo h.typing z (parts_of h t i (More e rest) n')) (regrouped (evaluate h AsValue e now) (checked h u) next)
         (subst (SameTo h.typing (followed_by (followed_by (evaluate h AsValue e now) (checked h u)) next)) (regrouped (evaluate h AsValue e n') (checked h u) next)
         (then_same h.typing (GivenBy h ready two.0 u hands between) (followed_by (evaluate h AsValue e now) (checked h u)) (followed_by (evaluate h AsValue e n') (checked h u)) next next given first
         (λ ws n n'' there still. simply h.typing (parts_of h t (suc i) rest n) (parts_of h t (suc i) rest n'') (λ more now. Done (ws ++ more) now) (λ more now. Done (ws ++ more) now)
         (subst (λ z. SameNow h.typing (record { memory = n.memory; waits = z }) n''
         → SameTo h.typing (parts_of h t (suc i) rest (record { memory = n.memory; waits = z })) (parts_of h t (suc i) rest n'')) (sym there.2)
-        (λ still_so. parts_same rest t (suc i) gives.1 both.1 two.0 on two.2 compares.1 n.memory (record { of = u; words = ws } ∷ hands) between there.0 each.1 still.2 made names.1 n'' still_so) still)
+        (λ still_so. parts_same rest t (suc i) gives.1 both.1 own_both.1 two.0 on two.2 compares.1 n.memory (record { of = u; words = ws } ∷ hands) between there.0 each.1 still.2 made names.1 n'' still_so) still)
         (λ more k k' last. (ap (λ z. ws ++ z) refl, last)))))
-    parts_same NoMore t i gives calls before on takes compares m hands facts so allowed only made keep n' same = (refl, same)
-    parts_same es t i gives calls before on takes compares m hands facts so allowed only made keep n' same = absurd gives
+    parts_same NoMore t i gives calls own_calls before on takes compares m hands facts so allowed only made keep n' same = (refl, same)
+    parts_same es t i gives calls own_calls before on takes compares m hands facts so allowed only made keep n' same = absurd gives

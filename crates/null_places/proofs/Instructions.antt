@@ -243,40 +243,40 @@ module _ (t : Turn) (settled : IsSettled (typing t).table) (own_law : OwnsByShap
   -- ---- values that are taken
 
   pub source_same : (on : List (List machine.Word)) (u : ℕ) (e : TypedTree) → is_anonymous (full (typing t).table u) ≡ false → asks.takes u → Gives (typing t) u e
-      → asks.calls (has_call e) → Takes (waits_in e) (start t).waits on → Compares (typing t) e → AllowsAll facts (acts (acts_in (typing t) e))
+      → asks.calls (has_call e) → asks.gives e → Takes (waits_in e) (start t).waits on → Compares (typing t) e → AllowsAll facts (acts (acts_in (typing t) e))
       → asks.keeps (acts (acts_in (typing t) e)) → SameTo (typing t) (taken_by t u e at) (taken_by t u e (start (twin t n)))
-  source_same on u e owner own gives calls takes compares allowed keep =
+  source_same on u e owner own gives calls own_calls takes compares allowed keep =
       subst (λ b. SameTo (typing t) (if b then viewed h e at else followed_by (value h e at) (checked h u))
       (if b then viewed h e (start (twin t n)) else followed_by (value h e (start (twin t n))) (checked h u))) (sym owner)
       (checked_same h settled own_law asks ready values u (value h e at) (value h e (start (twin t n)))
-      (value_on h settled own_law asks ready values e u gives calls (start t).waits on takes compares
+      (value_on h settled own_law asks ready values e u gives calls own_calls (start t).waits on takes compares
       t.state.memory hands facts so allowed only own keep (start (twin t n)) at_start))
 
   source_given : (on : List (List machine.Word)) (u : ℕ) (e : TypedTree) → is_anonymous (full (typing t).table u) ≡ false → asks.takes u → Gives (typing t) u e
-      → asks.calls (has_call e) → Takes (waits_in e) (start t).waits on → AllowsAll facts (acts (acts_in (typing t) e)) → asks.keeps (acts (acts_in (typing t) e))
+      → asks.calls (has_call e) → asks.gives e → Takes (waits_in e) (start t).waits on → AllowsAll facts (acts (acts_in (typing t) e)) → asks.keeps (acts (acts_in (typing t) e))
       → GivenBy h ready on u hands (after (acts (acts_in (typing t) e)) facts) (taken_by t u e at)
-  source_given on u e owner own gives calls takes allowed keep =
+  source_given on u e owner own gives calls own_calls takes allowed keep =
       subst (λ b. GivenBy h ready on u hands (after (acts (acts_in (typing t) e)) facts) (if b then viewed h e at else followed_by (value h e at) (checked h u))) (sym owner)
       (checked_by h ready on u u hands (after (acts (acts_in (typing t) e)) facts) (evaluate h AsValue e at)
-      (values.given e u gives calls (start t).waits on takes t.state.memory hands facts so allowed own keep))
+      (values.given e u gives calls own_calls (start t).waits on takes t.state.memory hands facts so allowed own keep))
 
   first_same : (on : List (List machine.Word)) (u : ℕ) (v : TypedTree) → is_anonymous (full (typing t).table u) ≡ false → asks.takes u → FirstSource (typing t) u v
-      → asks.calls (has_call v) → Takes (waits_in v) (start t).waits on
+      → asks.calls (has_call v) → asks.gives v → Takes (waits_in v) (start t).waits on
       → Compares (typing t) v → AllowsAll facts (acts (acts_in (typing t) v)) → asks.keeps (acts (acts_in (typing t) v))
       → SameTo (typing t) (first_value t u v at) (first_value t u v (start (twin t n)))
   unfolding acts_in has_call initial Compares waits_in
-  first_same on u (More e rest) owner own (last, source) calls takes compares allowed keep =
+  first_same on u (More e rest) owner own (last, source) calls own_calls takes compares allowed keep =
       let same : acts_in (typing t) e ++ acts_in (typing t) rest ≡ acts_in (typing t) e =
       ap (λ z. acts_in (typing t) e ++ acts_in (typing t) z) last ∙ append-nil (acts_in (typing t) e) in
       let alone_there : waits_in e + waits_in rest ≡ waits_in e = ap (λ z. waits_in e + waits_in z) last ∙ nothing_more (waits_in e) in
       elim source [
         | inl view ↦ absurd (let no : true ≡ false = sym view.0 ∙ owner in cc)
-        | inr gives ↦ source_same on u e owner own gives (asks.both_calls (has_call e) (has_call rest) calls).0
+        | inr gives ↦ source_same on u e owner own gives (asks.both_calls (has_call e) (has_call rest) calls).0 (asks.both_give e rest own_calls).0
             (takes_as (waits_in e + waits_in rest) (waits_in e) (start t).waits on alone_there takes) compares.0 (subst (λ z. AllowsAll facts (acts z)) same allowed)
             (subst (λ z. asks.keeps (acts z)) same keep)
       ]
-  first_same on u NoMore owner own gives calls takes compares allowed keep = (refl, at_start)
-  first_same on u v owner own gives calls takes compares allowed keep = absurd gives
+  first_same on u NoMore owner own gives calls own_calls takes compares allowed keep = (refl, at_start)
+  first_same on u v owner own gives calls own_calls takes compares allowed keep = absurd gives
 
   -- a declaration, by its first value
   pub declared_by : (x : ℕ) (v : TypedTree)
@@ -290,11 +290,11 @@ module _ (t : Turn) (settled : IsSettled (typing t).table) (own_law : OwnsByShap
       (declared_agree depth x ws i.memory j.memory now.0) (declared_only (typing t) i.memory now.2 depth x ws))
 
   pub declare_on : (on : List (List machine.Word)) (x : ℕ) (v : TypedTree) → is_anonymous (full (typing t).table (object_at (typing t) x).of) ≡ false
-      → asks.takes (object_at (typing t) x).of → FirstSource (typing t) (object_at (typing t) x).of v → asks.calls (has_call v)
+      → asks.takes (object_at (typing t) x).of → FirstSource (typing t) (object_at (typing t) x).of v → asks.calls (has_call v) → asks.gives v
       → Takes (waits_in v) (start t).waits on → Compares (typing t) v → AllowsAll facts (acts (acts_in (typing t) v))
       → asks.keeps (acts (acts_in (typing t) v)) → Step (declare t x v) (declare (twin t n) x v)
-  declare_on on x v owner own gives calls takes compares allowed keep =
-      declared_by x v (first_same on (object_at (typing t) x).of v owner own gives calls takes compares allowed keep)
+  declare_on on x v owner own gives calls own_calls takes compares allowed keep =
+      declared_by x v (first_same on (object_at (typing t) x).of v owner own gives calls own_calls takes compares allowed keep)
 
   -- ---- assignments
 
@@ -333,11 +333,11 @@ module _ (t : Turn) (settled : IsSettled (typing t).table) (own_law : OwnsByShap
       (IsAt h asks i.memory (v ∷ hands) behind_facts u) (λ way goes. there.write on x u path way goes writes) j still).0 (λ k a b last. (refl, last))) now
 
   pub assign_on : (mid on : List (List machine.Word)) (p : Pos) (x u : ℕ) (path e : TypedTree) → is_anonymous (full (typing t).table u) ≡ false → asks.takes u
-      → Gives (typing t) u e → Leads (typing t) (object_at (typing t) x).of path u → asks.calls (has_call e) → asks.calls (has_call path)
+      → Gives (typing t) u e → Leads (typing t) (object_at (typing t) x).of path u → asks.calls (has_call e) → asks.gives e → asks.calls (has_call path)
       → Takes (waits_in e) (start t).waits mid → Takes (waits_in path) mid on → Compares (typing t) path → Compares (typing t) e
       → AllowsAll facts (acts (stored_acts (typing t) (Name p x path u) e)) → asks.keeps (acts (acts_in (typing t) e))
       → Step (assign t (Name p x path u) e) (assign (twin t n) (Name p x path u) e)
-  assign_on mid on p x u path e owner own gives lead calls calls' takes takes' compares compares' allowed keep =
+  assign_on mid on p x u path e owner own gives lead calls own_calls calls' takes takes' compares compares' allowed keep =
       let target : TypedTree = Name p x path u in
       let a : List Act = acts (acts_in (typing t) e) in
       let b : List Act = acts (acts_in (typing t) path) in
@@ -349,8 +349,8 @@ module _ (t : Turn) (settled : IsSettled (typing t).table) (own_law : OwnsByShap
       let placed : List machine.Word → Now → Evaluated Stored = (λ ws now. followed_by (place_of h target now) (λ k now. Done (record { words = ws; place = k }) now)) in
       stored_same target (followed_by (taken_by t u e at) placed) (followed_by (taken_by t u e (start (twin t n))) placed)
       (then_same (typing t) (GivenBy h ready mid u hands (after a facts))
-      (taken_by t u e at) (taken_by t u e (start (twin t n))) placed placed (source_given mid u e owner own gives calls takes each.0 keep)
-      (source_same mid u e owner own gives calls takes compares' each.0 keep)
+      (taken_by t u e at) (taken_by t u e (start (twin t n))) placed placed (source_given mid u e owner own gives calls own_calls takes each.0 keep)
+      (source_same mid u e owner own gives calls own_calls takes compares' each.0 keep)
       (λ ws i j given now. then_placed mid on p x u path lead takes' calls' compares (after a facts) each.1 ws i j given now))
 
   -- ---- a release

@@ -8,7 +8,7 @@ use Rattle.place_names.specs.declared.act.Placed.{Placed}
 use Rattle.place_names.specs.declared.fact.Fact.{Fact}
 use Rattle.type_definitions.specs.declared.table.Shape.TheVariants as shape
 use Rattle.type_definitions.specs.Types.{shape_of, is_owning, words, parts}
-use Rattle.typed_tree.specs.Trees.{TypedTree}
+use Rattle.typed_tree.specs.Trees.{TypedTree, Parens, Aggregate, Alike, New, More}
 use Rattle.flow_paths.specs.Objects.{object_at}
 use Rattle.flow_paths.specs.Names.{has_call, waiting, name_of}
 use Rattle.flow_paths.specs.Acts.{acts_in}
@@ -36,6 +36,13 @@ module _ (h : Here) where
     -- whether there are calls in it
     pub calls : Bool → Type 0
     pub both_calls : (a b : Bool) → calls (a || b) → calls a × calls b
+    -- what it takes of the results of calls, where it gives a value that may own
+    pub gives : TypedTree → Type 0
+    pub held : (e : TypedTree) → gives (Parens e) → gives e
+    pub filled : (t : ℕ) (es : TypedTree) → gives (Aggregate t es) → gives es
+    pub alike : (t : ℕ) (e : TypedTree) → gives (Alike t e) → gives e
+    pub made : (t : ℕ) (e : TypedTree) → gives (New t e) → gives e
+    pub both_give : (e rest : TypedTree) → gives (More e rest) → gives e × gives rest
     -- its acts
     pub keeps : List Act → Type 0
     pub both_keep : (a b : List Act) → keeps (a ++ b) → keeps a × keeps b
@@ -126,7 +133,7 @@ module _ (h : Here) where
   -- value, in a memory of which it is known.
   pub record Values (asks : Premises) (ready : Memory → List Waiting → List Fact → Type 0) : Type 0 where
     pub behaves : (m : Memory) (hands : List Waiting) (facts : List Fact) → ready m hands facts → OnlyOwners h.typing m → Behaves asks m hands facts
-    pub given : (e : TypedTree) (want : ℕ) → Gives h.typing want e → asks.calls (has_call e) → (before on : List (List machine.Word)) → Takes (waiting e) before on
+    pub given : (e : TypedTree) (want : ℕ) → Gives h.typing want e → asks.calls (has_call e) → asks.gives e → (before on : List (List machine.Word)) → Takes (waiting e) before on
         → (m : Memory) (hands : List Waiting) (facts : List Fact) → ready m hands facts → AllowsAll facts (acts (acts_in h.typing e))
         → asks.takes want → asks.keeps (acts (acts_in h.typing e))
         → GivenBy ready on want hands (after (acts (acts_in h.typing e)) facts) (evaluate h AsValue e (record { memory = m; waits = before }))

@@ -60,6 +60,12 @@ abbrev pub plain_premises : (h : Here) → Premises h
 plain_premises h = record {
   calls = TakesPlainly h.typing;
   both_calls = both_plainly h.typing;
+  gives = λ e. Unit {0};
+  held = λ e plain. tt;
+  filled = λ t es plain. tt;
+  alike = λ t e plain. tt;
+  made = λ t e plain. tt;
+  both_give = λ e rest plain. (tt, tt);
   keeps = λ acts_there. Unit {0};
   both_keep = λ a b kept. (tt, tt);
   takes = λ t. Unit {0};
@@ -257,7 +263,7 @@ module _ (h : Here) (settled : IsSettled h.typing.table) (leaks : List Leak) (ot
       (λ m hands facts. Ready h settled leaks [] other alone (keeps h.typing settled own_law) no_formals index_law own_law all_named m hands facts)
   plain_values = record {
     behaves = λ m hands facts ready only. plain_behaves m hands facts ready only;
-    given = λ e want gives calls before on takes m hands facts ready allowed own keep.
+    given = λ e want gives calls own_calls before on takes m hands facts ready allowed own keep.
         given_by on want hands (after (acts (acts_in h.typing e)) facts) (evaluate h run.AsValue e (record { memory = m; waits = before }))
         (evaluated_on h settled leaks [] other alone (keeps h.typing settled own_law) no_formals index_law own_law all_named e want gives calls before on takes m hands facts ready allowed);
   }

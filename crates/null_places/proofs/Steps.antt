@@ -143,7 +143,7 @@ module _ (table : Table) (typed : TypedProgram) (effects : Effects) (input : Lis
         → AllowsAll facts (acts_by (Declare x v)) → Same (Declare x v)
     declares x v text takes plainly compares allowed_there =
         declare_on t ready.accepted.settled ready.owns asks ready_in laws facts so only n agrees on
-        x v (owner (object_at s x).of) tt text (plainly (has_call v) (λ none. not_true (has_call v) none)) takes compares
+        x v (owner (object_at s x).of) tt text (plainly (has_call v) (λ none. not_true (has_call v) none)) tt takes compares
         (subst (λ z. AllowsAll facts (acts z)) (declared_plain x v) allowed_there) tt
 
     assigns : (target e : TypedTree) → IsFine s named.sub.result (Assign target e) → TakesIn (Assign target e) → Plainly (Assign target e)
@@ -153,7 +153,7 @@ module _ (table : Table) (typed : TypedProgram) (effects : Effects) (input : Lis
         let two = takes_both (waits_in e) (waits_in path) (start t).waits on takes in
         assign_on t ready.accepted.settled ready.owns asks ready_in laws facts so only n agrees two.0 on
         q x u path e (owner u) tt (given_there u e (subst (λ z. Source s z e) (sym type) source)) leads
-        (plainly (has_call e) (λ calls. (both_not (has_call path) (has_call e) calls).1))
+        (plainly (has_call e) (λ calls. (both_not (has_call path) (has_call e) calls).1)) tt
         (plainly (has_call path) (λ calls. (both_not (has_call path) (has_call e) calls).0)) two.1 two.2 compares.0 compares.1
         (subst (λ z. AllowsAll facts (acts z)) (assigned_plain p.pos (whole (Name q x path u)) (Name q x path u) e) allowed_there) tt
     assigns target e (v, never, source) takes plainly compares allowed_there = absurd never
@@ -327,7 +327,7 @@ module _ (table : Table) (typed : TypedProgram) (effects : Effects) (input : Lis
         (λ ws m. Goes (handed_over program input here (record state { memory = n }) top.frame below.frame rest of ws m))
         (source_same turn_here ready.accepted.settled ready.owns (plain_premises (steps.here turn_here)) ready_there laws_there facts_now so_now only n agrees []
         of e (not_anonymous s ready.class.all_named of) tt (given_there of e source)
-        (plainly (Hold (More e NoMore)) is (has_call e) (λ calls. (or_both (has_call e) (has_call NoMore) (not_true (has_call e || has_call NoMore) calls)).0))
+        (plainly (Hold (More e NoMore)) is (has_call e) (λ calls. (or_both (has_call e) (has_call NoMore) (not_true (has_call e || has_call NoMore) calls)).0)) tt
         (takes_as (taken (Hold (More e NoMore))) (waits_in e) (start turn_here).waits [] (nothing_more (waits_in e)) (takes_of (Hold (More e NoMore)) is))
         compares.0 (subst (AllowsAll facts_now) same allowed_there) tt)
         (λ ws i j now. ((refl, now.0), now.2)))

@@ -9,5 +9,6 @@ pub mod Facts
 pub mod Formals
 pub mod Passing
 pub mod Scoped
+pub mod Valued
 pub mod Points
 pub mod Ready

@@ -52,6 +52,8 @@ use Rattle.view_laws.proofs.Calls.{point_good}
 use Rattle.view_laws.proofs.Reports.{unchanged, not_observed, observed_encloses, reborrowed_own}
 use Rattle.view_laws.proofs.Enclosing.{enclosing_less}
 use Rattle.view_laws.proofs.Scoped as scoped
+use Rattle.view_laws.proofs.Valued as valued
+use Rattle.viewed_steps.specs.Awaited.{is_held}
 use Rattle.view_laws.proofs.Same as same
 
 -- ---- tests
@@ -288,7 +290,7 @@ module _ (table : Table) (typed : TypedProgram) (effects : Effects) (given : IsV
   abbrev pub Outlives : List ℕ → ℕ → ℕ → Type 0
   Outlives scope y x =
       (is_package_object s y ≡ true)
-      ⊎ ((is_within y scope ≡ true) × (has_scope_end s y ≡ true) × (encloses program.scopes (scope_of s y) (scope_of s x) ≡ true))
+      ⊎ ((is_within y scope ≡ true) × (has_scope_end s y ≡ true) × (encloses program.scopes (scope_of s y) (scope_of s x) ≡ true) × (is_held s y ≡ false))
 
   -- a view that isn't an observer is a borrower
   borrows : (x : ℕ) → is_anonymous (view_of s x) ≡ true → is_observer s x ≡ false → is_borrower s x ≡ true
@@ -389,7 +391,7 @@ module _ (table : Table) (typed : TypedProgram) (effects : Effects) (given : IsV
           → (is_within y left ≡ true → encloses program.scopes (scope_of s y) (scope_of s x) ≡ true) → Outlives p.scope y x
       outlives y x names lasts around = elim (seen_there y names) [
         | inl shared ↦ inl shared
-        | inr within ↦ inr (within_whole y (taken p.instr) p.scope within, lasts, around within)
+        | inr within ↦ inr (within_whole y (taken p.instr) p.scope within, lasts, around within, valued.unheld table typed effects given y)
       ]
 
       older_encloses : (y x : ℕ) → is_older own typed.scopes x y ≡ true → encloses program.scopes (scope_of s y) (scope_of s x) ≡ true

@@ -19,6 +19,7 @@ use Rattle.view_laws.specs.Program.{IsViewProgram}
 use Rattle.view_laws.proofs.Enclosing.{itself, transitive}
 use Rattle.view_laws.proofs.Passing as passing
 use Rattle.view_laws.proofs.Scoped as scoped
+use Rattle.view_laws.proofs.Valued as valued
 use Rattle.view_laws.proofs.Points as points
 
 no_assign : (i : Instruction) (x : ℕ) (v target e : TypedTree) → i ≡ Declare x v → i ≡ Assign target e → ⊥
@@ -93,8 +94,7 @@ module _ (table : Table) (typed : TypedProgram) (effects : Effects) (given : IsV
   class : IsViewClass program
   class = record {
     parts_named = given.parts_named;
-    results = given.results;
-    temporaries = given.temporaries;
+    results = valued.named_results table typed effects given;
     formals = given.formals;
     functions = given.functions;
     copied = given.copied;
@@ -112,6 +112,7 @@ module _ (table : Table) (typed : TypedProgram) (effects : Effects) (given : IsV
     orderly = views_orderly;
     called = passing.called_to table typed effects given.accepted given.owns given.order given.answered given.passed given.still given.passes;
     returning = scoped.are_returning table typed effects given;
+    valued = valued.are_valued table typed effects given;
     packages = scoped.packages table typed effects given;
     stands = scoped.packages_stand table typed effects given;
     main = suc given.order.number;

@@ -1,5 +1,6 @@
 -- A leak check doesn't fail at a place that a fact without an element calls moved, perhaps through a view.
-use Rattle.std.proofs.Common.{◌≡◌, refl, sym, ap, ◌∙◌, subst, inl, inr, ℕ, ◌+◌, Bool, true, false, List, [], ◌∷◌, ◌++◌, map, get_or, arith}
+use Rattle.std.proofs.Common.{◌≡◌, refl, sym, ap, ◌∙◌, subst, inl, inr, ℕ, ◌+◌, true, false, List, [], ◌∷◌, ◌++◌, map, get_or, arith}
+use Rattle.exact_facts.proofs.Checks.{is_gone, failed_gone}
 use Rattle.spark_base.specs.Lists.{Has}
 use Rattle.spark_base.specs.declared.position.Pos.{Pos}
 use Rattle.place_names.specs.declared.selector.Sel.{Sel}
@@ -11,14 +12,13 @@ use Rattle.flow_paths.specs.declared.point.LeakSpot.{LeakSpot}
 use Rattle.flow_paths.specs.Objects.{Typing}
 use Rattle.flow_paths.specs.Acts.{spot}
 use Rattle.machine.specs.Words.{offsets}
-use Rattle.machine.specs.Words as machine
 use Rattle.machine.specs.Memory.{Slot, Memory, Place, no_slot, slots_at}
-use Rattle.machine.specs.Calls.{failed_at, checked_at, checks_at}
+use Rattle.machine.specs.Calls.{checked_at, checks_at}
 use Rattle.machine.specs.States.{Waiting, Leak}
 use Rattle.owned_ways.specs.Ways.{Loc, Way, Gone, Reaches, Told, part, along, Named, sels_of, name_of}
 use Rattle.owned_ways.proofs.Locations.{reaches_along}
 use Rattle.part_offsets.specs.Parts.{type_in, offset_in, IsSettled}
-use Rattle.soundness.specs.Seen.{Content, content, trunk, steps_in, owner_at, owner_word, seen}
+use Rattle.soundness.specs.Seen.{Content, content, trunk, steps_in, owner_word, seen}
 use Rattle.soundness.specs.Typed.{Spot}
 use Rattle.soundness.proofs.Joined.{offset_join}
 use Rattle.soundness.proofs.Contents.{shown, word_part}
@@ -30,20 +30,6 @@ use Rattle.exact_facts.specs.Exact.{IsOfVariable, NoneFails}
 use Rattle.exact_facts.proofs.Parts.{plain_leaf}
 use Rattle.exact_facts.proofs.Memories.{sels_part, named_part, end_plain, same_told}
 use Rattle.viewed_facts.specs.Exact.{IsDefiniteBy, IsDefinite, IsExact}
-
-failed_gone : (p : Pos) (w : machine.Word) (g : Bool) → g ≡ true → failed_at p w g ≡ []
-failed_gone p (machine.Cell n) true e = refl
-failed_gone p (machine.Cell n) false e = cc
-failed_gone p (machine.Int v) g e = refl
-failed_gone p (machine.Enumerated v) g e = refl
-failed_gone p machine.Null g e = refl
-
-is_gone : (w : machine.Word) (g : Bool) → owner_at w g ≡ Gone → g ≡ true
-is_gone w true e = refl
-is_gone (machine.Cell n) false e = cc
-is_gone (machine.Int v) false e = cc
-is_gone (machine.Enumerated v) false e = cc
-is_gone machine.Null false e = cc
 
 module _ (s : Typing) (settled : IsSettled s.table) (home : ℕ → ℕ) (v : Views) (elsewhere : Way → Type 0) (m : Memory) (hands : List Waiting) (leaks : List Leak)
     (facts : List Fact) (variables : (w : Way) → IsDefinite home v elsewhere facts w → IsOfVariable w) (exact : IsExact s home v elsewhere m facts)

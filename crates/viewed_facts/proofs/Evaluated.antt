@@ -1,5 +1,6 @@
 -- Facts without an element stay exact in expressions, with names through borrowers and observers.
-use Rattle.std.proofs.Common.{◌≡◌, refl, sym, ap, ◌∙◌, subst, inl, inr, ℕ, suc, ◌+◌, Bool, true, false, ◌||◌, List, [], ◌∷◌, ◌++◌, length, get_or, arith, append-nil, if◌then◌else◌, ◌⊎◌}
+use Rattle.std.proofs.Common.{◌≡◌, refl, sym, ap, ◌∙◌, subst, ℕ, suc, ◌+◌, Bool, true, false, ◌||◌, List, [], ◌∷◌, ◌++◌, length, arith, append-nil, if◌then◌else◌, ◌⊎◌}
+use Rattle.viewed_soundness.specs.Taken.{GivesPlainly}
 use Rattle.viewed_facts.proofs.Steps.{IsOthers, of_others}
 use Rattle.place_names.specs.declared.rule.Loan.TheVariants.{Borrowed}
 use Rattle.std.specs.Prelude.{nat_le}
@@ -8,12 +9,11 @@ use Rattle.place_names.specs.declared.fact.Fact.{Fact}
 use Rattle.place_names.specs.Names.{Name as PlaceName}
 use Rattle.place_names.specs.Facts.{effect}
 use Rattle.type_definitions.specs.declared.table.Shape.{Shape}
-use Rattle.type_definitions.specs.declared.table.Shape.TheVariants as shape
-use Rattle.type_definitions.specs.Types.{Table, shape_of, components_of, is_owning, parts}
+use Rattle.type_definitions.specs.Types.{shape_of, is_owning, parts}
 use Rattle.typed_tree.specs.Trees.{TypedTree, Number, Literal, Name, Call, EndOfFile, Parens, Unary, Binary, Short, IsNull, Aggregate, Alike, New, NoMore, More}
 use Rattle.typed_tree.specs.Trees as typed
 use Rattle.flow_paths.specs.Objects.{object_at, is_observer}
-use Rattle.flow_paths.specs.Names.{has_call, waiting, name_of}
+use Rattle.flow_paths.specs.Names.{waiting, name_of}
 use Rattle.flow_paths.specs.Acts.{used, acts_in}
 use Rattle.machine.specs.Words.{default, fits_type}
 use Rattle.machine.specs.Words as machine
@@ -33,7 +33,7 @@ use Rattle.soundness.proofs.Defaults.{none_default}
 use Rattle.soundness.proofs.Near.{named_near, near_under}
 use Rattle.soundness.proofs.Walks.{way_along, Walked}
 use Rattle.soundness.proofs.Scalars.{after_append, allows_both, acts, acts_append, read_effect, number_along, named_along}
-use Rattle.soundness.proofs.Taking.{Takes, takes_as, takes_both, takes_zero, TakesPlainly, both_plainly, nothing_more}
+use Rattle.soundness.proofs.Taking.{Takes, takes_as, takes_both, takes_zero, nothing_more}
 use Rattle.soundness.proofs.Stays.{Quiet, One}
 use Rattle.soundness.proofs.Evaluated.{Keeps, regrouped}
 use Rattle.owned_loans.specs.Views.{Around, Views, expand, IsThrough}
@@ -41,18 +41,9 @@ use Rattle.owned_loans.proofs.Allowed.{read_open, move_open}
 use Rattle.owned_loans.proofs.Moves.{named_way}
 use Rattle.viewed_soundness.specs.Holds.{IsNamed, PartsAreNamed, KeepsObserved, AllKeep}
 use Rattle.viewed_soundness.proofs.Stays.{Goes, taking, steps_taking, waited_quiet, name_on}
-use Rattle.viewed_soundness.proofs.Evaluated.{keep_both, matches_named, Ready, GivenOn, live_trunk, checked_on, blank_ready, evaluated_on}
+use Rattle.viewed_soundness.proofs.Evaluated.{keep_both, matches_named, Ready, GivenOn, live_trunk, checked_on, blank_ready, evaluated_on, part_named}
 use Rattle.viewed_facts.specs.Exact.{IsExact}
 use Rattle.viewed_facts.proofs.Memories.{taken_exact, made_exact}
-
--- the types of the parts of an aggregate aren't anonymous
-part_named : (table : Table) → PartsAreNamed table → (t i : ℕ) (sh : Shape) → shape_of table t ≡ sh → is_record sh || is_array sh ≡ true → IsNamed table (part_type sh i)
-part_named table named t i (shape.Fields cs) e made = subst (IsNamed table) (ap (λ z. (get_or (components_of z) i machine.no_component).of) e) (named.component t i)
-part_named table named t i (shape.Elements low high el) e made = subst (IsNamed table) (ap machine.element_of e) (named.element t)
-part_named table named t i (shape.Whole a b) e made = cc
-part_named table named t i (shape.Listed l a b) e made = cc
-part_named table named t i (shape.Access d c n) e made = cc
-part_named table named t i (shape.Same of) e made = cc
 
 module _ (h : Here) (settled : IsSettled h.typing.table) (leaks : List Leak) (waits : List (List machine.Word)) (other : Around (home h.typing h.frame))
     (alone : (w : Way) → IsNear h.frame w → other.gone w → ⊥) (keeps : Keeps h.typing)
@@ -218,9 +209,9 @@ module _ (h : Here) (settled : IsSettled h.typing.table) (leaks : List Leak) (wa
       quiet_on on m One facts (after (acts (acts_in h.typing e)) facts) (evaluate h AsValue e (record { memory = m; waits = before })) q.0 q.1 exact
 
   mutual
-    unfolding Gives GivesParts GivesFirst Stays evaluate initial parts_of acts_in has_call waiting
+    unfolding Gives GivesParts GivesFirst GivesPlainly Stays evaluate initial parts_of acts_in waiting
 
-    pub exact_on : (e : TypedTree) (want : ℕ) → Gives h.typing want e → TakesPlainly h.typing (has_call e) → (before on : List (List machine.Word))
+    pub exact_on : (e : TypedTree) (want : ℕ) → Gives h.typing want e → GivesPlainly h.typing e → (before on : List (List machine.Word))
         → Takes (waiting e) before on → (m : Memory) (hands : List Waiting) (facts : List Fact)
         → ReadyIn m hands facts → AllowsAll facts (acts (acts_in h.typing e)) → IsNamed h.typing.table want → AllKeep (is_observer h.typing) (acts (acts_in h.typing e))
         → Exact m facts → ExactTo (after (acts (acts_in h.typing e)) facts) (evaluate h AsValue e (record { memory = m; waits = before }))
@@ -258,7 +249,7 @@ module _ (h : Here) (settled : IsSettled h.typing.table) (leaks : List Leak) (wa
         let now : Now = record { memory = m; waits = before } in
         let acts_same : acts_in h.typing e ++ acts_in h.typing rest ≡ acts_in h.typing e = ap (λ z. acts_in h.typing e ++ acts_in h.typing z) none ∙ append-nil (acts_in h.typing e) in
         let alone_there : waiting e + waiting rest ≡ waiting e = ap (λ z. waiting e + waiting z) none ∙ nothing_more (waiting e) in
-        let one = (both_plainly h.typing (has_call e) (has_call rest) calls).0 in
+        let one = calls.0 in
         let taken_there = takes_as (waiting e + waiting rest) (waiting e) before on alone_there takes in
         let mine = subst (λ z. AllowsAll facts (acts z)) acts_same allowed in
         let names = subst (λ z. AllKeep (is_observer h.typing) (acts z)) acts_same keep in
@@ -287,15 +278,14 @@ module _ (h : Here) (settled : IsSettled h.typing.table) (leaks : List Leak) (wa
         (done_exact behind (followed_by (evaluate h AsValue e now) (checked h el)) (machine.repeated (machine.element_count h.typing.table t))
         (checked_exact el behind (evaluate h AsValue e now) (exact_on e el gives calls before on takes m hands facts ready allowed (parts_named.element t) keep exact)))
     -- the result of a function waits
-    exact_on (Call p sub actuals) want gives (inl none) before on takes m hands facts ready allowed own keep exact = cc
-    exact_on (Call p sub actuals) want gives (inr plain) before on takes m hands facts ready allowed own keep exact =
+    exact_on (Call p sub actuals) want gives calls before on takes m hands facts ready allowed own keep exact =
         quiet_on on m One facts facts (run.waited (record { memory = m; waits = before }))
         (waited_quiet h settled hands leaks m waits other facts v ready.kept ready.viewed ready.holds alone
         (live_trunk h settled leaks waits other alone keeps no_formals index_law own_law v parts_named m hands ready.viewed.owned) index_law own_law parts_named before on takes) refl exact
     exact_on e want gives calls before on takes m hands facts ready allowed own keep exact = absurd gives
 
     -- the parts of an aggregate from the i-th on
-    parts_exact : (es : TypedTree) (t i : ℕ) → GivesParts h.typing t i es → TakesPlainly h.typing (has_call es)
+    parts_exact : (es : TypedTree) (t i : ℕ) → GivesParts h.typing t i es → GivesPlainly h.typing es
         → is_record (shape_of h.typing.table t) || is_array (shape_of h.typing.table t) ≡ true
         → (before on : List (List machine.Word)) → Takes (waiting es) before on → (m : Memory) (hands : List Waiting) (facts : List Fact)
         → ReadyIn m hands facts → AllowsAll facts (acts (acts_in h.typing es)) → AllKeep (is_observer h.typing) (acts (acts_in h.typing es)) → Exact m facts
@@ -304,7 +294,6 @@ module _ (h : Here) (settled : IsSettled h.typing.table) (leaks : List Leak) (wa
         let now : Now = record { memory = m; waits = before } in
         let sh : Shape = shape_of h.typing.table t in
         let u : ℕ = part_type sh i in
-        let both = both_plainly h.typing (has_call e) (has_call rest) calls in
         let two = takes_both (waiting e) (waiting rest) before on takes in
         let each = allows_both facts (acts (acts_in h.typing e)) (acts (acts_in h.typing rest))
         (subst (AllowsAll facts) (acts_append (acts_in h.typing e) (acts_in h.typing rest)) allowed) in
@@ -316,8 +305,8 @@ module _ (h : Here) (settled : IsSettled h.typing.table) (leaks : List Leak) (wa
         let next : List machine.Word → Now → Evaluated (List machine.Word) =
         (λ ws now. followed_by (parts_of h t (suc i) rest now) (λ more now. Done (ws ++ more) now)) in
         let given = checked_on h settled leaks waits other alone keeps no_formals index_law own_law v parts_named two.0 u u hands between (evaluate h AsValue e now)
-        (evaluated_on h settled leaks waits other alone keeps no_formals index_law own_law v parts_named e u gives.0 both.0 before two.0 two.1 m hands facts ready each.0 of names.0) in
-        let first = checked_exact u between (evaluate h AsValue e now) (exact_on e u gives.0 both.0 before two.0 two.1 m hands facts ready each.0 of names.0 exact) in
+        (evaluated_on h settled leaks waits other alone keeps no_formals index_law own_law v parts_named e u gives.0 calls.0 before two.0 two.1 m hands facts ready each.0 of names.0) in
+        let first = checked_exact u between (evaluate h AsValue e now) (exact_on e u gives.0 calls.0 before two.0 two.1 m hands facts ready each.0 of names.0 exact) in
         subst (λ z. ExactTo z (followed_by (evaluate h AsValue e now) (λ ws now. followed_by (checked h u ws now) next)))
         (sym (ap (λ z. after z facts) (acts_append (acts_in h.typing e) (acts_in h.typing rest))
         ∙ after_append (acts (acts_in h.typing e)) (acts (acts_in h.typing rest)) facts))
@@ -325,6 +314,6 @@ module _ (h : Here) (settled : IsSettled h.typing.table) (leaks : List Leak) (wa
         (then_parts two.0 u hands between behind (followed_by (evaluate h AsValue e now) (checked h u)) next given first
         (λ ws n there still. done_exact behind (parts_of h t (suc i) rest n) (λ more. ws ++ more)
         (subst (λ z. ExactTo behind (parts_of h t (suc i) rest (record { memory = n.memory; waits = z }))) (sym there.2)
-        (parts_exact rest t (suc i) gives.1 both.1 made two.0 on two.2 n.memory (record { of = u; words = ws } ∷ hands) between there.0 each.1 names.1 still)))))
+        (parts_exact rest t (suc i) gives.1 calls.1 made two.0 on two.2 n.memory (record { of = u; words = ws } ∷ hands) between there.0 each.1 names.1 still)))))
     parts_exact NoMore t i gives calls made before on takes m hands facts ready allowed keep exact = exact
     parts_exact es t i gives calls made before on takes m hands facts ready allowed keep exact = absurd gives

@@ -1,5 +1,5 @@
 -- Each step of a sound state whose facts are exact leads to such a state, in a program that is ready.
-use Rattle.std.proofs.Common.{◌<◌, ◌≡◌, refl, sym, ◌∙◌, subst, ◌⊎◌, inl, inr, ℕ, suc, true, false, List, [], ◌∷◌, length, arith, Some}
+use Rattle.std.proofs.Common.{◌<◌, ◌≡◌, refl, sym, ◌∙◌, subst, ◌⊎◌, inl, inr, ℕ, suc, true, false, List, [], ◌∷◌, length, arith, Some, None}
 use Rattle.spark_base.specs.Lists.{Has}
 use Rattle.place_names.specs.declared.fact.Fact.{Fact}
 use Rattle.place_names.specs.declared.fact.Fact.TheVariants.{Moved}
@@ -20,10 +20,11 @@ use Rattle.machine.specs.Run.{step}
 use Rattle.owned_ways.specs.Ways.{OfVariable, OfRoot, Under, base_of, number_of, Way, Loc, Gone, Reaches, Told, Named, name_of}
 use Rattle.soundness.specs.Seen.{home, seen}
 use Rattle.soundness.specs.Typed.{Kept}
-use Rattle.soundness.specs.Sound.{Stage, facts_of, AreStages, IsRunnable, AreAwaited, InScope, IsNamedSub, IsAtPoint, IsNoCall, IsOnward, view_of as view_here}
+use Rattle.soundness.specs.Sound.{Stage, facts_of, AreStages, IsRunnable, InScope, IsNamedSub, IsAtPoint, IsNoCall, IsOnward, view_of as view_here}
 use Rattle.soundness.proofs.Points.{sub_there}
 use Rattle.owned_loans.specs.Views.{known_gone, Views, Viewed}
 use Rattle.viewed_steps.specs.Sound.{IsResting, HoldsAt, ArePlaced, NoneAbove, ViewStage, stages_of, GoneElsewhere, AreWaiting, IsRunning, AreTurned, AreLeft, Follows, steps_on, leaves_scope, begins_main, returns_one, calls_one, ends_one, LeadsAlong}
+use Rattle.viewed_steps.specs.Awaited.{AreAwaited, lasting_of}
 use Rattle.viewed_steps.specs.Ready.{IsReady}
 use Rattle.viewed_steps.proofs.Waiting.{StandsBetween, all_between}
 use Rattle.viewed_steps.proofs.Standing as standing
@@ -35,7 +36,8 @@ use Rattle.viewed_facts.proofs.Calls.{carried_told, home_below, lower, passed_of
 use Rattle.viewed_steps.specs.Taken.{AreCarried}
 use Rattle.owned_ways.proofs.Dropped.{named_base}
 use Rattle.viewed_facts.proofs.Frames.{between_named, IsDefiniteHere}
-use Rattle.viewed_facts.proofs.Stepping.{told_next, told_left}
+use Rattle.viewed_facts.proofs.Told.{told_next}
+use Rattle.viewed_facts.proofs.ScopeEnds.{told_left}
 
 module _ (table : Table) (typed : TypedProgram) (effects : Effects) (input : List ℕ) (ready : IsReady table typed effects) where
   abbrev program : FlowProgram
@@ -159,12 +161,12 @@ module _ (table : Table) (typed : TypedProgram) (effects : Effects) (input : Lis
       | inl first ↦ subst (λ z. Has z to) (first.1).2 there
       | inr (some, less, callee, backs, waits) ↦ elim (subst (λ gs. Has gs g) same has) [
         | inl is ↦ (
-            let passed = passed_of s state.memory next.stage.depth (facts_of program effects next.stage) waits.point.scope backs next.stage.returns waits.taken to there in
+            let passed = passed_of s state.memory next.stage.depth (facts_of program effects next.stage) (lasting_of s waits.point.scope) backs next.stage.returns waits.taken to there in
             let own : Definite next w = same_stage next g is w definite in
-            passed_clean s ready.accepted.settled next.stage.depth (facts_of program effects next.stage) waits.point.scope passed.0 to passed.1 next.views (view_here s state)
+            passed_clean s ready.accepted.settled next.stage.depth (facts_of program effects next.stage) (lasting_of s waits.point.scope) passed.0 to passed.1 next.views (view_here s state)
             waits.views waits.clear w (own.0, own.1, own.3) under)
         | inr other ↦
-            other_clean s state.memory g.stage.depth next.stage.depth (facts_of program effects next.stage) waits.point.scope backs next.stage.returns waits.taken
+            other_clean s state.memory g.stage.depth next.stage.depth (facts_of program effects next.stage) (lasting_of s waits.point.scope) backs next.stage.returns waits.taken
             (lower_there next around same g other) to there w named under
       ]
     ]
@@ -265,12 +267,12 @@ module _ (table : Table) (typed : TypedProgram) (effects : Effects) (input : Lis
       (frames : state.frames ≡ top.frame ∷ (below.stage.frame ∷ rest)) (deep : top.depth ≡ suc (length rest))
       (stages : AreStages (stages_of (below ∷ more_frames)) (below.stage.frame ∷ rest))
       (running : IsRunnable table typed top.frame.sub × IsResting s top × AreWaiting table typed effects state top.frame.sub top.frame.returns (below ∷ more_frames))
-      (awaiting : AreAwaited table typed 0 (top ∷ stages_of (below ∷ more_frames)))
+      (awaiting : AreAwaited table typed None (top ∷ stages_of (below ∷ more_frames)))
       (of_sub : IsNamedSub (flow_named table typed) top.frame.sub named) (at_point : IsAtPoint named.points top.frame.next p)
       (path : ControlPath (path_points program effects (sub_of program top.frame.sub)) top.before top.frame.next) (views : Views)
       (viewed_before : Viewed (home s (suc (length rest))) (is_observer s) (known_gone (home s (suc (length rest))) (GoneElsewhere program effects (below ∷ more_frames))) views
       (view_here s state) (facts_of program effects top))
-      (kept : Kept s state.memory (waiting_in state)) (scope : InScope s state.memory (suc (length rest)) p.scope) (holds : HoldsAt s (suc (length rest)) views state.memory p)
+      (kept : Kept s state.memory (waiting_in state)) (scope : InScope s state.memory (suc (length rest)) (lasting_of s p.scope)) (holds : HoldsAt s (suc (length rest)) views state.memory p)
       (placed_before : ArePlaced program (facts_of program effects top) views p.scope) (above : NoneAbove s (suc (length rest)) state.memory)
       (exact_before : Told (seen s state.memory [] []) (IsDefiniteOf program effects (record { stage = top; views = views } ∷ (below ∷ more_frames)))) where
     main_told : (next : State) → step program input state ≡ Goes next → (later : Views) → AreClearThen top later → Stays p.instr views later
@@ -286,12 +288,12 @@ module _ (table : Table) (typed : TypedProgram) (effects : Effects) (input : Lis
         (sym (sub_there table typed top.frame.sub named of_sub)) has)) turned)
 
   step_told : (state : State) (top : Stage) (views : Views) (older : List ViewStage) (fs : List Frame) → state.frames ≡ fs → AreStages (top ∷ stages_of older) fs
-      → IsRunning table typed effects state (record { stage = top; views = views }) older → AreAwaited table typed 0 (top ∷ stages_of older)
+      → IsRunning table typed effects state (record { stage = top; views = views }) older → AreAwaited table typed None (top ∷ stages_of older)
       → ControlPath (path_points program effects (sub_of program top.frame.sub)) top.before top.frame.next
       → Viewed (home s top.depth) (is_observer s) (known_gone (home s top.depth) (GoneElsewhere program effects older)) views (view_here s state) (facts_of program effects top)
       → Kept s state.memory (waiting_in state)
       → (named : NamedSub) → IsNamedSub (flow_named table typed) top.frame.sub named → (p : NamedPoint) → IsAtPoint named.points top.frame.next p
-      → InScope s state.memory top.depth p.scope → HoldsAt s top.depth views state.memory p → ArePlaced program (facts_of program effects top) views p.scope
+      → InScope s state.memory top.depth (lasting_of s p.scope) → HoldsAt s top.depth views state.memory p → ArePlaced program (facts_of program effects top) views p.scope
       → NoneAbove s top.depth state.memory → Told (seen s state.memory [] []) (IsDefiniteOf program effects (record { stage = top; views = views } ∷ older))
       → (next : State) → step program input state ≡ Goes next → (later : Views) → AreClearThen top later → Stays p.instr views later
       → Told (seen s next.memory [] []) (Here top.depth later (facts_then top) older)
@@ -302,7 +304,7 @@ module _ (table : Table) (typed : TypedProgram) (effects : Effects) (input : Lis
       subst (λ d. Told (seen s next.memory [] []) (Here d later (facts_then top) (below ∷ more))) (sym deep)
       (main_told state top below more rest named p (is ∙ (λ j. sym frame j ∷ (sym around_frame j ∷ rest))) deep (refl, deeper, others) running awaiting of_sub at_point path views
       (subst (λ d. Viewed (home s d) (is_observer s) (known_gone (home s d) (GoneElsewhere program effects (below ∷ more))) views (view_here s state) (facts_of program effects top)) deep well) kept
-      (subst (λ d. InScope s state.memory d p.scope) deep scope) (subst (λ d. HoldsAt s d views state.memory p) deep holds) there
+      (subst (λ d. InScope s state.memory d (lasting_of s p.scope)) deep scope) (subst (λ d. HoldsAt s d views state.memory p) deep holds) there
       (subst (λ d. NoneAbove s d state.memory) deep above) exact next goes later clear stays)
   step_told state top views (below ∷ more) [] is stages running awaiting path well kept named of_sub p at_point scope holds there above exact next goes later clear stays = absurd stages
   step_told state top views (below ∷ more) (f ∷ []) is stages running awaiting path well kept named of_sub p at_point scope holds there above exact next goes later clear stays = absurd stages.2

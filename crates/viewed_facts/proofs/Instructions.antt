@@ -2,6 +2,7 @@
 -- checks don't fail. What is exact is said with the ways that views had before; that a view got another way is
 -- `told_turned` of `Steps`.
 use Rattle.std.proofs.Common.{◌≡◌, refl, sym, ap, ◌∙◌, subst, ◌⊎◌, inl, inr, ℕ, Bool, true, false, not, List, [], ◌∷◌, ◌++◌, map, length, ◌+◌, append-nil, Some, if◌then◌else◌}
+use Rattle.viewed_soundness.specs.Taken.{GivesPlainly}
 use Rattle.place_names.specs.declared.rule.Loan.{Loan}
 use Rattle.place_names.specs.declared.rule.Loan.TheVariants.{Borrowed}
 use Rattle.spark_base.specs.Lists.{Has}
@@ -16,7 +17,7 @@ use Rattle.typed_tree.specs.Trees.{TypedTree, Name, NoMore, More}
 use Rattle.flow_paths.specs.declared.point.LeakSpot.{LeakSpot}
 use Rattle.flow_paths.specs.Instructions.{Skip}
 use Rattle.flow_paths.specs.Objects.{Typing, object_at, is_observer, is_anonymous, view_of}
-use Rattle.flow_paths.specs.Names.{has_call, name_of, first, waiting as waits_in}
+use Rattle.flow_paths.specs.Names.{name_of, first, waiting as waits_in}
 use Rattle.flow_paths.specs.Scopes.{taken}
 use Rattle.flow_paths.specs.Acts.{acts_in, stored_acts, declared_acts, source_acts, observe, spot}
 use Rattle.machine.specs.Words as machine
@@ -51,7 +52,7 @@ use Rattle.viewed_steps.proofs.Declared.{IsUnmoved, IsFree, stands_root, first_g
 use Rattle.exact_facts.specs.Exact.{NoneFails, Knows}
 use Rattle.exact_facts.proofs.Steps.{IsPlaced, keeps_placed}
 use Rattle.exact_facts.proofs.Instructions.{none_made}
-use Rattle.soundness.proofs.Taking.{Takes, takes_as, TakesPlainly, both_plainly, nothing_more}
+use Rattle.soundness.proofs.Taking.{Takes, takes_as, nothing_more}
 use Rattle.viewed_facts.specs.Exact.{IsDefinite, IsExact}
 use Rattle.viewed_facts.proofs.Steps.{named_definite, definite_variable, told_still, told_fewer, told_turned, IsOthers, of_others}
 use Rattle.viewed_facts.proofs.Memories.{told_seen, exact_from, declared_exact, ended_exact}
@@ -129,7 +130,7 @@ module _ (t : Turn) (settled : IsSettled (typing t).table) (own_law : OwnsByShap
 
   -- ---- assignments to what isn't a view
 
-  then_stored : (name : PlaceName) (u : ℕ) (before facts : List Fact) (pos pos' : Pos) (count : ℕ) → Knows Excused pos' name count before (parts s.table u)
+  pub then_stored : (name : PlaceName) (u : ℕ) (before facts : List Fact) (pos pos' : Pos) (count : ℕ) → Knows Excused pos' name count before (parts s.table u)
       → (y : Evaluated Stored)
       → StoresExact (here t) settled t.state.leaks [] other alone (keeps s settled own_law) no_formals index_law own_law v parts_named elsewhere away Excused name u before facts y
       → ExactOn facts (map (spot pos' name count) (parts s.table u))
@@ -146,7 +147,7 @@ module _ (t : Turn) (settled : IsSettled (typing t).table) (own_law : OwnsByShap
   found_at target ws n = followed_by (place_of (here t) target n) (λ k n. Done (record { words = ws; place = k }) n)
 
   pub assign_on : (ws mid : List (List machine.Word)) (p : Pos) (x u : ℕ) (path e : TypedTree) → IsNamed s.table u → Gives s u e → Leads s (object_at s x).of path u
-      → TakesPlainly s (has_call e) → Takes (waits_in e) ws mid → Takes (waits_in path) mid [] → (facts : List Fact) → Good facts
+      → GivesPlainly s e → Takes (waits_in e) ws mid → Takes (waits_in path) mid [] → (facts : List Fact) → Good facts
       → AllowsAll facts (acts (stored_acts s (Name p x path u) e)) → AllKeep (is_observer s) (acts (stored_acts s (Name p x path u) e))
       → Exact m facts
       → (count : ℕ) → Knows Excused p (name_of x path) count (after (acts (acts_in s e ++ acts_in s path)) facts) (parts s.table u)
@@ -200,7 +201,7 @@ module _ (t : Turn) (settled : IsSettled (typing t).table) (own_law : OwnsByShap
         | inr (y, k, has, e) ↦ free.0 y k has at_home (sym e ∙ root)
       ]
 
-  then_declared : (x : ℕ) (facts : List Fact) (y : Evaluated (List machine.Word)) → Given_here (object_at s x).of facts y → ExactTo_here facts y → Speaks_not x facts
+  pub then_declared : (x : ℕ) (facts : List Fact) (y : Evaluated (List machine.Word)) → Given_here (object_at s x).of facts y → ExactTo_here facts y → Speaks_not x facts
       → ExactOn facts [] (steps.evaluated t y (λ ws n. goes t (declared depth x ws n) 0))
   then_declared x facts (Done ws n) (ready, long, same) exact none_said = (
     declared_exact s settled (home s depth) (is_observer s) other v elsewhere apart n.memory (record { of = (object_at s x).of; words = ws }) hands t.state.leaks facts depth x
@@ -212,7 +213,7 @@ module _ (t : Turn) (settled : IsSettled (typing t).table) (own_law : OwnsByShap
   then_declared x facts (Traps e n) never exact none_said = tt
 
   -- what it is declared with
-  pub source_exact : (ws : List (List machine.Word)) (u : ℕ) (e : TypedTree) → IsNamed s.table u → Source s u e → TakesPlainly s (has_call e) → Takes (waits_in e) ws []
+  pub source_exact : (ws : List (List machine.Word)) (u : ℕ) (e : TypedTree) → IsNamed s.table u → Source s u e → GivesPlainly s e → Takes (waits_in e) ws []
       → (facts : List Fact) → Good facts → AllowsAll facts (acts (acts_in s e)) → AllKeep (is_observer s) (acts (acts_in s e)) → Exact m facts
       → ExactTo_here (after (acts (acts_in s e)) facts) (taken_by t u e (at ws))
   source_exact ws u e named (inl (view, is)) calls takes facts good allowed keep exact = absurd (true_false (is_anonymous (full s.table u)) view (named_plain s.table u named))
@@ -224,22 +225,22 @@ module _ (t : Turn) (settled : IsSettled (typing t).table) (own_law : OwnsByShap
       (exact_on (here t) settled t.state.leaks [] other alone (keeps s settled own_law) no_formals index_law own_law v parts_named elsewhere away e u gives calls ws [] takes
       m hands facts (record { viewed = good.viewed; kept = good.kept; holds = good.holds }) allowed named keep exact))
 
-  first_exact : (ws : List (List machine.Word)) (u : ℕ) (e : TypedTree) → IsNamed s.table u → FirstSource s u e → TakesPlainly s (has_call e) → Takes (waits_in e) ws []
+  first_exact : (ws : List (List machine.Word)) (u : ℕ) (e : TypedTree) → IsNamed s.table u → FirstSource s u e → GivesPlainly s e → Takes (waits_in e) ws []
       → (facts : List Fact) → Good facts → AllowsAll facts (acts (acts_in s e)) → AllKeep (is_observer s) (acts (acts_in s e)) → Exact m facts
       → ExactTo_here (after (acts (acts_in s e)) facts) (first_value t u e (at ws))
-  unfolding acts_in has_call initial waits_in
+  unfolding GivesPlainly acts_in initial waits_in
   first_exact ws u (More e rest) named (last, gives) calls takes facts good allowed keep exact =
       let same : acts_in s e ++ acts_in s rest ≡ acts_in s e = ap (λ z. acts_in s e ++ acts_in s z) last ∙ append-nil (acts_in s e) in
       let alone_there : waits_in e + waits_in rest ≡ waits_in e = ap (λ z. waits_in e + waits_in z) last ∙ nothing_more (waits_in e) in
       subst (λ z. ExactTo_here (after (acts z) facts) (taken_by t u e (at ws))) (sym same)
-      (source_exact ws u e named gives (both_plainly s (has_call e) (has_call rest) calls).0 (takes_as (waits_in e + waits_in rest) (waits_in e) ws [] alone_there takes)
+      (source_exact ws u e named gives calls.0 (takes_as (waits_in e + waits_in rest) (waits_in e) ws [] alone_there takes)
       facts good (subst (λ z. AllowsAll facts (acts z)) same allowed) (subst (λ z. AllKeep (is_observer s) (acts z)) same keep) exact)
   first_exact ws u NoMore named gives calls takes facts good allowed keep exact = exact
   first_exact ws u e named gives calls takes facts good allowed keep exact = absurd gives
 
   -- An object is declared that isn't a view. No fact after the evaluation names it.
   pub declare_on : (ws : List (List machine.Word)) (x : ℕ) (e : TypedTree) → IsNamed s.table (object_at s x).of → FirstSource s (object_at s x).of e
-      → TakesPlainly s (has_call e) → Takes (waits_in e) ws [] → (facts : List Fact)
+      → GivesPlainly s e → Takes (waits_in e) ws [] → (facts : List Fact)
       → Good facts → AllowsAll facts (acts (declared_acts s x e)) → AllKeep (is_observer s) (acts (declared_acts s x e))
       → Speaks_not x (after (acts (declared_acts s x e)) facts) → Exact m facts
       → ExactOn (after (acts (declared_acts s x e)) facts) [] (steps.evaluated t (first_value t (object_at s x).of e (at ws)) (λ ws n. goes t (declared depth x ws n) 0))

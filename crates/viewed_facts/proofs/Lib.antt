@@ -8,7 +8,10 @@ pub mod Releases
 pub mod Loops
 pub mod Viewing
 pub mod Frames
+pub mod Here
 pub mod Stepping
+pub mod Told
+pub mod ScopeEnds
 pub mod Spots
 pub mod Calls
 pub mod Main

@@ -1,10 +1,14 @@
--- In a step of a procedure that is no call, of a program that is ready: facts of all frames stay exact, and no leak check
--- fails that is excused.
-use Rattle.std.proofs.Common.{◌≡◌, eqb-true, refl, sym, ap, ◌∙◌, subst, inl, inr, ℕ, suc, Bool, true, false, not, ◌||◌, List, [], ◌∷◌, ◌++◌, map, drop, length, append_assoc, append-nil, ◌+◌, Option, Some, None, nat_lt, int_le, ◌&&◌, if◌then◌else◌, ◌⊎◌}
+-- In a step of a subprogram that is neither a call nor the end of a scope, of a program that is ready: facts without an
+-- element stay exact, and no leak check fails that is excused.
+use Rattle.std.proofs.Common.{◌≡◌, refl, sym, ap, ◌∙◌, subst, inl, inr, ℕ, suc, Bool, true, false, not, List, [], ◌∷◌, ◌++◌, map, drop, length, append-nil, ◌+◌, Option, Some, None, nat_lt, int_le, ◌&&◌, if◌then◌else◌, ◌⊎◌, take}
+use Rattle.viewed_facts.proofs.Stored.{then_placed}
+use Rattle.viewed_facts.proofs.Evaluated.{ExactTo, checked_exact}
+use Rattle.soundness.proofs.Lasting.{keeps}
+use Rattle.soundness.proofs.Numbers.{index_law}
+use Rattle.viewed_soundness.specs.Taken.{GivesPlainly}
 use Rattle.place_names.specs.declared.rule.Loan.TheVariants.{Borrowed}
 use Rattle.spark_base.specs.Lists.{Has}
 use Rattle.spark_base.specs.declared.position.Pos.{Pos}
-use Rattle.spark_base.proofs.Lists.{Has-append_left, Has-append_right, Has-map_from}
 use Rattle.place_names.specs.declared.selector.Sel.{Sel}
 use Rattle.place_names.specs.declared.selector.Sel.TheVariants as sel
 use Rattle.place_names.specs.declared.act.Act.{Act}
@@ -12,31 +16,31 @@ use Rattle.place_names.specs.declared.act.Act.TheVariants as act
 use Rattle.place_names.specs.declared.act.Placed.{Placed}
 use Rattle.place_names.specs.declared.fact.Fact.{Fact}
 use Rattle.place_names.specs.declared.fact.Fact.TheVariants.{Moved}
-use Rattle.place_names.specs.Names.{Name as PlaceName, object, extend}
-use Rattle.place_names.specs.Facts.{removes}
+use Rattle.place_names.specs.Names.{Name as PlaceName, extend}
+use Rattle.place_names.specs.Facts.{effect}
 use Rattle.type_definitions.specs.Types.{Table, is_scalar, full, shape_of, parts}
 use Rattle.type_definitions.specs.declared.table.Shape.TheVariants as shape
-use Rattle.typed_tree.specs.Trees.{TypedTree, TypedCode, Name, NoMore, More}
+use Rattle.typed_tree.specs.Trees.{TypedTree, TypedCode, Name, NoMore, More, Call as CallIn}
 use Rattle.typed_tree.specs.declared.node.ShortCircuit.{ShortCircuit}
 use Rattle.typed_tree.specs.Programs.{TypedProgram}
 use Rattle.flow_paths.specs.declared.report.Effects.{Effects}
 use Rattle.flow_paths.specs.declared.point.LeakSpot.{LeakSpot}
 use Rattle.flow_paths.specs.Instructions.{Instruction, Skip, Declare, Assign, Call, Output, Input, Release, Test, Choose, Start, Next, Evaluate, LeaveLoop, Hold, EndScope, Finish, Fall}
-use Rattle.flow_paths.specs.Objects.{Typing, object_at, is_anonymous, is_package_object, is_borrower, is_observer, view_of, designated}
+use Rattle.flow_paths.specs.Objects.{Typing, object_at, is_anonymous, is_package_object, is_observer, view_of, designated}
 use Rattle.flow_paths.specs.Names.{has_call, name_of, waiting as waits_in}
 use Rattle.flow_paths.specs.Acts as flow
-use Rattle.flow_paths.specs.Acts.{acts_in, leaks_of, spot, stored_acts}
+use Rattle.flow_paths.specs.Acts.{acts_in, leaks_of, spot, stored_acts, assigned_to}
 use Rattle.flow_paths.specs.Points.{NamedPoint}
 use Rattle.flow_paths.specs.Laid.{FlowSub, FlowProgram, NamedSub, number_in, flow_sub, typing_of, flow_typing, flow_program, flow_named}
-use Rattle.flow_paths.specs.Paths.{PathPoint, path_point, ControlPath, facts_before}
-use Rattle.flow_paths.specs.Effects.{act_writes, path_points, called_acts}
+use Rattle.flow_paths.specs.Paths.{PathPoint, ControlPath}
+use Rattle.flow_paths.specs.Effects.{path_points}
 use Rattle.flow_paths.specs.LeakPlan.{IsExcused}
 use Rattle.flow_paths.specs.Scopes.{taken}
-use Rattle.machine.specs.Memory.{Memory, Place, undeclared, declared, stored, words_of}
+use Rattle.machine.specs.Memory.{Memory, Place, declared, stored, words_of}
 use Rattle.machine.specs.Words as machine
 use Rattle.machine.specs.Words.{fits_type}
 use Rattle.machine.specs.Calls.{checks_at}
-use Rattle.machine.specs.Evaluate.{Now, Exception, ConstraintError, Trap, Evaluated, Done, Raises, Traps, followed_by, value, place_of, text_of}
+use Rattle.machine.specs.Evaluate.{Now, Exception, ConstraintError, Trap, Evaluated, Done, Raises, Traps, followed_by, value, place_of, text_of, checked, evaluate, initial}
 use Rattle.machine.specs.Evaluate as run
 use Rattle.run_values.specs.Items.{next_item}
 use Rattle.machine.specs.States.{Frame, State, Outcome, Goes, Ends, sub_of}
@@ -47,18 +51,13 @@ use Rattle.machine.specs.Run.{step}
 use Rattle.owned_ways.specs.Ways.{Way, Told, after, AllowsAll}
 use Rattle.soundness.specs.Seen.{home, seen, IsNear, is_view_formal}
 use Rattle.soundness.specs.Typed.{Kept}
-use Rattle.soundness.specs.Sound.{calls_procedures, Stage, facts_of, AreStages, IsRunnable, AreAwaited, IsNoCall, IsTrap, InScope, Uses, IsNamedSub, IsAtPoint, view_of as view_here}
-use Rattle.typed_laws.specs.Needed.{IsFine, Leads, Source, FirstSource, FirstWrites, FirstStays, Stays, Returns}
-use Rattle.soundness.proofs.Contents.{bool_cases}
-use Rattle.soundness.proofs.Scalars.{acts, acts_append}
-use Rattle.soundness.proofs.Points.{flow_at, path_there}
-use Rattle.soundness.proofs.Successors.{not_true, both_not}
-use Rattle.soundness.proofs.Waits.{or_both}
-use Rattle.soundness.proofs.Taking.{Takes, takes_as, takes_both, TakesPlainly, nothing_more}
+use Rattle.soundness.specs.Sound.{Stage, facts_of, AreStages, IsRunnable, IsNoCall, IsTrap, InScope, IsNamedSub, IsAtPoint, view_of as view_here}
+use Rattle.typed_laws.specs.Needed.{IsFine, Source, FirstSource, FirstWrites, FirstStays, Stays, Returns}
+use Rattle.soundness.proofs.Scalars.{after_append, acts, acts_append}
+use Rattle.soundness.proofs.Taking.{Takes, takes_as, takes_both, nothing_more, no_takes}
 use Rattle.soundness.proofs.Eased.{eased}
 use Rattle.soundness.proofs.Continued.{got_with, released_with, started_with, input_eased, release_eased, start_eased}
 use Rattle.soundness.proofs.Operands.{handed_over, hold_is}
-use Rattle.soundness.specs.Ready.{Fills}
 use Rattle.soundness.proofs.Inherited.{after_splits}
 use Rattle.soundness.proofs.Around.{IsFar}
 use Rattle.owned_loans.specs.Views.{Around, known_gone, Views, Viewed, IsThrough}
@@ -66,30 +65,28 @@ use Rattle.viewed_soundness.specs.Holds.{IsNamed, AllKeep}
 use Rattle.viewed_soundness.proofs.Names.{plain_named, true_false}
 use Rattle.viewed_soundness.proofs.Evaluated.{keep_both}
 use Rattle.viewed_soundness.proofs.Outcomes.{named_plain, IsGood, Leads_on, assigned_acts}
-use Rattle.viewed_steps.specs.Sound.{IsResting, HoldsAt, ArePlaced, NoneAbove, ViewStage, stages_of, GoneElsewhere, AreWaiting, IsStoredAt, AreTurned, AreLeft}
+use Rattle.viewed_steps.specs.Sound.{IsResting, HoldsAt, ArePlaced, NoneAbove, ViewStage, stages_of, GoneElsewhere, AreWaiting}
+use Rattle.viewed_steps.specs.Awaited.{AreAwaited, lasting_of, AreScalar, temporaries_of, TakesScalars, TakesAlone}
 use Rattle.viewed_steps.specs.Ready.{AreOrderly, IsReady}
 use Rattle.viewed_steps.proofs.Sources.{leads_or}
-use Rattle.viewed_steps.proofs.Lent.{spare_has}
 use Rattle.viewed_steps.proofs.Waiting.{StandsBetween, beside_them, handed}
 use Rattle.viewed_steps.proofs.Standing as standing
 use Rattle.viewed_steps.proofs.Packages as packages
 use Rattle.viewed_steps.proofs.Innermost as innermost
+use Rattle.viewed_steps.proofs.Alone as alone_value
 use Rattle.viewed_steps.proofs.EachInstruction as each
-use Rattle.viewed_steps.proofs.Results as results
 use Rattle.viewed_steps.proofs.Released.{Releases, released_on as sound_released_on}
 use Rattle.viewed_steps.proofs.Read.{Gets, got_on as sound_got_on}
 use Rattle.viewed_steps.proofs.Rounds.{Starts, started_on as sound_started_on}
 use Rattle.exact_facts.specs.Exact.{NoneFails, Knows, checks_of}
-use Rattle.exact_facts.proofs.Frames.{after_more, after_keeps}
-use Rattle.exact_facts.proofs.Stepping.{excused_knows}
-use Rattle.exact_facts.proofs.Spots.{leaks_same, object_same}
 use Rattle.exact_facts.proofs.Instructions.{none_made}
-use Rattle.viewed_facts.specs.Exact.{IsDefiniteBy, IsDefiniteOf, IsExact}
-use Rattle.viewed_facts.proofs.Instructions.{ExactOn, value_on, waits_exact, source_exact, declare_on, assign_on, skip_exact, end_scope_checked, end_scope_exact, turned_exact}
-use Rattle.viewed_facts.proofs.Viewing.{view_parts, view_declared_on, view_assigned_on, reborrow_unmoved}
+use Rattle.viewed_facts.specs.Exact.{IsDefiniteOf, IsExact}
+use Rattle.viewed_facts.proofs.Instructions.{ExactOn, value_on, waits_exact, source_exact, declare_on, assign_on, skip_exact, then_declared, then_stored}
+use Rattle.viewed_facts.proofs.Viewing.{view_parts, view_declared_on, view_assigned_on}
 use Rattle.viewed_facts.proofs.Releases.{released_on}
 use Rattle.viewed_facts.proofs.Loops.{next_exact, started_on, output_on, line_exact, got_on}
-use Rattle.viewed_facts.proofs.Frames.{elsewhere as moved_elsewhere, spare_keeps, IsDefiniteHere, beside_told, apart_told}
+use Rattle.viewed_facts.proofs.Frames.{elsewhere as moved_elsewhere}
+use Rattle.viewed_facts.proofs.Here as here
 
 module _ (table : Table) (typed : TypedProgram) (effects : Effects) (input : List ℕ) (ready : IsReady table typed effects) where
   abbrev program : FlowProgram
@@ -115,12 +112,12 @@ module _ (table : Table) (typed : TypedProgram) (effects : Effects) (input : Lis
       (frames : state.frames ≡ top.frame ∷ (below.stage.frame ∷ rest)) (deep : top.depth ≡ suc (length rest))
       (stages : AreStages (stages_of (below ∷ more_frames)) (below.stage.frame ∷ rest))
       (running : IsRunnable table typed top.frame.sub × IsResting s top × AreWaiting table typed effects state top.frame.sub top.frame.returns (below ∷ more_frames))
-      (awaiting : AreAwaited table typed 0 (top ∷ stages_of (below ∷ more_frames)))
+      (awaiting : AreAwaited table typed None (top ∷ stages_of (below ∷ more_frames)))
       (of_sub : IsNamedSub (flow_named table typed) top.frame.sub named) (at_point : IsAtPoint named.points top.frame.next p)
       (path : ControlPath (path_points program effects (sub_of program top.frame.sub)) top.before top.frame.next) (views : Views)
       (viewed_before : Viewed (home s (suc (length rest))) (is_observer s) (known_gone (home s (suc (length rest))) (GoneElsewhere program effects (below ∷ more_frames))) views
       (view_here s state) (facts_of program effects top))
-      (kept : Kept s state.memory (waiting_in state)) (scope : InScope s state.memory (suc (length rest)) p.scope) (holds : HoldsAt s (suc (length rest)) views state.memory p)
+      (kept : Kept s state.memory (waiting_in state)) (scope : InScope s state.memory (suc (length rest)) (lasting_of s p.scope)) (holds : HoldsAt s (suc (length rest)) views state.memory p)
       (placed_before : ArePlaced program (facts_of program effects top) views p.scope) (above : NoneAbove s (suc (length rest)) state.memory)
       (exact_before : Told (seen s state.memory [] []) (IsDefiniteOf program effects (record { stage = top; views = views } ∷ (below ∷ more_frames)))) where
     abbrev outer : List Frame
@@ -144,9 +141,8 @@ module _ (table : Table) (typed : TypedProgram) (effects : Effects) (input : Lis
     abbrev elsewhere : Way → Type 0
     elsewhere = moved_elsewhere table typed effects unmoved_stage local state (suc (length rest)) (below ∷ more_frames) between views (innermost.own_views table typed effects input ready state top below more_frames rest named p frames deep stages running awaiting of_sub at_point path views viewed_before kept scope holds placed_before above)
 
-    away : (w : Way) → elsewhere w → (IsNear (suc (length rest)) w → ⊥) ⊎ IsThrough (home s (suc (length rest))) other.lent Borrowed w
-    away w (inl e) = inl e.0
-    away w (inr e) = inr e.0
+    abbrev away : (w : Way) → elsewhere w → (IsNear (suc (length rest)) w → ⊥) ⊎ IsThrough (home s (suc (length rest))) other.lent Borrowed w
+    away = here.away table typed effects input ready state top below more_frames rest named p frames deep stages running awaiting of_sub at_point path views viewed_before kept scope holds placed_before above exact_before
 
     abbrev at : Turn
     at = standing.t table typed effects input ready state top older outer named p frames of_sub at_point
@@ -178,22 +174,8 @@ module _ (table : Table) (typed : TypedProgram) (effects : Effects) (input : Lis
     abbrev none_taken : ℕ → ℕ → Type 0
     none_taken a b = ⊥
 
-    -- the facts of the innermost frame, and of those around
-    told_here : Told (seen s state.memory [] []) (IsDefiniteHere table typed effects unmoved_stage local (suc (length rest)) views own_facts (below ∷ more_frames))
-    told_here w l (inr (g, has, definite)) reaches = exact_before w l (g, inr has, definite) reaches
-    told_here w l (inl definite) reaches =
-        exact_before w l (
-          record { stage = top; views = views },
-          inl refl,
-          subst (λ d. IsDefiniteBy (home s d) views (facts_of program effects top) w) (sym deep)
-              (subst (λ z. IsDefiniteBy (home s depth) views z w) (sym (standing.facts_are table typed effects input ready state top older outer named p frames of_sub at_point path)) definite),
-        ) reaches
-
-    exact : IsExact s (home s depth) views elsewhere state.memory facts_now
-    exact = beside_told table typed effects unmoved_stage local state depth older between views own_views (seen s state.memory [] []) own_facts told_here
-
-    own_more : (f : Fact) → Has own_facts f → Has facts_now f
-    own_more f has = Has-append_left own_facts around f has
+    abbrev exact : IsExact s (home s depth) views elsewhere state.memory facts_now
+    exact = here.exact table typed effects input ready state top below more_frames rest named p frames deep stages running awaiting of_sub at_point path views viewed_before kept scope holds placed_before above exact_before
 
     abbrev Excused : LeakSpot → Type 0
     Excused = IsExcused points top.frame.next
@@ -210,99 +192,52 @@ module _ (table : Table) (typed : TypedProgram) (effects : Effects) (input : Lis
     abbrev acts_by : Instruction → List Act
     acts_by i = standing.acts_here table typed effects input ready state top older outer named p frames of_sub at_point i
 
-    agreed : standing.acts_by table typed effects input ready state top older outer named p frames of_sub at_point s p.instr ≡ standing.acts_by table typed effects input ready state top older outer named p frames of_sub at_point own p.instr
-    agreed = standing.acts_agree table typed effects input ready state top older outer named p frames of_sub at_point
-
-    -- ---- what the instruction takes
-
     abbrev given_words : List (List machine.Word)
     given_words = (start at).waits
 
-    abbrev takes_of : (i : Instruction) → p.instr ≡ i → Takes (taken i) given_words []
+    abbrev Plain : Type 0
+    Plain = AreScalar s (temporaries_of s (take (taken p.instr) p.scope))
+
+    abbrev Plainly : Type 0
+    Plainly = Plain × TakesScalars s p.instr
+
+    abbrev takes_of : Plain → (i : Instruction) → p.instr ≡ i → Takes (taken i) given_words []
     takes_of = innermost.takes_of table typed effects input ready state top below more_frames rest named p frames deep stages running awaiting of_sub at_point path views viewed_before kept scope holds placed_before above
 
-    abbrev plainly : (i : Instruction) → p.instr ≡ i → (calls : Bool) → (calls_procedures i ≡ true → calls ≡ false) → TakesPlainly s calls
-    plainly = innermost.plainly table typed effects input ready state top below more_frames rest named p frames deep stages running awaiting of_sub at_point path views viewed_before kept scope holds placed_before above
-
-    -- the step without the values that it takes
     abbrev easy : Turn
     easy = eased at
 
-    abbrev viewed_easy : Viewed (home s depth) (is_observer s) other views (view_here s easy.state) facts_now × Kept s state.memory (waiting_in easy.state)
+    abbrev viewed_easy : Plain → Viewed (home s depth) (is_observer s) other views (view_here s easy.state) facts_now × Kept s state.memory (waiting_in easy.state)
     viewed_easy = innermost.viewed_easy table typed effects input ready state top below more_frames rest named p frames deep stages running awaiting of_sub at_point path views viewed_before kept scope holds placed_before above
 
-    -- the acts of the point are those of its instruction, and then what is called
-    split_by : (i : Instruction) → p.instr ≡ i → (path_point points top.frame.next).acts ≡ placed_by i ++ called_acts program effects p.pos p.instr
-    split_by i is =
-        ap (λ (z : PathPoint). z.acts) (path_there own named top.frame.next p at_point program effects)
-        ∙ ap (λ z. z ++ called_acts program effects p.pos p.instr) (sym agreed)
-        ∙ ap (λ j. placed_by j ++ called_acts program effects p.pos p.instr) is
-
-    -- what spots of a name know, before some acts
-    knows : (i : Instruction) → p.instr ≡ i → (front others : List Placed) → placed_by i ≡ front ++ others → (pos : Pos) (name : PlaceName) (qs : List (List Sel))
+    abbrev knows : (i : Instruction) → p.instr ≡ i → (front others : List Placed) → placed_by i ≡ front ++ others → (pos : Pos) (name : PlaceName) (qs : List (List Sel))
         → Knows Excused pos name (length front) (after (acts front) facts_now) qs
-    knows i is front others split pos name qs q has excused =
-        let known = excused_knows points top.frame.next top.before (standing.path_here table typed effects input ready state top older outer named p frames of_sub at_point path) front (others ++ called_acts program effects p.pos p.instr)
-        (split_by i is ∙ ap (λ z. z ++ called_acts program effects p.pos p.instr) split ∙ append_assoc front others (called_acts program effects p.pos p.instr))
-        (spot pos name (length front) q) refl excused in
-        (known.0, after_more (acts front) facts_now own_facts own_more (Moved (extend name q)) known.1)
+    knows = here.knows table typed effects input ready state top below more_frames rest named p frames deep stages running awaiting of_sub at_point path views viewed_before kept scope holds placed_before above exact_before
 
-    fine_here : IsFine s named.sub.result p.instr
-    fine_here = standing.fine table typed effects input ready state top older outer named p frames of_sub at_point
+    abbrev fine_here : IsFine s named.sub.result p.instr
+    fine_here = here.fine_here table typed effects input ready state top below more_frames rest named p frames deep stages running awaiting of_sub at_point path views viewed_before kept scope holds placed_before above exact_before
 
-    leaks_there : IsNoCall p.instr → leaks_of (frame_by s) p.pos p.instr ≡ leaks_of (frame_by own) p.pos p.instr
-    leaks_there calls =
-        leaks_same s own (standing.agree table typed effects input ready) named.sub.result (standing.roots table typed effects input ready state top older outer named p frames of_sub at_point) p.pos p.instr calls fine_here
-        (λ x is. object_same table typed x (subst (λ i. Fills s i (drop (taken p.instr) p.scope)) is (standing.supplied table typed effects input ready state top older outer named p frames of_sub at_point).1))
-
-    -- what was handed on stays where no act writes it
-    writes_none : (name : PlaceName) → (Uses effects top.frame.sub name.root → ⊥) → is_package_object s name.root ≡ true → (a : Placed) → Has (placed_by p.instr) a
-        → act_writes name.root a.act ≡ false
-    writes_none name spared shared a has = elim (bool_cases (act_writes name.root a.act)) [
-      | inr e ↦ e
-      | inl e ↦ absurd (spared (innermost.act_uses table typed effects input ready state top below more_frames rest named p frames deep stages running awaiting of_sub at_point path views viewed_before kept scope holds placed_before above name.root shared (flow_at own named p) (standing.in_sub table typed effects input ready state top older outer named p frames of_sub at_point) a
-          (subst (λ z. Has z a) agreed has) (inl e)))
-    ]
-
-    after_around : ((name : PlaceName) → (Uses effects top.frame.sub name.root → ⊥) → is_package_object s name.root ≡ true → (a : Placed) → Has (placed_by p.instr) a
-        → removes a.act (Moved name) ≡ false) → (name : PlaceName) → Has around (Moved name) → Has (after (acts_by p.instr) facts_now) (Moved name)
-    after_around leaves name has =
-        let found = innermost.unused_here table typed effects input ready state top below more_frames rest named p frames deep stages running awaiting of_sub at_point path views viewed_before kept scope holds placed_before above name has in
-        after_keeps (acts_by p.instr) facts_now (Moved name)
-        (λ a there. (
-        let from = Has-map_from (λ (z : Placed). z.act) (placed_by p.instr) a there in
-        ap (λ z. removes z (Moved name)) (sym from.2) ∙ leaves name found.1 found.0 from.0 from.1))
-        (Has-append_right own_facts around (Moved name) has)
-
-    -- what the frames have after the step, from what is exact for the innermost one
-    all_told : (next : Memory) (later : Views) → ((x : ℕ) (w : Way) → later.way x ≡ Some w → is_anonymous (view_of s x) ≡ true) → IsNoCall p.instr
-        → ((name : PlaceName) → Has around (Moved name) → Has (after (acts_by p.instr) facts_now) (Moved name))
-        → IsExact s (home s depth) later elsewhere next (after (acts_by p.instr) facts_now)
-        → Told (seen s next [] []) (IsDefiniteHere table typed effects unmoved_stage local depth later (facts_before points (top.frame.next ∷ top.before)) older)
-    all_told next later only no_calls kept_around exact_there =
-        subst (λ z. Told (seen s next [] []) (IsDefiniteHere table typed effects unmoved_stage local depth later z older))
-        (sym (standing.facts_on table typed effects input ready state top older outer named p frames of_sub at_point path no_calls))
-        (apart_told table typed effects unmoved_stage local state depth older between later (λ x w has. local x (only x w has)) (seen s next [] []) (after (acts_by p.instr) facts_now) (after (acts_by p.instr) own_facts)
-        (after_more (acts_by p.instr) facts_now own_facts own_more) kept_around exact_there)
+    abbrev leaks_there : IsNoCall p.instr → leaks_of (frame_by s) p.pos p.instr ≡ leaks_of (frame_by own) p.pos p.instr
+    leaks_there = here.leaks_there table typed effects input ready state top below more_frames rest named p frames deep stages running awaiting of_sub at_point path views viewed_before kept scope holds placed_before above exact_before
 
     -- ---- an instruction that isn't the end of a scope
 
     module _ (going : (x : ℕ) → p.instr ≡ EndScope x → ⊥) (no_calls : IsNoCall p.instr) where
-      good : IsGood easy ready.accepted.settled ready.owns other alone no_formals views ready.class.parts_named none_taken refl refl views facts_now easy.state
-      good = record {
-        viewed = viewed_easy.0;
-        kept = viewed_easy.1;
+      abbrev pub ExactAt : List Fact → List LeakSpot → Outcome → Type 0
+      ExactAt facts spots outcome = ExactOn easy ready.accepted.settled ready.owns other alone no_formals views ready.class.parts_named none_taken refl refl elsewhere away Excused facts spots outcome
+
+      abbrev Exacts : Instruction → Type 0
+      Exacts i = ExactAt (after (acts_by i) facts_now) (spots_by i) (turn at i)
+
+      pub good : Plainly → IsGood easy ready.accepted.settled ready.owns other alone no_formals views ready.class.parts_named none_taken refl refl views facts_now easy.state
+      good plain = record {
+        viewed = (viewed_easy plain.0).0;
+        kept = (viewed_easy plain.0).1;
         holds = record {
           held = λ x n view e. holds.held x n (λ fading. going fading.0 fading.1) view e;
           only = holds.only;
         };
       }
-
-      abbrev ExactAt : List Fact → List LeakSpot → Outcome → Type 0
-      ExactAt facts spots outcome = ExactOn easy ready.accepted.settled ready.owns other alone no_formals views ready.class.parts_named none_taken refl refl elsewhere away Excused facts spots outcome
-
-      abbrev Exacts : Instruction → Type 0
-      Exacts i = ExactAt (after (acts_by i) facts_now) (spots_by i) (turn at i)
 
       -- With these values out of the frame, the step makes the same of memory.
       eased_on : (facts : List Fact) (spots : List LeakSpot) {A : Type 0} (y : Evaluated A) (f g : A → Memory → Outcome)
@@ -311,13 +246,6 @@ module _ (table : Table) (typed : TypedProgram) (effects : Effects) (input : Lis
       eased_on facts spots (Done a n) f g same on = same a n.memory on
       eased_on facts spots (Raises e n) f g same on = none_made Excused spots
       eased_on facts spots (Traps e n) f g same on = none_made Excused spots
-
-      value_taken : (e : TypedTree) → Stays s e → Takes (waits_in e) given_words [] → AllowsAll facts_now (acts (acts_in s e))
-          → (f : List machine.Word → Memory → Outcome) → ((ws : List machine.Word) → ExactAt facts_now [] (f ws state.memory))
-          → ExactAt (after (acts (acts_in s e)) facts_now) [] (steps.evaluated at (value (steps.here at) e (start at)) f)
-      value_taken e stays takes allowed_there f next =
-          eased_on (after (acts (acts_in s e)) facts_now) [] (value (steps.here at) e (start at)) f f (λ ws m on. on)
-          (value_on easy ready.accepted.settled ready.owns other alone no_formals views ready.class.parts_named none_taken refl refl elsewhere away Excused given_words e stays takes facts_now good allowed_there exact f next)
 
       -- no trap, and exact
       abbrev NoTrap : Outcome → Type 0
@@ -337,7 +265,7 @@ module _ (table : Table) (typed : TypedProgram) (effects : Effects) (input : Lis
       -- where nothing is taken, the step is like it is
       module _ (nothing : taken at.point.instr ≡ 0) where
         good_there : IsGood at ready.accepted.settled ready.owns other alone no_formals views ready.class.parts_named none_taken frames nothing views facts_now state
-        good_there = record { viewed = viewed; kept = kept; holds = record { held = good.holds.held; only = holds.only } }
+        good_there = record { viewed = viewed; kept = kept; holds = record { held = λ x n view e. holds.held x n (λ fading. going fading.0 fading.1) view e; only = holds.only } }
 
         writes_line : (line : Bool) → Exacts (Output NoMore line)
         unfolding acts_in
@@ -352,8 +280,6 @@ module _ (table : Table) (typed : TypedProgram) (effects : Effects) (input : Lis
       skips : Exacts Skip
       skips = skip_exact easy ready.accepted.settled ready.owns other alone no_formals views ready.class.parts_named none_taken refl refl elsewhere away Excused facts_now exact
 
-      -- ---- declarations
-
       -- a declaration, at these turns
       declared_main : (facts : List Fact) (x : ℕ) (w : TypedTree)
           → ExactAt facts [] (steps.evaluated easy (steps.first_value at (object_at s x).of w (start at)) (λ vs m. steps.goes easy (declared depth x vs m) 0))
@@ -361,40 +287,6 @@ module _ (table : Table) (typed : TypedProgram) (effects : Effects) (input : Lis
       declared_main facts x w on =
           eased_on facts [] (steps.first_value at (object_at s x).of w (start at))
           (λ vs m. steps.goes easy (declared depth x vs m) 0) (λ vs m. steps.goes at (declared depth x vs m) 0) (λ vs m there. there) on
-
-      declares : (x : ℕ) (v : TypedTree) → p.instr ≡ Declare x v → FirstSource s (object_at s x).of v
-          → AllowsAll facts_now (acts_by (Declare x v)) → AllKeep (is_observer s) (acts_by (Declare x v)) → Exacts (Declare x v)
-      unfolding waits_in
-      declares x v e text allowed_there keep = by_view (is_anonymous (view_of s x)) refl
-        where
-          after_it : (name : PlaceName) → Has (after (acts_by (Declare x v)) facts_now) (Moved name) → name.root ≡ x → depth ≡ home s depth x → ⊥
-          after_it name has root at_home =
-              elim (after_splits (acts_by (Declare x v)) facts_now own_facts around (innermost.from_both table typed effects input ready state top below more_frames rest named p frames deep stages running awaiting of_sub at_point path views viewed_before kept scope holds placed_before above) (Moved name) has) [
-                | inl mine ↦ packages.new_after table typed effects input ready state top older outer named p frames of_sub at_point path x v e no_calls name
-                    (subst (λ i. Has (after (acts_by i) own_facts) (Moved name)) (sym e) mine) root
-                | inr there ↦ innermost.not_at_home table typed effects input ready state top below more_frames rest named p frames deep stages running awaiting of_sub at_point path views viewed_before kept scope holds placed_before above x name there root at_home
-              ]
-
-          from_source : (q : Pos) (y u : ℕ) (path_of : TypedTree) → v ≡ More (Name q y path_of u) NoMore → is_anonymous (view_of s x) ≡ true → Exacts (Declare x v)
-          from_source q y u path_of here_is view =
-              let text_there : FirstSource s (object_at s x).of (More (Name q y path_of u) NoMore) = subst (FirstSource s (object_at s x).of) here_is text in
-              let takes : Takes (waits_in path_of) given_words [] =
-              takes_as (taken (Declare x (More (Name q y path_of u) NoMore))) (waits_in path_of) given_words [] (nothing_more (waits_in path_of))
-              (subst (λ z. Takes (taken (Declare x z)) given_words []) here_is (takes_of (Declare x v) e)) in
-              subst (λ z. Exacts (Declare x z)) (sym here_is)
-              (declared_main (after (acts_by (Declare x (More (Name q y path_of u) NoMore))) facts_now) x (More (Name q y path_of u) NoMore)
-              (view_declared_on easy ready.accepted.settled ready.owns other alone no_formals views ready.class.parts_named none_taken refl refl elsewhere away Excused given_words q x y u path_of view (ready.orderly.local x view).0 (home_frame x (local x view)) text_there.1 takes facts_now good
-              (subst (λ z. AllowsAll facts_now (acts_by (Declare x z))) here_is allowed_there) exact))
-
-          by_view : (b : Bool) → is_anonymous (view_of s x) ≡ b → Exacts (Declare x v)
-          by_view true view = (let source = orderly.declared x v e view in from_source source.0 source.1 source.3 source.2 source.4 view)
-          by_view false owner =
-              declared_main (after (acts_by (Declare x v)) facts_now) x v
-              (declare_on easy ready.accepted.settled ready.owns other alone no_formals views ready.class.parts_named none_taken refl refl elsewhere away Excused given_words x v (plain_named s.table (object_at s x).of owner) text
-              (plainly (Declare x v) e (has_call v) (λ calls. not_true (has_call v) calls)) (takes_of (Declare x v) e) facts_now good allowed_there keep
-              (after_it, each.free table typed effects input ready state top below more_frames rest named p frames deep stages running awaiting of_sub at_point path views viewed_before kept scope holds placed_before above going no_calls x v e) exact)
-
-      -- ---- assignments
 
       assigned_main : (facts : List Fact) (spots : List LeakSpot) (target : TypedTree) (of : ℕ) (e : TypedTree)
           → ExactAt facts spots (steps.evaluated easy (followed_by (steps.taken_by at of e (start at))
@@ -409,196 +301,15 @@ module _ (table : Table) (typed : TypedProgram) (effects : Effects) (input : Lis
           (λ (st : steps.Stored) m. steps.leaking_goes (checks_at s (steps.target_pos at target) m st.place) (steps.goes at (stored s st.place st.words m) 0))
           (λ st m there. there) on
 
-      assigns : (target e : TypedTree) → p.instr ≡ Assign target e → IsFine s None (Assign target e)
-          → AllowsAll facts_now (acts_by (Assign target e)) → AllKeep (is_observer s) (acts_by (Assign target e)) → Exacts (Assign target e)
-      unfolding has_call waits_in
-      assigns (Name q x steps u) e is (v, (leads, type), source) allowed_there keep =
-          by_view (subst (λ z. Source s z e) (sym type) source) (is_anonymous (full s.table u)) refl
-        where
-          front : List Placed
-          front = acts_in s e ++ acts_in s steps
-
-          to_view : Source s (object_at s x).of e → is_anonymous (view_of s x) ≡ true → p.instr ≡ Assign (Name q x NoMore (object_at s x).of) e
-              → AllowsAll facts_now (acts_by (Assign (Name q x NoMore (object_at s x).of) e)) → Exacts (Assign (Name q x NoMore (object_at s x).of) e)
-          to_view source view instr_is allowed_here =
-              let found = orderly.assigned q x (object_at s x).of e instr_is view in
-              from_name found.0 found.1 found.3 found.2 found.4 found.6
-            where
-              from_name : (r : Pos) (y w : ℕ) (path_of : TypedTree) → e ≡ Name r y path_of w → (is_observer s x ≡ false → y ≡ x)
-                  → Exacts (Assign (Name q x NoMore (object_at s x).of) e)
-              from_name r y w path_of here_is itself =
-                  let of : ℕ = (object_at s x).of in
-                  let takes : Takes (waits_in path_of) given_words [] =
-                  takes_as (taken (Assign (Name q x NoMore of) (Name r y path_of w))) (waits_in path_of) given_words [] (nothing_more (waits_in path_of))
-                  (subst (λ z. Takes (taken (Assign (Name q x NoMore of) z)) given_words []) here_is (takes_of (Assign (Name q x NoMore of) e) instr_is)) in
-                  subst (λ z. Exacts (Assign (Name q x NoMore (object_at s x).of) z)) (sym here_is)
-                  (subst (λ z. ExactAt (after (acts_by (Assign (Name q x NoMore (object_at s x).of) (Name r y path_of w))) facts_now)
-                  (map (spot q (name_of x NoMore) (length (acts_in s (Name r y path_of w) ++ acts_in s NoMore))) z)
-                  (turn at (Assign (Name q x NoMore (object_at s x).of) (Name r y path_of w)))) (sym (view_parts easy ready.accepted.settled ready.owns other alone no_formals views ready.class.parts_named none_taken refl refl elsewhere away Excused x view))
-                  (assigned_main (after (acts_by (Assign (Name q x NoMore of) (Name r y path_of w))) facts_now) [] (Name q x NoMore of) of (Name r y path_of w)
-                  (view_assigned_on easy ready.accepted.settled ready.owns other alone no_formals views ready.class.parts_named none_taken refl refl elsewhere away Excused given_words p.pos q r x y w path_of view (ready.orderly.local x view).0 (home_frame x (local x view))
-                  (subst (Source s (object_at s x).of) here_is source) takes itself facts_now good
-                  (subst (λ z. AllowsAll facts_now (acts_by (Assign (Name q x NoMore (object_at s x).of) z))) here_is allowed_here) exact)))
-
-          by_view : Source s u e → (b : Bool) → is_anonymous (full s.table u) ≡ b → Exacts (Assign (Name q x steps u) e)
-          by_view source (false) owner = elim source [
-            | inl view ↦ absurd (true_false (is_anonymous (full s.table u)) view.0 owner)
-            | inr gives ↦ (
-                let own_type : IsNamed s.table u = plain_named s.table u owner in
-                let same_acts = assigned_acts s p.pos x u (Name q x steps u) steps e own_type leads in
-                let two = takes_both (waits_in e) (waits_in steps) given_words [] (takes_of (Assign (Name q x steps u) e) is) in
-                subst (λ z. ExactAt (after (acts z) facts_now) (spots_by (Assign (Name q x steps u) e)) (turn at (Assign (Name q x steps u) e))) (sym same_acts)
-                (assigned_main (after (acts (stored_acts s (Name q x steps u) e)) facts_now) (spots_by (Assign (Name q x steps u) e)) (Name q x steps u) u e
-                (assign_on easy ready.accepted.settled ready.owns other alone no_formals views ready.class.parts_named none_taken refl refl elsewhere away Excused given_words two.0 q x u steps e own_type gives leads
-                (plainly (Assign (Name q x steps u) e) is (has_call e) (λ calls. (both_not (has_call steps) (has_call e) calls).1)) two.1 two.2 facts_now good
-                (subst (λ z. AllowsAll facts_now (acts z)) same_acts allowed_there) (subst (λ z. AllKeep (is_observer s) (acts z)) same_acts keep) exact (length front)
-                (knows (Assign (Name q x steps u) e) is front (record { pos = q; act = act.Write (name_of x steps) } ∷ []) same_acts q (name_of x steps) (parts s.table u)))))
-          ]
-          by_view source true view = elim (leads_or s ready.class.parts_named steps (object_at s x).of u leads) [
-            | inr own_type ↦ absurd (true_false (is_anonymous (full s.table u)) view (named_plain s.table u own_type))
-            | inl whole ↦ (
-                let target_is : Name q x steps u ≡ Name q x NoMore (object_at s x).of = (λ j. Name q x (whole.0 j) (sym whole.1 j)) in
-                subst (λ z. Exacts (Assign z e)) (sym target_is)
-                (to_view (subst (λ z. Source s z e) (sym whole.1) source) (ap (λ z. is_anonymous (full s.table z)) whole.1 ∙ view)
-                (is ∙ ap (λ z. Assign z e) target_is) (subst (λ z. AllowsAll facts_now (acts_by (Assign z e))) target_is allowed_there)))
-          ]
-      assigns target e is (v, never, source) allowed_there keep = absurd never
-
-      -- ---- other instructions
-
-      writes : (text : TypedTree) (line : Bool) → p.instr ≡ Output text line → FirstWrites s text
-          → AllowsAll facts_now (acts_by (Output text line)) → Exacts (Output text line)
-      unfolding acts_in waits_in
-      writes (More e last) line is (none, text) allowed_there =
-          eased_on (after (acts_by (Output (More e last) line)) facts_now) [] (text_of (steps.here at) e (start at))
-          (λ bytes m. Goes (record (behind easy (waiting easy) m 0) { output = state.output ++ bytes ++ (if line then 10 ∷ [] else []) }))
-          (λ bytes m. Goes (record (behind at (waiting at) m 0) { output = state.output ++ bytes ++ (if line then 10 ∷ [] else []) }))
-          (λ bytes m on. on)
-          (output_on easy ready.accepted.settled ready.owns other alone no_formals views ready.class.parts_named none_taken refl refl elsewhere away Excused given_words e last line none text
-          (takes_as (taken (Output (More e last) line)) (waits_in e) given_words [] (ap (λ z. waits_in e + waits_in z) none ∙ nothing_more (waits_in e))
-          (takes_of (Output (More e last) line) is))
-          facts_now good allowed_there exact)
-      writes NoMore line is text allowed_there = writes_line (innermost.none_takes table typed effects input ready state top below more_frames rest named p frames deep stages running awaiting of_sub at_point path views viewed_before kept scope holds placed_before above (Output NoMore line) is refl) line
-      writes other_text line is never allowed_there = absurd never
-
-      abbrev gets_here : Place → Memory → Outcome
-      gets_here k m = got_with easy k (next_item input state.at) m
-
-      gets_so : Gets easy ready.accepted.settled ready.owns other alone no_formals views ready.class.parts_named none_taken refl refl gets_here
-      gets_so = record {
-        at_missing = λ k m next. rw next refl;
-        at_bad = λ k m next. rw next refl;
-        at_number = λ k m v end next fits. rw (next, fits) refl;
-        at_outside = λ k m v end next out. rw (next, out) refl;
-      }
-
-      reads : (target : TypedTree) → p.instr ≡ Input target → IsFine s None (Input target)
-          → AllowsAll facts_now (acts_by (Input target)) → Exacts (Input target)
-      unfolding waits_in
-      reads (Name q x path_of u) is (v, (leads, type), scalar) allowed_there =
-          let target : TypedTree = Name q x path_of u in
-          let plain : is_scalar (full s.table u) ≡ true = subst (λ z. is_scalar (full s.table z) ≡ true) (sym type) scalar in
-          (input_eased at (Both (Input target)) (raising (Input target)) (λ trap m on. on.0 tt) target (
-            no_trap _ _ (sound_got_on easy ready.accepted.settled ready.owns other alone no_formals views ready.class.parts_named none_taken refl refl given_words
-                gets_here q x u path_of gets_so plain leads (takes_of (Input target) is) (orderly.read q x u path_of is) facts_now good allowed_there),
-            got_on easy ready.accepted.settled ready.owns other alone no_formals views ready.class.parts_named none_taken refl refl elsewhere away Excused given_words
-                gets_here q x u path_of gets_so plain leads (takes_of (Input target) is) (orderly.read q x u path_of is) facts_now good allowed_there exact,
-          )).1
-      reads target is (v, never, scalar) allowed_there = absurd never
-
-      abbrev frees_here : Pos → Place → Memory → Outcome
-      frees_here q k m = released_with easy q k (words_of s m k) m
-
-      frees_so : (q : Pos) → Releases easy ready.accepted.settled ready.owns other alone no_formals views ready.class.parts_named none_taken refl refl (frees_here q) q
-      frees_so q = record {
-        at_null = λ k m is. rw is refl;
-        at_whole = λ k m v is. rw is refl;
-        at_listed = λ k m v is. rw is refl;
-        at_cell = λ k m n is alive. rw (is, alive) refl;
-      }
-
-      releases : (target : TypedTree) → p.instr ≡ Release target → IsFine s None (Release target)
-          → AllowsAll facts_now (acts_by (Release target)) → AllKeep (is_observer s) (acts_by (Release target)) → Exacts (Release target)
-      unfolding waits_in
-      releases (Name q x path_of u) is (v, d, (leads, type), access) allowed_there keep =
-          let target : TypedTree = Name q x path_of u in
-          let access_there : shape_of s.table u ≡ shape.Access d false true = subst (λ z. shape_of s.table z ≡ shape.Access d false true) (sym type) access in
-          (release_eased at (Both (Release target)) (raising (Release target)) (λ trap m on. on.0 tt) q x u path_of (
-            no_trap _ _ (sound_released_on easy ready.accepted.settled ready.owns other alone no_formals views ready.class.parts_named none_taken refl refl given_words
-                (frees_here q) q q x u d path_of (frees_so q) access_there leads (takes_of (Release target) is) (last_kept (acts_in s path_of) keep) facts_now good allowed_there),
-            released_on easy ready.accepted.settled ready.owns other alone no_formals views ready.class.parts_named none_taken refl refl elsewhere away Excused given_words
-                (frees_here q) q q x u d path_of (frees_so q) access_there leads (takes_of (Release target) is) (last_kept (acts_in s path_of) keep) facts_now good allowed_there exact
-                q (length (acts_in s path_of))
-                (knows (Release target) is (acts_in s path_of) (record { pos = q; act = act.Free (name_of x path_of) } ∷ []) refl
-                q (extend (name_of x path_of) (sel.Deref ∷ [])) (parts s.table (designated s.table u))),
-          )).1
-        where
-          last_kept : (before : List Placed) → AllKeep (is_observer s) (acts (before ++ record { pos = q; act = act.Free (name_of x path_of) } ∷ [])) → is_observer s x ≡ false
-          last_kept before keep =
-              (keep_both (is_observer s) (acts before) (act.Free (name_of x path_of) ∷ [])
-              (subst (AllKeep (is_observer s)) (acts_append before (record { pos = q; act = act.Free (name_of x path_of) } ∷ [])) keep)).1.0
-      releases target is (v, d, never, access) allowed_there keep = absurd never
-
-      chosen_exact : (b : Bool) (k : ℕ) → ExactAt facts_now [] (if b then steps.goes at state.memory k else steps.raised at ConstraintError state.memory)
-      chosen_exact true k = (exact, tt)
-      chosen_exact false k = tt
-
-      chooses : (e : TypedTree) (choices : List TypedCode) → p.instr ≡ Choose e choices → Stays s e
-          → AllowsAll facts_now (acts_by (Choose e choices)) → Exacts (Choose e choices)
-      chooses e choices is stays allowed_there =
-          value_taken e stays (takes_of (Choose e choices) is) allowed_there (λ ws m. steps.chosen at (length choices) (steps.choice choices ws) m)
-          (λ ws. chosen_exact (nat_lt (steps.choice choices ws) (length choices)) (steps.choice choices ws))
-
-      leaves : (e : TypedTree) → p.instr ≡ LeaveLoop e → FirstStays s e → AllowsAll facts_now (acts_by (LeaveLoop e)) → Exacts (LeaveLoop e)
-      unfolding acts_in waits_in
-      leaves (More e last) is (none, stays) allowed_there =
-          let same : acts_in s e ++ acts_in s last ≡ acts_in s e = ap (λ z. acts_in s e ++ acts_in s z) none ∙ append-nil (acts_in s e) in
-          subst (λ z. ExactAt (after (acts z) facts_now) [] (turn at (LeaveLoop (More e last)))) (sym same)
-          (value_taken e stays
-          (takes_as (taken (LeaveLoop (More e last))) (waits_in e) given_words [] (ap (λ z. waits_in e + waits_in z) none ∙ nothing_more (waits_in e))
-          (takes_of (LeaveLoop (More e last)) is))
-          (subst (λ z. AllowsAll facts_now (acts z)) same allowed_there) (λ ws m. steps.goes at m (if run.is_true ws then 0 else 1)) (λ ws. (exact, tt)))
-      leaves NoMore is text allowed_there = skips
-      leaves e is never allowed_there = absurd never
-
-      abbrev starts_here : ℕ → steps.Bounds → Memory → Outcome
-      starts_here x b m = started_with easy x b m
-
-      starts_so : (x : ℕ) → Starts easy ready.accepted.settled ready.owns other alone no_formals views ready.class.parts_named none_taken refl refl x (starts_here x)
-      starts_so x = record {
-        fails = λ b. int_le (steps.number b.low) (steps.number b.high)
-            && not (fits_type s.table (object_at s x).of b.low && fits_type s.table (object_at s x).of b.high);
-        loop = λ b. record { parameter = x; low = steps.number b.low; high = steps.number b.high; first = true };
-        at_fault = λ b m e. rw e refl;
-        at_turn = λ b m e. rw e refl;
-      }
-
-      starts : (x : ℕ) (reversed : Bool) (low high : TypedTree) → p.instr ≡ Start x reversed low high → is_scalar (full s.table (object_at s x).of) ≡ true
-          → Stays s low → Stays s high → AllowsAll facts_now (acts_by (Start x reversed low high)) → Exacts (Start x reversed low high)
-      starts x reversed low high is scalar stays stays' allowed_there =
-          let two = takes_both (waits_in low) (waits_in high) given_words [] (takes_of (Start x reversed low high) is) in
-          (start_eased at (Both (Start x reversed low high)) (raising (Start x reversed low high)) (λ trap m on. on.0 tt) x low high (
-            no_trap _ _ (sound_started_on easy ready.accepted.settled ready.owns other alone no_formals views ready.class.parts_named none_taken refl refl given_words two.0
-                x (starts_here x) low high (starts_so x) scalar stays stays' two.1 two.2 facts_now good allowed_there),
-            started_on easy ready.accepted.settled ready.owns other alone no_formals views ready.class.parts_named none_taken refl refl elsewhere away Excused given_words two.0
-                x (starts_here x) low high (starts_so x) scalar stays stays' two.1 two.2 facts_now good allowed_there exact,
-          )).1
-
-      operates : (temporary : ℕ) (e : TypedTree) (op : Option ShortCircuit) → p.instr ≡ Evaluate temporary e op → Stays s e
-          → AllowsAll facts_now (acts_by (Evaluate temporary e op)) → Exacts (Evaluate temporary e op)
-      operates temporary e (Some o) is stays allowed_there =
-          value_taken e stays (takes_of (Evaluate temporary e (Some o)) is) allowed_there
-          (λ ws m. Goes (behind at (steps.truth_waiting ws ∷ waiting at) m (if run.decides o ws then 1 else 0))) (λ ws. (exact, tt))
-      operates temporary e None is stays allowed_there =
-          value_taken e stays (takes_of (Evaluate temporary e None) is) allowed_there
-          (λ ws m. Goes (behind at (steps.truth_waiting ws ∷ drop 1 (waiting at)) m 0)) (λ ws. (exact, tt))
-
-      -- a return with a value, and one without
-      holds_value : (e : TypedTree) (of : ℕ) → p.instr ≡ Hold (More e NoMore) → named.sub.result ≡ Some of → Source s of e
+      -- a return with a value
+      holds_value : (e : TypedTree) (of : ℕ) → p.instr ≡ Hold (More e NoMore) → named.sub.result ≡ Some of
+          → (IsNamed s.table of → AllowsAll facts_now (acts (acts_in s e)) → AllKeep (is_observer s) (acts (acts_in s e))
+          → ExactTo (steps.here at) ready.accepted.settled state.leaks [] other alone (keeps s ready.accepted.settled ready.owns) no_formals index_law ready.owns views
+          ready.class.parts_named elsewhere away (after (acts (acts_in s e)) facts_now) (steps.taken_by at of e (start at)))
           → AllowsAll facts_now (acts_by (Hold (More e NoMore))) → AllKeep (is_observer s) (acts_by (Hold (More e NoMore))) → Exacts (Hold (More e NoMore))
-      unfolding acts_in has_call waits_in
-      holds_value e of is result source allowed_there keep =
-          let type_there : IsNamed s.table of = results.named_result table typed effects input ready state top below more_frames rest named p frames deep stages running awaiting of_sub at_point path views viewed_before kept scope holds placed_before above e NoMore is of result source refl in
+      unfolding acts_in
+      holds_value e of is result value_exact allowed_there keep =
+          let type_there : IsNamed s.table of = plain_named s.table of (innermost.named_result table typed effects input ready state top below more_frames rest named p frames deep stages running awaiting of_sub at_point path views viewed_before kept scope holds placed_before above of result) in
           let same : acts_by (Hold (More e NoMore)) ≡ acts (acts_in s e) =
           ap (λ r. acts (flow.returned_acts s r (More e NoMore))) result
           ∙ ap (λ b. acts (if b then flow.source_acts s e (λ m. act.Give m (flow.gives_variable s (Some of))) else acts_in s e ++ []))
@@ -613,54 +324,383 @@ module _ (table : Table) (typed : TypedProgram) (effects : Effects) (input : Lis
           (λ ws m. Goes (handed_over program input at.point state top.frame below.stage.frame rest of ws m)) (λ ws m on. on)
           (waits_exact easy ready.accepted.settled ready.owns other alone no_formals views ready.class.parts_named none_taken refl refl elsewhere away Excused
           (after (acts (acts_in s e)) facts_now) (steps.taken_by at of e (start at))
-          (source_exact easy ready.accepted.settled ready.owns other alone no_formals views ready.class.parts_named none_taken refl refl elsewhere away Excused given_words of e type_there source
-          (plainly (Hold (More e NoMore)) is (has_call e) (λ calls. (or_both (has_call e) (has_call NoMore) (not_true (has_call e || has_call NoMore) calls)).0))
-          (takes_as (taken (Hold (More e NoMore))) (waits_in e) given_words [] (nothing_more (waits_in e)) (takes_of (Hold (More e NoMore)) is))
-          facts_now good (subst (AllowsAll facts_now) same allowed_there) (subst (AllKeep (is_observer s)) same keep) exact)
+          (value_exact type_there (subst (AllowsAll facts_now) same allowed_there) (subst (AllKeep (is_observer s)) same keep))
           (λ ws m. Goes (handed_over program input at.point state top.frame below.stage.frame rest of ws m)) (λ ws m still. (still, tt)))))
 
-      returns : (v : TypedTree) (r : Option ℕ) → p.instr ≡ Hold v → named.sub.result ≡ r → Returns s r v → AllowsAll facts_now (acts_by (Hold v))
-          → AllKeep (is_observer s) (acts_by (Hold v)) → Exacts (Hold v)
-      unfolding acts_in waits_in
-      returns v None is result none allowed_there keep =
-          subst (λ z. Exacts (Hold z)) (sym none)
-          (subst (λ z. ExactAt z [] (turn at (Hold NoMore))) (sym (ap (λ r. after (acts (flow.returned_acts s r NoMore)) facts_now) result)) skips)
-      returns v (Some of) is result (e, same, source) allowed_there keep =
-          subst (λ z. Exacts (Hold z)) (sym same)
-          (holds_value e of (is ∙ ap Hold same) result source (subst (λ z. AllowsAll facts_now (acts_by (Hold z))) same allowed_there)
-          (subst (λ z. AllKeep (is_observer s) (acts_by (Hold z))) same keep))
+      -- ---- what a function gave, alone
 
-      each_instruction : (i : Instruction) → p.instr ≡ i → (i ≡ Finish → ⊥) → IsFine s named.sub.result i → AllowsAll facts_now (acts_by i)
-          → AllKeep (is_observer s) (acts_by i) → Exacts i
-      each_instruction Skip is end text allowed_there keep = skips
-      each_instruction (Declare x v) is end text allowed_there keep = declares x v is text allowed_there keep
-      each_instruction (Assign target e) is end text allowed_there keep = assigns target e is text allowed_there keep
-      each_instruction (Call n actuals result) is end text allowed_there keep = absurd (no_calls n actuals result is)
-      each_instruction (Output text line) is end writing allowed_there keep = writes text line is writing allowed_there
-      each_instruction (Input target) is end text allowed_there keep = reads target is text allowed_there
-      each_instruction (Release e) is end text allowed_there keep = releases e is text allowed_there keep
-      each_instruction (Test e) is end stays allowed_there keep =
-          value_taken e stays (takes_of (Test e) is) allowed_there (λ ws m. steps.goes at m (if run.is_true ws then 0 else 1)) (λ ws. (exact, tt))
-      each_instruction (Choose e choices) is end stays allowed_there keep = chooses e choices is stays allowed_there
-      each_instruction (Start x reversed low high) is end (scalar, stays, stays') allowed_there keep = starts x reversed low high is scalar stays stays' allowed_there
-      each_instruction (Next x reversed low high) is end scalar allowed_there keep =
-          turns (innermost.none_takes table typed effects input ready state top below more_frames rest named p frames deep stages running awaiting of_sub at_point path views viewed_before kept scope holds placed_before above (Next x reversed low high) is refl) x reversed low high scalar
-      each_instruction (Evaluate temporary e op) is end stays allowed_there keep = operates temporary e op is stays allowed_there
-      each_instruction (LeaveLoop e) is end text allowed_there keep = leaves e is text allowed_there
-      each_instruction (Hold v) is end text allowed_there keep = returns v named.sub.result is refl text allowed_there keep
-      each_instruction (EndScope x) is end text allowed_there keep = absurd (going x is)
-      each_instruction Finish is end text allowed_there keep = absurd (end refl)
-      each_instruction Fall is end text allowed_there keep = tt
+      module _ (taken_alone : TakesAlone s p) where
+        abbrev call : TypedTree
+        call = alone_value.call table typed effects input ready state top below more_frames rest named p frames deep stages running awaiting of_sub at_point path views viewed_before kept scope holds placed_before above going taken_alone
 
-      allowed_there : (p.instr ≡ Finish → ⊥) → AllowsAll facts_now (acts_by p.instr)
+        abbrev CallExact : ℕ → Type 0
+        CallExact u =
+            ExactTo (steps.here at) ready.accepted.settled state.leaks [] other alone (keeps s ready.accepted.settled ready.owns) no_formals index_law ready.owns views
+            ready.class.parts_named elsewhere away facts_now (steps.taken_by at u (CallIn taken_alone.3 taken_alone.4 taken_alone.5) (start at))
+
+        -- the value comes from the frame, and memory is as it was
+        call_exact : (u : ℕ) → IsNamed s.table u → CallExact u
+        unfolding evaluate
+        call_exact u type_there =
+            let words : List machine.Word = (alone_value.first_value table typed effects input ready state top below more_frames rest named p frames deep stages running awaiting of_sub at_point path views viewed_before kept scope holds placed_before above going taken_alone).0.words in
+            let now : List (List machine.Word) → Now = (λ ws. record { memory = state.memory; waits = ws }) in
+            subst (λ b. ExactTo (steps.here at) ready.accepted.settled state.leaks [] other alone (keeps s ready.accepted.settled ready.owns) no_formals index_law ready.owns views
+            ready.class.parts_named elsewhere away facts_now (if b then run.viewed (steps.here at) call (start at) else followed_by (value (steps.here at) call (start at)) (checked (steps.here at) u)))
+            (sym (named_plain s.table u type_there))
+            (checked_exact (steps.here at) ready.accepted.settled state.leaks [] other alone (keeps s ready.accepted.settled ready.owns) no_formals index_law ready.owns views
+            ready.class.parts_named elsewhere away u facts_now (value (steps.here at) call (start at))
+            (subst (λ ws. ExactTo (steps.here at) ready.accepted.settled state.leaks [] other alone (keeps s ready.accepted.settled ready.owns) no_formals index_law ready.owns views
+            ready.class.parts_named elsewhere away facts_now (value (steps.here at) call (now ws))) (sym (alone_value.first_value table typed effects input ready state top below more_frames rest named p frames deep stages running awaiting of_sub at_point path views viewed_before kept scope holds placed_before above going taken_alone).1.3) exact))
+
+        declares_alone : (y : ℕ) → p.instr ≡ Declare y (More call NoMore) → Exacts (Declare y (More call NoMore))
+        unfolding acts_in initial
+        declares_alone y is =
+            let type_there = alone_value.named_object table typed effects input ready state top below more_frames rest named p frames deep stages running awaiting of_sub at_point path views viewed_before kept scope holds placed_before above going no_calls taken_alone y is in
+            let same = alone_value.acts_same table typed effects input ready state top below more_frames rest named p frames deep stages running awaiting of_sub at_point path views viewed_before kept scope holds placed_before above going no_calls taken_alone y is in
+            declared_main (after (acts_by (Declare y (More call NoMore))) facts_now) y (More call NoMore)
+            (subst (λ z. ExactAt (after z facts_now) [] (steps.evaluated easy (steps.first_value at (object_at s y).of (More call NoMore) (start at))
+            (λ vs m. steps.goes easy (declared depth y vs m) 0))) (sym same)
+            (then_declared easy ready.accepted.settled ready.owns other alone no_formals views ready.class.parts_named none_taken refl refl elsewhere away Excused y facts_now (steps.first_value at (object_at s y).of (More call NoMore) (start at))
+            (alone_value.source_alone table typed effects input ready state top below more_frames rest named p frames deep stages running awaiting of_sub at_point path views viewed_before kept scope holds placed_before above going taken_alone (object_at s y).of type_there (alone_value.source_here table typed effects input ready state top below more_frames rest named p frames deep stages running awaiting of_sub at_point path views viewed_before kept scope holds placed_before above going no_calls taken_alone y is))
+            (call_exact (object_at s y).of type_there)
+            (each.unmoved_now table typed effects input ready state top below more_frames rest named p frames deep stages running awaiting of_sub at_point path views viewed_before kept scope holds placed_before above going no_calls y (More call NoMore) is, each.free table typed effects input ready state top below more_frames rest named p frames deep stages running awaiting of_sub at_point path views viewed_before kept scope holds placed_before above going no_calls y (More call NoMore) is)))
+
+        assigns_alone : (r : Pos) (y : ℕ) (steps_there : TypedTree) (u : ℕ) → p.instr ≡ Assign (Name r y steps_there u) call → has_call steps_there ≡ false → (p.instr ≡ Finish → ⊥)
+            → Exacts (Assign (Name r y steps_there u) call)
+        unfolding acts_in
+        assigns_alone r y steps_there u is calls end =
+            let target : TypedTree = Name r y steps_there u in
+            let type_there = alone_value.named_target table typed effects input ready state top below more_frames rest named p frames deep stages running awaiting of_sub at_point path views viewed_before kept scope holds placed_before above going no_calls taken_alone r y steps_there u is calls end in
+            let leads = alone_value.leads_there table typed effects input ready state top below more_frames rest named p frames deep stages running awaiting of_sub at_point path views viewed_before kept scope holds placed_before above going no_calls taken_alone r y steps_there u is calls end in
+            let a : List Act = acts (acts_in s steps_there) in
+            let whole : after (acts_by (Assign target call)) facts_now ≡ effect (act.Write (name_of y steps_there)) (after a facts_now) =
+            ap (λ z. after z facts_now) (alone_value.acts_there table typed effects input ready state top below more_frames rest named p frames deep stages running awaiting of_sub at_point path views viewed_before kept scope holds placed_before above going no_calls taken_alone r y steps_there u is calls end)
+            ∙ after_append a (act.Write (name_of y steps_there) ∷ []) facts_now in
+            assigned_main (after (acts_by (Assign target call)) facts_now) (spots_by (Assign target call)) target u call
+            (subst (λ z. ExactAt z (spots_by (Assign target call)) (steps.evaluated easy (followed_by (steps.taken_by at u call (start at))
+            (λ ws now. followed_by (place_of (steps.here at) target now) (λ k now. Done (record { words = ws; place = k }) now)))
+            (λ (st : steps.Stored) m. steps.leaking_goes (checks_at s (steps.target_pos at target) m st.place) (steps.goes easy (stored s st.place st.words m) 0)))) (sym whole)
+            (then_stored easy ready.accepted.settled ready.owns other alone no_formals views ready.class.parts_named none_taken refl refl elsewhere away Excused (name_of y steps_there) u (after a facts_now) (effect (act.Write (name_of y steps_there)) (after a facts_now)) (steps.target_pos at target)
+            r (length (acts_in s steps_there))
+            (knows (Assign target call) is (acts_in s steps_there) (record { pos = r; act = act.Write (name_of y steps_there) } ∷ [])
+            (assigned_acts s p.pos y u target steps_there call type_there leads) r (name_of y steps_there) (parts s.table u))
+            (followed_by (steps.taken_by at u call (start at))
+            (λ ws now. followed_by (place_of (steps.here at) target now) (λ k now. Done (record { words = ws; place = k }) now)))
+            (then_placed (steps.here at) ready.accepted.settled state.leaks [] other alone (keeps s ready.accepted.settled ready.owns) no_formals index_law ready.owns views
+            ready.class.parts_named elsewhere away Excused [] [] r y u steps_there (waiting_in easy.state) facts_now
+            (alone_value.plain_root table typed effects input ready state top below more_frames rest named p frames deep stages running awaiting of_sub at_point path views viewed_before kept scope holds placed_before above going no_calls taken_alone r y steps_there u is calls end) leads (no_takes steps_there calls [])
+            (alone_value.allowed_steps table typed effects input ready state top below more_frames rest named p frames deep stages running awaiting of_sub at_point path views viewed_before kept scope holds placed_before above going no_calls taken_alone r y steps_there u is calls end) (steps.taken_by at u call (start at))
+            (alone_value.source_alone table typed effects input ready state top below more_frames rest named p frames deep stages running awaiting of_sub at_point path views viewed_before kept scope holds placed_before above going taken_alone u type_there (alone_value.source_there table typed effects input ready state top below more_frames rest named p frames deep stages running awaiting of_sub at_point path views viewed_before kept scope holds placed_before above going no_calls taken_alone r y steps_there u is calls end))
+            (call_exact u type_there))))
+
+        returns_alone : (of : ℕ) → p.instr ≡ Hold (More call NoMore) → named.sub.result ≡ Some of
+            → AllowsAll facts_now (acts_by (Hold (More call NoMore))) → AllKeep (is_observer s) (acts_by (Hold (More call NoMore))) → Exacts (Hold (More call NoMore))
+        unfolding acts_in
+        returns_alone of is result allowed_there keep = holds_value call of is result (λ type_there allows keeps. call_exact of type_there) allowed_there keep
+
+        -- the value is of what the function returns
+        result_there : p.instr ≡ Hold (More call NoMore) → (r : Option ℕ) → named.sub.result ≡ r → Returns s r (More call NoMore) → (of : ℕ) × (named.sub.result ≡ Some of)
+        result_there is None result none = (let never : ◌≡◌ {A = TypedTree} (More call NoMore) NoMore = none in cc)
+        result_there is (Some of) result there = (of, result)
+
+        alone_exact : (p.instr ≡ Finish → ⊥) → AllowsAll facts_now (acts_by p.instr) → AllKeep (is_observer s) (acts_by p.instr) → Exacts p.instr
+        alone_exact end allowed_there keep = elim taken_alone.8 [
+          | inl (y, is) ↦ subst Exacts (sym is) (declares_alone y is)
+          | inr (inl (r, y, steps_there, u, is, calls)) ↦ subst Exacts (sym is) (assigns_alone r y steps_there u is calls end)
+          | inr (inr is) ↦ (
+              let result = result_there is named.sub.result refl (subst (IsFine s named.sub.result) is fine_here) in
+              subst Exacts (sym is)
+              (returns_alone result.0 is result.1 (subst (λ i. AllowsAll facts_now (acts_by i)) is allowed_there) (subst (λ i. AllKeep (is_observer s) (acts_by i)) is keep)))
+        ]
+
+      -- ---- what is taken is scalar
+
+      module _ (plain : Plainly) where
+        value_taken : (e : TypedTree) → Stays s e → Takes (waits_in e) given_words [] → AllowsAll facts_now (acts (acts_in s e))
+            → (f : List machine.Word → Memory → Outcome) → ((ws : List machine.Word) → ExactAt facts_now [] (f ws state.memory))
+            → ExactAt (after (acts (acts_in s e)) facts_now) [] (steps.evaluated at (value (steps.here at) e (start at)) f)
+        value_taken e stays takes allowed_there f next =
+            eased_on (after (acts (acts_in s e)) facts_now) [] (value (steps.here at) e (start at)) f f (λ ws m on. on)
+            (value_on easy ready.accepted.settled ready.owns other alone no_formals views ready.class.parts_named none_taken refl refl elsewhere away Excused given_words e stays takes facts_now (good plain) allowed_there exact f next)
+
+        -- ---- declarations
+
+        declares : (x : ℕ) (v : TypedTree) → p.instr ≡ Declare x v → FirstSource s (object_at s x).of v
+            → AllowsAll facts_now (acts_by (Declare x v)) → AllKeep (is_observer s) (acts_by (Declare x v)) → Exacts (Declare x v)
+        unfolding waits_in
+        declares x v e text allowed_there keep = by_view (is_anonymous (view_of s x)) refl
+          where
+            after_it : (name : PlaceName) → Has (after (acts_by (Declare x v)) facts_now) (Moved name) → name.root ≡ x → depth ≡ home s depth x → ⊥
+            after_it name has root at_home =
+                elim (after_splits (acts_by (Declare x v)) facts_now own_facts around (innermost.from_both table typed effects input ready state top below more_frames rest named p frames deep stages running awaiting of_sub at_point path views viewed_before kept scope holds placed_before above) (Moved name) has) [
+                  | inl mine ↦ packages.new_after table typed effects input ready state top older outer named p frames of_sub at_point path x v e no_calls name
+                      (subst (λ i. Has (after (acts_by i) own_facts) (Moved name)) (sym e) mine) root
+                  | inr there ↦ innermost.not_at_home table typed effects input ready state top below more_frames rest named p frames deep stages running awaiting of_sub at_point path views viewed_before kept scope holds placed_before above x name there root at_home
+                ]
+
+            from_source : (q : Pos) (y u : ℕ) (path_of : TypedTree) → v ≡ More (Name q y path_of u) NoMore → is_anonymous (view_of s x) ≡ true → Exacts (Declare x v)
+            from_source q y u path_of here_is view =
+                let text_there : FirstSource s (object_at s x).of (More (Name q y path_of u) NoMore) = subst (FirstSource s (object_at s x).of) here_is text in
+                let takes : Takes (waits_in path_of) given_words [] =
+                takes_as (taken (Declare x (More (Name q y path_of u) NoMore))) (waits_in path_of) given_words [] (nothing_more (waits_in path_of))
+                (subst (λ z. Takes (taken (Declare x z)) given_words []) here_is (takes_of plain.0 (Declare x v) e)) in
+                subst (λ z. Exacts (Declare x z)) (sym here_is)
+                (declared_main (after (acts_by (Declare x (More (Name q y path_of u) NoMore))) facts_now) x (More (Name q y path_of u) NoMore)
+                (view_declared_on easy ready.accepted.settled ready.owns other alone no_formals views ready.class.parts_named none_taken refl refl elsewhere away Excused given_words q x y u path_of view (ready.orderly.local x view).0 (home_frame x (local x view)) text_there.1 takes facts_now (good plain)
+                (subst (λ z. AllowsAll facts_now (acts_by (Declare x z))) here_is allowed_there) exact))
+
+            by_view : (b : Bool) → is_anonymous (view_of s x) ≡ b → Exacts (Declare x v)
+            by_view true view = (let source = orderly.declared x v e view in from_source source.0 source.1 source.3 source.2 source.4 view)
+            by_view false owner =
+                declared_main (after (acts_by (Declare x v)) facts_now) x v
+                (declare_on easy ready.accepted.settled ready.owns other alone no_formals views ready.class.parts_named none_taken refl refl elsewhere away Excused given_words x v (plain_named s.table (object_at s x).of owner) text
+                (subst (TakesScalars s) e plain.1) (takes_of plain.0 (Declare x v) e) facts_now (good plain) allowed_there keep
+                (after_it, each.free table typed effects input ready state top below more_frames rest named p frames deep stages running awaiting of_sub at_point path views viewed_before kept scope holds placed_before above going no_calls x v e) exact)
+
+        -- ---- assignments
+
+        assigns : (target e : TypedTree) → p.instr ≡ Assign target e → IsFine s None (Assign target e)
+            → AllowsAll facts_now (acts_by (Assign target e)) → AllKeep (is_observer s) (acts_by (Assign target e)) → Exacts (Assign target e)
+        unfolding waits_in
+        assigns (Name q x steps u) e is (v, (leads, type), source) allowed_there keep =
+            by_view (subst (λ z. Source s z e) (sym type) source) (is_anonymous (full s.table u)) refl
+          where
+            front : List Placed
+            front = acts_in s e ++ acts_in s steps
+
+            to_view : Source s (object_at s x).of e → is_anonymous (view_of s x) ≡ true → p.instr ≡ Assign (Name q x NoMore (object_at s x).of) e
+                → AllowsAll facts_now (acts_by (Assign (Name q x NoMore (object_at s x).of) e)) → Exacts (Assign (Name q x NoMore (object_at s x).of) e)
+            to_view source view instr_is allowed_here =
+                let found = orderly.assigned q x (object_at s x).of e instr_is view in
+                from_name found.0 found.1 found.3 found.2 found.4 found.6
+              where
+                from_name : (r : Pos) (y w : ℕ) (path_of : TypedTree) → e ≡ Name r y path_of w → (is_observer s x ≡ false → y ≡ x)
+                    → Exacts (Assign (Name q x NoMore (object_at s x).of) e)
+                from_name r y w path_of here_is itself =
+                    let of : ℕ = (object_at s x).of in
+                    let takes : Takes (waits_in path_of) given_words [] =
+                    takes_as (taken (Assign (Name q x NoMore of) (Name r y path_of w))) (waits_in path_of) given_words [] (nothing_more (waits_in path_of))
+                    (subst (λ z. Takes (taken (Assign (Name q x NoMore of) z)) given_words []) here_is (takes_of plain.0 (Assign (Name q x NoMore of) e) instr_is)) in
+                    subst (λ z. Exacts (Assign (Name q x NoMore (object_at s x).of) z)) (sym here_is)
+                    (subst (λ z. ExactAt (after (acts_by (Assign (Name q x NoMore (object_at s x).of) (Name r y path_of w))) facts_now)
+                    (map (spot q (name_of x NoMore) (length (acts_in s (Name r y path_of w) ++ acts_in s NoMore))) z)
+                    (turn at (Assign (Name q x NoMore (object_at s x).of) (Name r y path_of w)))) (sym (view_parts easy ready.accepted.settled ready.owns other alone no_formals views ready.class.parts_named none_taken refl refl elsewhere away Excused x view))
+                    (assigned_main (after (acts_by (Assign (Name q x NoMore of) (Name r y path_of w))) facts_now) [] (Name q x NoMore of) of (Name r y path_of w)
+                    (view_assigned_on easy ready.accepted.settled ready.owns other alone no_formals views ready.class.parts_named none_taken refl refl elsewhere away Excused given_words p.pos q r x y w path_of view (ready.orderly.local x view).0 (home_frame x (local x view))
+                    (subst (Source s (object_at s x).of) here_is source) takes itself facts_now (good plain)
+                    (subst (λ z. AllowsAll facts_now (acts_by (Assign (Name q x NoMore (object_at s x).of) z))) here_is allowed_here) exact)))
+
+            by_view : Source s u e → (b : Bool) → is_anonymous (full s.table u) ≡ b → Exacts (Assign (Name q x steps u) e)
+            by_view source (false) owner = elim source [
+              | inl view ↦ absurd (true_false (is_anonymous (full s.table u)) view.0 owner)
+              | inr gives ↦ (
+                  let own_type : IsNamed s.table u = plain_named s.table u owner in
+                  let same_acts = assigned_acts s p.pos x u (Name q x steps u) steps e own_type leads in
+                  let two = takes_both (waits_in e) (waits_in steps) given_words [] (takes_of plain.0 (Assign (Name q x steps u) e) is) in
+                  subst (λ z. ExactAt (after (acts z) facts_now) (spots_by (Assign (Name q x steps u) e)) (turn at (Assign (Name q x steps u) e))) (sym same_acts)
+                  (assigned_main (after (acts (stored_acts s (Name q x steps u) e)) facts_now) (spots_by (Assign (Name q x steps u) e)) (Name q x steps u) u e
+                  (assign_on easy ready.accepted.settled ready.owns other alone no_formals views ready.class.parts_named none_taken refl refl elsewhere away Excused given_words two.0 q x u steps e own_type gives leads
+                  (subst (TakesScalars s) is plain.1) two.1 two.2 facts_now (good plain)
+                  (subst (λ z. AllowsAll facts_now (acts z)) same_acts allowed_there) (subst (λ z. AllKeep (is_observer s) (acts z)) same_acts keep) exact (length front)
+                  (knows (Assign (Name q x steps u) e) is front (record { pos = q; act = act.Write (name_of x steps) } ∷ []) same_acts q (name_of x steps) (parts s.table u)))))
+            ]
+            by_view source true view = elim (leads_or s ready.class.parts_named steps (object_at s x).of u leads) [
+              | inr own_type ↦ absurd (true_false (is_anonymous (full s.table u)) view (named_plain s.table u own_type))
+              | inl whole ↦ (
+                  let target_is : Name q x steps u ≡ Name q x NoMore (object_at s x).of = (λ j. Name q x (whole.0 j) (sym whole.1 j)) in
+                  subst (λ z. Exacts (Assign z e)) (sym target_is)
+                  (to_view (subst (λ z. Source s z e) (sym whole.1) source) (ap (λ z. is_anonymous (full s.table z)) whole.1 ∙ view)
+                  (is ∙ ap (λ z. Assign z e) target_is) (subst (λ z. AllowsAll facts_now (acts_by (Assign z e))) target_is allowed_there)))
+            ]
+        assigns target e is (v, never, source) allowed_there keep = absurd never
+
+        -- ---- other instructions
+
+        writes : (text : TypedTree) (line : Bool) → p.instr ≡ Output text line → FirstWrites s text
+            → AllowsAll facts_now (acts_by (Output text line)) → Exacts (Output text line)
+        unfolding acts_in waits_in
+        writes (More e last) line is (none, text) allowed_there =
+            eased_on (after (acts_by (Output (More e last) line)) facts_now) [] (text_of (steps.here at) e (start at))
+            (λ bytes m. Goes (record (behind easy (waiting easy) m 0) { output = state.output ++ bytes ++ (if line then 10 ∷ [] else []) }))
+            (λ bytes m. Goes (record (behind at (waiting at) m 0) { output = state.output ++ bytes ++ (if line then 10 ∷ [] else []) }))
+            (λ bytes m on. on)
+            (output_on easy ready.accepted.settled ready.owns other alone no_formals views ready.class.parts_named none_taken refl refl elsewhere away Excused given_words e last line none text
+            (takes_as (taken (Output (More e last) line)) (waits_in e) given_words [] (ap (λ z. waits_in e + waits_in z) none ∙ nothing_more (waits_in e))
+            (takes_of plain.0 (Output (More e last) line) is))
+            facts_now (good plain) allowed_there exact)
+        writes NoMore line is text allowed_there = writes_line (innermost.none_takes table typed effects input ready state top below more_frames rest named p frames deep stages running awaiting of_sub at_point path views viewed_before kept scope holds placed_before above (Output NoMore line) is refl) line
+        writes other_text line is never allowed_there = absurd never
+
+        abbrev gets_here : Place → Memory → Outcome
+        gets_here k m = got_with easy k (next_item input state.at) m
+
+        gets_so : Gets easy ready.accepted.settled ready.owns other alone no_formals views ready.class.parts_named none_taken refl refl gets_here
+        gets_so = record {
+          at_missing = λ k m next. rw next refl;
+          at_bad = λ k m next. rw next refl;
+          at_number = λ k m v end next fits. rw (next, fits) refl;
+          at_outside = λ k m v end next out. rw (next, out) refl;
+        }
+
+        reads : (target : TypedTree) → p.instr ≡ Input target → IsFine s None (Input target)
+            → AllowsAll facts_now (acts_by (Input target)) → Exacts (Input target)
+        unfolding waits_in
+        reads (Name q x path_of u) is (v, (leads, type), scalar) allowed_there =
+            let target : TypedTree = Name q x path_of u in
+            let scalar_there : is_scalar (full s.table u) ≡ true = subst (λ z. is_scalar (full s.table z) ≡ true) (sym type) scalar in
+            (input_eased at (Both (Input target)) (raising (Input target)) (λ trap m on. on.0 tt) target (
+              no_trap _ _ (sound_got_on easy ready.accepted.settled ready.owns other alone no_formals views ready.class.parts_named none_taken refl refl given_words
+                  gets_here q x u path_of gets_so scalar_there leads (takes_of plain.0 (Input target) is) (orderly.read q x u path_of is) facts_now (good plain) allowed_there),
+              got_on easy ready.accepted.settled ready.owns other alone no_formals views ready.class.parts_named none_taken refl refl elsewhere away Excused given_words
+                  gets_here q x u path_of gets_so scalar_there leads (takes_of plain.0 (Input target) is) (orderly.read q x u path_of is) facts_now (good plain) allowed_there exact,
+            )).1
+        reads target is (v, never, scalar) allowed_there = absurd never
+
+        abbrev frees_here : Pos → Place → Memory → Outcome
+        frees_here q k m = released_with easy q k (words_of s m k) m
+
+        frees_so : (q : Pos) → Releases easy ready.accepted.settled ready.owns other alone no_formals views ready.class.parts_named none_taken refl refl (frees_here q) q
+        frees_so q = record {
+          at_null = λ k m is. rw is refl;
+          at_whole = λ k m v is. rw is refl;
+          at_listed = λ k m v is. rw is refl;
+          at_cell = λ k m n is alive. rw (is, alive) refl;
+        }
+
+        releases : (target : TypedTree) → p.instr ≡ Release target → IsFine s None (Release target)
+            → AllowsAll facts_now (acts_by (Release target)) → AllKeep (is_observer s) (acts_by (Release target)) → Exacts (Release target)
+        unfolding waits_in
+        releases (Name q x path_of u) is (v, d, (leads, type), access) allowed_there keep =
+            let target : TypedTree = Name q x path_of u in
+            let access_there : shape_of s.table u ≡ shape.Access d false true = subst (λ z. shape_of s.table z ≡ shape.Access d false true) (sym type) access in
+            (release_eased at (Both (Release target)) (raising (Release target)) (λ trap m on. on.0 tt) q x u path_of (
+              no_trap _ _ (sound_released_on easy ready.accepted.settled ready.owns other alone no_formals views ready.class.parts_named none_taken refl refl given_words
+                  (frees_here q) q q x u d path_of (frees_so q) access_there leads (takes_of plain.0 (Release target) is) (last_kept (acts_in s path_of) keep) facts_now (good plain) allowed_there),
+              released_on easy ready.accepted.settled ready.owns other alone no_formals views ready.class.parts_named none_taken refl refl elsewhere away Excused given_words
+                  (frees_here q) q q x u d path_of (frees_so q) access_there leads (takes_of plain.0 (Release target) is) (last_kept (acts_in s path_of) keep) facts_now (good plain) allowed_there exact
+                  q (length (acts_in s path_of))
+                  (knows (Release target) is (acts_in s path_of) (record { pos = q; act = act.Free (name_of x path_of) } ∷ []) refl
+                  q (extend (name_of x path_of) (sel.Deref ∷ [])) (parts s.table (designated s.table u))),
+            )).1
+          where
+            last_kept : (before : List Placed) → AllKeep (is_observer s) (acts (before ++ record { pos = q; act = act.Free (name_of x path_of) } ∷ [])) → is_observer s x ≡ false
+            last_kept before keep =
+                (keep_both (is_observer s) (acts before) (act.Free (name_of x path_of) ∷ [])
+                (subst (AllKeep (is_observer s)) (acts_append before (record { pos = q; act = act.Free (name_of x path_of) } ∷ [])) keep)).1.0
+        releases target is (v, d, never, access) allowed_there keep = absurd never
+
+        chosen_exact : (b : Bool) (k : ℕ) → ExactAt facts_now [] (if b then steps.goes at state.memory k else steps.raised at ConstraintError state.memory)
+        chosen_exact true k = (exact, tt)
+        chosen_exact false k = tt
+
+        chooses : (e : TypedTree) (choices : List TypedCode) → p.instr ≡ Choose e choices → Stays s e
+            → AllowsAll facts_now (acts_by (Choose e choices)) → Exacts (Choose e choices)
+        chooses e choices is stays allowed_there =
+            value_taken e stays (takes_of plain.0 (Choose e choices) is) allowed_there (λ ws m. steps.chosen at (length choices) (steps.choice choices ws) m)
+            (λ ws. chosen_exact (nat_lt (steps.choice choices ws) (length choices)) (steps.choice choices ws))
+
+        leaves : (e : TypedTree) → p.instr ≡ LeaveLoop e → FirstStays s e → AllowsAll facts_now (acts_by (LeaveLoop e)) → Exacts (LeaveLoop e)
+        unfolding acts_in waits_in
+        leaves (More e last) is (none, stays) allowed_there =
+            let same : acts_in s e ++ acts_in s last ≡ acts_in s e = ap (λ z. acts_in s e ++ acts_in s z) none ∙ append-nil (acts_in s e) in
+            subst (λ z. ExactAt (after (acts z) facts_now) [] (turn at (LeaveLoop (More e last)))) (sym same)
+            (value_taken e stays
+            (takes_as (taken (LeaveLoop (More e last))) (waits_in e) given_words [] (ap (λ z. waits_in e + waits_in z) none ∙ nothing_more (waits_in e))
+            (takes_of plain.0 (LeaveLoop (More e last)) is))
+            (subst (λ z. AllowsAll facts_now (acts z)) same allowed_there) (λ ws m. steps.goes at m (if run.is_true ws then 0 else 1)) (λ ws. (exact, tt)))
+        leaves NoMore is text allowed_there = skips
+        leaves e is never allowed_there = absurd never
+
+        abbrev starts_here : ℕ → steps.Bounds → Memory → Outcome
+        starts_here x b m = started_with easy x b m
+
+        starts_so : (x : ℕ) → Starts easy ready.accepted.settled ready.owns other alone no_formals views ready.class.parts_named none_taken refl refl x (starts_here x)
+        starts_so x = record {
+          fails = λ b. int_le (steps.number b.low) (steps.number b.high)
+              && not (fits_type s.table (object_at s x).of b.low && fits_type s.table (object_at s x).of b.high);
+          loop = λ b. record { parameter = x; low = steps.number b.low; high = steps.number b.high; first = true };
+          at_fault = λ b m e. rw e refl;
+          at_turn = λ b m e. rw e refl;
+        }
+
+        starts : (x : ℕ) (reversed : Bool) (low high : TypedTree) → p.instr ≡ Start x reversed low high → is_scalar (full s.table (object_at s x).of) ≡ true
+            → Stays s low → Stays s high → AllowsAll facts_now (acts_by (Start x reversed low high)) → Exacts (Start x reversed low high)
+        starts x reversed low high is scalar stays stays' allowed_there =
+            let two = takes_both (waits_in low) (waits_in high) given_words [] (takes_of plain.0 (Start x reversed low high) is) in
+            (start_eased at (Both (Start x reversed low high)) (raising (Start x reversed low high)) (λ trap m on. on.0 tt) x low high (
+              no_trap _ _ (sound_started_on easy ready.accepted.settled ready.owns other alone no_formals views ready.class.parts_named none_taken refl refl given_words two.0
+                  x (starts_here x) low high (starts_so x) scalar stays stays' two.1 two.2 facts_now (good plain) allowed_there),
+              started_on easy ready.accepted.settled ready.owns other alone no_formals views ready.class.parts_named none_taken refl refl elsewhere away Excused given_words two.0
+                  x (starts_here x) low high (starts_so x) scalar stays stays' two.1 two.2 facts_now (good plain) allowed_there exact,
+            )).1
+
+        operates : (temporary : ℕ) (e : TypedTree) (op : Option ShortCircuit) → p.instr ≡ Evaluate temporary e op → Stays s e
+            → AllowsAll facts_now (acts_by (Evaluate temporary e op)) → Exacts (Evaluate temporary e op)
+        operates temporary e (Some o) is stays allowed_there =
+            value_taken e stays (takes_of plain.0 (Evaluate temporary e (Some o)) is) allowed_there
+            (λ ws m. Goes (behind at (steps.truth_waiting ws ∷ waiting at) m (if run.decides o ws then 1 else 0))) (λ ws. (exact, tt))
+        operates temporary e None is stays allowed_there =
+            value_taken e stays (takes_of plain.0 (Evaluate temporary e None) is) allowed_there
+            (λ ws m. Goes (behind at (steps.truth_waiting ws ∷ drop 1 (waiting at)) m 0)) (λ ws. (exact, tt))
+
+        -- a return with a value, and one without
+        holds_plain : (e : TypedTree) (of : ℕ) → p.instr ≡ Hold (More e NoMore) → named.sub.result ≡ Some of → Source s of e
+            → AllowsAll facts_now (acts_by (Hold (More e NoMore))) → AllKeep (is_observer s) (acts_by (Hold (More e NoMore))) → Exacts (Hold (More e NoMore))
+        unfolding GivesPlainly waits_in
+        holds_plain e of is result source allowed_there keep =
+            holds_value e of is result (λ type_there allows keeps.
+            source_exact easy ready.accepted.settled ready.owns other alone no_formals views ready.class.parts_named none_taken refl refl elsewhere away Excused given_words of e type_there source (subst (TakesScalars s) is plain.1).0
+            (takes_as (taken (Hold (More e NoMore))) (waits_in e) given_words [] (nothing_more (waits_in e)) (takes_of plain.0 (Hold (More e NoMore)) is))
+            facts_now (good plain) allows keeps exact) allowed_there keep
+
+        returns : (v : TypedTree) (r : Option ℕ) → p.instr ≡ Hold v → named.sub.result ≡ r → Returns s r v → AllowsAll facts_now (acts_by (Hold v))
+            → AllKeep (is_observer s) (acts_by (Hold v)) → Exacts (Hold v)
+        unfolding acts_in waits_in
+        returns v None is result none allowed_there keep =
+            subst (λ z. Exacts (Hold z)) (sym none)
+            (subst (λ z. ExactAt z [] (turn at (Hold NoMore))) (sym (ap (λ r. after (acts (flow.returned_acts s r NoMore)) facts_now) result)) skips)
+        returns v (Some of) is result (e, same, source) allowed_there keep =
+            subst (λ z. Exacts (Hold z)) (sym same)
+            (holds_plain e of (is ∙ ap Hold same) result source (subst (λ z. AllowsAll facts_now (acts_by (Hold z))) same allowed_there)
+            (subst (λ z. AllKeep (is_observer s) (acts_by (Hold z))) same keep))
+
+        each_instruction : (i : Instruction) → p.instr ≡ i → (i ≡ Finish → ⊥) → IsFine s named.sub.result i → AllowsAll facts_now (acts_by i)
+            → AllKeep (is_observer s) (acts_by i) → Exacts i
+        each_instruction Skip is end text allowed_there keep = skips
+        each_instruction (Declare x v) is end text allowed_there keep = declares x v is text allowed_there keep
+        each_instruction (Assign target e) is end text allowed_there keep = assigns target e is text allowed_there keep
+        each_instruction (Call n actuals result) is end text allowed_there keep = absurd (no_calls n actuals result is)
+        each_instruction (Output text line) is end writing allowed_there keep = writes text line is writing allowed_there
+        each_instruction (Input target) is end text allowed_there keep = reads target is text allowed_there
+        each_instruction (Release e) is end text allowed_there keep = releases e is text allowed_there keep
+        each_instruction (Test e) is end stays allowed_there keep =
+            value_taken e stays (takes_of plain.0 (Test e) is) allowed_there (λ ws m. steps.goes at m (if run.is_true ws then 0 else 1)) (λ ws. (exact, tt))
+        each_instruction (Choose e choices) is end stays allowed_there keep = chooses e choices is stays allowed_there
+        each_instruction (Start x reversed low high) is end (scalar, stays, stays') allowed_there keep = starts x reversed low high is scalar stays stays' allowed_there
+        each_instruction (Next x reversed low high) is end scalar allowed_there keep =
+            turns (innermost.none_takes table typed effects input ready state top below more_frames rest named p frames deep stages running awaiting of_sub at_point path views viewed_before kept scope holds placed_before above (Next x reversed low high) is refl) x reversed low high scalar
+        each_instruction (Evaluate temporary e op) is end stays allowed_there keep = operates temporary e op is stays allowed_there
+        each_instruction (LeaveLoop e) is end text allowed_there keep = leaves e is text allowed_there
+        each_instruction (Hold v) is end text allowed_there keep = returns v named.sub.result is refl text allowed_there keep
+        each_instruction (EndScope x) is end text allowed_there keep = absurd (going x is)
+        each_instruction Finish is end text allowed_there keep = absurd (end refl)
+        each_instruction Fall is end text allowed_there keep = tt
+
+      pub allowed_there : (p.instr ≡ Finish → ⊥) → AllowsAll facts_now (acts_by p.instr)
       allowed_there end = innermost.allowed_now table typed effects input ready state top below more_frames rest named p frames deep stages running awaiting of_sub at_point path views viewed_before kept scope holds placed_before above (each.spares table typed effects input ready state top below more_frames rest named p frames deep stages running awaiting of_sub at_point path views viewed_before kept scope holds placed_before above going no_calls end) (standing.allowed table typed effects input ready state top older outer named p frames of_sub at_point path no_calls)
 
+      instruction_exact : (p.instr ≡ Finish → ⊥) → Exacts p.instr
+      instruction_exact end = elim (innermost.taken_there table typed effects input ready state top below more_frames rest named p frames deep stages running awaiting of_sub at_point path views viewed_before kept scope holds placed_before above) [
+        | inl plain ↦ each_instruction plain p.instr refl end fine_here (allowed_there end) (standing.keeps_there table typed effects input ready state top older outer named p frames of_sub at_point)
+        | inr taken_alone ↦ alone_exact taken_alone end (allowed_there end) (standing.keeps_there table typed effects input ready state top older outer named p frames of_sub at_point)
+      ]
+
       -- Where the step goes on, facts are exact after its acts; and of the leak checks of the point none fails that is excused.
-      main_exact : (p.instr ≡ Finish → ⊥) → ExactAt (after (acts_by p.instr) facts_now) at.point.leaks (step program input state)
+      pub main_exact : (p.instr ≡ Finish → ⊥) → ExactAt (after (acts_by p.instr) facts_now) at.point.leaks (step program input state)
       main_exact end =
           subst (λ z. ExactAt (after (acts_by p.instr) facts_now) z (step program input state)) (leaks_there no_calls)
           (subst (ExactAt (after (acts_by p.instr) facts_now) (spots_by p.instr)) (sym (standing.step_is table typed effects input ready state top older outer named p frames of_sub at_point))
-          (each_instruction p.instr refl end fine_here (allowed_there end) (standing.keeps_there table typed effects input ready state top older outer named p frames of_sub at_point)))
+          (instruction_exact end))
 
       pub checks_hold : (p.instr ≡ Finish → ⊥) → NoneFails Excused at.point.leaks (checks_of (step program input state))
       checks_hold end = its_checks (step program input state) (main_exact end)
@@ -668,122 +708,3 @@ module _ (table : Table) (typed : TypedProgram) (effects : Effects) (input : Lis
           its_checks : (outcome : Outcome) → ExactAt (after (acts_by p.instr) facts_now) at.point.leaks outcome → NoneFails Excused at.point.leaks (checks_of outcome)
           its_checks (Goes after_step) on = on.1
           its_checks (Ends how after_step) on = on
-
-      -- ---- facts of all frames
-
-      kept_around : (p.instr ≡ Finish → ⊥) → (name : PlaceName) → Has around (Moved name) → Has (after (acts_by p.instr) facts_now) (Moved name)
-      kept_around end name has =
-          after_around (λ name spared shared a there.
-          spare_keeps s name a.act (spare_has s (placed_by p.instr) (each.spares table typed effects input ready state top below more_frames rest named p frames deep stages running awaiting of_sub at_point path views viewed_before kept scope holds placed_before above going no_calls end) a there) (writes_none name spared shared a there)) name has
-
-      -- no moved name is rooted in a view that is declared or assigned
-      assigned_unmoved : (q : Pos) (x u : ℕ) (e : TypedTree) → p.instr ≡ Assign (Name q x NoMore u) e → (p.instr ≡ Finish → ⊥)
-          → is_anonymous (view_of s x) ≡ true → is_observer s x ≡ false
-          → (n : PlaceName) → Has (after (acts_by p.instr) facts_now) (Moved n) → n.root ≡ x → ⊥
-      unfolding Leads waits_in
-      assigned_unmoved q x u e is end view borrows n has root = by_fine (subst (IsFine s named.sub.result) is fine_here)
-        where
-          by_fine : IsFine s None (Assign (Name q x NoMore u) e) → ⊥
-          by_fine (v, (leads, type), source) =
-              let found = orderly.assigned q x u e is view in
-              from_name found.0 found.1 found.3 found.2 found.4 (found.6 borrows) (subst (λ z. Source s z e) (sym (leads ∙ type)) source) leads
-            where
-              from_name : (r : Pos) (y w : ℕ) (path_of : TypedTree) → e ≡ Name r y path_of w → y ≡ x → Source s (object_at s x).of e → (object_at s x).of ≡ u → ⊥
-              from_name r y w path_of here_is itself source_there of =
-                  let instr_is : p.instr ≡ Assign (Name q x NoMore (object_at s x).of) (Name r y path_of w) =
-                  is ∙ (λ j. Assign (Name q x NoMore (sym of j)) (here_is j)) in
-                  let takes : Takes (waits_in path_of) given_words [] =
-                  takes_as (taken (Assign (Name q x NoMore (object_at s x).of) (Name r y path_of w))) (waits_in path_of) given_words [] (nothing_more (waits_in path_of))
-                  (takes_of (Assign (Name q x NoMore (object_at s x).of) (Name r y path_of w)) instr_is) in
-                  reborrow_unmoved easy ready.accepted.settled ready.owns other alone no_formals views ready.class.parts_named none_taken refl refl elsewhere away Excused given_words p.pos q r x y w path_of view (ready.orderly.local x view).0 (home_frame x (local x view))
-                  (subst (Source s (object_at s x).of) here_is source_there) takes borrows itself facts_now good
-                  (subst (λ i. AllowsAll facts_now (acts_by i)) instr_is (allowed_there end)) n (subst (λ i. Has (after (acts_by i) facts_now) (Moved n)) instr_is has) root
-
-      stored_unmoved : (p.instr ≡ Finish → ⊥) → ((n : PlaceName) → Has (after (acts_by p.instr) own_facts) (Moved n) → is_observer s n.root ≡ false)
-          → (x : ℕ) → is_anonymous (view_of s x) ≡ true → IsStoredAt p.instr x → (n : PlaceName) → Has (after (acts_by p.instr) facts_now) (Moved n) → n.root ≡ x → ⊥
-      stored_unmoved end clear x view stored n has root =
-          elim (after_splits (acts_by p.instr) facts_now own_facts around (innermost.from_both table typed effects input ready state top below more_frames rest named p frames deep stages running awaiting of_sub at_point path views viewed_before kept scope holds placed_before above) (Moved n) has) [
-            | inr there ↦ innermost.not_handed table typed effects input ready state top below more_frames rest named p frames deep stages running awaiting of_sub at_point path views viewed_before kept scope holds placed_before above n there (ap (is_package_object s) root ∙ local x view)
-            | inl mine ↦ elim stored [
-              | inl (v, e) ↦ packages.new_after table typed effects input ready state top older outer named p frames of_sub at_point path x v e no_calls n mine root
-              | inr (q, u, e, is) ↦ elim (bool_cases (is_observer s x)) [
-                | inl sees ↦ true_false (is_observer s x) sees (ap (is_observer s) (sym root) ∙ clear n mine)
-                | inr borrows ↦ assigned_unmoved q x u e is end view borrows n has root
-              ]
-            ]
-          ]
-
-      -- They are exact after the step, too, with the views then.
-      pub told_next : (p.instr ≡ Finish → ⊥) → (next : State) → step program input state ≡ Goes next → (later : Views)
-          → ((x : ℕ) (w : Way) → later.way x ≡ Some w → is_anonymous (view_of s x) ≡ true)
-          → ((n : PlaceName) → Has (facts_before points (top.frame.next ∷ top.before)) (Moved n) → is_observer s n.root ≡ false) → AreTurned p.instr views later
-          → Told (seen s next.memory [] []) (IsDefiniteHere table typed effects unmoved_stage local depth later (facts_before points (top.frame.next ∷ top.before)) older)
-      told_next end next is later only clear turned =
-          all_told next.memory later only no_calls (kept_around end)
-          (turned_exact easy ready.accepted.settled ready.owns other alone no_formals views ready.class.parts_named none_taken refl refl elsewhere away Excused next.memory later (after (acts_by p.instr) facts_now) holds.only
-          (λ x w has. elim (turned x w has) [
-            | inl old ↦ inl old
-            | inr stored ↦ inr (λ n moved root.
-                stored_unmoved end (λ m has_it. clear m (subst (λ z. Has z (Moved m)) (sym (standing.facts_on table typed effects input ready state top older outer named p frames of_sub at_point path no_calls)) has_it)) x (only x w has) stored n moved root)
-          ])
-          (goes_exact (step program input state) is (main_exact end)))
-        where
-          goes_exact : (outcome : Outcome) → outcome ≡ Goes next → ExactAt (after (acts_by p.instr) facts_now) at.point.leaks outcome
-              → IsExact s (home s depth) views elsewhere next.memory (after (acts_by p.instr) facts_now)
-          goes_exact (Goes after_step) same_step on = (
-              let state_same : after_step ≡ next = cc in
-              subst (λ (z : State). IsExact s (home s depth) views elsewhere z.memory (after (acts_by p.instr) facts_now)) state_same on.0)
-          goes_exact (Ends how after_step) same_step on = cc
-
-    -- ---- the end of a scope
-
-    module _ (y : ℕ) (is : p.instr ≡ EndScope y) where
-      no_call_there : IsNoCall p.instr
-      no_call_there n actuals result same = (let never : EndScope y ≡ Call n actuals result = sym is ∙ same in cc)
-
-      not_shared : is_package_object s y ≡ false
-      not_shared = ready.scoped.ends named (innermost.named_there table typed effects input ready state top below more_frames rest named p frames deep stages running awaiting of_sub at_point path views viewed_before kept scope holds placed_before above) p (innermost.point_there_now table typed effects input ready state top below more_frames rest named p frames deep stages running awaiting of_sub at_point path views viewed_before kept scope holds placed_before above) y is
-
-      scope_checks : NoneFails Excused (spots_by (EndScope y)) (checks_of (turn at (EndScope y)))
-      scope_checks =
-          end_scope_checked easy ready.accepted.settled ready.owns other alone no_formals views ready.class.parts_named none_taken refl refl elsewhere away Excused y facts_now viewed_easy.0 exact p.pos 0
-          (knows (EndScope y) is [] (placed_by (EndScope y)) refl p.pos (object y) (parts s.table (object_at s y).of))
-
-      pub ended_checks_hold : NoneFails Excused at.point.leaks (checks_of (step program input state))
-      ended_checks_hold =
-          subst (λ z. NoneFails Excused z (checks_of (step program input state))) (leaks_there no_call_there)
-          (subst (λ o. NoneFails Excused (spots_by p.instr) (checks_of o)) (sym (standing.step_is table typed effects input ready state top older outer named p frames of_sub at_point))
-          (subst (λ i. NoneFails Excused (spots_by i) (checks_of (turn at i))) (sym is) scope_checks))
-
-      abbrev IsLeft : Outcome → Type 0
-      IsLeft (Goes next) = next.memory ≡ undeclared depth y state.memory
-      IsLeft (Ends how next) = Unit {0}
-
-      ended_around : (name : PlaceName) → Has around (Moved name) → Has (after (acts_by p.instr) facts_now) (Moved name)
-      ended_around name has =
-          after_around (λ name spared shared a there. by_act name shared a (subst (λ i. Has (placed_by i) a) is there)) name has
-        where
-          by_root : (name : PlaceName) → is_package_object s name.root ≡ true → removes (act.EndScope y (is_borrower s y)) (Moved name) ≡ false
-          by_root name shared = elim (bool_cases (removes (act.EndScope y (is_borrower s y)) (Moved name))) [
-            | inr e ↦ e
-            | inl e ↦ absurd (true_false (is_package_object s name.root) shared (ap (is_package_object s) (eqb-true name.root y e) ∙ not_shared))
-          ]
-
-          by_act : (name : PlaceName) → is_package_object s name.root ≡ true → (a : Placed) → Has (placed_by (EndScope y)) a → removes a.act (Moved name) ≡ false
-          by_act name shared a (inl same_act) = ap (λ (z : Placed). removes z.act (Moved name)) (sym same_act) ∙ by_root name shared
-          by_act name shared a (inr never) = absurd never
-
-      pub told_left : (next : State) → step program input state ≡ Goes next → (later : Views)
-          → ((x : ℕ) (w : Way) → later.way x ≡ Some w → is_anonymous (view_of s x) ≡ true) → AreLeft y views later
-          → Told (seen s next.memory [] []) (IsDefiniteHere table typed effects unmoved_stage local depth later (facts_before points (top.frame.next ∷ top.before)) older)
-      told_left next goes later only left =
-          all_told next.memory later only no_call_there ended_around
-          (subst (λ z. IsExact s (home s depth) later elsewhere z (after (acts_by p.instr) facts_now)) (sym memory_is)
-          (subst (λ i. IsExact s (home s depth) later elsewhere (undeclared depth y state.memory) (after (acts_by i) facts_now)) (sym is)
-          (end_scope_exact easy ready.accepted.settled ready.owns other alone no_formals views ready.class.parts_named none_taken refl refl elsewhere away Excused later y (is_borrower s y) (home_frame y not_shared) facts_now viewed_easy.0 (innermost.not_lent table typed effects input ready state top below more_frames rest named p frames deep stages running awaiting of_sub at_point path views viewed_before kept scope holds placed_before above y not_shared) holds.only left exact)))
-        where
-          left_there : IsLeft (step program input state)
-          left_there = subst IsLeft (sym (standing.step_is table typed effects input ready state top older outer named p frames of_sub at_point)) (subst (λ i. IsLeft (turn at i)) (sym is) refl)
-
-          memory_is : next.memory ≡ undeclared depth y state.memory
-          memory_is = subst IsLeft goes left_there

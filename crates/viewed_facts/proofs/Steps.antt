@@ -27,16 +27,10 @@ use Rattle.owned_loans.proofs.Safe.{Unborrowed, loan_of, clean_below}
 use Rattle.owned_loans.proofs.Allowed.{move_unlent, move_unmoved, write_unlent, free_unlent}
 use Rattle.owned_loans.proofs.Moves.{expand_along, named_way}
 use Rattle.exact_facts.specs.Exact.{IsOfVariable}
-use Rattle.exact_facts.proofs.Steps.{fact_before, under_covers, named_variable, Keeps, told_on, variable_begins}
+use Rattle.exact_facts.proofs.Steps.{fact_before, under_covers, named_variable, Keeps, told_on, variable_begins, variable_rooted}
 use Rattle.viewed_facts.specs.Exact.{IsDefiniteBy, IsDefinite}
 
 -- ---- ways that begin at variables
-
-variable_rooted : (w : Way) → IsOfVariable w → IsRooted w
-variable_rooted (Object r) is = tt
-variable_rooted (Lost n) is = absurd is
-variable_rooted (Into w i) is = variable_rooted w is
-variable_rooted (All w) is = variable_rooted w is
 
 no_hand_base : (w : Way) (h : ℕ) → IsOfVariable w → base_of w ≡ OfRoot (OfHand h) → ⊥
 no_hand_base (Object (OfVariable f x)) h is e = cc

@@ -1,5 +1,6 @@
 -- Facts without an element stay exact in an assignment to what isn't a view, and its excused leak checks don't fail.
 use Rattle.std.proofs.Common.{◌≡◌, refl, sym, ap, ◌∙◌, subst, inl, ℕ, suc, false, List, [], ◌∷◌, ◌++◌, map, length, arith, append_assoc, ◌⊎◌}
+use Rattle.viewed_soundness.specs.Taken.{GivesPlainly}
 use Rattle.place_names.specs.declared.rule.Loan.TheVariants.{Borrowed}
 use Rattle.spark_base.specs.Lists.{Has}
 use Rattle.spark_base.specs.declared.position.Pos.{Pos}
@@ -12,7 +13,7 @@ use Rattle.type_definitions.specs.Types.{shape_of, words, parts}
 use Rattle.typed_tree.specs.Trees.{TypedTree, Name}
 use Rattle.flow_paths.specs.declared.point.LeakSpot.{LeakSpot}
 use Rattle.flow_paths.specs.Objects.{object_at, is_observer}
-use Rattle.flow_paths.specs.Names.{has_call, waiting, name_of}
+use Rattle.flow_paths.specs.Names.{waiting, name_of}
 use Rattle.flow_paths.specs.Acts.{acts_in, stored_acts, spot}
 use Rattle.machine.specs.Words as machine
 use Rattle.machine.specs.Memory.{Memory, Place, stored}
@@ -30,7 +31,7 @@ use Rattle.soundness.specs.Typed.{OwnsByShape}
 use Rattle.typed_laws.specs.Needed.{Leads, Gives, IndexLaw}
 use Rattle.soundness.proofs.Walks.{way_along, Walked}
 use Rattle.soundness.proofs.Scalars.{after_append, allows_both, acts, acts_append, number_along, named_along}
-use Rattle.soundness.proofs.Taking.{Takes, TakesPlainly}
+use Rattle.soundness.proofs.Taking.{Takes}
 use Rattle.soundness.proofs.Stays.{Quiet}
 use Rattle.soundness.proofs.Evaluated.{regrouped, Keeps}
 use Rattle.owned_loans.specs.Views.{Around, Views, expand, IsThrough}
@@ -119,7 +120,7 @@ module _ (h : Here) (settled : IsSettled h.typing.table) (leaks : List Leak) (wa
   then_found now P name t facts facts' (Traps e n) f none next = tt
 
   -- the value is there
-  then_placed : (mid on : List (List machine.Word)) (p : Pos) (x t : ℕ) (steps : TypedTree) (hands : List Waiting) (facts : List Fact) → is_observer h.typing x ≡ false
+  pub then_placed : (mid on : List (List machine.Word)) (p : Pos) (x t : ℕ) (steps : TypedTree) (hands : List Waiting) (facts : List Fact) → is_observer h.typing x ≡ false
       → Leads h.typing (object_at h.typing x).of steps t
       → Takes (waiting steps) mid on → AllowsAll facts (acts (acts_in h.typing steps) ++ act.Write (name_of x steps) ∷ []) → (y : Evaluated (List machine.Word))
       → GivenOn h settled leaks waits other alone keeps no_formals index_law own_law v parts_named mid t hands facts y
@@ -152,7 +153,7 @@ module _ (h : Here) (settled : IsSettled h.typing.table) (leaks : List Leak) (wa
   -- k := e, for a target that isn't a borrower or observer
   pub assigned_exact : (before mid on : List (List machine.Word)) (p : Pos) (x t : ℕ) (steps e : TypedTree) → IsNamed h.typing.table t → Gives h.typing t e
       → Leads h.typing (object_at h.typing x).of steps t
-      → TakesPlainly h.typing (has_call e) → Takes (waiting e) before mid → Takes (waiting steps) mid on → (m : Memory) (hands : List Waiting) (facts : List Fact)
+      → GivesPlainly h.typing e → Takes (waiting e) before mid → Takes (waiting steps) mid on → (m : Memory) (hands : List Waiting) (facts : List Fact)
       → ReadyIn m hands facts
       → AllowsAll facts (acts (stored_acts h.typing (Name p x steps t) e)) → AllKeep (is_observer h.typing) (acts (stored_acts h.typing (Name p x steps t) e))
       → Exact m facts

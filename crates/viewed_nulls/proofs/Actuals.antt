@@ -34,7 +34,7 @@ use Rattle.soundness.proofs.Fixed.{matches_scalar}
 use Rattle.soundness.proofs.Walks.{way_along, past_along}
 use Rattle.soundness.proofs.Scalars.{acts, acts_append, allows_both, number_along}
 use Rattle.soundness.proofs.Stays.{Quiet}
-use Rattle.soundness.proofs.Taking.{Takes, takes_both, TakesPlainly}
+use Rattle.soundness.proofs.Taking.{Takes, takes_both}
 use Rattle.soundness.proofs.Passing.{reads_keep}
 use Rattle.soundness.proofs.Lasting.{keeps}
 use Rattle.owned_loans.specs.Views.{Around, Views, Viewed}
@@ -140,23 +140,23 @@ module _ (h : Here) (settled : IsSettled h.typing.table) (leaks : List Leak) (ot
 
   one_same : (known : List Fact) → ViewedWith known → (mode_of : Mode) (owning access : Bool) (x : ℕ) (e : TypedTree) → (mode_of ≡ mode.In → owning ≡ false) → Kind x
       → IsActualTo h.typing x mode_of e → (is_in mode_of ≡ false → goes_through_none e ≡ true) → (before on : List (List machine.Word)) → Takes (waiting e) before on
-      → TakesPlainly h.typing (has_call e) → Compares h.typing e → AllowsAll facts (acts (head_of h.typing own_law procedure mode_of e))
+      → Compares h.typing e → AllowsAll facts (acts (head_of h.typing own_law procedure mode_of e))
       → AllowsAll known (acts (actual_act (passing_by mode_of owning access) e)) → SameFor before on (passing_by mode_of owning access) x e
   unfolding Compares goes_through_none has_call waiting
-  one_same known viewed mode.In owning access x e fits kind stays direct before on takes calls compares allowed copy =
+  one_same known viewed mode.In owning access x e fits kind stays direct before on takes compares allowed copy =
       subst (λ b. SameFor before on (if b then objects.Place mode.In b access else ByValue) x e) (sym (fits refl))
-      (value_passed_same h settled own_law asks m hands facts law before on x e stays takes calls compares allowed)
-  one_same known viewed mode.Out owning access x (Name p y path u) fits kind (t, (lead, type), plain) direct before on takes calls compares allowed copy =
-      to_passed_same h settled own_law asks m hands facts law before on owning access x p y u path lead takes calls compares allowed (IsAt h asks m hands facts u)
+      (value_passed_same h settled own_law asks m hands facts law before on x e stays takes tt compares allowed)
+  one_same known viewed mode.Out owning access x (Name p y path u) fits kind (t, (lead, type), plain) direct before on takes compares allowed copy =
+      to_passed_same h settled own_law asks m hands facts law before on owning access x p y u path lead takes tt compares allowed (IsAt h asks m hands facts u)
       (λ way goes. law.direct on y u path way goes (direct refl))
-  one_same known viewed mode.Out owning access x e fits kind (t, never, plain) direct before on takes calls compares allowed copy = absurd never
-  one_same known viewed mode.InOut owning access x (Name p y path u) fits kind (t, (lead, type), match, which) direct before on takes calls compares allowed copy =
+  one_same known viewed mode.Out owning access x e fits kind (t, never, plain) direct before on takes compares allowed copy = absurd never
+  one_same known viewed mode.InOut owning access x (Name p y path u) fits kind (t, (lead, type), match, which) direct before on takes compares allowed copy =
       elim (bool_cases (is_scalar (full h.typing.table (object_at h.typing x).of))) [
-        | inl plain ↦ from_passed_same h settled own_law asks m hands facts law before on owning access x p y u path lead takes calls compares allowed (IsAt h asks m hands facts u)
+        | inl plain ↦ from_passed_same h settled own_law asks m hands facts law before on owning access x p y u path lead takes tt compares allowed (IsAt h asks m hands facts u)
             (λ k there. scalar_none h settled own_law asks m hands facts law k there.0 u there.1 there.2
             (subst (λ z. is_scalar (full h.typing.table z) ≡ true) (sym type) (scalar_type t (object_at h.typing x).of match plain)))
             (λ way goes. law.direct on y u path way goes (direct refl))
-        | inr many ↦ from_passed_same h settled own_law asks m hands facts law before on owning access x p y u path lead takes calls compares allowed (WholeAt u)
+        | inr many ↦ from_passed_same h settled own_law asks m hands facts law before on owning access x p y u path lead takes tt compares allowed (WholeAt u)
             (λ k there. there.3)
             (λ way goes. own_finds known viewed on y u path way goes (direct refl)
             (subst (IsNamed h.typing.table) (sym type) (matches_named h.typing.table (object_at h.typing x).of t (matches_back t (object_at h.typing x).of match) (own_type kind many)))
@@ -166,21 +166,21 @@ module _ (h : Here) (settled : IsSettled h.typing.table) (leaks : List Leak) (ot
       own_type : Kind x → is_scalar (full h.typing.table (object_at h.typing x).of) ≡ false → IsNamed h.typing.table (object_at h.typing x).of
       own_type (inl plain) many = absurd (true_false (is_scalar (full h.typing.table (object_at h.typing x).of)) plain many)
       own_type (inr (in_out, own)) many = own
-  one_same known viewed mode.InOut owning access x e fits kind (t, never, match, which) direct before on takes calls compares allowed copy = absurd never
+  one_same known viewed mode.InOut owning access x e fits kind (t, never, match, which) direct before on takes compares allowed copy = absurd never
 
   -- ---- all of them
 
   -- They are read under the facts before the call; the acts of those that are copied back come after them.
   pub all_same : (before on : List (List machine.Word)) (known : List Fact) → ViewedWith known → (formals : List ℕ) (actuals : TypedTree) → ((x : ℕ) → Has formals x → Kind x)
-      → AreActualsTo h.typing formals actuals → AreCopied h.typing formals actuals → Takes (waiting actuals) before on → TakesPlainly h.typing (has_call actuals)
+      → AreActualsTo h.typing formals actuals → AreCopied h.typing formals actuals → Takes (waiting actuals) before on
       → Compares h.typing actuals → AllowsAll facts (acts (actual_values h.typing (map (way_to h.typing own_law procedure) formals) actuals))
       → AllowsAll known (acts (actual_acts (map (way_to h.typing own_law procedure) formals) actuals))
       → (n' : Now) → SameNow h.typing (record { memory = m; waits = before }) n'
       → SameTo h.typing (all_passed h (map (way_to h.typing own_law procedure) formals) formals actuals (record { memory = m; waits = before }))
       (all_passed h (map (way_to h.typing own_law procedure) formals) formals actuals n')
   unfolding Compares has_call waiting
-  all_same before on known viewed [] actuals kinds stay copied takes calls compares allowed copies n' same = (refl, same)
-  all_same before on known viewed (x ∷ formals) (More e rest) kinds stay copied takes calls compares allowed copies n' same =
+  all_same before on known viewed [] actuals kinds stay copied takes compares allowed copies n' same = (refl, same)
+  all_same before on known viewed (x ∷ formals) (More e rest) kinds stay copied takes compares allowed copies n' same =
       let mode_of : Mode = (object_at h.typing x).mode in
       let owning : Bool = is_owning h.typing.table (object_at h.typing x).of in
       let access : Bool = procedure && is_named_access (view_of h.typing x) in
@@ -195,8 +195,7 @@ module _ (h : Here) (settled : IsSettled h.typing.table) (leaks : List Leak) (ot
       (subst (AllowsAll facts) (acts_append head others) (subst (λ z. AllowsAll facts (acts z)) (head_values_are h.typing own_law procedure x kind e (map (way_to h.typing own_law procedure) formals) rest) allowed)) in
       let still : after (acts head) facts ≡ facts = reads_keep head (head_of_reads h.typing own_law procedure x mode_of e stay.0) facts in
       let each_copy = allows_both known (acts copy) (acts copies_left) (subst (AllowsAll known) (acts_append copy copies_left) copies) in
-      let calling = asks.both_calls (has_call e) (has_call rest) calls in
-      let first = one_same known viewed mode_of owning access x e fits kind stay.0 copied.0 before two.0 two.1 calling.0 compares.0 each.0 each_copy.0 in
+      let first = one_same known viewed mode_of owning access x e fits kind stay.0 copied.0 before two.0 two.1 compares.0 each.0 each_copy.0 in
       let given = one_given h settled hands leaks m [] other facts v ready.kept ready.viewed ready.holds alone live index_law own_law parts_named procedure before two.0 mode_of owning access x e
       fits kind stay.0 copied.0 two.1 each.0 in
       let next : Passed → Now → Evaluated (List Passed) =
@@ -209,8 +208,8 @@ module _ (h : Here) (settled : IsSettled h.typing.table) (leaks : List Leak) (ot
       (λ more now. Done (a ∷ more) now) (λ more now. Done (a ∷ more) now)
       (all_same two.0 on (after (acts copy) known)
       (head_acted h settled hands leaks m [] other facts v ready.kept ready.viewed ready.holds alone live index_law own_law parts_named procedure mode_of owning access x e a known fits q.1 viewed)
-      formals rest (λ y has. kinds y (inr has)) stay.1 copied.1 two.2 calling.1 compares.1
+      formals rest (λ y has. kinds y (inr has)) stay.1 copied.1 two.2 compares.1
       (subst (λ z. AllowsAll z (acts others)) still each.1) each_copy.1 n''
       (subst (λ z. SameNow h.typing z n'') q.0 now))
       (λ more k k' last. (refl, last))))
-  all_same before on known viewed (x ∷ formals) actuals kinds stay copied takes calls compares allowed copies n' same = (refl, same)
+  all_same before on known viewed (x ∷ formals) actuals kinds stay copied takes compares allowed copies n' same = (refl, same)

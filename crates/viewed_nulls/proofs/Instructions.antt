@@ -1,6 +1,6 @@
 -- Instructions of programs with borrowers and observers, calls and returns apart, lead to the same
 -- in memories that agree.
-use Rattle.std.proofs.Common.{◌≡◌, refl, sym, ap, ◌∙◌, subst, inl, inr, ℕ, ◌+◌, Bool, true, false, ◌||◌, List, [], ◌∷◌, ◌++◌, length, if◌then◌else◌}
+use Rattle.std.proofs.Common.{◌≡◌, refl, sym, ap, ◌∙◌, subst, inl, inr, ℕ, ◌+◌, Bool, true, false, List, [], ◌∷◌, ◌++◌, length, if◌then◌else◌}
 use Rattle.spark_base.specs.declared.position.Pos.{Pos}
 use Rattle.place_names.specs.declared.act.Act.{Act}
 use Rattle.place_names.specs.declared.act.Act.TheVariants as act
@@ -24,19 +24,18 @@ use Rattle.machine.specs.Step as steps
 use Rattle.machine.specs.Owners.{waiting_in}
 use Rattle.owned_ways.specs.Ways.{Way, AllowsAll}
 use Rattle.soundness.specs.Seen.{IsNear, home, is_view_formal}
-use Rattle.soundness.specs.Sound.{calls_procedures, IsNoCall}
+use Rattle.soundness.specs.Sound.{IsNoCall}
 use Rattle.typed_laws.specs.Needed.{IsFine, Source, FirstSource}
 use Rattle.soundness.proofs.Numbers.{index_law}
 use Rattle.soundness.proofs.Points.{flow_at}
 use Rattle.soundness.proofs.Scalars.{acts, acts_append}
-use Rattle.soundness.proofs.Successors.{not_true, both_not}
-use Rattle.soundness.proofs.Taking.{Takes, takes_as, takes_both, TakesPlainly, nothing_more}
-use Rattle.soundness.proofs.Waits.{or_both}
+use Rattle.soundness.proofs.Taking.{Takes, takes_as, takes_both, nothing_more}
 use Rattle.owned_loans.specs.Views.{Around, Views}
 use Rattle.viewed_soundness.specs.Holds.{IsNamed, AllKeep}
 use Rattle.viewed_soundness.proofs.Names.{plain_named, true_false}
 use Rattle.viewed_soundness.proofs.Evaluated.{keep_both}
 use Rattle.viewed_soundness.proofs.Outcomes.{named_plain, not_views, assigned_acts}
+use Rattle.viewed_steps.specs.Awaited.{TakesScalars}
 use Rattle.viewed_steps.specs.Ready.{IsReady, AreOrderly, IsNewSource}
 use Rattle.viewed_steps.proofs.Sources.{leads_or}
 use Rattle.viewed_steps.proofs.Standing as standing
@@ -89,9 +88,9 @@ module _ (table : Table) (typed : TypedProgram) (effects : Effects) (input : Lis
       abbrev Same : Instruction → Type 0
       Same i = SameStep t (turn t i) (turn (twin t n) i)
 
-      -- whether an instruction has a call, where only procedures are called
+      -- what it takes of the results of calls
       abbrev Plainly : Instruction → Type 0
-      Plainly i = (calls : Bool) → (calls_procedures i ≡ true → calls ≡ false) → TakesPlainly s calls
+      Plainly i = TakesScalars s i
 
       -- what it takes of the values that wait
       abbrev TakesIn : Instruction → Type 0
@@ -109,7 +108,6 @@ module _ (table : Table) (typed : TypedProgram) (effects : Effects) (input : Lis
       view_declares x q y u path view text plainly takes compares allowed keep =
           view_declared_same t ready.accepted.settled ready.owns other alone no_formals v ready.class.parts_named facts so only n agrees on q x y u path view
           (ready.orderly.local x view).0 text.1
-          (plainly (has_call path) (λ none. (or_both (has_call path) false (not_true (has_call path || false) none)).0))
           (takes_as (waits_in path + 0) (waits_in path) (start t).waits on (nothing_more (waits_in path)) takes) compares.0 allowed
 
       declares : (x : ℕ) (e : TypedTree) → p.instr ≡ Declare x e → DeclaresSame x e
@@ -126,7 +124,7 @@ module _ (table : Table) (typed : TypedProgram) (effects : Effects) (input : Lis
               ap (λ b. if b then source_acts s (first e) (act.Borrow x) else (if is_observer s x then source_acts s (first e) (observe s x) else acts_in s e)) kinds.0
               ∙ ap (λ b. if b then source_acts s (first e) (observe s x) else acts_in s e) kinds.1 in
               declare_on t ready.accepted.settled ready.owns asks Ready laws facts so only n agrees on x e owner own_type text
-              (plainly (has_call e) (λ none. not_true (has_call e) none)) takes compares (subst (λ z. AllowsAll facts (acts z)) same allowed)
+              tt plainly takes compares (subst (λ z. AllowsAll facts (acts z)) same allowed)
               (subst (λ z. Keep (acts z)) same keep)
 
       -- ---- assignments
@@ -141,7 +139,7 @@ module _ (table : Table) (typed : TypedProgram) (effects : Effects) (input : Lis
       unfolding Compares has_call waits_in
       view_assigns q x r y w path view itself source plainly takes compares allowed keep =
           view_assigned_same t ready.accepted.settled ready.owns other alone no_formals v ready.class.parts_named facts so only n agrees on p.pos q r x y w path view
-          (ready.orderly.local x view).0 source (plainly (has_call path) (λ none. (both_not false (has_call path) none).1))
+          (ready.orderly.local x view).0 source
           (takes_as (waits_in path + 0) (waits_in path) (start t).waits on (nothing_more (waits_in path)) takes) itself compares.1 allowed
 
       -- the whole of a view
@@ -177,8 +175,7 @@ module _ (table : Table) (typed : TypedProgram) (effects : Effects) (input : Lis
               (subst Keep (acts_append (acts_in s e ++ acts_in s path) (record { pos = q; act = act.Write (name_of x path) } ∷ [])) kept_there)).0 in
               let two = takes_both (waits_in e) (waits_in path) (start t).waits on takes in
               assign_on t ready.accepted.settled ready.owns asks Ready laws facts so only n agrees two.0 on q x u path e owner own_type gives leads
-              (plainly (has_call e) (λ none. (both_not (has_call path) (has_call e) none).1))
-              (plainly (has_call path) (λ none. (both_not (has_call path) (has_call e) none).0)) two.1 two.2 compares.0 compares.1
+              tt plainly tt two.1 two.2 compares.0 compares.1
               (subst (λ z. AllowsAll facts (acts z)) same allowed)
               (keep_both (is_observer s) (acts (acts_in s e)) (acts (acts_in s path)) (subst Keep (acts_append (acts_in s e) (acts_in s path)) before)).0
           by_view source_there true view = elim (leads_or s ready.class.parts_named path (object_at s x).of u leads) [
@@ -200,4 +197,4 @@ module _ (table : Table) (typed : TypedProgram) (effects : Effects) (input : Lis
                 (subst (ComparesIn s) same compares) (subst (λ z. AllowsAll facts (acts_by z)) same allowed) (subst (λ z. Keep (acts_by z)) same keep);
             holds = hold;
             ends = λ x same. end_scope_same t n agrees only x;
-          }) text plainly takes compares allowed keep
+          }) text (λ calls none. tt) takes compares allowed keep

@@ -10,7 +10,7 @@ use Rattle.type_definitions.specs.declared.table.Shape.TheVariants as shape
 use Rattle.type_definitions.specs.Types.{shape_of, full, is_scalar, view_of as view_of_shape}
 use Rattle.typed_tree.specs.Trees.{TypedTree, Name, NoMore, More}
 use Rattle.flow_paths.specs.Objects.{Typing, object_at, is_anonymous, is_borrower, is_borrowing, is_observing, is_observer, is_variable, view_of}
-use Rattle.flow_paths.specs.Names.{has_call, waiting as waits_in, name_of, source, written}
+use Rattle.flow_paths.specs.Names.{waiting as waits_in, name_of, source, written}
 use Rattle.flow_paths.specs.Acts.{acts_in, index_acts, source_acts, stored_acts, declared_acts, assigned_to, observe, reborrow, target_pos as acts_target_pos}
 use Rattle.machine.specs.Words as machine
 use Rattle.machine.specs.Memory.{Memory}
@@ -27,7 +27,7 @@ use Rattle.soundness.specs.Typed.{OwnsByShape}
 use Rattle.typed_laws.specs.Needed.{Leads, Gives, Source}
 use Rattle.soundness.proofs.Walks.{way_along}
 use Rattle.soundness.proofs.Scalars.{acts, acts_append, allows_both, number_along}
-use Rattle.soundness.proofs.Taking.{Takes, TakesPlainly}
+use Rattle.soundness.proofs.Taking.{Takes}
 use Rattle.soundness.proofs.Lasting.{keeps}
 use Rattle.soundness.proofs.Numbers.{index_law}
 use Rattle.owned_loans.specs.Views.{Around, Views}
@@ -131,15 +131,15 @@ module _ (t : Turn) (settled : IsSettled (typing t).table) (own_law : OwnsByShap
       )
 
   source_same : (on : List (List machine.Word)) (p : Pos) (y u d : ℕ) (c b : Bool) (path : TypedTree) → Leads s (object_at s y).of path u
-      → shape_of s.table u ≡ shape.Access d c b → asks.calls (has_call path) → Takes (waits_in path) waits on → Compares s path
+      → shape_of s.table u ≡ shape.Access d c b → Takes (waits_in path) waits on → Compares s path
       → AllowsAll facts (acts (acts_in s path)) → Clears y path
       → (n' : Now) → SameNow s at n' → SameTo s (evaluate h AsView (Name p y path u) at) (evaluate h AsView (Name p y path u) n')
   unfolding evaluate
-  source_same on p y u d c b path lead is calls takes compares allowed clears n' same =
+  source_same on p y u d c b path lead is takes compares allowed clears n' same =
       place_then h settled own_law asks m hands facts law waits on y u path (held_or_taken h AsView) (held_or_taken h AsView) (IsWholeAt h asks m hands facts u)
       (λ way goes. leads_to on y u d c b path way goes is clears)
-      (law.steps (object_at s y).of u path lead waits on takes calls allowed).0 n'
-      (steps_on h settled own_law asks m hands facts law (object_at s y).of u path lead waits on takes calls compares allowed n' same)
+      (law.steps (object_at s y).of u path lead waits on takes tt allowed).0 n'
+      (steps_on h settled own_law asks m hands facts law (object_at s y).of u path lead waits on takes tt compares allowed n' same)
       (λ k i j found now. view_same h k i j (none_there h settled own_law asks m hands facts law on u k i found) now)
 
   at_start : SameNow s at (start (twin t n))
@@ -147,19 +147,19 @@ module _ (t : Turn) (settled : IsSettled (typing t).table) (own_law : OwnsByShap
 
   -- A source under its act.
   pub taken_same : (on : List (List machine.Word)) (x u' : ℕ) (p : Pos) (y u : ℕ) (path : TypedTree) (a : PlaceName → Act) → is_anonymous (full (typing t).table u') ≡ true
-      → Source (typing t) u' (Name p y path u) → TakesPlainly (typing t) (has_call path) → Takes (waits_in path) (start t).waits on → Compares (typing t) path
+      → Source (typing t) u' (Name p y path u) → Takes (waits_in path) (start t).waits on → Compares (typing t) path
       → AllowsAll facts (acts (acts_in (typing t) path) ++ a (name_of y path) ∷ [])
       → ((w : Way) → ways.name_of w ≡ name_of y path → is_observer (typing t) y ≡ false → Allows facts (a (name_of y path)) → Cleared facts w)
       → SameTo (typing t) (taken_by t u' (Name p y path u) (record { memory = t.state.memory; waits = (start t).waits })) (taken_by t u' (Name p y path u) (start (twin t n)))
-  taken_same on x u' p y u path a view source_there calls takes compares allowed clears =
+  taken_same on x u' p y u path a view source_there takes compares allowed clears =
       let from = source_of s u' p y u path view source_there in
       let e : TypedTree = Name p y path u in
       let each = allows_both facts (acts (acts_in s path)) (a (name_of y path) ∷ []) allowed in
-      let stay = (law.steps (object_at s y).of u path from.3 waits on takes calls each.0).1 in
+      let stay = (law.steps (object_at s y).of u path from.3 waits on takes tt each.0).1 in
       let mine : Allows facts (a (name_of y path)) = subst (λ z. Allows z (a (name_of y path))) stay each.1.0 in
       subst (λ b. SameTo s (if b then viewed h e at else followed_by (value h e at) (checked h u'))
       (if b then viewed h e (start (twin t n)) else followed_by (value h e (start (twin t n))) (checked h u'))) (sym view)
-      (source_same on p y u from.0 from.1 from.2 path from.3 from.4 calls takes compares each.0 (λ w called plain. clears w called plain mine) (start (twin t n)) at_start)
+      (source_same on p y u from.0 from.1 from.2 path from.3 from.4 takes compares each.0 (λ w called plain. clears w called plain mine) (start (twin t n)) at_start)
 
   abbrev Same : Outcome → Outcome → Type 0
   Same x y = SameStep t x y
@@ -174,10 +174,10 @@ module _ (t : Turn) (settled : IsSettled (typing t).table) (own_law : OwnsByShap
 
   -- a view is declared
   pub view_declared_same : (on : List (List machine.Word)) (q : Pos) (x y u : ℕ) (path : TypedTree) → is_anonymous (view_of (typing t) x) ≡ true → is_variable (object_at (typing t) x).kind ≡ true
-      → Source (typing t) (object_at (typing t) x).of (Name q y path u) → TakesPlainly (typing t) (has_call path) → Takes (waits_in path) (start t).waits on
+      → Source (typing t) (object_at (typing t) x).of (Name q y path u) → Takes (waits_in path) (start t).waits on
       → Compares (typing t) path → AllowsAll facts (acts (declared_acts (typing t) x (More (Name q y path u) NoMore)))
       → SameStep t (declare t x (More (Name q y path u) NoMore)) (declare (twin t n) x (More (Name q y path u) NoMore))
-  view_declared_same on q x y u path view variable_there source_there calls takes compares allowed = by_kind (is_observer s x) refl
+  view_declared_same on q x y u path view variable_there source_there takes compares allowed = by_kind (is_observer s x) refl
     where
       e : TypedTree
       e = Name q y path u
@@ -189,7 +189,7 @@ module _ (t : Turn) (settled : IsSettled (typing t).table) (own_law : OwnsByShap
           else (if is_observer s x then source_acts s (Name q y path u) (observe s x) else acts_in s (More (Name q y path u) NoMore))) (observer_only s x sees)
           ∙ ap (λ b. if b then source_acts s (Name q y path u) (observe s x) else acts_in s (More (Name q y path u) NoMore)) sees in
           declared_at x (Name q y path u)
-          (taken_same on x (object_at s x).of q y u path (observe s x) view source_there calls takes compares
+          (taken_same on x (object_at s x).of q y u path (observe s x) view source_there takes compares
           (subst (AllowsAll facts) (ap acts same ∙ acts_append (acts_in s path) (record { pos = q; act = observe s x (name_of y path) } ∷ [])) allowed)
           (λ w called plain mine. observe_clears facts x (is_observer s y) w (subst (λ z. Allows facts (act.Observe x z (is_observer s y))) (sym called) mine)))
       by_kind false plain_x =
@@ -197,7 +197,7 @@ module _ (t : Turn) (settled : IsSettled (typing t).table) (own_law : OwnsByShap
           ap (λ b. if b then source_acts s (Name q y path u) (act.Borrow x)
           else (if is_observer s x then source_acts s (Name q y path u) (observe s x) else acts_in s (More (Name q y path u) NoMore))) (borrows x view variable_there plain_x) in
           declared_at x (Name q y path u)
-          (taken_same on x (object_at s x).of q y u path (act.Borrow x) view source_there calls takes compares
+          (taken_same on x (object_at s x).of q y u path (act.Borrow x) view source_there takes compares
           (subst (AllowsAll facts) (ap acts same ∙ acts_append (acts_in s path) (record { pos = q; act = act.Borrow x (name_of y path) } ∷ [])) allowed)
           (λ w called plain mine. borrow_clears facts x w (subst (λ z. Allows facts (act.Borrow x z)) (sym called) mine)))
 
@@ -217,11 +217,11 @@ module _ (t : Turn) (settled : IsSettled (typing t).table) (own_law : OwnsByShap
       (then_stored r x (object_at s x).of (taken_by t (object_at s x).of e at) (taken_by t (object_at s x).of e (start (twin t n))) same)
 
   pub view_assigned_same : (on : List (List machine.Word)) (pos r q : Pos) (x y u : ℕ) (path : TypedTree) → is_anonymous (view_of (typing t) x) ≡ true → is_variable (object_at (typing t) x).kind ≡ true
-      → Source (typing t) (object_at (typing t) x).of (Name q y path u) → TakesPlainly (typing t) (has_call path) → Takes (waits_in path) (start t).waits on
+      → Source (typing t) (object_at (typing t) x).of (Name q y path u) → Takes (waits_in path) (start t).waits on
       → (is_observer (typing t) x ≡ false → y ≡ x) → Compares (typing t) path
       → AllowsAll facts (acts (assigned_to (typing t) pos (Some x) (Name r x NoMore (object_at (typing t) x).of) (Name q y path u)))
       → SameStep t (assign t (Name r x NoMore (object_at (typing t) x).of) (Name q y path u)) (assign (twin t n) (Name r x NoMore (object_at (typing t) x).of) (Name q y path u))
-  view_assigned_same on pos r q x y u path view variable_there source_there calls takes itself compares allowed = by_kind (is_observer s x) refl
+  view_assigned_same on pos r q x y u path view variable_there source_there takes itself compares allowed = by_kind (is_observer s x) refl
     where
       target : TypedTree
       target = Name r x NoMore (object_at s x).of
@@ -235,7 +235,7 @@ module _ (t : Turn) (settled : IsSettled (typing t).table) (own_law : OwnsByShap
           else (if is_observer s x then source_acts s e (observe s x) else stored_acts s (Name r x NoMore (object_at s x).of) e)) (observer_only s x sees)
           ∙ ap (λ b. if b then source_acts s e (observe s x) else stored_acts s (Name r x NoMore (object_at s x).of) e) sees in
           assigned_at r x e
-          (taken_same on x (object_at s x).of q y u path (observe s x) view source_there calls takes compares
+          (taken_same on x (object_at s x).of q y u path (observe s x) view source_there takes compares
           (subst (AllowsAll facts) (ap acts same ∙ acts_append (acts_in s path) (record { pos = q; act = observe s x (name_of y path) } ∷ [])) allowed)
           (λ w called plain mine. observe_clears facts x (is_observer s y) w (subst (λ z. Allows facts (act.Observe x z (is_observer s y))) (sym called) mine)))
       by_kind false plain_x =
@@ -244,7 +244,7 @@ module _ (t : Turn) (settled : IsSettled (typing t).table) (own_law : OwnsByShap
           ap (λ b. if b then index_acts s e ++ reborrow (acts_target_pos pos (written (Name r x NoMore (object_at s x).of))) x (source e)
           else (if is_observer s x then source_acts s e (observe s x) else stored_acts s (Name r x NoMore (object_at s x).of) e)) (borrows x view variable_there plain_x) in
           assigned_at r x e
-          (taken_same on x (object_at s x).of q y u path (act.Reborrow x) view source_there calls takes compares
+          (taken_same on x (object_at s x).of q y u path (act.Reborrow x) view source_there takes compares
           (subst (AllowsAll facts) (ap acts same ∙ acts_append (acts_in s path) (record { pos = r; act = act.Reborrow x (name_of y path) } ∷ [])) allowed)
           (λ w called plain mine. reborrow_clears facts x w (ap (λ (z : PlaceName). z.root) called ∙ itself plain_x)
           (subst (λ z. Allows facts (act.Reborrow x z)) (sym called) mine)))

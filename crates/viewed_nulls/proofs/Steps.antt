@@ -1,17 +1,22 @@
 -- Each step of a sound state is the same in memories that agree, in a program with borrowers and
 -- observers that is ready.
-use Rattle.std.proofs.Common.{◌≡◌, refl, sym, ap, ◌∙◌, subst, ◌⊎◌, inl, inr, ℕ, suc, Bool, true, false, not, ◌||◌, List, [], ◌∷◌, ◌++◌, length, is_some, append-nil, Option, Some, None, if◌then◌else◌}
+use Rattle.std.proofs.Common.{◌≡◌, refl, sym, ap, ◌∙◌, subst, ◌⊎◌, inl, inr, ℕ, suc, Bool, true, false, not, List, [], ◌∷◌, ◌++◌, length, is_some, append-nil, Option, Some, None, if◌then◌else◌, drop, get_or}
+use Rattle.viewed_soundness.proofs.Names.{plain_named}
+use Rattle.viewed_steps.specs.Awaited.{AreAwaited, awaited, lasting_of, TakesScalars, TakesAlone}
+use Rattle.viewed_steps.proofs.Alone as alone_value
+use Rattle.viewed_soundness.proofs.Evaluated.{gives_plainly}
+use Rattle.spark_base.specs.declared.position.Pos.{Pos}
 use Rattle.spark_base.specs.Lists.{Has}
 use Rattle.place_names.specs.declared.act.Act.{Act}
 use Rattle.place_names.specs.declared.act.Act.TheVariants as act
 use Rattle.place_names.specs.declared.fact.Fact.{Fact}
 use Rattle.type_definitions.specs.Types.{Table, full}
-use Rattle.typed_tree.specs.Trees.{TypedTree, NoMore, More}
+use Rattle.typed_tree.specs.Trees.{TypedTree, Name, NoMore, More, Call as CallIn}
 use Rattle.typed_tree.specs.Programs.{TypedProgram}
 use Rattle.flow_paths.specs.declared.report.Effects.{Effects}
-use Rattle.flow_paths.specs.Instructions.{Instruction, Declare, Call, Hold, EndScope, Finish}
-use Rattle.flow_paths.specs.Objects.{Typing, sub_at, passings, is_anonymous, is_observer}
-use Rattle.flow_paths.specs.Names.{has_call, waiting as waits_in}
+use Rattle.flow_paths.specs.Instructions.{Instruction, Declare, Assign, Call, Hold, EndScope, Finish}
+use Rattle.flow_paths.specs.Objects.{Typing, sub_at, passings, is_anonymous, is_observer, object_at}
+use Rattle.flow_paths.specs.Names.{has_call, waiting as waits_in, name_of}
 use Rattle.flow_paths.specs.Acts as flow
 use Rattle.flow_paths.specs.Acts.{acts_in}
 use Rattle.flow_paths.specs.Points.{NamedPoint}
@@ -19,32 +24,33 @@ use Rattle.flow_paths.specs.Scopes.{taken}
 use Rattle.flow_paths.specs.Laid.{FlowSub, FlowProgram, NamedSub, flow_sub, typing_of, flow_typing, flow_program, flow_named}
 use Rattle.flow_paths.specs.Paths.{ControlPath}
 use Rattle.flow_paths.specs.Effects.{path_points}
+use Rattle.machine.specs.Words.{fits_type}
+use Rattle.machine.specs.Words as machine
 use Rattle.machine.specs.Memory.{Memory}
+use Rattle.machine.specs.Evaluate.{Here, Now, AsValue, Evaluated, Done, Raises, followed_by, evaluate, viewed, checked, place_of, ConstraintError}
 use Rattle.machine.specs.Calls.{Passed, all_passed}
 use Rattle.machine.specs.States.{Waiting, Frame, State, Goes, sub_of}
 use Rattle.machine.specs.Step.{Turn, turn, start}
 use Rattle.machine.specs.Step as steps
 use Rattle.machine.specs.Owners.{waiting_in}
 use Rattle.machine.specs.Run.{step}
-use Rattle.owned_ways.specs.Ways.{Way, AllowsAll}
+use Rattle.owned_ways.specs.Ways.{Way, Allows, AllowsAll}
 use Rattle.soundness.specs.Seen.{IsNear, home, is_view_formal}
 use Rattle.soundness.specs.Typed.{Kept}
-use Rattle.soundness.specs.Sound.{calls_procedures, Stage, facts_of, AreStages, AreAwaited, awaited, IsRunnable, IsNoCall, IsPlain, InScope, IsNamedSub, IsAtPoint, view_of as view_here}
+use Rattle.soundness.specs.Sound.{Stage, facts_of, AreStages, IsRunnable, IsNoCall, IsPlain, InScope, IsNamedSub, IsAtPoint, view_of as view_here}
 use Rattle.typed_laws.specs.Needed.{IsFine, Source, Gives, Returns}
 use Rattle.soundness.proofs.Numbers.{index_law}
-use Rattle.soundness.proofs.Scalars.{acts}
-use Rattle.soundness.proofs.Successors.{not_true, finish_or, call_or}
+use Rattle.soundness.proofs.Scalars.{acts, allows_both}
+use Rattle.soundness.proofs.Successors.{finish_or, call_or}
 use Rattle.soundness.proofs.Operands.{handed_over, hold_is}
-use Rattle.soundness.proofs.Waits.{or_both}
 use Rattle.soundness.proofs.Eased.{eased}
 use Rattle.soundness.proofs.Stays.{Quiet}
-use Rattle.soundness.proofs.Taking.{Takes, takes_as, no_takes, TakesPlainly, nothing_more}
+use Rattle.soundness.proofs.Taking.{Takes, takes_as, no_takes, nothing_more}
 use Rattle.owned_loans.specs.Views.{Around, known_gone, Views, Viewed}
 use Rattle.viewed_soundness.specs.Holds.{IsNamed, AllKeep}
 use Rattle.viewed_soundness.proofs.Outcomes.{named_plain}
 use Rattle.viewed_steps.specs.Sound.{IsResting, HoldsAt, ArePlaced, NoneAbove, ViewStage, stages_of, GoneElsewhere, AreWaiting, IsRunning, IsSound}
 use Rattle.viewed_steps.specs.Ready.{IsReady}
-use Rattle.viewed_steps.proofs.Read.{scalar_named}
 use Rattle.viewed_steps.proofs.Standing as standing
 use Rattle.viewed_steps.proofs.Innermost as innermost
 use Rattle.viewed_steps.proofs.EachInstruction as each
@@ -53,13 +59,15 @@ use Rattle.viewed_steps.proofs.CallEnds as ends
 use Rattle.null_places.specs.Agrees.{Agrees}
 use Rattle.null_places.specs.Compares.{Compares, ComparesIn, AreCompared}
 use Rattle.null_places.proofs.Only.{OnlyOwners}
-use Rattle.null_places.proofs.Laws.{Premises, Values}
-use Rattle.null_places.proofs.Instructions.{SameStepBy, SameStep, twin, both_are, goes_same, step_simply, source_same, end_scope_same}
-use Rattle.null_places.proofs.Walks.{SameTo}
+use Rattle.null_places.proofs.Laws.{Premises, IsAt, Values}
+use Rattle.null_places.proofs.Scalars.{place_on}
+use Rattle.null_places.proofs.Evaluated.{checked_same}
+use Rattle.null_places.proofs.Instructions.{SameStepBy, SameStep, twin, both_are, goes_same, step_simply, source_same, declared_by, stored_same, end_scope_same}
+use Rattle.null_places.proofs.Walks.{SameNow, SameTo, then_same, simply}
 use Rattle.null_places.proofs.Calls.{AreWhollyPassed, AreWhollyBack, call_same, finish_same}
 use Rattle.viewed_nulls.proofs.Actuals.{all_same}
 use Rattle.viewed_nulls.proofs.Passed.{passed_wholly, back_wholly}
-use Rattle.viewed_nulls.proofs.Viewed.{viewed_premises, IsReadyIn, viewed_values}
+use Rattle.viewed_nulls.proofs.Viewed.{viewed_premises, gives_both, IsReadyIn, viewed_values}
 use Rattle.viewed_nulls.proofs.Instructions as own_instructions
 
 -- whether the scope of an object ends
@@ -135,7 +143,7 @@ module _ (table : Table) (typed : TypedProgram) (effects : Effects) (input : Lis
         }) only n agrees p.instr refl no_call
         (λ is. (let no : Declare x v ≡ Finish = sym e ∙ is in cc)) (λ w is. absurd (let no : Declare x v ≡ Hold w = sym e ∙ is in cc))
         (standing.fine table typed effects input ready state top [] [] named p frames of_sub at_point)
-        (subst (λ i. (calls : Bool) → (calls_procedures i ≡ true → calls ≡ false) → TakesPlainly s calls) (sym e) (λ calls none_there. inl (none_there (ap not none))))
+        (subst (λ i. TakesScalars s i) (sym e) (gives_plainly s v (inl none)))
         (subst (λ i. Takes (taken i) (start first_turn).waits (start first_turn).waits) (sym e) (no_takes v none (start first_turn).waits))
         (compared (flow_sub own named) (standing.in_program table typed effects input ready state top [] [] named p frames of_sub at_point) first_turn.point in_first)
         (standing.allowed table typed effects input ready state top [] [] named p frames of_sub at_point path no_call)
@@ -155,12 +163,12 @@ module _ (table : Table) (typed : TypedProgram) (effects : Effects) (input : Lis
       (frames : state.frames ≡ top.frame ∷ (below.stage.frame ∷ rest)) (deep : top.depth ≡ suc (length rest))
       (stages : AreStages (stages_of (below ∷ more_frames)) (below.stage.frame ∷ rest))
       (running : IsRunnable table typed top.frame.sub × IsResting s top × AreWaiting table typed effects state top.frame.sub top.frame.returns (below ∷ more_frames))
-      (awaiting : AreAwaited table typed 0 (top ∷ stages_of (below ∷ more_frames)))
+      (awaiting : AreAwaited table typed None (top ∷ stages_of (below ∷ more_frames)))
       (of_sub : IsNamedSub (flow_named table typed) top.frame.sub named) (at_point : IsAtPoint named.points top.frame.next p)
       (path : ControlPath (path_points program effects (sub_of program top.frame.sub)) top.before top.frame.next) (views : Views)
       (viewed_before : Viewed (home s (suc (length rest))) (is_observer s) (known_gone (home s (suc (length rest))) (GoneElsewhere program effects (below ∷ more_frames))) views
       (view_here s state) (facts_of program effects top))
-      (kept : Kept s state.memory (waiting_in state)) (scope : InScope s state.memory (suc (length rest)) p.scope) (holds : HoldsAt s (suc (length rest)) views state.memory p)
+      (kept : Kept s state.memory (waiting_in state)) (scope : InScope s state.memory (suc (length rest)) (lasting_of s p.scope)) (holds : HoldsAt s (suc (length rest)) views state.memory p)
       (placed_before : ArePlaced program (facts_of program effects top) views p.scope) (above : NoneAbove s (suc (length rest)) state.memory)
       (only : OnlyOwners s state.memory) (n : Memory) (agrees : Agrees state.memory n) where
     abbrev outer : List Frame
@@ -219,11 +227,11 @@ module _ (table : Table) (typed : TypedProgram) (effects : Effects) (input : Lis
       laws : Values (steps.here main_turn) asks ready_in
       laws = viewed_values (steps.here main_turn) ready.accepted.settled state.leaks other alone no_formals index_law ready.owns views ready.class.parts_named
 
-      takes_of : (i : Instruction) → p.instr ≡ i → Takes (taken i) (start main_turn).waits []
-      takes_of = innermost.takes_of table typed effects input ready state top below more_frames rest named p frames deep stages running awaiting of_sub at_point path views viewed_before kept scope holds placed_before above
+      abbrev Plain : Type 0
+      Plain = innermost.Plain table typed effects input ready state top below more_frames rest named p frames deep stages running awaiting of_sub at_point path views viewed_before kept scope holds placed_before above
 
-      plainly : (i : Instruction) → p.instr ≡ i → (calls : Bool) → (calls_procedures i ≡ true → calls ≡ false) → TakesPlainly s calls
-      plainly = innermost.plainly table typed effects input ready state top below more_frames rest named p frames deep stages running awaiting of_sub at_point path views viewed_before kept scope holds placed_before above
+      takes_of : Plain → (i : Instruction) → p.instr ≡ i → Takes (taken i) (start main_turn).waits []
+      takes_of = innermost.takes_of table typed effects input ready state top below more_frames rest named p frames deep stages running awaiting of_sub at_point path views viewed_before kept scope holds placed_before above
 
       allowed_now : IsNoCall p.instr → (p.instr ≡ Finish → ⊥) → AllowsAll facts_now (acts_of_main p.instr)
       allowed_now no_call end =
@@ -236,60 +244,148 @@ module _ (table : Table) (typed : TypedProgram) (effects : Effects) (input : Lis
 
       -- ---- a return
 
-      holds_value : (e : TypedTree) (of : ℕ) → p.instr ≡ Hold (More e NoMore) → named.sub.result ≡ Some of → Source s of e
-          → ComparesIn s (Hold (More e NoMore)) → AllowsAll facts_now (acts_of_main (Hold (More e NoMore))) → AllKeep (is_observer s) (acts_of_main (Hold (More e NoMore)))
-          → Goal (Hold (More e NoMore))
-      unfolding acts_in has_call waits_in Compares
-      holds_value e of is result source compares_there allowed keep =
-          let own_type : IsNamed s.table of =
-          scalar_named s.table of (innermost.plain_result table typed effects input ready state top below more_frames rest named p frames deep stages running awaiting of_sub at_point path views viewed_before kept scope holds placed_before above of result) in
-          let owner : is_anonymous (full s.table of) ≡ false = named_plain s.table of own_type in
-          let same : acts_of_main (Hold (More e NoMore)) ≡ acts (acts_in s e) =
-          ap (λ r. acts (flow.returned_acts s r (More e NoMore))) result
-          ∙ ap (λ b. acts (if b then flow.source_acts s e (λ m. act.Give m (flow.gives_variable s (Some of))) else acts_in s e ++ [])) owner
-          ∙ ap acts (append-nil (acts_in s e)) in
+      result_named : (of : ℕ) → named.sub.result ≡ Some of → IsNamed s.table of
+      result_named of result = plain_named s.table of (innermost.named_result table typed effects input ready state top below more_frames rest named p frames deep stages running awaiting of_sub at_point path views viewed_before kept scope holds placed_before above of result)
+
+      holds_value : (e : TypedTree) (of : ℕ) → named.sub.result ≡ Some of
+          → SameTo s (steps.taken_by main_turn of e (start main_turn)) (steps.taken_by main_turn of e (start (twin main_turn n))) → Goal (Hold (More e NoMore))
+      holds_value e of result same =
           let sub_result : (sub_of program top.frame.sub).result ≡ Some of =
           ap (λ (z : FlowSub). z.result) (standing.sub_is table typed effects input ready state top older outer named p frames of_sub at_point) ∙ result in
-          let gives : Gives s of e = given_there of e owner source in
           both_are main_turn _ _ _ _
           (hold_is program input main_turn.point state top.frame below.stage.frame rest e NoMore of sub_result)
           (hold_is program input main_turn.point (record state { memory = n }) top.frame below.stage.frame rest e NoMore of sub_result)
           (step_simply main_turn n agrees (steps.taken_by main_turn of e (start main_turn)) (steps.taken_by main_turn of e (start (twin main_turn n)))
           (λ ws m. Goes (handed_over program input main_turn.point state top.frame below.stage.frame rest of ws m))
           (λ ws m. Goes (handed_over program input main_turn.point (record state { memory = n }) top.frame below.stage.frame rest of ws m))
-          (source_same main_turn ready.accepted.settled ready.owns asks ready_in laws facts_now so only n agrees [] of e owner own_type gives
-          (plainly (Hold (More e NoMore)) is (has_call e) (λ calls. (or_both (has_call e) (has_call NoMore) (not_true (has_call e || has_call NoMore) calls)).0))
-          (takes_as (taken (Hold (More e NoMore))) (waits_in e) (start main_turn).waits [] (nothing_more (waits_in e)) (takes_of (Hold (More e NoMore)) is))
-          compares_there.0 (subst (AllowsAll facts_now) same allowed) (subst (AllKeep (is_observer s)) same keep))
-          (λ ws i j now. ((refl, now.0), now.2)))
+          same (λ ws i j now. ((refl, now.0), now.2)))
+
+      value_same : Plain → (e : TypedTree) (of : ℕ) → p.instr ≡ Hold (More e NoMore) → named.sub.result ≡ Some of → Source s of e → TakesScalars s (Hold (More e NoMore))
+          → ComparesIn s (Hold (More e NoMore)) → AllowsAll facts_now (acts_of_main (Hold (More e NoMore))) → AllKeep (is_observer s) (acts_of_main (Hold (More e NoMore)))
+          → SameTo s (steps.taken_by main_turn of e (start main_turn)) (steps.taken_by main_turn of e (start (twin main_turn n)))
+      unfolding acts_in waits_in Compares
+      value_same plain e of is result source takes_plainly compares_there allowed keep =
+          let own_type : IsNamed s.table of = result_named of result in
+          let owner : is_anonymous (full s.table of) ≡ false = named_plain s.table of own_type in
+          let same : acts_of_main (Hold (More e NoMore)) ≡ acts (acts_in s e) =
+          ap (λ r. acts (flow.returned_acts s r (More e NoMore))) result
+          ∙ ap (λ b. acts (if b then flow.source_acts s e (λ m. act.Give m (flow.gives_variable s (Some of))) else acts_in s e ++ [])) owner
+          ∙ ap acts (append-nil (acts_in s e)) in
+          source_same main_turn ready.accepted.settled ready.owns asks ready_in laws facts_now so only n agrees [] of e owner own_type (given_there of e owner source)
+          tt (gives_both s e NoMore takes_plainly).0
+          (takes_as (taken (Hold (More e NoMore))) (waits_in e) (start main_turn).waits [] (nothing_more (waits_in e)) (takes_of plain (Hold (More e NoMore)) is))
+          compares_there.0 (subst (AllowsAll facts_now) same allowed) (subst (AllKeep (is_observer s)) same keep)
         where
           given_there : (of : ℕ) (e : TypedTree) → is_anonymous (full s.table of) ≡ false → Source s of e → Gives s of e
           given_there of e owner (inl view) = absurd (let no : true ≡ false = sym view.0 ∙ owner in cc)
           given_there of e owner (inr gives) = gives
 
-      returns : (v : TypedTree) (r : Option ℕ) → p.instr ≡ Hold v → named.sub.result ≡ r → Returns s r v → ComparesIn s (Hold v)
+      returns : Plain → (v : TypedTree) (r : Option ℕ) → p.instr ≡ Hold v → named.sub.result ≡ r → Returns s r v → TakesScalars s (Hold v) → ComparesIn s (Hold v)
           → AllowsAll facts_now (acts_of_main (Hold v)) → AllKeep (is_observer s) (acts_of_main (Hold v)) → Goal (Hold v)
-      returns v None is result none compares_there allowed keep =
+      returns plain v None is result none takes_plainly compares_there allowed keep =
           subst Goal (sym (ap Hold none)) (goes_same main_turn n agrees state.memory n 0 agrees only)
-      returns v (Some of) is result (e, same, source) compares_there allowed keep =
+      returns plain v (Some of) is result (e, same, source) takes_plainly compares_there allowed keep =
           subst Goal (sym (ap Hold same))
-          (holds_value e of (is ∙ ap Hold same) result source (subst (λ z. ComparesIn s (Hold z)) same compares_there)
-          (subst (λ z. AllowsAll facts_now (acts_of_main (Hold z))) same allowed) (subst (λ z. AllKeep (is_observer s) (acts_of_main (Hold z))) same keep))
+          (holds_value e of result
+          (value_same plain e of (is ∙ ap Hold same) result source (subst (λ z. TakesScalars s (Hold z)) same takes_plainly) (subst (λ z. ComparesIn s (Hold z)) same compares_there)
+          (subst (λ z. AllowsAll facts_now (acts_of_main (Hold z))) same allowed) (subst (λ z. AllKeep (is_observer s) (acts_of_main (Hold z))) same keep)))
 
-      goes_plainly : IsNoCall p.instr → (p.instr ≡ Finish → ⊥) → Goal p.instr
-      goes_plainly no_call end =
+      goes_plainly : Plain × TakesScalars s p.instr → IsNoCall p.instr → (p.instr ≡ Finish → ⊥) → Goal p.instr
+      goes_plainly (plain, takes_plainly) no_call end =
           own_instructions.each_same table typed effects input ready state top.frame outer named p other alone views facts_now _
           (innermost.orderly table typed effects input ready state top below more_frames rest named p frames deep stages running awaiting of_sub at_point path views viewed_before kept scope holds placed_before above) []
           so only n agrees p.instr refl no_call end
-          (λ v is. returns v named.sub.result is refl (subst (IsFine s named.sub.result) is text) (subst (ComparesIn s) is compares)
+          (λ v is. returns plain v named.sub.result is refl (subst (IsFine s named.sub.result) is text) (subst (TakesScalars s) is takes_plainly) (subst (ComparesIn s) is compares)
           (subst (λ i. AllowsAll facts_now (acts_of_main i)) is (allowed_now no_call end)) (subst (λ i. AllKeep (is_observer s) (acts_of_main i)) is keeps_there))
-          text (plainly p.instr refl) (takes_of p.instr refl) compares (allowed_now no_call end) keeps_there
+          text takes_plainly (takes_of plain p.instr refl) compares (allowed_now no_call end) keeps_there
+
+      -- ---- what a function gave, alone
+
+      module _ (no_call : IsNoCall p.instr) (end : p.instr ≡ Finish → ⊥) (by_itself : TakesAlone s p) where
+        abbrev call : TypedTree
+        call = CallIn by_itself.3 by_itself.4 by_itself.5
+
+        -- the words are those of the frame
+        call_same_value : (u : ℕ) → IsNamed s.table u
+            → SameTo s (steps.taken_by main_turn u (CallIn by_itself.3 by_itself.4 by_itself.5) (start main_turn))
+            (steps.taken_by main_turn u (CallIn by_itself.3 by_itself.4 by_itself.5) (start (twin main_turn n)))
+        unfolding evaluate
+        call_same_value u own_type =
+            let h : Here = steps.here main_turn in
+            let x : Evaluated (List machine.Word) = evaluate h AsValue call (start main_turn) in
+            let y : Evaluated (List machine.Word) = evaluate h AsValue call (start (twin main_turn n)) in
+            subst (λ b. SameTo s (if b then viewed h call (start main_turn) else followed_by x (checked h u)) (if b then viewed h call (start (twin main_turn n)) else followed_by y (checked h u)))
+            (sym (named_plain s.table u own_type))
+            (checked_same h ready.accepted.settled ready.owns asks ready_in laws u x y (refl, (agrees, refl, only)))
+
+        -- nothing is done in memory
+        call_quiet : (u : ℕ) → IsNamed s.table u
+            → Quiet (record { memory = state.memory; waits = drop 1 (start main_turn).waits }) (λ (ws : List machine.Word). Unit {0})
+            (steps.taken_by main_turn u (CallIn by_itself.3 by_itself.4 by_itself.5) (start main_turn))
+        unfolding evaluate
+        call_quiet u own_type =
+            let h : Here = steps.here main_turn in
+            let now : Now = record { memory = state.memory; waits = drop 1 (start main_turn).waits } in
+            subst (λ b. Quiet now (λ (ws : List machine.Word). Unit {0}) (if b then viewed h call (start main_turn) else followed_by (evaluate h AsValue call (start main_turn)) (checked h u)))
+            (sym (named_plain s.table u own_type)) (by_test (get_or (start main_turn).waits 0 []) (fits_type s.table u (get_or (start main_turn).waits 0 [])))
+          where
+            by_test : (ws : List machine.Word) (b : Bool)
+                → Quiet (record { memory = state.memory; waits = drop 1 (start main_turn).waits }) (λ (ws : List machine.Word). Unit {0})
+                (if b then Done ws (record { memory = state.memory; waits = drop 1 (start main_turn).waits })
+                else Raises ConstraintError (record { memory = state.memory; waits = drop 1 (start main_turn).waits }))
+            by_test ws true = (refl, tt)
+            by_test ws false = refl
+
+        declares_alone : (y : ℕ) → p.instr ≡ Declare y (More (CallIn by_itself.3 by_itself.4 by_itself.5) NoMore) → Goal (Declare y (More (CallIn by_itself.3 by_itself.4 by_itself.5) NoMore))
+        declares_alone y is =
+            declared_by main_turn ready.accepted.settled ready.owns asks ready_in laws facts_now so only n agrees y (More call NoMore)
+            (call_same_value (object_at s y).of
+            (alone_value.named_object table typed effects input ready state top below more_frames rest named p frames deep stages running awaiting of_sub at_point path views viewed_before kept scope holds placed_before above going no_call by_itself y is))
+
+        assigns_alone : (r : Pos) (y : ℕ) (path_there : TypedTree) (u : ℕ) → p.instr ≡ Assign (Name r y path_there u) (CallIn by_itself.3 by_itself.4 by_itself.5) → has_call path_there ≡ false
+            → Goal (Assign (Name r y path_there u) (CallIn by_itself.3 by_itself.4 by_itself.5))
+        unfolding Compares
+        assigns_alone r y path_there u is calls =
+            let h : Here = steps.here main_turn in
+            let target : TypedTree = Name r y path_there u in
+            let own_type = alone_value.named_target table typed effects input ready state top below more_frames rest named p frames deep stages running awaiting of_sub at_point path views viewed_before kept scope holds placed_before above going no_call by_itself r y path_there u is calls end in
+            let leads = alone_value.leads_there table typed effects input ready state top below more_frames rest named p frames deep stages running awaiting of_sub at_point path views viewed_before kept scope holds placed_before above going no_call by_itself r y path_there u is calls end in
+            let allowed = alone_value.allowed_steps table typed effects input ready state top below more_frames rest named p frames deep stages running awaiting of_sub at_point path views viewed_before kept scope holds placed_before above going no_call by_itself r y path_there u is calls end in
+            let left : List (List machine.Word) = drop 1 (start main_turn).waits in
+            let here_now : Now = record { memory = state.memory; waits = left } in
+            let each_allowed = allows_both facts_now (acts (acts_in s path_there)) (act.Write (name_of y path_there) ∷ []) allowed in
+            let law = laws.behaves state.memory (waiting_in state) facts_now so only in
+            let takes_path = no_takes path_there calls left in
+            let stay = (law.steps (object_at s y).of u path_there leads left left takes_path tt each_allowed.0).1 in
+            let writes : Allows facts_now (act.Write (name_of y path_there)) = subst (λ z. Allows z (act.Write (name_of y path_there))) stay each_allowed.1.0 in
+            let placed : List machine.Word → Now → Evaluated steps.Stored = (λ ws now. followed_by (place_of h target now) (λ k now. Done (record { words = ws; place = k }) now)) in
+            stored_same main_turn ready.accepted.settled ready.owns asks ready_in laws facts_now so only n agrees target
+            (followed_by (steps.taken_by main_turn u call (start main_turn)) placed) (followed_by (steps.taken_by main_turn u call (start (twin main_turn n))) placed)
+            (then_same s (λ z. Quiet here_now (λ (ws : List machine.Word). Unit {0}) z)
+            (steps.taken_by main_turn u call (start main_turn)) (steps.taken_by main_turn u call (start (twin main_turn n))) placed placed
+            (call_quiet u own_type) (call_same_value u own_type)
+            (λ ws i j quiet_there now. subst (λ z. SameTo s (placed ws z) (placed ws j)) (sym quiet_there.0)
+            (simply s (place_of h target here_now) (place_of h target j) (λ k now. Done (record { words = ws; place = k }) now) (λ k now. Done (record { words = ws; place = k }) now)
+            (place_on h ready.accepted.settled ready.owns asks state.memory (waiting_in state) facts_now law left left r y u path_there leads takes_path tt
+            (subst (ComparesIn s) is compares).0 each_allowed.0 (IsAt h asks state.memory (waiting_in state) facts_now u)
+            (λ way goes. law.write left y u path_there way goes writes) j (subst (λ z. SameNow s z j) quiet_there.0 now)).0
+            (λ k a b last. (refl, last)))))
+
+        goes_alone : Goal p.instr
+        goes_alone = elim by_itself.8 [
+          | inl (y, is) ↦ subst Goal (sym is) (declares_alone y is)
+          | inr more ↦ elim more [
+            | inl (r, y, path_there, u, is, calls) ↦ subst Goal (sym is) (assigns_alone r y path_there u is calls)
+            | inr is ↦ subst Goal (sym is) (by_result named.sub.result is refl (subst (IsFine s named.sub.result) is text))
+          ]
+        ]
+          where
+            by_result : (r : Option ℕ) → p.instr ≡ Hold (More (CallIn by_itself.3 by_itself.4 by_itself.5) NoMore) → named.sub.result ≡ r
+                → Returns s r (More (CallIn by_itself.3 by_itself.4 by_itself.5) NoMore) → Goal (Hold (More (CallIn by_itself.3 by_itself.4 by_itself.5) NoMore))
+            by_result None is result none = absurd (let no : ◌≡◌ {A = TypedTree} (More call NoMore) NoMore = none in cc)
+            by_result (Some of) is result fine = holds_value call of result (call_same_value of (result_named of result))
 
       -- ---- a call
-
-      call_plain : (k : ℕ) (actuals : TypedTree) (r : Option ℕ) → calls_procedures (Call k actuals r) ≡ true → has_call actuals ≡ false
-      call_plain k actuals None none = not_true (has_call actuals) none
-      call_plain k actuals (Some u) none = cc
 
       module _ (k : ℕ) (actuals : TypedTree) (result : Option ℕ) (e : p.instr ≡ Call k actuals result) where
         abbrev formals : List ℕ
@@ -298,12 +394,24 @@ module _ (table : Table) (typed : TypedProgram) (effects : Effects) (input : Lis
         abbrev easy : State
         easy = (eased main_turn).state
 
+        -- it takes values of scalar types
+        plain_call : Plain
+        plain_call =
+            (innermost.plain_here table typed effects input ready state top below more_frames rest named p frames deep stages running awaiting of_sub at_point path views viewed_before kept scope holds placed_before above
+            (λ c by. elim by [
+              | inl (y, is) ↦ (let no : Call k actuals result ≡ Declare y (More c NoMore) = sym e ∙ is in cc)
+              | inr more ↦ elim more [
+                | inl (r, y, path_there, u, is, calls) ↦ (let no : Call k actuals result ≡ Assign (Name r y path_there u) c = sym e ∙ is in cc)
+                | inr is ↦ (let no : Call k actuals result ≡ Hold (More c NoMore) = sym e ∙ is in cc)
+              ]
+            ])).0
+
         -- with the values that wait under plain types
         so_easy : IsReadyIn (steps.here main_turn) ready.accepted.settled state.leaks other alone no_formals index_law ready.owns views ready.class.parts_named
             state.memory (waiting_in (eased main_turn).state) facts_now
         so_easy = record {
-          viewed = (innermost.viewed_easy table typed effects input ready state top below more_frames rest named p frames deep stages running awaiting of_sub at_point path views viewed_before kept scope holds placed_before above).0;
-          kept = (innermost.viewed_easy table typed effects input ready state top below more_frames rest named p frames deep stages running awaiting of_sub at_point path views viewed_before kept scope holds placed_before above).1;
+          viewed = (innermost.viewed_easy table typed effects input ready state top below more_frames rest named p frames deep stages running awaiting of_sub at_point path views viewed_before kept scope holds placed_before above plain_call).0;
+          kept = (innermost.viewed_easy table typed effects input ready state top below more_frames rest named p frames deep stages running awaiting of_sub at_point path views viewed_before kept scope holds placed_before above plain_call).1;
           holds = calling.holds_now table typed effects input ready state top below more_frames rest named p frames deep stages running awaiting of_sub at_point path views viewed_before kept scope holds placed_before above k actuals result e;
         }
 
@@ -327,7 +435,7 @@ module _ (table : Table) (typed : TypedProgram) (effects : Effects) (input : Lis
             (calling.kinds table typed effects input ready state top below more_frames rest named p frames deep stages running awaiting of_sub at_point path views viewed_before kept scope holds placed_before above k actuals result e)
             (calling.called table typed effects input ready state top below more_frames rest named p frames deep stages running awaiting of_sub at_point path views viewed_before kept scope holds placed_before above k actuals result e).actuals_stay
             (calling.copied_there table typed effects input ready state top below more_frames rest named p frames deep stages running awaiting of_sub at_point path views viewed_before kept scope holds placed_before above k actuals result e)
-            (takes_of (Call k actuals result) e) (plainly (Call k actuals result) e (has_call actuals) (λ none. call_plain k actuals result none)) (subst (ComparesIn s) e compares)
+            (takes_of plain_call (Call k actuals result) e) (subst (ComparesIn s) e compares)
             (calling.values_allowed table typed effects input ready state top below more_frames rest named p frames deep stages running awaiting of_sub at_point path views viewed_before kept scope holds placed_before above k actuals result e)
             (calling.copies_allowed table typed effects input ready state top below more_frames rest named p frames deep stages running awaiting of_sub at_point path views viewed_before kept scope holds placed_before above k actuals result e)
             (start (twin main_turn n)) (agrees, refl, only))
@@ -374,7 +482,7 @@ module _ (table : Table) (typed : TypedProgram) (effects : Effects) (input : Lis
             subst (λ z. AreStages (stages_of (below ∷ (h ∷ m))) (below.stage.frame ∷ z)) (sym same) there in
             back_wholly main_turn ready.accepted.settled ready.owns no_formals (waiting_in state) state.leaks below.stage.depth
             (ends.deep_low table typed effects input ready state top below more_frames rest named p frames deep stages running awaiting of_sub at_point path views viewed_before kept scope holds placed_before above h m stages_there waiting well still is)
-            below.views (facts_of program effects below.stage) waiting.0.point.scope
+            below.views (facts_of program effects below.stage) (lasting_of s waiting.0.point.scope)
             (ends.around_low table typed effects input ready state top below more_frames rest named p frames deep stages running awaiting of_sub at_point path views viewed_before kept scope holds placed_before above h m stages_there waiting well still is)
             (ends.free_low table typed effects input ready state top below more_frames rest named p frames deep stages running awaiting of_sub at_point path views viewed_before kept scope holds placed_before above h m stages_there waiting well still is)
             (ends.whole_low table typed effects input ready state top below more_frames rest named p frames deep stages running awaiting of_sub at_point path views viewed_before kept scope holds placed_before above h m stages_there waiting well still is)
@@ -391,7 +499,10 @@ module _ (table : Table) (typed : TypedProgram) (effects : Effects) (input : Lis
           | inr end ↦ elim (end_or p.instr) [
             | inl (y, is) ↦ subst Goal (sym is) (end_scope_same main_turn n agrees only y)
             | inr going ↦ elim (call_or p.instr) [
-              | inr no_call ↦ goes_plainly going no_call end
+              | inr no_call ↦ elim (innermost.taken_there table typed effects input ready state top below more_frames rest named p frames deep stages running awaiting of_sub at_point path views viewed_before kept scope holds placed_before above) [
+                | inl plain ↦ goes_plainly going plain no_call end
+                | inr by_itself ↦ goes_alone going no_call end by_itself
+              ]
               | inl call ↦ subst Goal (sym call.3) (calls_it going call.0 call.1 call.2 call.3)
             ]
           ]
@@ -400,12 +511,12 @@ module _ (table : Table) (typed : TypedProgram) (effects : Effects) (input : Lis
   -- ---- each step
 
   by_stages : (state : State) (top : Stage) (views : Views) (older : List ViewStage) (fs : List Frame) → state.frames ≡ fs → AreStages (top ∷ stages_of older) fs
-      → IsRunning table typed effects state (record { stage = top; views = views }) older → AreAwaited table typed 0 (top ∷ stages_of older)
+      → IsRunning table typed effects state (record { stage = top; views = views }) older → AreAwaited table typed None (top ∷ stages_of older)
       → ControlPath (path_points program effects (sub_of program top.frame.sub)) top.before top.frame.next
       → Viewed (home s top.depth) (is_observer s) (known_gone (home s top.depth) (GoneElsewhere program effects older)) views (view_here s state) (facts_of program effects top)
       → Kept s state.memory (waiting_in state)
       → (named : NamedSub) → IsNamedSub (flow_named table typed) top.frame.sub named → (p : NamedPoint) → IsAtPoint named.points top.frame.next p
-      → InScope s state.memory top.depth p.scope → HoldsAt s top.depth views state.memory p → ArePlaced program (facts_of program effects top) views p.scope
+      → InScope s state.memory top.depth (lasting_of s p.scope) → HoldsAt s top.depth views state.memory p → ArePlaced program (facts_of program effects top) views p.scope
       → NoneAbove s top.depth state.memory → OnlyOwners s state.memory → (n : Memory) → Agrees state.memory n → SameAt state n
   by_stages state top views [] (f ∷ []) is (frame, deep, none) running awaiting path seen_well kept named of_sub p at_point scope holds there above only n agrees =
       package_same state top named p (is ∙ ap (λ z. z ∷ []) (sym frame)) views running of_sub at_point path
@@ -414,7 +525,7 @@ module _ (table : Table) (typed : TypedProgram) (effects : Effects) (input : Lis
   by_stages state top views (below ∷ more) (f ∷ (g ∷ rest)) is (frame, deep, (around_frame, deeper, others)) running awaiting path seen_well kept named of_sub p at_point scope holds there above only n agrees =
       main_same state top below more rest named p (is ∙ (λ j. sym frame j ∷ (sym around_frame j ∷ rest))) deep (refl, deeper, others) running awaiting of_sub at_point path views
       (subst (λ d. Viewed (home s d) (is_observer s) (known_gone (home s d) (GoneElsewhere program effects (below ∷ more))) views (view_here s state) (facts_of program effects top)) deep seen_well) kept
-      (subst (λ d. InScope s state.memory d p.scope) deep scope) (subst (λ d. HoldsAt s d views state.memory p) deep holds) there
+      (subst (λ d. InScope s state.memory d (lasting_of s p.scope)) deep scope) (subst (λ d. HoldsAt s d views state.memory p) deep holds) there
       (subst (λ d. NoneAbove s d state.memory) deep above) only n agrees
   by_stages state top views [] [] is stages running awaiting path seen_well kept named of_sub p at_point scope holds there above only n agrees = absurd stages
   by_stages state top views [] (f ∷ (g ∷ others)) is stages running awaiting path seen_well kept named of_sub p at_point scope holds there above only n agrees = absurd stages.2

@@ -6,8 +6,8 @@ use Rattle.place_names.specs.declared.rule.Loan.TheVariants.{Borrowed}
 use Rattle.place_names.specs.Names.{Name as PlaceName}
 use Rattle.type_definitions.specs.declared.table.Shape.TheVariants as shape
 use Rattle.type_definitions.specs.Types.{Table, shape_of, view_of as view_of_shape, parts}
-use Rattle.typed_tree.specs.Trees.{TypedTree}
-use Rattle.flow_paths.specs.Objects.{object_at, is_anonymous, is_observer}
+use Rattle.typed_tree.specs.Trees.{TypedTree, Parens, Aggregate, Alike, New, More}
+use Rattle.flow_paths.specs.Objects.{Typing, object_at, is_anonymous, is_observer}
 use Rattle.flow_paths.specs.Names.{name_of}
 use Rattle.flow_paths.specs.Acts.{acts_in}
 use Rattle.machine.specs.Words as machine
@@ -25,11 +25,11 @@ use Rattle.soundness.specs.Sound.{goes_through_none}
 use Rattle.typed_laws.specs.Needed.{IndexLaw}
 use Rattle.soundness.proofs.Walks.{way_along, past_along, Lead, walk}
 use Rattle.soundness.proofs.Scalars.{acts, number_along}
-use Rattle.soundness.proofs.Taking.{TakesPlainly, both_plainly}
 use Rattle.soundness.proofs.Lasting.{keeps}
 use Rattle.owned_loans.specs.Views.{Around, Views, expand, ExcusedBy}
 use Rattle.owned_loans.proofs.Safe.{Open, OpenWhole}
 use Rattle.owned_loans.proofs.Allowed.{read_open, look_open, look_whole, move_open, move_unlent, move_unmoved, write_open, free_open, free_whole}
+use Rattle.viewed_soundness.specs.Taken.{GivesPlainly}
 use Rattle.viewed_soundness.specs.Holds.{IsNamed, PartsAreNamed, AllKeep}
 use Rattle.viewed_soundness.proofs.Names.{Starts, name_walked}
 use Rattle.viewed_soundness.proofs.Stays.{Goes, taking, steps_taking}
@@ -45,12 +45,39 @@ pub anonymous_access : (c : Bool) → is_anonymous (view_of_shape (shape.Access 
 anonymous_access true = refl
 anonymous_access false = refl
 
--- An expression has no call, or the results of all functions are of scalar types. Nothing is moved, written or freed through an observer, and no value is
--- taken for a view.
+-- the calls of an expression are those of what is in it
+pub gives_held : (s : Typing) (e : TypedTree) → GivesPlainly s (Parens e) → GivesPlainly s e
+unfolding GivesPlainly
+gives_held s e plain = plain
+
+pub gives_filled : (s : Typing) (t : ℕ) (es : TypedTree) → GivesPlainly s (Aggregate t es) → GivesPlainly s es
+unfolding GivesPlainly
+gives_filled s t es plain = plain
+
+pub gives_alike : (s : Typing) (t : ℕ) (e : TypedTree) → GivesPlainly s (Alike t e) → GivesPlainly s e
+unfolding GivesPlainly
+gives_alike s t e plain = plain
+
+pub gives_made : (s : Typing) (t : ℕ) (e : TypedTree) → GivesPlainly s (New t e) → GivesPlainly s e
+unfolding GivesPlainly
+gives_made s t e plain = plain
+
+pub gives_both : (s : Typing) (e rest : TypedTree) → GivesPlainly s (More e rest) → GivesPlainly s e × GivesPlainly s rest
+unfolding GivesPlainly
+gives_both s e rest plain = plain
+
+-- What may own takes results of scalar types alone, but for a call alone. Nothing is moved, written or
+-- freed through an observer, and no value is taken for a view.
 abbrev pub viewed_premises : (h : Here) → PartsAreNamed h.typing.table → Premises h
 viewed_premises h parts_named = record {
-  calls = TakesPlainly h.typing;
-  both_calls = both_plainly h.typing;
+  calls = λ b. Unit {0};
+  both_calls = λ a b any. (tt, tt);
+  gives = GivesPlainly h.typing;
+  held = gives_held h.typing;
+  filled = gives_filled h.typing;
+  alike = gives_alike h.typing;
+  made = gives_made h.typing;
+  both_give = gives_both h.typing;
   keeps = AllKeep (is_observer h.typing);
   both_keep = keep_both (is_observer h.typing);
   takes = IsNamed h.typing.table;
@@ -204,8 +231,8 @@ module _ (h : Here) (settled : IsSettled h.typing.table) (leaks : List Leak) (ot
       (λ m hands facts. Ready h settled leaks [] other alone (keeps h.typing settled own_law) no_formals index_law own_law v parts_named m hands facts)
   viewed_values = record {
     behaves = λ m hands facts ready only. viewed_behaves m hands facts ready only;
-    given = λ e want gives calls before on takes m hands facts ready allowed own keep.
+    given = λ e want gives calls own_calls before on takes m hands facts ready allowed own keep.
         given_by on want hands (after (acts (acts_in h.typing e)) facts) (evaluate h AsValue e (record { memory = m; waits = before }))
-        (evaluated_on h settled leaks [] other alone (keeps h.typing settled own_law) no_formals index_law own_law v parts_named e want gives calls before on takes m hands facts
+        (evaluated_on h settled leaks [] other alone (keeps h.typing settled own_law) no_formals index_law own_law v parts_named e want gives own_calls before on takes m hands facts
         ready allowed own keep);
   }

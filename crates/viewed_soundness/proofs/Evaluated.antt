@@ -1,6 +1,6 @@
 -- Expressions that may own, with names through borrowers and observers: names, null, allocators,
 -- aggregates, and scalar ones. They take values that wait.
-use Rattle.std.proofs.Common.{◌≡◌, refl, sym, ap, ◌∙◌, subst, inl, inr, ℕ, suc, ◌+◌, ◌<◌, Bool, true, false, not, ◌||◌, List, [], ◌∷◌, ◌++◌, length, get_or, arith, append-nil, append_assoc, length-append, if◌then◌else◌}
+use Rattle.std.proofs.Common.{◌≡◌, refl, sym, ap, ◌∙◌, subst, inl, inr, ℕ, suc, ◌+◌, ◌<◌, Bool, true, false, not, ◌||◌, List, [], ◌∷◌, ◌++◌, length, get_or, drop, arith, append-nil, append_assoc, length-append, if◌then◌else◌}
 use Rattle.std.proofs.lemmas.List.{length-map}
 use Rattle.spark_base.specs.declared.position.Pos.{Pos}
 use Rattle.std.specs.Prelude.{nat_le}
@@ -14,7 +14,7 @@ use Rattle.type_definitions.specs.declared.table.Shape.TheVariants as shape
 use Rattle.type_definitions.specs.Types.{Table, shape_of, components_of, view_of as view_shape, words, words_of as shape_words, full, is_owning, is_scalar, owns_of, parts}
 use Rattle.typed_tree.specs.Trees.{TypedTree, Number, Literal, Name, Call, EndOfFile, Parens, Unary, Binary, Short, IsNull, Aggregate, Alike, New, NoMore, More}
 use Rattle.typed_tree.specs.Trees as typed
-use Rattle.flow_paths.specs.Objects.{object_at, is_observer}
+use Rattle.flow_paths.specs.Objects.{Typing, object_at, is_observer}
 use Rattle.flow_paths.specs.Names.{has_call, waiting, name_of}
 use Rattle.flow_paths.specs.Acts.{used, acts_in}
 use Rattle.machine.specs.Words.{default, fits_type}
@@ -49,6 +49,8 @@ use Rattle.soundness.proofs.Evaluated.{regrouped, changed_hand, blank_hand, Keep
 use Rattle.owned_loans.specs.Views.{Around, Views, expand, ExcusedBy, Viewed}
 use Rattle.owned_loans.proofs.Allowed.{read_open, move_open}
 use Rattle.owned_loans.proofs.Moves.{named_way, as_sound, same_viewed}
+use Rattle.soundness.proofs.Waits.{drop_none}
+use Rattle.viewed_soundness.specs.Taken.{GivesPlainly}
 use Rattle.viewed_soundness.specs.Holds.{IsNamed, PartsAreNamed, Holds, KeepsObserved, AllKeep}
 use Rattle.viewed_soundness.proofs.Moments.{from_sound, hands_spared, other_hands, with_cell, taken_viewed}
 use Rattle.viewed_soundness.proofs.Stays.{Goes, taking, steps_taking, name_on, waited_quiet}
@@ -73,6 +75,19 @@ part_named table named t i (shape.Whole a b) e made = cc
 part_named table named t i (shape.Listed l a b) e made = cc
 part_named table named t i (shape.Access d c n) e made = cc
 part_named table named t i (shape.Same of) e made = cc
+
+-- Where an expression takes nothing, or all results are of scalar types.
+pub gives_plainly : (s : Typing) (e : TypedTree) → TakesPlainly s (has_call e) → GivesPlainly s e
+unfolding GivesPlainly has_call
+gives_plainly s (Call p sub actuals) (inl none) = cc
+gives_plainly s (Call p sub actuals) (inr plain) = plain.0 sub
+gives_plainly s (Parens e) calls = gives_plainly s e calls
+gives_plainly s (Aggregate t es) calls = gives_plainly s es calls
+gives_plainly s (Alike t e) calls = gives_plainly s e calls
+gives_plainly s (New t v) calls = gives_plainly s v calls
+gives_plainly s (More e rest) calls =
+    (let both = both_plainly s (has_call e) (has_call rest) calls in (gives_plainly s e both.0, gives_plainly s rest both.1))
+gives_plainly s e calls = tt
 
 module _ (h : Here) (settled : IsSettled h.typing.table) (leaks : List Leak) (waits : List (List machine.Word)) (other : Around (home h.typing h.frame))
     (alone : (w : Way) → IsNear h.frame w → other.gone w → ⊥) (keeps : Keeps h.typing)
@@ -467,9 +482,9 @@ module _ (h : Here) (settled : IsSettled h.typing.table) (leaks : List Leak) (wa
   still m before on takes = ap (λ z. record { memory = m; waits = z }) (takes_zero before on takes)
 
   mutual
-    unfolding Gives GivesParts GivesFirst Stays evaluate initial parts_of acts_in has_call waiting
+    unfolding Gives GivesParts GivesFirst GivesPlainly Stays evaluate initial parts_of acts_in waiting
 
-    pub evaluated_on : (e : TypedTree) (want : ℕ) → Gives h.typing want e → TakesPlainly h.typing (has_call e) → (before on : List (List machine.Word))
+    pub evaluated_on : (e : TypedTree) (want : ℕ) → Gives h.typing want e → GivesPlainly h.typing e → (before on : List (List machine.Word))
         → Takes (waiting e) before on → (m : Memory) (hands : List Waiting) (facts : List Fact)
         → Ready m hands facts → AllowsAll facts (acts (acts_in h.typing e)) → IsNamed h.typing.table want
         → AllKeep (is_observer h.typing) (acts (acts_in h.typing e))
@@ -516,7 +531,7 @@ module _ (h : Here) (settled : IsSettled h.typing.table) (leaks : List Leak) (wa
         let now : Now = record { memory = m; waits = before } in
         let acts_same : acts_in h.typing e ++ acts_in h.typing rest ≡ acts_in h.typing e = ap (λ z. acts_in h.typing e ++ acts_in h.typing z) none ∙ append-nil (acts_in h.typing e) in
         let alone_there : waiting e + waiting rest ≡ waiting e = ap (λ z. waiting e + waiting z) none ∙ nothing_more (waiting e) in
-        let inner = evaluated_on e t gives (both_plainly h.typing (has_call e) (has_call rest) calls).0 before on
+        let inner = evaluated_on e t gives calls.0 before on
         (takes_as (waiting e + waiting rest) (waiting e) before on alone_there takes) m (record { of = want; words = [] } ∷ hands) facts
         (blank_ready m hands facts want [] (λ k h. h) ready) (subst (λ z. AllowsAll facts (acts z)) acts_same allowed)
         (matches_named h.typing.table d t fits (parts_named.designated want d c n is))
@@ -555,15 +570,14 @@ module _ (h : Here) (settled : IsSettled h.typing.table) (leaks : List Leak) (wa
               (nulls_given on t m hands facts array (subst (Gives h.typing el) null gives) ready (fits_type h.typing.table el (machine.Null ∷ []))))
         ])
     -- the result of a function waits
-    evaluated_on (Call p sub actuals) want gives (inl none) before on takes m hands facts ready allowed own keep = cc
-    evaluated_on (Call p sub actuals) want (t, result, fits) (inr plain) before on takes m hands facts ready allowed own keep =
-        scalar_on on m hands facts facts want ready refl (matches_plain t want fits (plain.0 sub t result)) (run.waited (record { memory = m; waits = before }))
+    evaluated_on (Call p sub actuals) want (t, result, fits) calls before on takes m hands facts ready allowed own keep =
+        scalar_on on m hands facts facts want ready refl (matches_plain t want fits (calls t result)) (run.waited (record { memory = m; waits = before }))
         (waited_quiet h settled hands leaks m waits other facts v ready.kept ready.viewed ready.holds alone (live_trunk m hands ready.viewed.owned) index_law own_law parts_named
         before on takes)
     evaluated_on e want gives calls before on takes m hands facts ready allowed own keep = absurd gives
 
     -- the parts of an aggregate from the i-th on, after those before
-    parts_given : (es : TypedTree) (t i : ℕ) → GivesParts h.typing t i es → TakesPlainly h.typing (has_call es)
+    parts_given : (es : TypedTree) (t i : ℕ) → GivesParts h.typing t i es → GivesPlainly h.typing es
         → i + tree_count es ≡ field_count (shape_of h.typing.table t)
         → is_record (shape_of h.typing.table t) || is_array (shape_of h.typing.table t) ≡ true
         → (before on : List (List machine.Word)) → Takes (waiting es) before on
@@ -577,7 +591,6 @@ module _ (h : Here) (settled : IsSettled h.typing.table) (leaks : List Leak) (wa
         let sh : Shape = shape_of h.typing.table t in
         let u : ℕ = part_type sh i in
         let lt : i < field_count sh = omega (arith, count) in
-        let both = both_plainly h.typing (has_call e) (has_call rest) calls in
         let two = takes_both (waiting e) (waiting rest) before on takes in
         let each = allows_both facts (acts (acts_in h.typing e)) (acts (acts_in h.typing rest))
         (subst (AllowsAll facts) (acts_append (acts_in h.typing e) (acts_in h.typing rest)) allowed) in
@@ -589,7 +602,7 @@ module _ (h : Here) (settled : IsSettled h.typing.table) (leaks : List Leak) (wa
         (λ ws now. followed_by (parts_of h t (suc i) rest now) (λ more now. Done (ws ++ more) now)) in
         let part : Waiting = record { of = t; words = acc } in
         let first = checked_on two.0 u u (part ∷ hands) between (evaluate h AsValue e now)
-        (evaluated_on e u gives.0 both.0 before two.0 two.1 m (part ∷ hands) facts ready each.0 (part_named h.typing.table parts_named t i sh refl made) names.0) in
+        (evaluated_on e u gives.0 calls.0 before two.0 two.1 m (part ∷ hands) facts ready each.0 (part_named h.typing.table parts_named t i sh refl made) names.0) in
         subst (λ z. Grows on t acc hands z (followed_by (evaluate h AsValue e now) (λ ws now. followed_by (checked h u ws now) next)))
         (sym (ap (λ z. after z facts) (acts_append (acts_in h.typing e) (acts_in h.typing rest))
         ∙ after_append (acts (acts_in h.typing e)) (acts (acts_in h.typing rest)) facts))
@@ -601,7 +614,7 @@ module _ (h : Here) (settled : IsSettled h.typing.table) (leaks : List Leak) (wa
         let more : length (acc ++ ws) ≡ words_to (words h.typing.table) sh (suc i) = (let own = given.1 in omega (arith, size, step, long, own)) in
         grown on t acc ws hands behind (parts_of h t (suc i) rest n)
         (subst (λ z. Grows on t (acc ++ ws) hands behind (parts_of h t (suc i) rest (record { memory = n.memory; waits = z }))) (sym given.2)
-        (parts_given rest t (suc i) gives.1 both.1 (omega (arith, count)) made two.0 on two.2 n.memory (acc ++ ws) hands between more
+        (parts_given rest t (suc i) gives.1 calls.1 (omega (arith, count)) made two.0 on two.2 n.memory (acc ++ ws) hands between more
         (part_joined n.memory hands between t u acc ws (nth_part sh i) (part_there h.typing.table t sh refl i lt)
         (part_offset h.typing.table t sh refl i lt ∙ sym long) (part_is h.typing.table t sh refl i lt) given.1 given.0) each.1 names.1))))))
     parts_given NoMore t i gives calls count made before on takes m acc hands facts long ready allowed keep =
@@ -620,4 +633,12 @@ module _ (h : Here) (settled : IsSettled h.typing.table) (leaks : List Leak) (wa
       → AllKeep (is_observer h.typing) (acts (acts_in h.typing e))
       → Given want hands (after (acts (acts_in h.typing e)) facts) (evaluate h AsValue e (record { memory = m; waits = waits }))
   evaluated e want gives calls m hands facts ready allowed own keep =
-      evaluated_on e want gives (inl calls) waits waits (no_takes e calls waits) m hands facts ready allowed own keep
+      evaluated_on e want gives (gives_plainly h.typing e (inl calls)) waits waits (no_takes e calls waits) m hands facts ready allowed own keep
+
+  -- A call alone takes the value that waits, of any type.
+  pub call_given : (on : List (List machine.Word)) (m : Memory) (hands : List Waiting) (facts : List Fact) (p : Pos) (sub : ℕ) (actuals : TypedTree) (t want : ℕ)
+      (ws : List machine.Word) → Matches h.typing.table t want → length ws ≡ words h.typing.table t → Ready m (record { of = t; words = ws } ∷ hands) facts
+      → GivenOn on want hands facts (evaluate h AsValue (Call p sub actuals) (record { memory = m; waits = ws ∷ on }))
+  unfolding evaluate
+  call_given on m hands facts p sub actuals t want ws fits long ready =
+      retyped_given on t want hands facts fits (Done ws (record { memory = m; waits = drop 1 (ws ∷ on) })) (ready, long, drop_none on)

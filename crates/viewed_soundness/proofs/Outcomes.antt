@@ -45,9 +45,10 @@ use Rattle.soundness.proofs.Lasting.{keeps, removed_kept}
 use Rattle.soundness.proofs.Raised.{raised_owned}
 use Rattle.soundness.proofs.Scalars.{acts}
 use Rattle.soundness.proofs.Stays.{Quiet, One}
-use Rattle.soundness.proofs.Taking.{Takes, no_takes, TakesPlainly}
+use Rattle.soundness.proofs.Taking.{Takes, no_takes}
 use Rattle.soundness.proofs.Waits.{take_none, drop_none, waits_of, led_waits}
 use Rattle.owned_loans.specs.Views.{Around, Views, Viewed, HasLoan}
+use Rattle.viewed_soundness.specs.Taken.{GivesPlainly}
 use Rattle.viewed_soundness.specs.Holds.{IsNamed, PartsAreNamed, Holds, AllKeep}
 use Rattle.viewed_soundness.proofs.Names.{not_view}
 use Rattle.viewed_soundness.proofs.Stays.{taking}
@@ -257,16 +258,21 @@ module _ (t : Turn) (settled : IsSettled (typing t).table) (own_law : OwnsByShap
   abbrev Assigns_here : List Fact → Evaluated Stored → Type 0
   Assigns_here facts x = Assigns (here t) settled t.state.leaks [] other alone (keeps s settled own_law) no_formals index_law own_law v parts_named hands facts x
 
-  then_stored : Raises_well → (facts : List Fact) (pos : Pos) (y : Evaluated Stored) → Assigns_here facts y
-      → Leads_on facts (steps.evaluated t y (λ (st : Stored) m. leaking_goes (checks_at s pos m st.place) (goes t (stored s st.place st.words m) 0)))
-  then_stored well facts pos (Done st n) (viewed, kept, holds) =
+  -- what was found is stored
+  pub stored_goes : (facts : List Fact) (pos : Pos) (st : Stored) (n : Now) → Assigns_here facts (Done st n)
+      → Leads_on facts (leaking_goes (checks_at s pos n.memory st.place) (goes t (stored s st.place st.words n.memory) 0))
+  stored_goes facts pos st n (viewed, kept, holds) =
       goes_on (stored s st.place st.words n.memory) (checks_at s pos n.memory st.place) (leaks_at s pos n.memory st.place)
       (all_checks s pos n.memory st.place) v facts (unturned facts) (viewed pos) kept holds
+
+  then_stored : Raises_well → (facts : List Fact) (pos : Pos) (y : Evaluated Stored) → Assigns_here facts y
+      → Leads_on facts (steps.evaluated t y (λ (st : Stored) m. leaking_goes (checks_at s pos m st.place) (goes t (stored s st.place st.words m) 0)))
+  then_stored well facts pos (Done st n) given = stored_goes facts pos st n given
   then_stored well facts pos (Raises e n) given = (λ trap. trap, well n.memory)
   then_stored well facts pos (Traps e n) never = absurd never
 
   pub assign_on : (ws mid : List (List machine.Word)) (pos p : Pos) (x u : ℕ) (path e : TypedTree) → IsNamed s.table u → Gives s u e
-      → Leads s (object_at s x).of path u → TakesPlainly s (has_call e) → Takes (waits_in e) ws mid → Takes (waits_in path) mid [] → (facts : List Fact) → IsGood v facts t.state
+      → Leads s (object_at s x).of path u → GivesPlainly s e → Takes (waits_in e) ws mid → Takes (waits_in path) mid [] → (facts : List Fact) → IsGood v facts t.state
       → AllowsAll facts (acts (assigned_to s pos (whole (Name p x path u)) (Name p x path u) e))
       → AllKeep (is_observer s) (acts (assigned_to s pos (whole (Name p x path u)) (Name p x path u) e))
       → Leads_on (after (acts (assigned_to s pos (whole (Name p x path u)) (Name p x path u) e)) facts)

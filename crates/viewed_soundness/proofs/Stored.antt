@@ -30,7 +30,7 @@ use Rattle.soundness.proofs.Near.{near_under}
 use Rattle.soundness.proofs.Walks.{way_along, Walked}
 use Rattle.soundness.proofs.Scalars.{after_append, allows_both, acts, acts_append, number_along, named_along}
 use Rattle.soundness.proofs.Stays.{Quiet}
-use Rattle.soundness.proofs.Taking.{Takes, no_takes, TakesPlainly}
+use Rattle.soundness.proofs.Taking.{Takes, no_takes}
 use Rattle.soundness.proofs.Lasting.{put_away}
 use Rattle.soundness.proofs.Evaluated.{regrouped, Keeps}
 use Rattle.soundness.proofs.Memories.{put_other}
@@ -42,7 +42,8 @@ use Rattle.viewed_soundness.specs.Holds.{IsNamed, PartsAreNamed, Holds, AllKeep}
 use Rattle.viewed_soundness.proofs.Names.{view_access, not_view, is_place}
 use Rattle.viewed_soundness.proofs.Stays.{Goes, steps_taking, name_on}
 use Rattle.viewed_soundness.proofs.Moments.{stored_viewed}
-use Rattle.viewed_soundness.proofs.Evaluated.{keep_both, matches_named, Ready, GivenOn, live_trunk, checked_on, evaluated_on}
+use Rattle.viewed_soundness.specs.Taken.{GivesPlainly}
+use Rattle.viewed_soundness.proofs.Evaluated.{keep_both, matches_named, gives_plainly, Ready, GivenOn, live_trunk, checked_on, evaluated_on}
 
 other_base : (f x g y : ℕ) → OfVariable f x ≡ OfVariable g y → memory.OfVariable f x ≡ memory.OfVariable g y
 other_base f x g y e = (let a : f ≡ g = cc in let b : x ≡ y = cc in cc)
@@ -136,7 +137,7 @@ module _ (h : Here) (settled : IsSettled h.typing.table) (leaks : List Leak) (wa
   then_found now P hands facts (Traps t n) f none next = none
 
   -- the value is there
-  then_placed : (mid on : List (List machine.Word)) (p : Pos) (x t : ℕ) (steps : TypedTree) (hands : List Waiting) (facts : List Fact) → IsNamed h.typing.table t
+  pub then_placed : (mid on : List (List machine.Word)) (p : Pos) (x t : ℕ) (steps : TypedTree) (hands : List Waiting) (facts : List Fact) → IsNamed h.typing.table t
       → is_observer h.typing x ≡ false → Leads h.typing (object_at h.typing x).of steps t
       → Takes (waiting steps) mid on → AllowsAll facts (acts (acts_in h.typing steps) ++ act.Write (name_of x steps) ∷ []) → (y : Evaluated (List machine.Word))
       → GivenOn h settled leaks waits other alone keeps no_formals index_law own_law v parts_named mid t hands facts y
@@ -167,7 +168,7 @@ module _ (h : Here) (settled : IsSettled h.typing.table) (leaks : List Leak) (wa
   -- k := e, for a target that isn't a borrower or observer
   pub assigned_on : (before mid on : List (List machine.Word)) (p : Pos) (x t : ℕ) (steps e : TypedTree) → IsNamed h.typing.table t → Gives h.typing t e
       → Leads h.typing (object_at h.typing x).of steps t
-      → TakesPlainly h.typing (has_call e) → Takes (waiting e) before mid → Takes (waiting steps) mid on → (m : Memory) (hands : List Waiting) (facts : List Fact)
+      → GivesPlainly h.typing e → Takes (waiting e) before mid → Takes (waiting steps) mid on → (m : Memory) (hands : List Waiting) (facts : List Fact)
       → Ready h settled leaks waits other alone keeps no_formals index_law own_law v parts_named m hands facts
       → AllowsAll facts (acts (stored_acts h.typing (Name p x steps t) e)) → AllKeep (is_observer h.typing) (acts (stored_acts h.typing (Name p x steps t) e))
       → Assigns hands (after (acts (stored_acts h.typing (Name p x steps t) e)) facts)
@@ -201,4 +202,4 @@ module _ (h : Here) (settled : IsSettled h.typing.table) (leaks : List Leak) (wa
       (followed_by (followed_by (evaluate h AsValue e (record { memory = m; waits = waits })) (checked h t))
       (λ ws now. followed_by (place_of h (Name p x steps t) now) (λ k now. Done (record { words = ws; place = k }) now)))
   assigned p x t steps e own gives lead calls calls' m hands facts ready allowed keep =
-      assigned_on waits waits waits p x t steps e own gives lead (inl calls) (no_takes e calls waits) (no_takes steps calls' waits) m hands facts ready allowed keep
+      assigned_on waits waits waits p x t steps e own gives lead (gives_plainly h.typing e (inl calls)) (no_takes e calls waits) (no_takes steps calls' waits) m hands facts ready allowed keep

@@ -1,5 +1,5 @@
 -- The end of a call leads on, in the frame below.
-use Rattle.std.proofs.Common.{◌≡◌, refl, sym, ap, ◌∙◌, subst, ◌⊎◌, inl, inr, ℕ, suc, ◌<◌, ◌≤◌, Bool, true, false, not, ◌&&◌, ◌||◌, ◌==◌, eq-eqb, List, [], ◌∷◌, ◌++◌, length, get_or, arith, Option, Some, None, if◌then◌else◌}
+use Rattle.std.proofs.Common.{◌≡◌, refl, sym, ap, ◌∙◌, subst, ◌⊎◌, inl, inr, ℕ, suc, ◌<◌, ◌≤◌, Bool, true, false, ◌||◌, ◌==◌, eq-eqb, List, [], ◌∷◌, ◌++◌, length, get_or, arith, Option, Some, None, if◌then◌else◌}
 use Rattle.std.proofs.Math.Nat.{eq-or-lt_of_le}
 use Rattle.std.specs.Prelude.{is_some}
 use Rattle.spark_base.specs.Lists.{Has}
@@ -31,11 +31,10 @@ use Rattle.owned_ways.specs.Ways.{Step, OfVariable, OfRoot, Way, Held, AllowsAll
 use Rattle.owned_ways.specs.Ways as ways
 use Rattle.soundness.specs.Seen.{content, word_in, seen, home, is_view_formal}
 use Rattle.soundness.specs.Typed.{Kept}
-use Rattle.soundness.specs.Sound.{Stage, facts_of, AreStages, IsRunnable, AreAwaited, AreWaiting as AreWaitingValues, is_temporary_object, temporaries_in, has_returned, awaited, InScope, IsNamedSub, IsAtPoint, view_of as view_here}
+use Rattle.soundness.specs.Sound.{Stage, facts_of, AreStages, IsRunnable, is_temporary_object, has_returned, InScope, IsNamedSub, IsAtPoint, view_of as view_here}
 use Rattle.soundness.proofs.Contents.{bool_cases, word_no}
 use Rattle.soundness.proofs.Steps.{no_leaf}
-use Rattle.soundness.proofs.Typings.{formal_same, package_same}
-use Rattle.soundness.proofs.Waited.{plain_more}
+use Rattle.soundness.proofs.Typings.{package_same, formal_same}
 use Rattle.soundness.proofs.Around.{same_or_not}
 use Rattle.soundness.proofs.Returning.{returned_kept, left_same, left_held, returns_lead, ends_lead, left_waits, ended_owned, Backs}
 use Rattle.owned_loans.specs.Views.{known_gone, Views, IsMovedBy, Viewed, ExcusedBy, Around, IsAway}
@@ -43,6 +42,8 @@ use Rattle.owned_loans.proofs.Moves.{view_on}
 use Rattle.owned_loans.proofs.Ended.{stands_itself}
 use Rattle.viewed_soundness.proofs.Names.{true_false}
 use Rattle.viewed_soundness.proofs.Outcomes.{named_plain}
+use Rattle.viewed_steps.specs.Awaited.{AreFor, AreValues, temporaries_of, lasting_of, awaited, AreAwaited}
+use Rattle.viewed_steps.proofs.Waited.{others_only, lasting_within}
 use Rattle.viewed_steps.specs.Sound.{HoldsAt, ArePlaced, NoneAbove, ViewStage, stages_of, GoneElsewhere, IsWaiting, AreWaiting, ends_one, LeadsAlong, IsResting, IsKindOfFormal}
 use Rattle.viewed_steps.specs.Ready.{IsReady}
 use Rattle.viewed_steps.proofs.Read.{scalar_named}
@@ -93,12 +94,12 @@ module _ (table : Table) (typed : TypedProgram) (effects : Effects) (input : Lis
       (frames : state.frames ≡ top.frame ∷ (below.stage.frame ∷ rest)) (deep : top.depth ≡ suc (length rest))
       (stages : AreStages (stages_of (below ∷ more_frames)) (below.stage.frame ∷ rest))
       (running : IsRunnable table typed top.frame.sub × IsResting s top × AreWaiting table typed effects state top.frame.sub top.frame.returns (below ∷ more_frames))
-      (awaiting : AreAwaited table typed 0 (top ∷ stages_of (below ∷ more_frames)))
+      (awaiting : AreAwaited table typed None (top ∷ stages_of (below ∷ more_frames)))
       (of_sub : IsNamedSub (flow_named table typed) top.frame.sub named) (at_point : IsAtPoint named.points top.frame.next p)
       (path : ControlPath (path_points program effects (sub_of program top.frame.sub)) top.before top.frame.next) (views : Views)
       (viewed_before : Viewed (home s (suc (length rest))) (is_observer s) (known_gone (home s (suc (length rest))) (GoneElsewhere program effects (below ∷ more_frames))) views
       (view_here s state) (facts_of program effects top))
-      (kept : Kept s state.memory (waiting_in state)) (scope : InScope s state.memory (suc (length rest)) p.scope) (holds : HoldsAt s (suc (length rest)) views state.memory p)
+      (kept : Kept s state.memory (waiting_in state)) (scope : InScope s state.memory (suc (length rest)) (lasting_of s p.scope)) (holds : HoldsAt s (suc (length rest)) views state.memory p)
       (placed_before : ArePlaced program (facts_of program effects top) views p.scope) (above : NoneAbove s (suc (length rest)) state.memory) where
     abbrev outer : List Frame
     outer = below.stage.frame ∷ rest
@@ -112,7 +113,7 @@ module _ (table : Table) (typed : TypedProgram) (effects : Effects) (input : Lis
     abbrev between : (g : ViewStage) → Has (below ∷ more_frames) g → StandsBetween table typed effects unmoved_stage local state (suc (length rest)) g
     between = innermost.between table typed effects input ready state top below more_frames rest named p frames deep stages running awaiting of_sub at_point path views viewed_before kept scope holds placed_before above
 
-    abbrev waits_here : AreWaitingValues s top.frame.waits p.scope
+    abbrev waits_here : AreValues s top.frame.waits p.scope
     waits_here = innermost.waits_here table typed effects input ready state top below more_frames rest named p frames deep stages running awaiting of_sub at_point path views viewed_before kept scope holds placed_before above
 
     abbrev instr_there : (get_or (sub_of program top.frame.sub).points top.frame.next no_point).instr ≡ p.instr
@@ -163,7 +164,7 @@ module _ (table : Table) (typed : TypedProgram) (effects : Effects) (input : Lis
     left_formal is x q n held = elim (scope depth x q n held) [
       | inl less ↦ absurd (omega (arith, less))
       | inr mine ↦ (
-          let own_formal = ready.passing.finishes named named_there p point_there_now is x mine.1 in
+          let own_formal = ready.passing.finishes named named_there p point_there_now is x (lasting_within s x p.scope mine.1).0 in
           elim ((running.1).0 x (subst (λ z. Has z x) (sym formals_are) own_formal)) [
             | inr copied ↦ copied
             | inl plain_type ↦ (
@@ -181,32 +182,36 @@ module _ (table : Table) (typed : TypedProgram) (effects : Effects) (input : Lis
     -- nothing waits in the frame then
     pub nothing_waits : p.instr ≡ Finish → top.frame.waits ≡ []
     nothing_waits is =
-        no_values top.frame.waits
-        (waits_here.1 ∙ none_in p.scope (λ x within. formal_lasts (object_at s x).kind (ready.scoped.finishes named named_there p point_there_now is x within)))
+        no_values top.frame.waits (subst (AreFor s top.frame.waits)
+        (none_in p.scope (λ x within. formal_lasts (object_at s x).kind (ready.scoped.finishes named named_there p point_there_now is x within))) waits_here)
       where
-        no_values : (waits : List Waiting) → length waits ≡ 0 → waits ≡ []
+        no_values : (waits : List Waiting) → AreFor s waits [] → waits ≡ []
         no_values [] none = refl
-        no_values (v ∷ waits) none = absurd (omega (arith, none))
+        no_values (v ∷ waits) none = absurd none
 
         formal_lasts : (k : ObjectKind) → is_formal_kind k ≡ true → is_temporary k ≡ false
         formal_lasts object_kind.Formal is = refl
         formal_lasts k is = cc
 
-        none_in : (scope : List ℕ) → ((x : ℕ) → is_within x scope ≡ true → is_temporary_object s x ≡ false) → temporaries_in s scope ≡ 0
+        none_in : (scope : List ℕ) → ((x : ℕ) → is_within x scope ≡ true → is_temporary_object s x ≡ false) → temporaries_of s scope ≡ []
         none_in [] none = refl
         none_in (x ∷ scope) none =
-            plain_more s x scope (none x (ap (λ b. b || is_within x scope) (eq-eqb x x refl)))
+            others_only s x scope (none x (ap (λ b. b || is_within x scope) (eq-eqb x x refl)))
             ∙ none_in scope (λ y within. none y (or_right (y == x) (is_within y scope) within))
 
     -- and the call has returned
-    returned_then : p.instr ≡ Finish → awaited (sub_of program top.frame.sub) top.before ≡ 0
-    returned_then is = by_result (is_some (sub_of program top.frame.sub).result) refl
+    returned_then : p.instr ≡ Finish → awaited (sub_of program top.frame.sub) top.before ≡ None
+    returned_then is = by_result (sub_of program top.frame.sub).result refl
       where
-        by_result : (b : Bool) → is_some (sub_of program top.frame.sub).result ≡ b → awaited (sub_of program top.frame.sub) top.before ≡ 0
-        by_result false e = ap (λ z. if z && not (has_returned (sub_of program top.frame.sub) top.before) then 1 else 0) e
-        by_result true e =
-            ap (λ z. if z && not (has_returned (sub_of program top.frame.sub) top.before) then 1 else 0) e
-            ∙ ap (λ z. if not z then 1 else 0) ((ready.returning top.frame.sub (running.0).entered e top.before top.frame.next path).1 (instr_there ∙ is))
+        by_result : (r : Option ℕ) → (sub_of program top.frame.sub).result ≡ r → awaited (sub_of program top.frame.sub) top.before ≡ None
+        by_result None e = ap (λ z. if has_returned (sub_of program top.frame.sub) top.before then None else z) e ∙ no_else (has_returned (sub_of program top.frame.sub) top.before)
+          where
+            no_else : (b : Bool) → ◌≡◌ {A = Option ℕ} (if b then None else None) None
+            no_else true = refl
+            no_else false = refl
+        by_result (Some t) e =
+            ap (λ z. if z then None else (sub_of program top.frame.sub).result)
+            ((ready.returning top.frame.sub (running.0).entered (ap is_some e) top.before top.frame.next path).1 (instr_there ∙ is))
 
     -- no view has a way then
     no_view_left : p.instr ≡ Finish → (x : ℕ) → views.way x ≡ None
@@ -280,12 +285,12 @@ module _ (table : Table) (typed : TypedProgram) (effects : Effects) (input : Lis
       abbrev ViewedLow : List Return → List Way → Memory → Type 0
       ViewedLow returns ways_left m =
           ViewedAway main_turn ready.accepted.settled ready.owns no_in_formals (waiting_in state) state.leaks below.stage.depth deep_low below.views their_facts
-          waits.point.scope around_low free_low whole_low none_kept returns ways_left m
+          (lasting_of s waits.point.scope) around_low free_low whole_low none_kept returns ways_left m
 
       abbrev Away : Way → Type 0
       Away w =
           AwayBy main_turn ready.accepted.settled ready.owns no_in_formals (waiting_in state) state.leaks below.stage.depth deep_low below.views their_facts
-          waits.point.scope around_low free_low whole_low none_kept top.frame.returns below.stage.returns w
+          (lasting_of s waits.point.scope) around_low free_low whole_low none_kept top.frame.returns below.stage.returns w
 
       known_low : (w : Way) (l : ways.Loc) → ways.IsRooted w → ways.Reaches (view_here s state) w l → (view_here s state).word l ≡ ways.Gone
           → IsAway (home s below.stage.depth) below.views around_low their_facts w ⊎ Away w
@@ -337,12 +342,12 @@ module _ (table : Table) (typed : TypedProgram) (effects : Effects) (input : Lis
       abbrev Backed : Memory → Type 0
       Backed m =
           IsBack main_turn ready.accepted.settled ready.owns no_in_formals (waiting_in state) state.leaks below.stage.depth deep_low below.views their_facts
-          waits.point.scope around_low free_low whole_low none_kept top.frame.returns below.stage.returns state.memory m
+          (lasting_of s waits.point.scope) around_low free_low whole_low none_kept top.frame.returns below.stage.returns state.memory m
 
       given_back : Backs Backed (steps.copied_back main_turn top.frame.returns (steps.start main_turn))
       given_back =
           all_given_back main_turn ready.accepted.settled ready.owns no_in_formals (waiting_in state) state.leaks below.stage.depth deep_low below.views their_facts
-          waits.point.scope around_low free_low whole_low none_kept top.frame.returns below.stage.returns (steps.start main_turn) waits.taken kept viewed_low
+          (lasting_of s waits.point.scope) around_low free_low whole_low none_kept top.frame.returns below.stage.returns (steps.start main_turn) waits.taken kept viewed_low
 
       module _ (mid : Memory) (on : Backed mid) where
         abbrev left_state : State
@@ -392,7 +397,7 @@ module _ (table : Table) (typed : TypedProgram) (effects : Effects) (input : Lis
         words_before f x ne view = other_word s mid depth f x ne ∙ on.views f x view
 
         scope_left : (f x : ℕ) (q : List Step) (n : ℕ) → word_in s.table (content s left_memory [] (OfRoot (OfVariable f x))) q ≡ Held n
-            → (f < low) ⊎ ((f ≡ low) × (is_within x (waits.point).scope ≡ true))
+            → (f < low) ⊎ ((f ≡ low) × (is_within x (lasting_of s (waits.point).scope) ≡ true))
         scope_left f x q n held =
             let before = held_before f x q n held in
             elim (on.held f x q n before.1) [

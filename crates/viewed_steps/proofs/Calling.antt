@@ -1,5 +1,10 @@
 -- A call leads on, in the frame of what is called.
-use Rattle.std.proofs.Common.{◌≡◌, refl, sym, ap, ◌∙◌, subst, ◌⊎◌, inl, inr, ℕ, suc, ◌<◌, Bool, true, false, not, ◌||◌, ◌&&◌, ◌==◌, List, [], ◌∷◌, ◌++◌, map, flat_map, is_some, take, drop, length, get_or, arith, append-nil, Option, Some, None, if◌then◌else◌}
+use Rattle.typed_tree.specs.declared.object.ObjectKind.{ObjectKind}
+use Rattle.typed_tree.specs.declared.object.ObjectKind.TheVariants as object_kind
+use Rattle.place_names.specs.Facts.{adds}
+use Rattle.spark_base.proofs.Lists.{Has-map_from}
+use Rattle.std.proofs.Common.{◌≡◌, refl, sym, ap, ◌∙◌, subst, ◌⊎◌, inl, inr, ℕ, suc, ◌<◌, true, false, ◌==◌, List, [], ◌∷◌, ◌++◌, map, take, drop, length, get_or, arith, append-nil, Option, Some, None, if◌then◌else◌, is_some, Bool, not, ◌||◌, flat_map}
+use Rattle.std.specs.Prelude.{is_some}
 use Rattle.spark_base.specs.Lists.{Has}
 use Rattle.spark_base.proofs.Lists.{Has-append_left, Has-map_from}
 use Rattle.place_names.specs.declared.act.Act.{Act}
@@ -10,22 +15,22 @@ use Rattle.place_names.specs.declared.fact.Fact.TheVariants.{Moved, Lent}
 use Rattle.place_names.specs.declared.rule.Loan.{Loan}
 use Rattle.place_names.specs.declared.rule.Loan.TheVariants.{Observed}
 use Rattle.place_names.specs.Names.{Name as PlaceName}
-use Rattle.place_names.specs.Facts.{adds}
-use Rattle.place_names.specs.Reports.{Report}
-use Rattle.type_definitions.specs.Types.{Table, is_owning, is_scalar, full}
-use Rattle.typed_tree.specs.Trees.{TypedTree}
+use Rattle.type_definitions.specs.Types.{Table, is_owning}
+use Rattle.typed_tree.specs.Trees.{TypedTree, Name, NoMore, More}
 use Rattle.typed_tree.specs.Programs.{TypedProgram}
 use Rattle.flow_paths.specs.declared.report.Effects.{Effects}
-use Rattle.flow_paths.specs.Instructions.{Instruction, Call, EndScope}
-use Rattle.flow_paths.specs.Objects.{Typing, Signature, object_at, sub_at, is_anonymous, is_package_object, is_observer, view_of, traverses, passing, passings, Passing}
-use Rattle.flow_paths.specs.Aliases as alias
+use Rattle.flow_paths.specs.Instructions.{Instruction, Call, EndScope, Declare, Assign, Hold}
+use Rattle.flow_paths.specs.Objects.{Typing, object_at, sub_at, is_anonymous, is_package_object, is_observer, view_of, traverses, passings, Passing, Signature, passing, is_formal_kind}
+use Rattle.place_names.specs.Facts.{adds}
+use Rattle.place_names.specs.Reports.{Report}
 use Rattle.flow_paths.specs.Aliases.{overlap_reports, passed_reports, call_reports}
+use Rattle.flow_paths.specs.Aliases as alias
 use Rattle.flow_paths.specs.Acts as flow
 use Rattle.flow_paths.specs.Points.{NamedPoint}
 use Rattle.flow_paths.specs.Laid.{FlowSub, FlowProgram, NamedSub, flow_sub, typing_of, flow_typing, flow_program, flow_named}
 use Rattle.flow_paths.specs.Paths.{PathPoint, is_some_point, ControlPath, begins, goes_on, facts_before}
 use Rattle.flow_paths.specs.Effects.{flow_sub_at, path_points, globals_of, called_acts}
-use Rattle.flow_paths.specs.Scopes.{taken, brought, scope_behind, is_within, Leads}
+use Rattle.flow_paths.specs.Scopes.{taken, brought, scope_behind, is_within, Leads, is_temporary}
 use Rattle.machine.specs.Words as machine
 use Rattle.machine.specs.Memory.{Memory, no_slot, variable_slots}
 use Rattle.machine.specs.Evaluate.{Now, Exception}
@@ -41,7 +46,7 @@ use Rattle.owned_ways.proofs.Locations.{reaches_along, named_along as rooted_alo
 use Rattle.soundness.specs.Seen.{IsNear, is_view_formal, content, seen, home, trunk, word_in}
 use Rattle.soundness.proofs.Contents.{word_root, word_no}
 use Rattle.soundness.specs.Typed.{Kept}
-use Rattle.soundness.specs.Sound.{calls_procedures, Stage, facts_of, AreStages, AreCopied, Uses, IsRunnable, AreAwaited, WaitsAt, temporaries_in, returns_value, awaited, InScope, IsNamedSub, IsAtPoint, view_of as view_here}
+use Rattle.soundness.specs.Sound.{Stage, facts_of, AreStages, AreCopied, Uses, IsRunnable, returns_value, InScope, IsNamedSub, IsAtPoint, view_of as view_here}
 use Rattle.soundness.proofs.Stays.{Quiet}
 use Rattle.soundness.proofs.Numbers.{index_law}
 use Rattle.soundness.proofs.Lasting.{keeps}
@@ -51,9 +56,8 @@ use Rattle.soundness.proofs.Points.{sub_in_range, path_there}
 use Rattle.soundness.proofs.Inherited.{AreGlobal, global_after, global_allowed, global_apart}
 use Rattle.soundness.proofs.Used.{called_used, used_global, called_are, globals_are, added_after}
 use Rattle.soundness.proofs.Around.{IsFar}
-use Rattle.soundness.proofs.Waits.{take_none, drop_none, led_waits}
+use Rattle.soundness.proofs.Waits.{led_waits}
 use Rattle.soundness.proofs.Taking.{Takes}
-use Rattle.soundness.proofs.Waited.{Shares, leads_count, leads_temporary, temporary_more}
 use Rattle.soundness.proofs.Eased.{eased}
 use Rattle.soundness.proofs.Scoped.{Inside}
 use Rattle.soundness.proofs.Beginning.{one_named, one_point}
@@ -63,12 +67,12 @@ use Rattle.owned_loans.proofs.Moves.{named_way}
 use Rattle.viewed_soundness.proofs.Names.{true_false}
 use Rattle.viewed_soundness.specs.Holds.{Holds}
 use Rattle.viewed_soundness.proofs.Evaluated.{live_trunk}
-use Rattle.viewed_soundness.proofs.Outcomes.{named_plain}
-use Rattle.viewed_steps.proofs.Read.{scalar_named}
 use Rattle.soundness.specs.Ready.{IsSupplied, Fills}
-use Rattle.viewed_steps.specs.Sound.{IsResting, HoldsAt, ArePlaced, NoneAbove, ViewStage, stages_of, GoneElsewhere, Disturbs, IsWaiting, AreWaiting, IsKindOfFormal, IsScalarObject, AreReturned, calls_one, LeadsAlong}
-use Rattle.viewed_steps.specs.Taken.{AreCarried, TakenBy, AreTaken}
-use Rattle.viewed_steps.specs.Ready.{roots_passed, IsCalled, IsReady}
+use Rattle.viewed_steps.specs.Awaited.{AreFor, AreValuesBut, temporaries_of, lasting_of, awaited, WaitsAt, AreAwaited, AreScalar, FillsTyped, TakesScalars, IsTakenBy}
+use Rattle.viewed_steps.proofs.Waited.{temporary_first, leads_temporaries, within_lasting, lasting_more, Shares, plain_unheld}
+use Rattle.viewed_steps.specs.Sound.{HoldsAt, ArePlaced, NoneAbove, ViewStage, stages_of, GoneElsewhere, Disturbs, IsWaiting, AreWaiting, calls_one, LeadsAlong, IsResting, IsKindOfFormal, IsScalarObject, AreReturned}
+use Rattle.viewed_steps.specs.Ready.{IsReady, roots_passed, IsCalled}
+use Rattle.viewed_steps.specs.Taken.{TakenBy, AreTaken, AreCarried}
 use Rattle.viewed_steps.proofs.Lent.{Spare, spare_both, loans_stay}
 use Rattle.viewed_steps.proofs.Placed.{within_on, lasts_more, scope_on, placed_on}
 use Rattle.viewed_steps.proofs.Ended.{none_some}
@@ -113,12 +117,12 @@ module _ (table : Table) (typed : TypedProgram) (effects : Effects) (input : Lis
       (frames : state.frames ≡ top.frame ∷ (below.stage.frame ∷ rest)) (deep : top.depth ≡ suc (length rest))
       (stages : AreStages (stages_of (below ∷ more_frames)) (below.stage.frame ∷ rest))
       (running : IsRunnable table typed top.frame.sub × IsResting s top × AreWaiting table typed effects state top.frame.sub top.frame.returns (below ∷ more_frames))
-      (awaiting : AreAwaited table typed 0 (top ∷ stages_of (below ∷ more_frames)))
+      (awaiting : AreAwaited table typed None (top ∷ stages_of (below ∷ more_frames)))
       (of_sub : IsNamedSub (flow_named table typed) top.frame.sub named) (at_point : IsAtPoint named.points top.frame.next p)
       (path : ControlPath (path_points program effects (sub_of program top.frame.sub)) top.before top.frame.next) (views : Views)
       (viewed_before : Viewed (home s (suc (length rest))) (is_observer s) (known_gone (home s (suc (length rest))) (GoneElsewhere program effects (below ∷ more_frames))) views
       (view_here s state) (facts_of program effects top))
-      (kept : Kept s state.memory (waiting_in state)) (scope : InScope s state.memory (suc (length rest)) p.scope) (holds : HoldsAt s (suc (length rest)) views state.memory p)
+      (kept : Kept s state.memory (waiting_in state)) (scope : InScope s state.memory (suc (length rest)) (lasting_of s p.scope)) (holds : HoldsAt s (suc (length rest)) views state.memory p)
       (placed_before : ArePlaced program (facts_of program effects top) views p.scope) (above : NoneAbove s (suc (length rest)) state.memory) where
     abbrev outer : List Frame
     outer = below.stage.frame ∷ rest
@@ -186,13 +190,25 @@ module _ (table : Table) (typed : TypedProgram) (effects : Effects) (input : Lis
     abbrev given_words : List (List machine.Word)
     given_words = (start main_turn).waits
 
-    abbrev takes_of : (i : Instruction) → p.instr ≡ i → Takes (taken i) given_words []
+    abbrev Plain : Type 0
+    Plain = AreScalar s (temporaries_of s (take (taken p.instr) p.scope))
+
+    abbrev plain_here : ((call : TypedTree) → IsTakenBy p.instr call → ⊥) → Plain × TakesScalars s p.instr
+    plain_here = innermost.plain_here table typed effects input ready state top below more_frames rest named p frames deep stages running awaiting of_sub at_point path views viewed_before kept scope holds placed_before above
+
+    abbrev named_there : Has (flow_named table typed) named
+    named_there = innermost.named_there table typed effects input ready state top below more_frames rest named p frames deep stages running awaiting of_sub at_point path views viewed_before kept scope holds placed_before above
+
+    abbrev point_there_now : Has named.points p
+    point_there_now = innermost.point_there_now table typed effects input ready state top below more_frames rest named p frames deep stages running awaiting of_sub at_point path views viewed_before kept scope holds placed_before above
+
+    abbrev takes_of : Plain → (i : Instruction) → p.instr ≡ i → Takes (taken i) given_words []
     takes_of = innermost.takes_of table typed effects input ready state top below more_frames rest named p frames deep stages running awaiting of_sub at_point path views viewed_before kept scope holds placed_before above
 
     abbrev easy : Turn
     easy = eased main_turn
 
-    abbrev viewed_easy : Viewed (home s depth) (is_observer s) other views (view_here s easy.state) facts_now × Kept s state.memory (waiting_in easy.state)
+    abbrev viewed_easy : Plain → Viewed (home s depth) (is_observer s) other views (view_here s easy.state) facts_now × Kept s state.memory (waiting_in easy.state)
     viewed_easy = innermost.viewed_easy table typed effects input ready state top below more_frames rest named p frames deep stages running awaiting of_sub at_point path views viewed_before kept scope holds placed_before above
 
     abbrev placed_left : (facts : List Fact) → ArePlaced program facts views p.scope → ArePlaced program facts views left_scope
@@ -203,7 +219,7 @@ module _ (table : Table) (typed : TypedProgram) (effects : Effects) (input : Lis
         (f < suc (length rest)) × ((f ≡ 0)
         ⊎ ((q : List ways.Step) × (k : ℕ) × (word_in s.table (content s state.memory [] (ways.OfRoot (ways.OfVariable f x))) q ≡ ways.Held k)))
 
-    abbrev inside_left : Inside s IsOld state.memory depth left_scope
+    abbrev inside_left : Inside s IsOld state.memory depth (lasting_of s left_scope)
     inside_left = innermost.inside_left table typed effects input ready state top below more_frames rest named p frames deep stages running awaiting of_sub at_point path views viewed_before kept scope holds placed_before above
 
     abbrev others_await : returns_value p.instr ≡ false → AreAwaited table typed (awaited (sub_of program top.frame.sub) (top.frame.next ∷ top.before)) (stages_of older)
@@ -238,26 +254,23 @@ module _ (table : Table) (typed : TypedProgram) (effects : Effects) (input : Lis
           ready.class.copied (flow_sub own named) (standing.in_program table typed effects input ready state top older outer named p frames of_sub at_point) main_turn.point
           (standing.in_sub table typed effects input ready state top older outer named p frames of_sub at_point) n actuals result e called.formals
 
-      -- results are of scalar types
+      -- results are of no anonymous types
       no_traversal : traverses s.table (sub_of program n).result ≡ false
       no_traversal = by_result (sub_of program n).result refl
         where
-          plain_result : (of : ℕ) → (sub_of program n).result ≡ Some of → is_scalar (full s.table of) ≡ true
-          plain_result of is = elim ready.class.results [
-            | inr plain ↦ plain.0 n of (ap (λ (z : Signature). z.result) (signature_is program n) ∙ is)
-            | inl procedures ↦ absurd (not_called result
-                (sym (ap calls_procedures e)
-                ∙ procedures (flow_sub own named) (standing.in_program table typed effects input ready state top older outer named p frames of_sub at_point) main_turn.point
-                (standing.in_sub table typed effects input ready state top older outer named p frames of_sub at_point)) (sym called.answers ∙ ap is_some is))
-          ]
-            where
-              not_called : (r : Option ℕ) → calls_procedures (Call n actuals r) ≡ true → is_some r ≡ true → ⊥
-              not_called None calls some = cc
-              not_called (Some t) calls some = cc
-
           by_result : (r : Option ℕ) → (sub_of program n).result ≡ r → traverses s.table r ≡ false
           by_result None is = refl
-          by_result (Some of) is = named_plain s.table of (scalar_named s.table of (plain_result of is))
+          by_result (Some of) is =
+              ready.class.results (flow_sub own named) (standing.in_program table typed effects input ready state top older outer named p frames of_sub at_point) main_turn.point
+              (standing.in_sub table typed effects input ready state top older outer named p frames of_sub at_point) n actuals result e of is
+
+      -- what a call takes is of scalar types
+      pub plain_there : Plain × TakesScalars s p.instr
+      plain_there = plain_here (λ call by. elim by [
+        | inl (x, is) ↦ (let never : Call n actuals result ≡ Declare x (More call NoMore) = sym e ∙ is in cc)
+        | inr (inl (q, x, steps, u, is, calls)) ↦ (let never : Call n actuals result ≡ Assign (Name q x steps u) call = sym e ∙ is in cc)
+        | inr (inr is) ↦ (let never : Call n actuals result ≡ Hold (More call NoMore) = sym e ∙ is in cc)
+      ])
 
       abbrev pub procedure : Bool
       procedure = not (is_some (sub_of program n).result)
@@ -330,28 +343,28 @@ module _ (table : Table) (typed : TypedProgram) (effects : Effects) (input : Lis
           → (content s state.memory (waiting_in easy.state) (trunk l)).owns ≡ true
       live_now =
           live_trunk (steps.here main_turn) ready.accepted.settled state.leaks [] other alone (keeps s ready.accepted.settled ready.owns) no_in_formals index_law
-          ready.owns views ready.class.parts_named state.memory (waiting_in easy.state) (viewed_easy.0).owned
+          ready.owns views ready.class.parts_named state.memory (waiting_in easy.state) ((viewed_easy plain_there.0).0).owned
 
       abbrev pub Given : List Passed → Type 0
       Given passed =
-          AreGiven (steps.here main_turn) ready.accepted.settled (waiting_in easy.state) state.leaks state.memory [] other facts_now views viewed_easy.1 viewed_easy.0 holds_now alone live_now
+          AreGiven (steps.here main_turn) ready.accepted.settled (waiting_in easy.state) state.leaks state.memory [] other facts_now views (viewed_easy plain_there.0).1 (viewed_easy plain_there.0).0 holds_now alone live_now
           index_law ready.owns ready.class.parts_named procedure formals actuals passed
 
       -- the values that the actuals take
       pub taken_there : (on : List (List machine.Word)) × TakesAll formals actuals given_words on
-      taken_there = takes_each formals actuals given_words [] (takes_of (Call n actuals result) e)
+      taken_there = takes_each formals actuals given_words [] (takes_of plain_there.0 (Call n actuals result) e)
 
       abbrev pub then_now : Now
       then_now = record { memory = state.memory; waits = taken_there.0 }
 
       pub passed_quiet : Quiet then_now Given (all_passed (steps.here main_turn) ways_there formals actuals (start main_turn))
       passed_quiet =
-          all_given (steps.here main_turn) ready.accepted.settled (waiting_in easy.state) state.leaks state.memory [] other facts_now views viewed_easy.1 viewed_easy.0 holds_now alone live_now
+          all_given (steps.here main_turn) ready.accepted.settled (waiting_in easy.state) state.leaks state.memory [] other facts_now views (viewed_easy plain_there.0).1 (viewed_easy plain_there.0).0 holds_now alone live_now
           index_law ready.owns ready.class.parts_named procedure given_words taken_there.0 formals actuals kinds called.actuals_stay copied_there taken_there.1 values_allowed
 
       given_laid : (passed : List Passed) → Given passed → AreLaidOut s depth formals actuals passed
       given_laid passed given =
-          all_laid_out (steps.here main_turn) ready.accepted.settled (waiting_in easy.state) state.leaks state.memory [] other facts_now views viewed_easy.1 viewed_easy.0 holds_now alone live_now
+          all_laid_out (steps.here main_turn) ready.accepted.settled (waiting_in easy.state) state.leaks state.memory [] other facts_now views (viewed_easy plain_there.0).1 (viewed_easy plain_there.0).0 holds_now alone live_now
           index_law ready.owns ready.class.parts_named procedure formals actuals passed given
 
       -- the state is sound with views under the facts after the acts
@@ -360,8 +373,8 @@ module _ (table : Table) (typed : TypedProgram) (effects : Effects) (input : Lis
           subst (Viewed (home s depth) (is_observer s) other views (view_here s easy.state))
           (sym (ap (λ z. after z facts_now) (acts_append values copies) ∙ after_append (acts values) (acts copies) facts_now
           ∙ ap (after (acts copies)) (reads_keep values reads_there facts_now)))
-          (all_acted (steps.here main_turn) ready.accepted.settled (waiting_in easy.state) state.leaks state.memory [] other facts_now views viewed_easy.1 viewed_easy.0 holds_now alone live_now
-          index_law ready.owns ready.class.parts_named procedure formals actuals passed facts_now kinds given viewed_easy.0)
+          (all_acted (steps.here main_turn) ready.accepted.settled (waiting_in easy.state) state.leaks state.memory [] other facts_now views (viewed_easy plain_there.0).1 (viewed_easy plain_there.0).0 holds_now alone live_now
+          index_law ready.owns ready.class.parts_named procedure formals actuals passed facts_now kinds given (viewed_easy plain_there.0).0)
 
       -- loans stay
       loans_called : (h : ℕ) (m : PlaceName) → Has own_facts (Lent Observed h m) → Has facts_called (Lent Observed h m)
@@ -427,10 +440,10 @@ module _ (table : Table) (typed : TypedProgram) (effects : Effects) (input : Lis
       more : (x : ℕ) → is_within x left_scope ≡ true → is_within x (scope_behind p) ≡ true
       more x within = subst (λ i. is_within x (brought i left_scope) ≡ true) (sym e) (brought_more result x within)
 
-      behind_scope : InScope s state.memory depth (scope_behind p)
-      behind_scope f x q k held = elim (inside_left f x q k held) [ inl old ↦ inl old.0 | inr mine ↦ inr (mine.0, more x mine.1) ]
+      behind_scope : InScope s state.memory depth (lasting_of s (scope_behind p))
+      behind_scope f x q k held = elim (inside_left f x q k held) [ inl old ↦ inl old.0 | inr mine ↦ inr (mine.0, lasting_more s left_scope (scope_behind p) more x mine.1) ]
 
-      next_scope : InScope s state.memory depth (at_successor.0).scope
+      next_scope : InScope s state.memory depth (lasting_of s (at_successor.0).scope)
       next_scope = scope_on s ready.owns state.memory depth (scope_behind p) (at_successor.0).scope behind_scope at_successor.2
 
       next_placed : ArePlaced program facts_called views (at_successor.0).scope
@@ -446,50 +459,33 @@ module _ (table : Table) (typed : TypedProgram) (effects : Effects) (input : Lis
 
       -- ---- what waits, before the callee has returned
 
-      late_scope : (r : Option ℕ) → Fills s (Call n actuals r) left_scope → (empty : ℕ) → (is_some r ≡ false → empty ≡ 0) → (is_some r ≡ true → empty ≡ 1)
-          → (b : List ℕ) → Leads s (brought (Call n actuals r) left_scope) b
-          → (temporaries_in s (drop empty b) ≡ temporaries_in s left_scope) × (temporaries_in s (take empty b) ≡ empty)
-      late_scope None fills empty none some b leads = (
-        ap (λ k. temporaries_in s (drop k b)) (none refl) ∙ ap (temporaries_in s) (drop_none b) ∙ sym (leads_count s left_scope b leads),
-        ap (λ k. temporaries_in s (take k b)) (none refl) ∙ ap (temporaries_in s) (take_none b) ∙ sym (none refl),
-      )
-      late_scope (Some t) fills empty none some b leads = (
-        ap (λ k. temporaries_in s (drop k b)) (some refl) ∙ ap (λ z. temporaries_in s (drop 1 z)) (leads_temporary s t left_scope b fills leads)
-            ∙ ap (temporaries_in s) (drop_none left_scope),
-        ap (λ k. temporaries_in s (take k b)) (some refl) ∙ ap (λ z. temporaries_in s (take 1 z)) (leads_temporary s t left_scope b fills leads)
-            ∙ temporary_more s t (take 0 left_scope) fills ∙ ap (λ z. suc (temporaries_in s z)) (take_none left_scope) ∙ sym (some refl),
-      )
+      late_scope : (r : Option ℕ) → Fills s (Call n actuals r) left_scope → FillsTyped program (Call n actuals r) left_scope → (empty : Option ℕ)
+          → (sub_of program n).result ≡ empty → is_some empty ≡ is_some r → (b : List ℕ) → Leads s (brought (Call n actuals r) left_scope) b
+          → AreValuesBut s empty (steps.waiting main_turn) (temporaries_of s b)
+      late_scope None fills fits None is answers b leads = subst (AreFor s (steps.waiting main_turn)) (leads_temporaries s left_scope b leads) shared.left
+      late_scope None fills fits (Some of) is answers b leads = cc
+      late_scope (Some t) fills fits None is answers b leads = cc
+      late_scope (Some t) fills fits (Some of) is answers b leads =
+          subst (AreValuesBut s (Some of) (steps.waiting main_turn)) (sym (temporary_first s t left_scope fills) ∙ leads_temporaries s (t ∷ left_scope) b leads)
+          (fits of is, shared.left)
 
-      abbrev late : ℕ
+      abbrev late : Option ℕ
       late = awaited (sub_of program n) []
-
-      late_none : is_some result ≡ false → late ≡ 0
-      late_none none = ap (λ b. if b && true then 1 else 0) (called.answers ∙ none)
-
-      late_some : is_some result ≡ true → late ≡ 1
-      late_some some = ap (λ b. if b && true then 1 else 0) (called.answers ∙ some)
-
-      late_there : (temporaries_in s (drop late (at_successor.0).scope) ≡ temporaries_in s left_scope) × (temporaries_in s (take late (at_successor.0).scope) ≡ late)
-      late_there =
-          late_scope result (subst (λ i. Fills s i left_scope) e supplied_here.1) late late_none late_some (at_successor.0).scope
-          (subst (λ i. Leads s (brought i left_scope) (at_successor.0).scope) e at_successor.2)
 
       waits_late : (ways_taken : List Way) → WaitsAt table typed late (waits_with ways_taken)
       waits_late ways_taken other_named other_stands q at_q =
           let same_sub : other_named ≡ named = one_named (flow_named table typed) top.frame.sub other_named named other_stands of_sub in
           let same_point : at_successor.0 ≡ q =
-          one_point named.points call_point.0 (at_successor.0) q at_successor.1 (subst (λ (z : NamedSub). IsAtPoint z.points call_point.0 q) same_sub at_q) in (
-            (
-              (shared.left).0,
-              (shared.left).1 ∙ sym (subst (λ (z : NamedPoint). temporaries_in s (drop late z.scope) ≡ temporaries_in s left_scope) same_point late_there.0),
-            ),
-            subst (λ (z : NamedPoint). temporaries_in s (take late z.scope) ≡ late) same_point late_there.1,
-          )
+          one_point named.points call_point.0 (at_successor.0) q at_successor.1 (subst (λ (z : NamedSub). IsAtPoint z.points call_point.0 q) same_sub at_q) in
+          subst (λ (z : NamedPoint). AreValuesBut s late (steps.waiting main_turn) (temporaries_of s z.scope)) same_point
+          (late_scope result (subst (λ i. Fills s i left_scope) e supplied_here.1)
+          (subst (λ i. FillsTyped program i left_scope) e (ready.valued.fills named named_there p point_there_now)) late refl called.answers (at_successor.0).scope
+          (subst (λ i. Leads s (brought i left_scope) (at_successor.0).scope) e at_successor.2))
 
       -- ---- what is passed
 
       abbrev pub next_there : List ℕ
-      next_there = (at_successor.0).scope
+      next_there = lasting_of s (at_successor.0).scope
 
       -- the state is sound with views under the facts after the acts, and so it is beside the others
       module _ (passed : List Passed) (given : Given passed) where
@@ -524,12 +520,15 @@ module _ (table : Table) (typed : TypedProgram) (effects : Effects) (input : Lis
 
         within_next : (y : ℕ) → Has (roots_passed actuals) y → is_package_object s y ≡ false → is_owning s.table (object_at s y).of ≡ true → is_within y next_there ≡ true
         within_next y has mine owns =
-            within_on s (scope_behind p) next_there y at_successor.2 (ap (λ b. b || is_anonymous (view_of s y)) owns)
+            within_lasting s y (at_successor.0).scope
+            (within_on s (scope_behind p) (at_successor.0).scope y at_successor.2 (ap (λ b. b || is_anonymous (view_of s y)) owns)
             (more y (elim (ready.passing.passed named (standing.named_in table typed effects input ready state top older outer named p frames of_sub at_point) p
             (standing.point_in_named table typed effects input ready state top older outer named p frames of_sub at_point) n actuals result e y has) [
               | inr within ↦ within
               | inl shared_object ↦ absurd (true_false (is_package_object s y) shared_object mine)
-            ]))
+            ])))
+            (ready.valued.passed named (standing.named_in table typed effects input ready state top older outer named p frames of_sub at_point) p
+            (standing.point_in_named table typed effects input ready state top older outer named p frames of_sub at_point) n actuals result e y has)
 
         pub all_passed_ways : (ways_taken : List Way) × ArePassedOn s depth facts_called next_there formals passed ways_taken
             × ((k : Way) → Has ways_taken k → IsNamedBy s formals actuals k)
@@ -596,7 +595,7 @@ module _ (table : Table) (typed : TypedProgram) (effects : Effects) (input : Lis
             state.memory with_all
         enters =
             all_declared s ready.accepted.settled ready.owns no_in_formals (waiting_in easy.state) state.leaks depth views facts_called next_there other_all formals passed ways_taken
-            state.memory all_passed_ways.1 open_there viewed_easy.1 well_all blank_formals
+            state.memory all_passed_ways.1 open_there (viewed_easy plain_there.0).1 well_all blank_formals
 
         abbrev declared_there : AreDeclared s ready.accepted.settled ready.owns no_in_formals (waiting_in easy.state) state.leaks depth views facts_called next_there formals
             state.memory with_all
@@ -683,7 +682,7 @@ module _ (table : Table) (typed : TypedProgram) (effects : Effects) (input : Lis
             (λ g has x w is. (let root = kept_low table typed effects unmoved_stage local state depth older between w (g.views.cell x) (g, has, x, is, refl) in
             subst (λ z. ways.Reaches z w (ways.OfCell (g.views.cell x))) view_called
             (declared_there.low w root.0 root.1 root.2 root.3 (g.views.cell x)
-            ((viewed_easy.0).far w (g.views.cell x) (g, has, x, is, refl))))) running.2
+            (((viewed_easy plain_there.0).0).far w (g.views.cell x) (g, has, x, is, refl))))) running.2
 
         -- what is gone then is known to those that wait
         known_called : (w : Way) (l : ways.Loc) → ways.IsRooted w → ways.Reaches (view_here s after_call) w l → (view_here s after_call).word l ≡ ways.Gone
@@ -746,7 +745,11 @@ module _ (table : Table) (typed : TypedProgram) (effects : Effects) (input : Lis
                 | inl less ↦ inl (omega (arith, less))
                 | inr mine ↦ (let is = mine.0 in inl (omega (arith, is)))
               ]
-              | inr mine ↦ inr (mine.0, called.begins x mine.1 (owning_there f x q k held))
+              | inr mine ↦ inr (
+                mine.0,
+                within_lasting s x called.runs.point.scope (called.begins x mine.1 (owning_there f x q k held))
+                    (plain_unheld s x (formal_lasts (object_at s x).kind (called.formals x mine.1))),
+              )
             ];
             holds = record {
               held = λ x k lasts view at. absurd (no_view x k view at);
@@ -759,6 +762,10 @@ module _ (table : Table) (typed : TypedProgram) (effects : Effects) (input : Lis
           calls_one waits_stage refl (refl, refl, refl) refl none_new (subst (λ d. AreCarried s (λ f. f ≡ suc d → ⊥) [] state.memory with_all) (sym deep) declared_there.carried),
         )
           where
+            formal_lasts : (k : ObjectKind) → is_formal_kind k ≡ true → is_temporary k ≡ false
+            formal_lasts object_kind.Formal is = refl
+            formal_lasts k is = cc
+
             -- what has a number owns
             owning_there : (f x : ℕ) (q : List Step) (k : ℕ) → word_in s.table (content s with_all [] (ways.OfRoot (ways.OfVariable f x))) q ≡ ways.Held k
                 → is_owning s.table (object_at s x).of ≡ true

@@ -43,14 +43,15 @@ use Rattle.soundness.proofs.Fading.{FadesTo, still, then_fades, if_fades, checke
 use Rattle.soundness.proofs.Lasting.{keeps, lengths, declared_kept}
 use Rattle.soundness.proofs.Numbers.{index_law}
 use Rattle.soundness.proofs.Scalars.{acts}
-use Rattle.soundness.proofs.Taking.{Takes, takes_as, takes_zero, no_takes, TakesPlainly, both_plainly, nothing_more}
+use Rattle.soundness.proofs.Taking.{Takes, takes_as, takes_zero, no_takes, nothing_more}
 use Rattle.owned_loans.specs.Views.{Around, Views, expand, ExcusedBy, Viewed}
 use Rattle.owned_loans.proofs.Ways.{lifts, lifted_way, root_on}
 use Rattle.owned_loans.proofs.Moves.{as_sound, all_known, view_named, view_on, named_way}
+use Rattle.viewed_soundness.specs.Taken.{GivesPlainly}
 use Rattle.viewed_soundness.specs.Holds.{IsNamed, PartsAreNamed, Holds, AllKeep}
 use Rattle.viewed_soundness.proofs.Names.{true_false}
 use Rattle.viewed_soundness.proofs.Moments.{hands_spared}
-use Rattle.viewed_soundness.proofs.Evaluated.{Given, blank_ready, checked_given, evaluated_on}
+use Rattle.viewed_soundness.proofs.Evaluated.{gives_plainly, Given, blank_ready, checked_given, evaluated_on}
 use Rattle.viewed_soundness.proofs.Outcomes.{named_plain, not_views, IsGood, Leads_on, raises, start_is, unturned, goes_to}
 
 -- ---- a variable that had nothing gets a value
@@ -273,7 +274,7 @@ module _ (t : Turn) (settled : IsSettled (typing t).table) (own_law : OwnsByShap
         ])
   ]
 
-  first_fades : (ws : List (List machine.Word)) (u : ℕ) (e : TypedTree) → FirstSource s u e → FadesTo (here t) m (first_value t u e (at ws))
+  pub first_fades : (ws : List (List machine.Word)) (u : ℕ) (e : TypedTree) → FirstSource s u e → FadesTo (here t) m (first_value t u e (at ws))
   unfolding initial
   first_fades ws u (More e rest) gives =
       if_fades (here t) m (is_anonymous (full s.table u)) (viewed (here t) e (at ws)) (followed_by (value (here t) e (at ws)) (checked (here t) u))
@@ -282,7 +283,7 @@ module _ (t : Turn) (settled : IsSettled (typing t).table) (own_law : OwnsByShap
   first_fades ws u NoMore gives = still s m
   first_fades ws u e gives = absurd gives
 
-  pub source_given : (ws : List (List machine.Word)) (u : ℕ) (e : TypedTree) → IsNamed s.table u → Source s u e → TakesPlainly s (has_call e) → Takes (waits_in e) ws [] → (facts : List Fact) → Good facts
+  pub source_given : (ws : List (List machine.Word)) (u : ℕ) (e : TypedTree) → IsNamed s.table u → Source s u e → GivesPlainly s e → Takes (waits_in e) ws [] → (facts : List Fact) → Good facts
       → AllowsAll facts (acts (acts_in s e)) → AllKeep (is_observer s) (acts (acts_in s e)) → Given_here u (after (acts (acts_in s e)) facts) (taken_by t u e (at ws))
   source_given ws u e named (inl (view, is)) calls takes facts good allowed keep = absurd (true_false (is_anonymous (full s.table u)) view (named_plain s.table u named))
   source_given ws u e named (inr gives) calls takes facts good allowed keep =
@@ -293,14 +294,14 @@ module _ (t : Turn) (settled : IsSettled (typing t).table) (own_law : OwnsByShap
       (evaluated_on (here t) settled t.state.leaks [] other alone (keeps s settled own_law) no_formals index_law own_law v parts_named e u gives calls ws [] takes
       m hands facts (record { viewed = good.viewed; kept = good.kept; holds = good.holds }) allowed named keep))
 
-  pub first_given : (ws : List (List machine.Word)) (u : ℕ) (e : TypedTree) → IsNamed s.table u → FirstSource s u e → TakesPlainly s (has_call e) → Takes (waits_in e) ws [] → (facts : List Fact) → Good facts
+  pub first_given : (ws : List (List machine.Word)) (u : ℕ) (e : TypedTree) → IsNamed s.table u → FirstSource s u e → GivesPlainly s e → Takes (waits_in e) ws [] → (facts : List Fact) → Good facts
       → AllowsAll facts (acts (acts_in s e)) → AllKeep (is_observer s) (acts (acts_in s e)) → Given_here u (after (acts (acts_in s e)) facts) (first_value t u e (at ws))
-  unfolding acts_in has_call initial waits_in
+  unfolding acts_in GivesPlainly initial waits_in
   first_given ws u (More e rest) named (last, gives) calls takes facts good allowed keep =
       let same : acts_in s e ++ acts_in s rest ≡ acts_in s e = ap (λ z. acts_in s e ++ acts_in s z) last ∙ append-nil (acts_in s e) in
       let alone_there : waits_in e + waits_in rest ≡ waits_in e = ap (λ z. waits_in e + waits_in z) last ∙ nothing_more (waits_in e) in
       subst (λ z. Given_here u (after (acts z) facts) (taken_by t u e (at ws))) (sym same)
-      (source_given ws u e named gives (both_plainly s (has_call e) (has_call rest) calls).0
+      (source_given ws u e named gives calls.0
       (takes_as (waits_in e + waits_in rest) (waits_in e) ws [] alone_there takes) facts good (subst (λ z. AllowsAll facts (acts z)) same allowed)
       (subst (λ z. AllKeep (is_observer s) (acts z)) same keep))
   first_given ws u NoMore named gives calls takes facts good allowed keep = (
@@ -324,11 +325,11 @@ module _ (t : Turn) (settled : IsSettled (typing t).table) (own_law : OwnsByShap
           let same = same_root depth x (home s depth y) y e in
           true_false (is_anonymous (view_of s y)) view (ap (λ z. is_anonymous (view_of s z)) (sym same.1) ∙ named_plain s.table (object_at s x).of named)
 
-  then_declared : ((n : Memory) → WellOwned s (counted (record t.state { memory = given_up t.state.memory n }))) → (x : ℕ) (facts : List Fact)
-      → IsNamed s.table (object_at s x).of → (y : Evaluated (List machine.Word)) → Given_here (object_at s x).of facts y
-      → FadesTo (here t) m y → IsBlank x m → IsUnmoved x facts → IsFree x → IsApart (home s depth) other depth x
-      → LeadsHere facts (steps.evaluated t y (λ ws n. goes t (declared depth x ws n) 0))
-  then_declared well x facts named (Done ws n) (ready, long, same) faint new unmoved free apart =
+  -- with this value
+  pub declared_goes : (x : ℕ) (facts : List Fact) → IsNamed s.table (object_at s x).of → (ws : List machine.Word) (n : Now)
+      → Given_here (object_at s x).of facts (Done ws n) → FadesTo (here t) {A = List machine.Word} m (Done ws n) → IsBlank x m → IsUnmoved x facts → IsFree x
+      → IsApart (home s depth) other depth x → LeadsHere facts (goes t (declared depth x ws n.memory) 0)
+  declared_goes x facts named ws n (ready, long, same) faint new unmoved free apart =
       goes_to t settled own_law other alone no_formals v parts_named may frames none (declared depth x ws n.memory) 0 v facts
       (unturned t settled own_law other alone no_formals v parts_named may frames none facts)
       (declared_viewed s settled (home s depth) (is_observer s) other v n.memory (record { of = (object_at s x).of; words = ws }) hands t.state.leaks facts depth x
@@ -336,12 +337,18 @@ module _ (t : Turn) (settled : IsSettled (typing t).table) (own_law : OwnsByShap
       (alike s.table settled (object_at s x).of (object_at s x).of (inl refl)) free.0 apart)
       (declared_kept s settled n.memory depth x (record { of = (object_at s x).of; words = ws }) hands ready.kept long (inl refl))
       (holds_beside n.memory x ws named ready.holds)
+
+  then_declared : ((n : Memory) → WellOwned s (counted (record t.state { memory = given_up t.state.memory n }))) → (x : ℕ) (facts : List Fact)
+      → IsNamed s.table (object_at s x).of → (y : Evaluated (List machine.Word)) → Given_here (object_at s x).of facts y
+      → FadesTo (here t) m y → IsBlank x m → IsUnmoved x facts → IsFree x → IsApart (home s depth) other depth x
+      → LeadsHere facts (steps.evaluated t y (λ ws n. goes t (declared depth x ws n) 0))
+  then_declared well x facts named (Done ws n) given faint new unmoved free apart = declared_goes x facts named ws n given faint new unmoved free apart
   then_declared well x facts named (Raises e n) given faint new unmoved free apart = (λ trap. trap, well n.memory)
   then_declared well x facts named (Traps e n) never faint new unmoved free apart = absurd never
 
   -- An object is declared. It has nothing yet, and no fact after the evaluation names it.
   pub declare_on : (ws : List (List machine.Word)) (x : ℕ) (e : TypedTree) → IsNamed s.table (object_at s x).of → FirstSource s (object_at s x).of e
-      → TakesPlainly s (has_call e) → Takes (waits_in e) ws [] → (facts : List Fact)
+      → GivesPlainly s e → Takes (waits_in e) ws [] → (facts : List Fact)
       → Good facts → AllowsAll facts (acts (declared_acts s x e)) → AllKeep (is_observer s) (acts (declared_acts s x e))
       → IsBlank x m → IsUnmoved x (after (acts (declared_acts s x e)) facts) → IsFree x → IsApart (home s depth) other depth x
       → LeadsHere (after (acts (declared_acts s x e)) facts) (steps.evaluated t (first_value t (object_at s x).of e (at ws)) (λ ws n. goes t (declared depth x ws n) 0))
@@ -364,7 +371,7 @@ module _ (t : Turn) (settled : IsSettled (typing t).table) (own_law : OwnsByShap
   declare_leads x e named gives calls facts good allowed keep new unmoved free apart =
       subst (λ z. LeadsHere (after (acts (declared_acts s x e)) facts) (steps.evaluated t (first_value t (object_at s x).of e z) (λ ws n. goes t (declared depth x ws n) 0)))
       (sym (start_is t settled own_law other alone no_formals v parts_named may frames none))
-      (declare_on [] x e named gives (inl calls) (no_takes e calls []) facts good allowed keep new unmoved free apart)
+      (declare_on [] x e named gives (gives_plainly s e (inl calls)) (no_takes e calls []) facts good allowed keep new unmoved free apart)
 
   -- ---- variables of other objects
 

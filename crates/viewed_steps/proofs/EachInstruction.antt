@@ -1,6 +1,7 @@
 -- Each instruction leads on, but calls and their ends, operands that wait, returns with a value, and
 -- ends of scopes.
-use Rattle.std.proofs.Common.{◌≡◌, refl, sym, ap, ◌∙◌, subst, ◌⊎◌, inl, inr, ℕ, suc, ◌+◌, ◌<◌, Bool, true, false, not, ◌||◌, List, [], ◌∷◌, ◌++◌, map, drop, length, arith, append-nil, Option, Some, None, nat_lt, int_le, ◌&&◌, if◌then◌else◌}
+use Rattle.soundness.proofs.Passing.{plain_type}
+use Rattle.std.proofs.Common.{◌≡◌, refl, sym, ap, ◌∙◌, subst, ◌⊎◌, inl, inr, ℕ, suc, ◌+◌, ◌<◌, Bool, true, false, not, ◌||◌, List, [], ◌∷◌, ◌++◌, map, drop, length, arith, append-nil, Option, Some, None, nat_lt, int_le, ◌&&◌, if◌then◌else◌, take}
 use Rattle.spark_base.specs.Lists.{Has}
 use Rattle.spark_base.specs.declared.position.Pos.{Pos}
 use Rattle.place_names.specs.declared.act.Act.{Act}
@@ -17,7 +18,7 @@ use Rattle.typed_tree.specs.Trees.{TypedTree, TypedCode, Name, NoMore, More}
 use Rattle.typed_tree.specs.Programs.{TypedProgram}
 use Rattle.flow_paths.specs.declared.report.Effects.{Effects}
 use Rattle.flow_paths.specs.Instructions.{Instruction, Skip, Declare, Assign, Call, Output, Input, Release, Test, Choose, Start, Next, Evaluate, LeaveLoop, Hold, EndScope, Finish, Fall}
-use Rattle.flow_paths.specs.Objects.{Typing, object_at, is_anonymous, is_package_object, is_observer, view_of, traverses}
+use Rattle.flow_paths.specs.Objects.{Typing, object_at, is_anonymous, is_package_object, is_observer, view_of, has_scope_end}
 use Rattle.flow_paths.specs.Names.{has_call, waiting as waits_in, name_of}
 use Rattle.flow_paths.specs.Acts as flow
 use Rattle.flow_paths.specs.Acts.{acts_in}
@@ -44,8 +45,8 @@ use Rattle.owned_ways.proofs.Locations.{reaches_along, named_along as rooted_alo
 use Rattle.soundness.specs.Seen.{IsNear, is_view_formal, content, word_in, home}
 use Rattle.soundness.specs.Typed.{Kept}
 use Rattle.typed_laws.specs.Needed.{IsFine, Stays, Source, FirstSource, FirstWrites, FirstStays, Returns}
-use Rattle.soundness.specs.Sound.{IsNoCall, calls_procedures, Stage, facts_of, AreStages, IsRunnable, AreAwaited, AreWaiting as AreWaitingValues, returns_value, awaited, InScope, IsNamedSub, IsAtPoint, view_of as view_here}
-use Rattle.soundness.specs.Ready.{stored_at}
+use Rattle.soundness.specs.Sound.{IsNoCall, Stage, facts_of, AreStages, IsRunnable, returns_value, InScope, IsNamedSub, IsAtPoint, view_of as view_here, is_temporary_object}
+use Rattle.soundness.specs.Ready.{stored_at, Fills, IsSupplied}
 use Rattle.soundness.proofs.Contents.{bool_cases, word_root}
 use Rattle.soundness.proofs.Scalars.{acts, acts_append}
 use Rattle.soundness.proofs.Scoped.{MayHold, Inside}
@@ -54,21 +55,23 @@ use Rattle.soundness.proofs.Around.{IsFar}
 use Rattle.soundness.proofs.Following.{Each}
 use Rattle.soundness.proofs.Onward.{GoesOn, declare_follows, assign_follows, release_follows, input_follows, test_follows, choose_follows, stays_follows, output_follows, start_follows, next_follows}
 use Rattle.soundness.proofs.Waits.{drop_none}
-use Rattle.soundness.proofs.Taking.{Takes, takes_as, takes_both, TakesPlainly, nothing_more}
+use Rattle.soundness.proofs.Taking.{Takes, takes_as, takes_both, nothing_more}
 use Rattle.soundness.proofs.Waited.{FillsNone}
 use Rattle.soundness.proofs.Eased.{eased, waits_same, goes_same, from_eased}
 use Rattle.soundness.proofs.Continued.{got_with, released_with, started_with, input_eased, release_eased, start_eased}
-use Rattle.soundness.proofs.Successors.{not_true, both_not, below_one, below_two, successor_there}
+use Rattle.soundness.proofs.Successors.{not_true, below_one, below_two, successor_there}
 use Rattle.owned_loans.specs.Views.{Around, known_gone, Views, Viewed, Unused}
 use Rattle.viewed_soundness.specs.Holds.{AllKeep}
 use Rattle.viewed_soundness.proofs.Names.{plain_named, true_false}
 use Rattle.viewed_soundness.proofs.Evaluated.{keep_both}
 use Rattle.viewed_soundness.proofs.Outcomes.{named_plain, IsGood, Leads_on, decides_on, choose_on, assign_on, Turned}
-use Rattle.viewed_steps.specs.Sound.{IsResting, Lasts, HoldsAt, ArePlaced, NoneAbove, ViewStage, stages_of, GoneElsewhere, AreWaiting, IsStoredAt, AreTurned, steps_on, LeadsAlong}
+use Rattle.viewed_steps.specs.Awaited.{AreValues, temporaries_of, is_held, lasting_of, awaited, AreAwaited, AreScalar, TakesScalars}
+use Rattle.viewed_steps.proofs.Waited.{lasting_within, within_lasting}
+use Rattle.viewed_steps.specs.Sound.{Lasts, HoldsAt, ArePlaced, NoneAbove, ViewStage, stages_of, GoneElsewhere, AreWaiting, IsStoredAt, AreTurned, steps_on, LeadsAlong, IsResting}
 use Rattle.viewed_steps.specs.Ready.{AreOrderly, IsReady}
 use Rattle.viewed_steps.proofs.Declared.{IsElsewhere, not_gone, declare_on}
 use Rattle.viewed_steps.proofs.Released.{released_on}
-use Rattle.viewed_steps.proofs.Read.{got_on}
+use Rattle.viewed_steps.proofs.Read.{got_on, scalar_named}
 use Rattle.viewed_steps.proofs.Rounds.{skip_leads, line_leads, next_leads, output_on, started_on}
 use Rattle.viewed_steps.proofs.Lent.{Spare, loans_stay, spare_acts}
 use Rattle.viewed_steps.proofs.Placed.{brought_more, lasts_more, scope_on, view_ends, placed_on, MayBe, turned_placed}
@@ -104,12 +107,12 @@ module _ (table : Table) (typed : TypedProgram) (effects : Effects) (input : Lis
       (frames : state.frames ≡ top.frame ∷ (below.stage.frame ∷ rest)) (deep : top.depth ≡ suc (length rest))
       (stages : AreStages (stages_of (below ∷ more_frames)) (below.stage.frame ∷ rest))
       (running : IsRunnable table typed top.frame.sub × IsResting s top × AreWaiting table typed effects state top.frame.sub top.frame.returns (below ∷ more_frames))
-      (awaiting : AreAwaited table typed 0 (top ∷ stages_of (below ∷ more_frames)))
+      (awaiting : AreAwaited table typed None (top ∷ stages_of (below ∷ more_frames)))
       (of_sub : IsNamedSub (flow_named table typed) top.frame.sub named) (at_point : IsAtPoint named.points top.frame.next p)
       (path : ControlPath (path_points program effects (sub_of program top.frame.sub)) top.before top.frame.next) (views : Views)
       (viewed_before : Viewed (home s (suc (length rest))) (is_observer s) (known_gone (home s (suc (length rest))) (GoneElsewhere program effects (below ∷ more_frames))) views
       (view_here s state) (facts_of program effects top))
-      (kept : Kept s state.memory (waiting_in state)) (scope : InScope s state.memory (suc (length rest)) p.scope) (holds : HoldsAt s (suc (length rest)) views state.memory p)
+      (kept : Kept s state.memory (waiting_in state)) (scope : InScope s state.memory (suc (length rest)) (lasting_of s p.scope)) (holds : HoldsAt s (suc (length rest)) views state.memory p)
       (placed_before : ArePlaced program (facts_of program effects top) views p.scope) (above : NoneAbove s (suc (length rest)) state.memory) where
     abbrev outer : List Frame
     outer = below.stage.frame ∷ rest
@@ -147,40 +150,11 @@ module _ (table : Table) (typed : TypedProgram) (effects : Effects) (input : Lis
     abbrev acts_of_main : Instruction → List Act
     acts_of_main i = standing.acts_here table typed effects input ready state top older outer named p frames of_sub at_point i
 
-    abbrev allowed_now : Spare s (standing.acts_by table typed effects input ready state top older outer named p frames of_sub at_point s p.instr) → AllowsAll own_facts (acts_of_main p.instr)
-        → AllowsAll facts_now (acts_of_main p.instr)
-    allowed_now = innermost.allowed_now table typed effects input ready state top below more_frames rest named p frames deep stages running awaiting of_sub at_point path views viewed_before kept scope holds placed_before above
-
     abbrev viewed : Viewed (home s depth) (is_observer s) other views (view_here s state) facts_now
     viewed = innermost.viewed table typed effects input ready state top below more_frames rest named p frames deep stages running awaiting of_sub at_point path views viewed_before kept scope holds placed_before above
 
-    abbrev apart_from_them : (done : List Act) (v : Views) (view : ways.View) → ((x : ℕ) (w : Way) → v.way x ≡ Some w → is_anonymous (view_of s x) ≡ true)
-        → Viewed (home s depth) (is_observer s) other v view (after done facts_now)
-        → Viewed (home s depth) (is_observer s) (known_gone (home s depth) (GoneElsewhere program effects older)) v view (after done own_facts)
-    apart_from_them = innermost.apart_from_them table typed effects input ready state top below more_frames rest named p frames deep stages running awaiting of_sub at_point path views viewed_before kept scope holds placed_before above
-
-    abbrev placed_by : (some all : List Fact) (v : Views) (scope_there : List ℕ) → ((h : ℕ) (m : PlaceName) → is_observer s h ≡ true → Has some (Lent Observed h m) → Has all (Lent Observed h m))
-        → ArePlaced program some v scope_there → ArePlaced program all v scope_there
-    placed_by = innermost.placed_by table typed effects input ready state top below more_frames rest named p frames deep stages running awaiting of_sub at_point path views viewed_before kept scope holds placed_before above
-
     abbrev placed : ArePlaced program facts_now views p.scope
     placed = innermost.placed table typed effects input ready state top below more_frames rest named p frames deep stages running awaiting of_sub at_point path views viewed_before kept scope holds placed_before above
-
-    abbrev own_loans : (done : List Act) (h : ℕ) (m : PlaceName) → is_observer s h ≡ true → Has (after done facts_now) (Lent Observed h m)
-        → Has (after done own_facts) (Lent Observed h m)
-    own_loans = innermost.own_loans table typed effects input ready state top below more_frames rest named p frames deep stages running awaiting of_sub at_point path views viewed_before kept scope holds placed_before above
-
-    abbrev not_handed : (name : PlaceName) → Has handed_on (Moved name) → is_package_object s name.root ≡ false → ⊥
-    not_handed = innermost.not_handed table typed effects input ready state top below more_frames rest named p frames deep stages running awaiting of_sub at_point path views viewed_before kept scope holds placed_before above
-
-    abbrev not_lent : (x : ℕ) → is_package_object s x ≡ false → (l : Loan) (name : PlaceName) → other.lent l name → name.root ≡ x → ⊥
-    not_lent = innermost.not_lent table typed effects input ready state top below more_frames rest named p frames deep stages running awaiting of_sub at_point path views viewed_before kept scope holds placed_before above
-
-    abbrev not_lent_home : (x : ℕ) (l : Loan) (name : PlaceName) → other.lent l name → name.root ≡ x → depth ≡ home s depth x → ⊥
-    not_lent_home = innermost.not_lent_home table typed effects input ready state top below more_frames rest named p frames deep stages running awaiting of_sub at_point path views viewed_before kept scope holds placed_before above
-
-    abbrev plain_traversal : traverses s.table named.sub.result ≡ false
-    plain_traversal = innermost.plain_traversal table typed effects input ready state top below more_frames rest named p frames deep stages running awaiting of_sub at_point path views viewed_before kept scope holds placed_before above
 
     abbrev not_at_home : (x : ℕ) (name : PlaceName) → Has handed_on (Moved name) → name.root ≡ x → depth ≡ home s depth x → ⊥
     not_at_home = innermost.not_at_home table typed effects input ready state top below more_frames rest named p frames deep stages running awaiting of_sub at_point path views viewed_before kept scope holds placed_before above
@@ -194,26 +168,26 @@ module _ (table : Table) (typed : TypedProgram) (effects : Effects) (input : Lis
     abbrev given_words : List (List machine.Word)
     given_words = (start main_turn).waits
 
-    abbrev takes_of : (i : Instruction) → p.instr ≡ i → Takes (taken i) given_words []
+    abbrev Plain : Type 0
+    Plain = AreScalar s (temporaries_of s (take (taken p.instr) p.scope))
+
+    abbrev Plainly : Type 0
+    Plainly = Plain × TakesScalars s p.instr
+
+    abbrev takes_of : Plain → (i : Instruction) → p.instr ≡ i → Takes (taken i) given_words []
     takes_of = innermost.takes_of table typed effects input ready state top below more_frames rest named p frames deep stages running awaiting of_sub at_point path views viewed_before kept scope holds placed_before above
 
     abbrev easy : Turn
     easy = eased main_turn
 
-    abbrev viewed_easy : Viewed (home s depth) (is_observer s) other views (view_here s easy.state) facts_now × Kept s state.memory (waiting_in easy.state)
+    abbrev viewed_easy : Plain → Viewed (home s depth) (is_observer s) other views (view_here s easy.state) facts_now × Kept s state.memory (waiting_in easy.state)
     viewed_easy = innermost.viewed_easy table typed effects input ready state top below more_frames rest named p frames deep stages running awaiting of_sub at_point path views viewed_before kept scope holds placed_before above
-
-    abbrev plainly : (i : Instruction) → p.instr ≡ i → (calls : Bool) → (calls_procedures i ≡ true → calls ≡ false) → TakesPlainly s calls
-    plainly = innermost.plainly table typed effects input ready state top below more_frames rest named p frames deep stages running awaiting of_sub at_point path views viewed_before kept scope holds placed_before above
-
-    abbrev lasts_left : (r x : ℕ) → Lasts program p.scope r x → Lasts program left_scope r x
-    lasts_left = innermost.lasts_left table typed effects input ready state top below more_frames rest named p frames deep stages running awaiting of_sub at_point path views viewed_before kept scope holds placed_before above
 
     abbrev placed_left : (facts : List Fact) → ArePlaced program facts views p.scope → ArePlaced program facts views left_scope
     placed_left = innermost.placed_left table typed effects input ready state top below more_frames rest named p frames deep stages running awaiting of_sub at_point path views viewed_before kept scope holds placed_before above
 
     abbrev Left : List Waiting → Type 0
-    Left waits = AreWaitingValues s waits (scope_behind p)
+    Left waits = AreValues s waits (scope_behind p)
 
     abbrev left_after : FillsNone s p.instr → Left (steps.waiting main_turn)
     left_after = innermost.left_after table typed effects input ready state top below more_frames rest named p frames deep stages running awaiting of_sub at_point path views viewed_before kept scope holds placed_before above
@@ -235,7 +209,7 @@ module _ (table : Table) (typed : TypedProgram) (effects : Effects) (input : Lis
         (f < suc (length rest)) × ((f ≡ 0)
         ⊎ ((q : List Step) × (k : ℕ) × (word_in s.table (content s state.memory [] (OfRoot (OfVariable f x))) q ≡ Held k)))
 
-    abbrev inside_left : Inside s IsOld state.memory depth left_scope
+    abbrev inside_left : Inside s IsOld state.memory depth (lasting_of s left_scope)
     inside_left = innermost.inside_left table typed effects input ready state top below more_frames rest named p frames deep stages running awaiting of_sub at_point path views viewed_before kept scope holds placed_before above
 
     abbrev in_scope : (m : Memory) (after_scope : List ℕ) → Inside s IsOld m depth after_scope → InScope s m depth after_scope
@@ -258,19 +232,28 @@ module _ (table : Table) (typed : TypedProgram) (effects : Effects) (input : Lis
     abbrev with_successors : (i : Instruction) (n : ℕ) → p.instr ≡ i → n < successors i → n < successors main_turn.point.instr
     with_successors = innermost.with_successors table typed effects input ready state top below more_frames rest named p frames deep stages running awaiting of_sub at_point path views viewed_before kept scope holds placed_before above
 
-    abbrev same_scope : (x : ℕ) → is_within x left_scope ≡ true → is_within x left_scope ≡ true
+    abbrev same_scope : (x : ℕ) → is_within x (lasting_of s left_scope) ≡ true → is_within x (lasting_of s left_scope) ≡ true
     same_scope = innermost.same_scope table typed effects input ready state top below more_frames rest named p frames deep stages running awaiting of_sub at_point path views viewed_before kept scope holds placed_before above
 
-    abbrev one_more : (y x : ℕ) → is_within x left_scope ≡ true → is_within x (y ∷ left_scope) ≡ true
+    abbrev one_more : (y x : ℕ) → is_within x (lasting_of s left_scope) ≡ true → is_within x (lasting_of s (y ∷ left_scope)) ≡ true
     one_more = innermost.one_more table typed effects input ready state top below more_frames rest named p frames deep stages running awaiting of_sub at_point path views viewed_before kept scope holds placed_before above
 
-    abbrev new_one : (x : ℕ) → is_within x (x ∷ left_scope) ≡ true
+    abbrev new_there : (x : ℕ) → is_within x (x ∷ left_scope) ≡ true
+    new_there = innermost.new_there table typed effects input ready state top below more_frames rest named p frames deep stages running awaiting of_sub at_point path views viewed_before kept scope holds placed_before above
+
+    abbrev new_one : (x : ℕ) → is_temporary_object s x ≡ false → is_within x (lasting_of s (x ∷ left_scope)) ≡ true
     new_one = innermost.new_one table typed effects input ready state top below more_frames rest named p frames deep stages running awaiting of_sub at_point path views viewed_before kept scope holds placed_before above
+
+    abbrev view_stays : (x : ℕ) → is_anonymous (view_of s x) ≡ true → is_held s x ≡ false
+    view_stays = innermost.view_stays table typed effects input ready state top below more_frames rest named p frames deep stages running awaiting of_sub at_point path views viewed_before kept scope holds placed_before above
+
+    abbrev supplied_here : IsSupplied s p
+    supplied_here = innermost.supplied_here table typed effects input ready state top below more_frames rest named p frames deep stages running awaiting of_sub at_point path views viewed_before kept scope holds placed_before above
 
     abbrev stored_which : (i : Instruction) → p.instr ≡ i → (x : ℕ) → Has (stored_at i) x → (is_package_object s x ≡ true) ⊎ (is_within x left_scope ≡ true)
     stored_which = innermost.stored_which table typed effects input ready state top below more_frames rest named p frames deep stages running awaiting of_sub at_point path views viewed_before kept scope holds placed_before above
 
-    abbrev stored_there : (i : Instruction) → p.instr ≡ i → (x : ℕ) → Has (stored_at i) x → MayHold s IsOld depth left_scope (home s depth x) x
+    abbrev stored_there : (i : Instruction) → p.instr ≡ i → (x : ℕ) → Has (stored_at i) x → MayHold s IsOld depth (lasting_of s left_scope) (home s depth x) x
     stored_there = innermost.stored_there table typed effects input ready state top below more_frames rest named p frames deep stages running awaiting of_sub at_point path views viewed_before kept scope holds placed_before above
 
     abbrev ready_there : (i : Instruction) → p.instr ≡ i → is_ready p i ≡ true
@@ -290,7 +273,7 @@ module _ (table : Table) (typed : TypedProgram) (effects : Effects) (input : Lis
       more y within = brought_more p.instr going left_scope y within
 
       lasts_behind : (r z : ℕ) → Lasts program p.scope r z → Lasts program (scope_behind p) r z
-      lasts_behind r z lasts = lasts_more program left_scope (scope_behind p) r z more (lasts_left r z lasts)
+      lasts_behind r z lasts = lasts_more program left_scope (scope_behind p) r z more ((innermost.lasts_left table typed effects input ready state top below more_frames rest named p frames deep stages running awaiting of_sub at_point path views viewed_before kept scope holds placed_before above) r z lasts)
 
       abbrev pub Good : List Fact → State → Type 0
       Good fs st = IsGood easy ready.accepted.settled ready.owns other alone no_in_formals views ready.class.parts_named may refl refl views fs st
@@ -299,15 +282,15 @@ module _ (table : Table) (typed : TypedProgram) (effects : Effects) (input : Lis
       LeadsFrom i outcome = Leads_on easy ready.accepted.settled ready.owns other alone no_in_formals views ready.class.parts_named may refl refl (after (acts_of_main i) facts_now) outcome
 
       abbrev pub GoesFrom : Left (steps.waiting main_turn) → Instruction → Outcome → Type 0
-      GoesFrom left i outcome = Each (GoesOn main_turn Left left IsOld left_scope (brought i left_scope) inside_left) outcome
+      GoesFrom left i outcome = Each (GoesOn main_turn Left left IsOld (lasting_of s left_scope) (lasting_of s (brought i left_scope)) inside_left) outcome
 
       abbrev Both : Left (steps.waiting main_turn) → Instruction → Type 0
       Both left i = LeadsFrom i (turn main_turn i) × GoesFrom left i (turn main_turn i)
 
-      pub good : Good facts_now easy.state
-      good = record {
-        viewed = viewed_easy.0;
-        kept = viewed_easy.1;
+      pub good : Plain → Good facts_now easy.state
+      good plain = record {
+        viewed = (viewed_easy plain).0;
+        kept = (viewed_easy plain).1;
         holds = record {
           held = λ x n view e. holds.held x n (λ fading. going fading.0 fading.1) view e;
           only = holds.only;
@@ -321,7 +304,7 @@ module _ (table : Table) (typed : TypedProgram) (effects : Effects) (input : Lis
           → LeadsFrom i (steps.evaluated easy y f) → LeadsFrom i (steps.evaluated main_turn y g)
       from_easy i y f g same on = from_eased main_turn (LeadsFrom i) (ends_so i) (λ trap m on. on.0 tt) y f g same on
 
-      goes_too : (i : Instruction) (m : Memory) (k : ℕ) → LeadsFrom i (steps.goes easy m k) → LeadsFrom i (steps.goes main_turn m k)
+      pub goes_too : (i : Instruction) (m : Memory) (k : ℕ) → LeadsFrom i (steps.goes easy m k) → LeadsFrom i (steps.goes main_turn m k)
       goes_too i m k on = subst (LeadsFrom i) (goes_same main_turn m k) on
 
       -- where nothing is taken, the step is like it is
@@ -330,7 +313,14 @@ module _ (table : Table) (typed : TypedProgram) (effects : Effects) (input : Lis
         Leads_main fs outcome = Leads_on main_turn ready.accepted.settled ready.owns other alone no_in_formals views ready.class.parts_named may frames nothing fs outcome
 
         good_main : IsGood main_turn ready.accepted.settled ready.owns other alone no_in_formals views ready.class.parts_named may frames nothing views facts_now state
-        good_main = record { viewed = viewed; kept = kept; holds = good.holds }
+        good_main = record {
+          viewed = viewed;
+          kept = kept;
+          holds = record {
+            held = λ x n view e. holds.held x n (λ fading. going fading.0 fading.1) view e;
+            only = holds.only;
+          };
+        }
 
         to_easy : (fs : List Fact) (outcome : Outcome) → Leads_main fs outcome → Leads_on easy ready.accepted.settled ready.owns other alone no_in_formals views ready.class.parts_named may refl refl fs outcome
         to_easy fs (Goes st) (turned_views, turned, well) = (
@@ -358,7 +348,7 @@ module _ (table : Table) (typed : TypedProgram) (effects : Effects) (input : Lis
       -- nothing that is there is rooted in an object that is declared
       unrooted : (x : ℕ) (v : TypedTree) → p.instr ≡ Declare x v → (r z : ℕ) → is_package_object s x ≡ false → Lasts program p.scope r z → r ≡ x → ⊥
       unrooted x v e r z mine (inl shared) same_root = true_false (is_package_object s x) (ap (is_package_object s) (sym same_root) ∙ shared) mine
-      unrooted x v e r z mine (inr (within, end, around)) same_root = not_within x v e (subst (λ z. is_within z p.scope ≡ true) same_root within)
+      unrooted x v e r z mine (inr (within, end, around, plain)) same_root = not_within x v e (subst (λ z. is_within z p.scope ≡ true) same_root within)
 
       free_views : (x : ℕ) (v : TypedTree) → p.instr ≡ Declare x v → (y : ℕ) (w : Way) → views.way y ≡ Some w → IsElsewhere (home s depth) depth x w
       free_views x v e y w has at_home root = by_package (is_package_object s x) refl
@@ -370,31 +360,31 @@ module _ (table : Table) (typed : TypedProgram) (effects : Effects) (input : Lis
       pub free : (x : ℕ) (v : TypedTree) → p.instr ≡ Declare x v
           → ((y : ℕ) (w : Way) → views.way y ≡ Some w → IsElsewhere (home s depth) depth x w)
           × ((l : Loan) (name : PlaceName) → other.lent l name → name.root ≡ x → depth ≡ home s depth x → ⊥)
-      free x v e = (λ y w has. free_views x v e y w has, not_lent_home x)
+      free x v e = (λ y w has. free_views x v e y w has, (innermost.not_lent_home table typed effects input ready state top below more_frames rest named p frames deep stages running awaiting of_sub at_point path views viewed_before kept scope holds placed_before above) x)
 
       unused : (x : ℕ) (v : TypedTree) → p.instr ≡ Declare x v → is_package_object s x ≡ false → Unused other.lent views facts_now x
       unused x v e mine = record {
         unmoved = λ name has root. elim (from_both (Moved name) has) [
           | inl mine_fact ↦ packages.new_before table typed effects input ready state top older outer named p frames of_sub at_point path x v e name mine_fact root
-          | inr there ↦ not_handed name there (ap (is_package_object s) root ∙ mine)
+          | inr there ↦ (innermost.not_handed table typed effects input ready state top below more_frames rest named p frames deep stages running awaiting of_sub at_point path views viewed_before kept scope holds placed_before above) name there (ap (is_package_object s) root ∙ mine)
         ];
-        unlent = not_lent x mine;
+        unlent = (innermost.not_lent table typed effects input ready state top below more_frames rest named p frames deep stages running awaiting of_sub at_point path views viewed_before kept scope holds placed_before above) x mine;
         untaken = λ z w has off root. unrooted x v e (number_of (views.up z)) z mine (placed z w has).up root;
       }
 
-      unmoved_now : (x : ℕ) (v : TypedTree) → p.instr ≡ Declare x v → (name : PlaceName) → Has facts_now (Moved name) → name.root ≡ x → depth ≡ home s depth x → ⊥
+      pub unmoved_now : (x : ℕ) (v : TypedTree) → p.instr ≡ Declare x v → (name : PlaceName) → Has facts_now (Moved name) → name.root ≡ x → depth ≡ home s depth x → ⊥
       unmoved_now x v e name has root at_home = elim (from_both (Moved name) has) [
         | inl mine ↦ packages.new_before table typed effects input ready state top older outer named p frames of_sub at_point path x v e name mine root
         | inr there ↦ not_at_home x name there root at_home
       ]
 
-      blank : (x : ℕ) (v : TypedTree) → p.instr ≡ Declare x v → (q : List Step) (w : ways.Word)
+      pub blank : (x : ℕ) (v : TypedTree) → p.instr ≡ Declare x v → (q : List Step) (w : ways.Word)
           → word_in s.table (content s state.memory [] (OfRoot (OfVariable depth x))) q ≡ w
           → word_in s.table (content s state.memory [] (OfRoot (OfVariable depth x))) q ≡ ways.Empty
       blank x v e q ways.Empty is = is
       blank x v e q (ways.Held n) is = absurd (elim (scope depth x q n is) [
         | inl less ↦ omega (arith, less)
-        | inr mine ↦ not_within x v e mine.1
+        | inr mine ↦ not_within x v e (lasting_within s x p.scope mine.1).0
       ])
       blank x v e q ways.Gone is =
           let root : ways.Root = OfVariable depth x in
@@ -406,42 +396,44 @@ module _ (table : Table) (typed : TypedProgram) (effects : Effects) (input : Lis
           (word_root s.table (content s state.memory (waiting_in state)) root q ∙ is)))
 
       -- a declaration, at these turns
-      abbrev Declared : ℕ → TypedTree → (Turn → Outcome)
+      abbrev pub Declared : ℕ → TypedTree → (Turn → Outcome)
       Declared x w u = steps.evaluated u (steps.first_value main_turn (object_at s x).of w (start main_turn)) (λ vs m. steps.goes u (declared depth x vs m) 0)
 
-      declared_main : (i : Instruction) (x : ℕ) (w : TypedTree) → LeadsFrom i (Declared x w easy) → LeadsFrom i (Declared x w main_turn)
+      pub declared_main : (i : Instruction) (x : ℕ) (w : TypedTree) → LeadsFrom i (Declared x w easy) → LeadsFrom i (Declared x w main_turn)
       declared_main i x w leads =
           from_easy i (steps.first_value main_turn (object_at s x).of w (start main_turn))
           (λ vs m. steps.goes easy (declared depth x vs m) 0) (λ vs m. steps.goes main_turn (declared depth x vs m) 0)
           (λ vs m on. goes_too i (declared depth x vs m) 0 on) leads
 
-      declares : (x : ℕ) (v : TypedTree) (e : p.instr ≡ Declare x v) → FirstSource s (object_at s x).of v
+      -- no fact after it names the object
+      pub after_it : (x : ℕ) (v : TypedTree) → p.instr ≡ Declare x v → (name : PlaceName) → Has (after (acts_of_main (Declare x v)) facts_now) (Moved name) → name.root ≡ x
+          → depth ≡ home s depth x → ⊥
+      after_it x v e name has root at_home = elim (after_splits (acts_of_main (Declare x v)) facts_now own_facts handed_on from_both (Moved name) has) [
+        | inl mine ↦ packages.new_after table typed effects input ready state top older outer named p frames of_sub at_point path x v e no_calls name
+            (subst (λ i. Has (after (acts_of_main i) own_facts) (Moved name)) (sym e) mine) root
+        | inr there ↦ not_at_home x name there root at_home
+      ]
+
+      declares : Plainly → (x : ℕ) (v : TypedTree) (e : p.instr ≡ Declare x v) → FirstSource s (object_at s x).of v
           → AllowsAll facts_now (acts_of_main (Declare x v)) → AllKeep (is_observer s) (acts_of_main (Declare x v)) → LeadsFrom (Declare x v) (turn main_turn (Declare x v))
       unfolding waits_in
-      declares x v e text allowed_there keep = by_view (is_anonymous (view_of s x)) refl
+      declares plain x v e text allowed_there keep = by_view (is_anonymous (view_of s x)) refl
         where
-          after_it : (name : PlaceName) → Has (after (acts_of_main (Declare x v)) facts_now) (Moved name) → name.root ≡ x → depth ≡ home s depth x → ⊥
-          after_it name has root at_home = elim (after_splits (acts_of_main (Declare x v)) facts_now own_facts handed_on from_both (Moved name) has) [
-            | inl mine ↦ packages.new_after table typed effects input ready state top older outer named p frames of_sub at_point path x v e no_calls name
-                (subst (λ i. Has (after (acts_of_main i) own_facts) (Moved name)) (sym e) mine) root
-            | inr there ↦ not_at_home x name there root at_home
-          ]
-
           from_source : (w : TypedTree) → v ≡ w → (q : Pos) (y u : ℕ) (source : TypedTree) → w ≡ More (Name q y source u) NoMore → is_anonymous (view_of s x) ≡ true
               → Lasts program p.scope y x → (is_observer s x ≡ false → (is_observer s y ≡ false) × (y < x))
               → LeadsFrom (Declare x v) (turn main_turn (Declare x v))
           from_source w same_v q y u source is view lasts older_there =
               let here_is : v ≡ More (Name q y source u) NoMore = same_v ∙ is in
-              let in_behind : is_within x (scope_behind p) ≡ true = subst (λ i. is_within x (brought i left_scope) ≡ true) (sym e) (new_one x) in
+              let in_behind : is_within x (scope_behind p) ≡ true = subst (λ i. is_within x (brought i left_scope) ≡ true) (sym e) (new_there x) in
               let text_there : FirstSource s (object_at s x).of (More (Name q y source u) NoMore) = subst (FirstSource s (object_at s x).of) here_is text in
               let takes : Takes (waits_in source) given_words [] =
               takes_as (taken (Declare x (More (Name q y source u) NoMore))) (waits_in source) given_words [] (nothing_more (waits_in source))
-              (subst (λ z. Takes (taken (Declare x z)) given_words []) here_is (takes_of (Declare x v) e)) in
+              (subst (λ z. Takes (taken (Declare x z)) given_words []) here_is (takes_of plain.0 (Declare x v) e)) in
               declared_main (Declare x v) x v (subst (λ z. LeadsFrom (Declare x v) (Declared x z easy)) (sym here_is)
               (subst (λ z. Leads_on easy ready.accepted.settled ready.owns other alone no_in_formals views ready.class.parts_named may refl refl (after (acts_of_main (Declare x z)) facts_now) (Declared x (More (Name q y source u) NoMore) easy)) (sym here_is)
               (view_declared easy ready.accepted.settled ready.owns other alone no_in_formals views ready.class.parts_named may refl refl given_words
               q x y u source view (ready.orderly.local x view).0 (home_frame x (local x view)) text_there.1 takes
-              older_there (record { lasts = lasts_behind y x lasts; within = in_behind; view = view }, inl (v, e)) facts_now good (unused x v e (local x view))
+              older_there (record { lasts = lasts_behind y x lasts; within = in_behind; view = view; plain = view_stays x view }, inl (v, e)) facts_now (good plain.0) (unused x v e (local x view))
               (subst (λ z. AllowsAll facts_now (acts_of_main (Declare x z))) here_is allowed_there))))
 
           by_view : (b : Bool) → is_anonymous (view_of s x) ≡ b → LeadsFrom (Declare x v) (turn main_turn (Declare x v))
@@ -450,9 +442,9 @@ module _ (table : Table) (typed : TypedProgram) (effects : Effects) (input : Lis
               from_source v refl source.0 source.1 source.3 source.2 source.4 view source.5 source.6
           by_view false owner =
               declared_main (Declare x v) x v (declare_on easy ready.accepted.settled ready.owns other alone no_in_formals views ready.class.parts_named may refl refl given_words
-              x v (plain_named s.table (object_at s x).of owner) text (plainly (Declare x v) e (has_call v) (λ calls. not_true (has_call v) calls)) (takes_of (Declare x v) e)
-              facts_now good allowed_there keep
-              (λ q. blank x v e q (word_in s.table (content s state.memory [] (OfRoot (OfVariable depth x))) q) refl) after_it (free x v e)
+              x v (plain_named s.table (object_at s x).of owner) text (subst (TakesScalars s) e plain.1) (takes_of plain.0 (Declare x v) e)
+              facts_now (good plain.0) allowed_there keep
+              (λ q. blank x v e q (word_in s.table (content s state.memory [] (OfRoot (OfVariable depth x))) q) refl) (after_it x v e) (free x v e)
               (λ w n keeps base. apart_elsewhere table typed effects unmoved_stage local state depth older between x w n keeps base))
 
       -- ---- assignments
@@ -461,31 +453,31 @@ module _ (table : Table) (typed : TypedProgram) (effects : Effects) (input : Lis
       Goal a b = LeadsFrom (Assign a b) (turn main_turn (Assign a b))
 
       -- an assignment, at these turns
-      abbrev Assigned : TypedTree → ℕ → TypedTree → (Turn → Outcome)
+      abbrev pub Assigned : TypedTree → ℕ → TypedTree → (Turn → Outcome)
       Assigned target of e u =
           steps.evaluated u (followed_by (steps.taken_by main_turn of e (start main_turn))
           (λ ws now. followed_by (place_of (steps.here main_turn) target now) (λ k now. Done (record { words = ws; place = k }) now)))
           (λ (st : steps.Stored) m. steps.leaking_goes (checks_at s (steps.target_pos main_turn target) m st.place) (steps.goes u (stored s st.place st.words m) 0))
 
-      assigned_main : (i : Instruction) (target : TypedTree) (of : ℕ) (e : TypedTree) → LeadsFrom i (Assigned target of e easy) → LeadsFrom i (Assigned target of e main_turn)
+      pub assigned_main : (i : Instruction) (target : TypedTree) (of : ℕ) (e : TypedTree) → LeadsFrom i (Assigned target of e easy) → LeadsFrom i (Assigned target of e main_turn)
       assigned_main i target of e leads =
           from_easy i _ (λ (st : steps.Stored) m. steps.leaking_goes (checks_at s (steps.target_pos main_turn target) m st.place) (steps.goes easy (stored s st.place st.words m) 0))
           (λ (st : steps.Stored) m. steps.leaking_goes (checks_at s (steps.target_pos main_turn target) m st.place) (steps.goes main_turn (stored s st.place st.words m) 0))
           (λ st m on. subst (λ z. LeadsFrom i (steps.leaking_goes (checks_at s (steps.target_pos main_turn target) m st.place) z))
           (goes_same main_turn (stored s st.place st.words m) 0) on) leads
 
-      assigns : (left : Left (steps.waiting main_turn)) (target e : TypedTree) (is : p.instr ≡ Assign target e) → IsFine s None (Assign target e)
+      assigns : Plainly → (left : Left (steps.waiting main_turn)) (target e : TypedTree) (is : p.instr ≡ Assign target e) → IsFine s None (Assign target e)
           → AllowsAll facts_now (acts_of_main (Assign target e)) → AllKeep (is_observer s) (acts_of_main (Assign target e)) → Both left (Assign target e)
       unfolding has_call waits_in
-      assigns left (Name q x steps u) e is (v, (leads, type), source) allowed_there keep =
+      assigns plain left (Name q x steps u) e is (v, (leads, type), source) allowed_there keep =
           let source_there : Source s u e = subst (λ z. Source s z e) (sym type) source in (
             by_view source_there (is_anonymous (full s.table u)) refl,
-            assign_follows main_turn Left left IsOld left_scope left_scope inside_left same_scope q x u steps e
+            assign_follows main_turn Left left IsOld (lasting_of s left_scope) (lasting_of s left_scope) inside_left same_scope q x u steps e
                 (stored_there (Assign (Name q x steps u) e) is x (inl refl)) (with_successors (Assign (Name q x steps u) e) 0 is below_one),
           )
         where
           itself_lasts : is_anonymous (view_of s x) ≡ true → is_within x (scope_behind p) ≡ true → Lasts program (scope_behind p) x x
-          itself_lasts view within = inr (within, view_ends s x view, ready.orderly.itself _)
+          itself_lasts view within = inr (within, view_ends s x view, ready.orderly.itself _, view_stays x view)
 
           within_now : is_anonymous (view_of s x) ≡ true → is_within x (scope_behind p) ≡ true
           within_now view = elim (stored_which (Assign (Name q x steps u) e) is x (inl refl)) [
@@ -512,28 +504,29 @@ module _ (table : Table) (typed : TypedProgram) (effects : Effects) (input : Lis
                       ];
                       within = within_now view;
                       view = view;
+                      plain = view_stays x view;
                     },
                     inr (q, (object_at s x).of, e, instr_is),
                   ) in
                   let takes : Takes (waits_in rest) given_words [] =
                   takes_as (taken (Assign (Name q x NoMore of) (Name r y rest w))) (waits_in rest) given_words [] (nothing_more (waits_in rest))
-                  (subst (λ z. Takes (taken (Assign (Name q x NoMore of) z)) given_words []) here_is (takes_of (Assign (Name q x NoMore of) e) instr_is)) in
+                  (subst (λ z. Takes (taken (Assign (Name q x NoMore of) z)) given_words []) here_is (takes_of plain.0 (Assign (Name q x NoMore of) e) instr_is)) in
                   subst (λ z. Goal (Name q x NoMore of) z) (sym here_is)
                   (assigned_main (Assign (Name q x NoMore of) (Name r y rest w)) (Name q x NoMore of) of (Name r y rest w)
                   (view_assigned easy ready.accepted.settled ready.owns other alone no_in_formals views ready.class.parts_named may refl refl given_words
-                  p.pos q r x y w rest view (ready.orderly.local x view).0 (home_frame x (local x view)) (subst (Source s of) here_is source) takes itself from facts_now good
+                  p.pos q r x y w rest view (ready.orderly.local x view).0 (home_frame x (local x view)) (subst (Source s of) here_is source) takes itself from facts_now (good plain.0)
                   (subst (λ z. AllowsAll facts_now (acts_of_main (Assign (Name q x NoMore of) z))) here_is allowed_here)))
 
           by_view : Source s u e → (b : Bool) → is_anonymous (full s.table u) ≡ b → Goal (Name q x steps u) e
           by_view source (false) owner = elim source [
             | inl view ↦ absurd (true_false (is_anonymous (full s.table u)) view.0 owner)
             | inr gives ↦ (
-                let two = takes_both (waits_in e) (waits_in steps) given_words [] (takes_of (Assign (Name q x steps u) e) is) in
+                let two = takes_both (waits_in e) (waits_in steps) given_words [] (takes_of plain.0 (Assign (Name q x steps u) e) is) in
                 assigned_main (Assign (Name q x steps u) e) (Name q x steps u) u e
                 (assign_on easy ready.accepted.settled ready.owns other alone no_in_formals views ready.class.parts_named may refl refl given_words two.0
                 p.pos q x u steps e (plain_named s.table u owner) gives leads
-                (plainly (Assign (Name q x steps u) e) is (has_call e) (λ calls. (both_not (has_call steps) (has_call e) calls).1)) two.1 two.2
-                facts_now good allowed_there keep))
+                (subst (TakesScalars s) is plain.1) two.1 two.2
+                facts_now (good plain.0) allowed_there keep))
           ]
           by_view source true view = elim (leads_or s ready.class.parts_named steps (object_at s x).of u leads) [
             | inr own_type ↦ absurd (true_false (is_anonymous (full s.table u)) view (named_plain s.table u own_type))
@@ -543,31 +536,31 @@ module _ (table : Table) (typed : TypedProgram) (effects : Effects) (input : Lis
                 (to_view (subst (λ z. Source s z e) (sym whole.1) source) (ap (λ z. is_anonymous (full s.table z)) whole.1 ∙ view)
                 (is ∙ ap (λ z. Assign z e) target_is) (subst (λ z. AllowsAll facts_now (acts_of_main (Assign z e))) target_is allowed_there)))
           ]
-      assigns left target e is (v, never, source) allowed_there keep = absurd never
+      assigns plain left target e is (v, never, source) allowed_there keep = absurd never
 
       -- ---- what changes no view
 
-      writes : (text : TypedTree) (line : Bool) (is : p.instr ≡ Output text line) → FirstWrites s text
+      writes : Plainly → (text : TypedTree) (line : Bool) (is : p.instr ≡ Output text line) → FirstWrites s text
           → AllowsAll facts_now (acts_of_main (Output text line)) → LeadsFrom (Output text line) (turn main_turn (Output text line))
       unfolding acts_in waits_in
-      writes (More e rest) line is (last, text) allowed_there =
+      writes plain (More e rest) line is (last, text) allowed_there =
           from_easy (Output (More e rest) line) (text_of (steps.here main_turn) e (start main_turn))
           (λ bytes m. Goes (record (steps.behind easy (steps.waiting easy) m 0) { output = state.output ++ bytes ++ (if line then 10 ∷ [] else []) }))
           (λ bytes m. Goes (record (steps.behind main_turn (steps.waiting main_turn) m 0) { output = state.output ++ bytes ++ (if line then 10 ∷ [] else []) }))
           (λ bytes m on. subst (λ z. LeadsFrom (Output (More e rest) line) (Goes (record (steps.behind main_turn z m 0) { output = state.output ++ bytes ++ (if line then 10 ∷ [] else []) })))
           (waits_same main_turn) on)
           (output_on easy ready.accepted.settled ready.owns other alone no_in_formals views ready.class.parts_named may refl refl given_words
-          e rest line last text (takes_of (Output (More e rest) line) is) facts_now good allowed_there)
-      writes NoMore line is text allowed_there =
+          e rest line last text (takes_of plain.0 (Output (More e rest) line) is) facts_now (good plain.0) allowed_there)
+      writes plain NoMore line is text allowed_there =
           let nothing = none_takes (Output NoMore line) is refl in
           to_easy nothing facts_now (turn main_turn (Output NoMore line))
           (line_leads main_turn ready.accepted.settled ready.owns other alone no_in_formals views ready.class.parts_named may frames nothing line facts_now (good_main nothing))
-      writes other_text line is never allowed_there = absurd never
+      writes plain other_text line is never allowed_there = absurd never
 
-      reads : (left : Left (steps.waiting main_turn)) (target : TypedTree) (is : p.instr ≡ Input target) → IsFine s None (Input target)
+      reads : Plainly → (left : Left (steps.waiting main_turn)) (target : TypedTree) (is : p.instr ≡ Input target) → IsFine s None (Input target)
           → AllowsAll facts_now (acts_of_main (Input target)) → Both left (Input target)
       unfolding waits_in
-      reads left (Name q x path u) is (v, (leads, type), scalar) allowed_there = (
+      reads plain left (Name q x path u) is (v, (leads, type), scalar) allowed_there = (
         input_eased main_turn (LeadsFrom (Input (Name q x path u))) (ends_so (Input (Name q x path u))) (λ trap m on. on.0 tt)
             (Name q x path u)
             (got_on easy ready.accepted.settled ready.owns other alone no_in_formals views ready.class.parts_named may refl refl given_words
@@ -576,17 +569,17 @@ module _ (table : Table) (typed : TypedProgram) (effects : Effects) (input : Lis
               at_bad = λ k m next. rw next refl;
               at_number = λ k m v end next fits. rw (next, fits) refl;
               at_outside = λ k m v end next out. rw (next, out) refl;
-            }) (subst (λ z. is_scalar (full s.table z) ≡ true) (sym type) scalar) leads (takes_of (Input (Name q x path u)) is)
-            (orderly.read q x u path is) facts_now good allowed_there),
-        input_follows main_turn Left left IsOld left_scope left_scope inside_left same_scope q x u path
+            }) (subst (λ z. is_scalar (full s.table z) ≡ true) (sym type) scalar) leads (takes_of plain.0 (Input (Name q x path u)) is)
+            (orderly.read q x u path is) facts_now (good plain.0) allowed_there),
+        input_follows main_turn Left left IsOld (lasting_of s left_scope) (lasting_of s left_scope) inside_left same_scope q x u path
             (stored_there (Input (Name q x path u)) is x (inl refl)) (with_successors (Input (Name q x path u)) 0 is below_one),
       )
-      reads left target is (v, never, scalar) allowed_there = absurd never
+      reads plain left target is (v, never, scalar) allowed_there = absurd never
 
-      releases : (left : Left (steps.waiting main_turn)) (target : TypedTree) (is : p.instr ≡ Release target) → IsFine s None (Release target)
+      releases : Plainly → (left : Left (steps.waiting main_turn)) (target : TypedTree) (is : p.instr ≡ Release target) → IsFine s None (Release target)
           → AllowsAll facts_now (acts_of_main (Release target)) → AllKeep (is_observer s) (acts_of_main (Release target)) → Both left (Release target)
       unfolding waits_in
-      releases left (Name q x path u) is (v, d, (leads, type), access) allowed_there keep = (
+      releases plain left (Name q x path u) is (v, d, (leads, type), access) allowed_there keep = (
         release_eased main_turn (LeadsFrom (Release (Name q x path u))) (ends_so (Release (Name q x path u))) (λ trap m on. on.0 tt)
             q x u path
             (released_on easy ready.accepted.settled ready.owns other alone no_in_formals views ready.class.parts_named may refl refl given_words
@@ -595,9 +588,9 @@ module _ (table : Table) (typed : TypedProgram) (effects : Effects) (input : Lis
               at_whole = λ k m v is. rw is refl;
               at_listed = λ k m v is. rw is refl;
               at_cell = λ k m n is alive. rw (is, alive) refl;
-            }) (subst (λ z. shape_of s.table z ≡ shape.Access d false true) (sym type) access) leads (takes_of (Release (Name q x path u)) is)
-            (last_kept (acts_in s path) keep) facts_now good allowed_there),
-        release_follows main_turn Left left IsOld left_scope left_scope inside_left same_scope q x u path
+            }) (subst (λ z. shape_of s.table z ≡ shape.Access d false true) (sym type) access) leads (takes_of plain.0 (Release (Name q x path u)) is)
+            (last_kept (acts_in s path) keep) facts_now (good plain.0) allowed_there),
+        release_follows main_turn Left left IsOld (lasting_of s left_scope) (lasting_of s left_scope) inside_left same_scope q x u path
             (stored_there (Release (Name q x path u)) is x (inl refl)) (with_successors (Release (Name q x path u)) 0 is below_one),
       )
         where
@@ -605,28 +598,28 @@ module _ (table : Table) (typed : TypedProgram) (effects : Effects) (input : Lis
           last_kept before keep =
               (keep_both (is_observer s) (acts before) (act.Free (name_of x path) ∷ [])
               (subst (AllKeep (is_observer s)) (acts_append before (record { pos = q; act = act.Free (name_of x path) } ∷ [])) keep)).1.0
-      releases left target is (v, d, never, access) allowed_there keep = absurd never
+      releases plain left target is (v, d, never, access) allowed_there keep = absurd never
 
-      decides : (i : Instruction) (is : p.instr ≡ i) (e : TypedTree) → taken i ≡ waits_in e → acts_of_main i ≡ acts (acts_in s e) → Stays s e
+      decides : Plainly → (i : Instruction) (is : p.instr ≡ i) (e : TypedTree) → taken i ≡ waits_in e → acts_of_main i ≡ acts (acts_in s e) → Stays s e
           → AllowsAll facts_now (acts_of_main i) → (k : List machine.Word → ℕ)
           → LeadsFrom i (steps.evaluated main_turn (value (steps.here main_turn) e (start main_turn)) (λ ws m. steps.goes main_turn m (k ws)))
-      decides i is e takes same_acts stays allowed_there k =
+      decides plain i is e takes same_acts stays allowed_there k =
           from_easy i (value (steps.here main_turn) e (start main_turn)) (λ ws m. steps.goes easy m (k ws)) (λ ws m. steps.goes main_turn m (k ws))
           (λ ws m on. goes_too i m (k ws) on)
           (subst (λ z. Leads_on easy ready.accepted.settled ready.owns other alone no_in_formals views ready.class.parts_named may refl refl (after z facts_now)
           (steps.evaluated easy (value (steps.here easy) e (record { memory = state.memory; waits = given_words })) (λ ws m. steps.goes easy m (k ws)))) (sym same_acts)
           (decides_on easy ready.accepted.settled ready.owns other alone no_in_formals views ready.class.parts_named may refl refl given_words
-          e stays (takes_as (taken i) (waits_in e) given_words [] takes (takes_of i is)) facts_now good (subst (AllowsAll facts_now) same_acts allowed_there) k))
+          e stays (takes_as (taken i) (waits_in e) given_words [] takes (takes_of plain.0 i is)) facts_now (good plain.0) (subst (AllowsAll facts_now) same_acts allowed_there) k))
 
-      chooses : (left : Left (steps.waiting main_turn)) (e : TypedTree) (choices : List TypedCode) (is : p.instr ≡ Choose e choices) → Stays s e
+      chooses : Plainly → (left : Left (steps.waiting main_turn)) (e : TypedTree) (choices : List TypedCode) (is : p.instr ≡ Choose e choices) → Stays s e
           → AllowsAll facts_now (acts_of_main (Choose e choices)) → Both left (Choose e choices)
-      chooses left e choices is stays allowed_there = (
+      chooses plain left e choices is stays allowed_there = (
         from_easy (Choose e choices) (value (steps.here main_turn) e (start main_turn))
             (λ ws m. steps.chosen easy (length choices) (steps.choice choices ws) m) (λ ws m. steps.chosen main_turn (length choices) (steps.choice choices ws) m)
             (λ ws m on. chosen_too (nat_lt (steps.choice choices ws) (length choices)) (steps.choice choices ws) m on)
             (choose_on easy ready.accepted.settled ready.owns other alone no_in_formals views ready.class.parts_named may refl refl given_words
-            e choices stays (takes_of (Choose e choices) is) facts_now good allowed_there),
-        choose_follows main_turn Left left IsOld left_scope left_scope inside_left same_scope e choices (ap successors (sym is)),
+            e choices stays (takes_of plain.0 (Choose e choices) is) facts_now (good plain.0) allowed_there),
+        choose_follows main_turn Left left IsOld (lasting_of s left_scope) (lasting_of s left_scope) inside_left same_scope e choices (ap successors (sym is)),
       )
         where
           chosen_too : (b : Bool) (k : ℕ) (m : Memory) → LeadsFrom (Choose e choices) (if b then steps.goes easy m k else steps.raised easy ConstraintError m)
@@ -634,25 +627,25 @@ module _ (table : Table) (typed : TypedProgram) (effects : Effects) (input : Lis
           chosen_too true k m on = goes_too (Choose e choices) m k on
           chosen_too false k m on = ends_so (Choose e choices) ConstraintError m
 
-      leaves : (left : Left (steps.waiting main_turn)) (e : TypedTree) (is : p.instr ≡ LeaveLoop e) → FirstStays s e → AllowsAll facts_now (acts_of_main (LeaveLoop e))
+      leaves : Plainly → (left : Left (steps.waiting main_turn)) (e : TypedTree) (is : p.instr ≡ LeaveLoop e) → FirstStays s e → AllowsAll facts_now (acts_of_main (LeaveLoop e))
           → Both left (LeaveLoop e)
       unfolding acts_in waits_in
-      leaves left (More e rest) is (last, stays) allowed_there = (
-        decides (LeaveLoop (More e rest)) is e (ap (λ z. waits_in e + waits_in z) last ∙ nothing_more (waits_in e))
+      leaves plain left (More e rest) is (last, stays) allowed_there = (
+        decides plain (LeaveLoop (More e rest)) is e (ap (λ z. waits_in e + waits_in z) last ∙ nothing_more (waits_in e))
             (ap acts (ap (λ z. acts_in s e ++ acts_in s z) last ∙ append-nil (acts_in s e))) stays allowed_there (λ ws. if run.is_true ws then 0 else 1),
-        test_follows main_turn Left left IsOld left_scope left_scope inside_left same_scope e (with_successors (LeaveLoop (More e rest)) 1 is below_two),
+        test_follows main_turn Left left IsOld (lasting_of s left_scope) (lasting_of s left_scope) inside_left same_scope e (with_successors (LeaveLoop (More e rest)) 1 is below_two),
       )
-      leaves left NoMore is text allowed_there = (
+      leaves plain left NoMore is text allowed_there = (
         skips_so (none_takes (LeaveLoop NoMore) is refl),
-        stays_follows main_turn Left left IsOld left_scope left_scope inside_left same_scope (with_successors (LeaveLoop NoMore) 0 is below_one),
+        stays_follows main_turn Left left IsOld (lasting_of s left_scope) (lasting_of s left_scope) inside_left same_scope (with_successors (LeaveLoop NoMore) 0 is below_one),
       )
-      leaves left e is never allowed_there = absurd never
+      leaves plain left e is never allowed_there = absurd never
 
-      starts : (left : Left (steps.waiting main_turn)) (x : ℕ) (reversed : Bool) (low high : TypedTree) (is : p.instr ≡ Start x reversed low high)
+      starts : Plainly → (left : Left (steps.waiting main_turn)) (x : ℕ) (reversed : Bool) (low high : TypedTree) (is : p.instr ≡ Start x reversed low high)
           → is_scalar (full s.table (object_at s x).of) ≡ true → Stays s low → Stays s high → AllowsAll facts_now (acts_of_main (Start x reversed low high))
           → Both left (Start x reversed low high)
-      starts left x reversed low high is scalar stays stays' allowed_there =
-          let two = takes_both (waits_in low) (waits_in high) given_words [] (takes_of (Start x reversed low high) is) in (
+      starts plain left x reversed low high is scalar stays stays' allowed_there =
+          let two = takes_both (waits_in low) (waits_in high) given_words [] (takes_of plain.0 (Start x reversed low high) is) in (
             start_eased main_turn (LeadsFrom (Start x reversed low high)) (ends_so (Start x reversed low high)) (λ trap m on. on.0 tt) x low high
                 (started_on easy ready.accepted.settled ready.owns other alone no_in_formals views ready.class.parts_named may refl refl given_words two.0
                 x (λ b m. started_with easy x b m) low high (record {
@@ -661,9 +654,18 @@ module _ (table : Table) (typed : TypedProgram) (effects : Effects) (input : Lis
                   loop = λ b. record { parameter = x; low = steps.number b.low; high = steps.number b.high; first = true };
                   at_fault = λ b m e. rw e refl;
                   at_turn = λ b m e. rw e refl;
-                }) scalar stays stays' two.1 two.2 facts_now good allowed_there),
-            start_follows main_turn Left left IsOld left_scope (x ∷ left_scope) inside_left (one_more x) x low high (new_one x) (with_successors (Start x reversed low high) 0 is below_one),
+                }) scalar stays stays' two.1 two.2 facts_now (good plain.0) allowed_there),
+            start_follows main_turn Left left IsOld (lasting_of s left_scope) (lasting_of s (x ∷ left_scope)) inside_left (one_more x) x low high (new_one x (subst (λ i. Fills s i left_scope) is supplied_here.1)) (with_successors (Start x reversed low high) 0 is below_one),
           )
+
+      scalar_unheld : (x : ℕ) → is_scalar (full s.table (object_at s x).of) ≡ true → is_held s x ≡ false
+      scalar_unheld x scalar =
+          no_second (is_temporary_object s x) (has_scope_end s x)
+          (λ j. plain_type s ready.owns (object_at s x).of scalar j || named_plain s.table (object_at s x).of (scalar_named s.table (object_at s x).of scalar) j)
+        where
+          no_second : (a b : Bool) → b ≡ false → a && b ≡ false
+          no_second true b e = e
+          no_second false b e = refl
 
       turns : (left : Left (steps.waiting main_turn)) (x : ℕ) (reversed : Bool) (low high : TypedTree) (is : p.instr ≡ Next x reversed low high)
           → is_scalar (full s.table (object_at s x).of) ≡ true → Both left (Next x reversed low high)
@@ -672,10 +674,10 @@ module _ (table : Table) (typed : TypedProgram) (effects : Effects) (input : Lis
             to_easy nothing facts_now (turn main_turn (Next x reversed low high))
                 (next_leads main_turn ready.accepted.settled ready.owns other alone no_in_formals views ready.class.parts_named may frames nothing x reversed scalar facts_now
                 (good_main nothing)),
-            next_follows main_turn Left left IsOld left_scope left_scope inside_left same_scope
+            next_follows main_turn Left left IsOld (lasting_of s left_scope) (lasting_of s left_scope) inside_left same_scope
                 (subst Left (ap (λ n. drop n top.frame.waits) (ap taken is) ∙ drop_none top.frame.waits) left) x reversed
-                (may_hold x left_scope (inr (ap (is_within x) (ap (λ n. drop n p.scope) (ap taken is) ∙ drop_none p.scope)
-                ∙ last_within x p.scope (ready_there (Next x reversed low high) is)))) (with_successors (Next x reversed low high) 1 is below_two),
+                (may_hold x (lasting_of s left_scope) (inr (within_lasting s x left_scope (ap (is_within x) (ap (λ n. drop n p.scope) (ap taken is) ∙ drop_none p.scope)
+                ∙ last_within x p.scope (ready_there (Next x reversed low high) is)) (scalar_unheld x scalar)))) (with_successors (Next x reversed low high) 1 is below_two),
           )
 
       holds_nothing : (left : Left (steps.waiting main_turn)) (v : TypedTree) (is : p.instr ≡ Hold v) → IsOther (Hold v) → (r : Option ℕ) → named.sub.result ≡ r
@@ -685,41 +687,41 @@ module _ (table : Table) (typed : TypedProgram) (effects : Effects) (input : Lis
         subst (λ z. Leads_on easy ready.accepted.settled ready.owns other alone no_in_formals views ready.class.parts_named may refl refl z (turn main_turn (Hold NoMore)))
             (sym (ap (λ r. after (acts (flow.returned_acts s r NoMore)) facts_now) no_result))
             (skips_so (none_takes (Hold NoMore) (is ∙ ap Hold none) refl)),
-        stays_follows main_turn Left left IsOld left_scope left_scope inside_left same_scope (with_successors (Hold NoMore) 0 (is ∙ ap Hold none) below_one),
+        stays_follows main_turn Left left IsOld (lasting_of s left_scope) (lasting_of s left_scope) inside_left same_scope (with_successors (Hold NoMore) 0 (is ∙ ap Hold none) below_one),
       )
       holds_nothing left v is other_one (Some of) result (value_of, same, source) = absurd (subst (λ z. IsOther (Hold z)) same other_one)
 
-      each_instruction : (left : Left (steps.waiting main_turn)) (i : Instruction) → p.instr ≡ i → IsOther i → IsFine s named.sub.result i → AllowsAll facts_now (acts_of_main i)
+      each_instruction : Plainly → (left : Left (steps.waiting main_turn)) (i : Instruction) → p.instr ≡ i → IsOther i → IsFine s named.sub.result i → AllowsAll facts_now (acts_of_main i)
           → AllKeep (is_observer s) (acts_of_main i) → Both left i
-      each_instruction left Skip is other_one text allowed_there keep = (
+      each_instruction plain left Skip is other_one text allowed_there keep = (
         skips_so (none_takes Skip is refl),
-        stays_follows main_turn Left left IsOld left_scope left_scope inside_left same_scope (with_successors Skip 0 is below_one),
+        stays_follows main_turn Left left IsOld (lasting_of s left_scope) (lasting_of s left_scope) inside_left same_scope (with_successors Skip 0 is below_one),
       )
-      each_instruction left (Declare x v) is other_one text allowed_there keep = (
-        declares x v is text allowed_there keep,
-        declare_follows main_turn Left left IsOld left_scope (x ∷ left_scope) inside_left (one_more x) x v (new_one x) (with_successors (Declare x v) 0 is below_one),
+      each_instruction plain left (Declare x v) is other_one text allowed_there keep = (
+        declares plain x v is text allowed_there keep,
+        declare_follows main_turn Left left IsOld (lasting_of s left_scope) (lasting_of s (x ∷ left_scope)) inside_left (one_more x) x v (new_one x (subst (λ i. Fills s i left_scope) is supplied_here.1)) (with_successors (Declare x v) 0 is below_one),
       )
-      each_instruction left (Assign target e) is other_one text allowed_there keep = assigns left target e is text allowed_there keep
-      each_instruction left (Call sub actuals result) is other_one text allowed_there keep = absurd other_one
-      each_instruction left (Output text line) is other_one writing allowed_there keep = (
-        writes text line is writing allowed_there,
-        output_follows main_turn Left left IsOld left_scope left_scope inside_left same_scope text line (with_successors (Output text line) 0 is below_one),
+      each_instruction plain left (Assign target e) is other_one text allowed_there keep = assigns plain left target e is text allowed_there keep
+      each_instruction plain left (Call sub actuals result) is other_one text allowed_there keep = absurd other_one
+      each_instruction plain left (Output text line) is other_one writing allowed_there keep = (
+        writes plain text line is writing allowed_there,
+        output_follows main_turn Left left IsOld (lasting_of s left_scope) (lasting_of s left_scope) inside_left same_scope text line (with_successors (Output text line) 0 is below_one),
       )
-      each_instruction left (Input target) is other_one text allowed_there keep = reads left target is text allowed_there
-      each_instruction left (Release e) is other_one text allowed_there keep = releases left e is text allowed_there keep
-      each_instruction left (Test e) is other_one stays allowed_there keep = (
-        decides (Test e) is e refl refl stays allowed_there (λ ws. if run.is_true ws then 0 else 1),
-        test_follows main_turn Left left IsOld left_scope left_scope inside_left same_scope e (with_successors (Test e) 1 is below_two),
+      each_instruction plain left (Input target) is other_one text allowed_there keep = reads plain left target is text allowed_there
+      each_instruction plain left (Release e) is other_one text allowed_there keep = releases plain left e is text allowed_there keep
+      each_instruction plain left (Test e) is other_one stays allowed_there keep = (
+        decides plain (Test e) is e refl refl stays allowed_there (λ ws. if run.is_true ws then 0 else 1),
+        test_follows main_turn Left left IsOld (lasting_of s left_scope) (lasting_of s left_scope) inside_left same_scope e (with_successors (Test e) 1 is below_two),
       )
-      each_instruction left (Choose e choices) is other_one stays allowed_there keep = chooses left e choices is stays allowed_there
-      each_instruction left (Start x reversed low high) is other_one (scalar, stays, stays') allowed_there keep = starts left x reversed low high is scalar stays stays' allowed_there
-      each_instruction left (Next x reversed low high) is other_one scalar allowed_there keep = turns left x reversed low high is scalar
-      each_instruction left (Evaluate temporary e op) is other_one text allowed_there keep = absurd other_one
-      each_instruction left (LeaveLoop e) is other_one text allowed_there keep = leaves left e is text allowed_there
-      each_instruction left (Hold v) is other_one text allowed_there keep = holds_nothing left v is other_one named.sub.result refl text
-      each_instruction left (EndScope x) is other_one text allowed_there keep = absurd (going x is)
-      each_instruction left Finish is other_one text allowed_there keep = absurd other_one
-      each_instruction left Fall is other_one text allowed_there keep = (ends_so Fall ProgramError state.memory, tt)
+      each_instruction plain left (Choose e choices) is other_one stays allowed_there keep = chooses plain left e choices is stays allowed_there
+      each_instruction plain left (Start x reversed low high) is other_one (scalar, stays, stays') allowed_there keep = starts plain left x reversed low high is scalar stays stays' allowed_there
+      each_instruction plain left (Next x reversed low high) is other_one scalar allowed_there keep = turns left x reversed low high is scalar
+      each_instruction plain left (Evaluate temporary e op) is other_one text allowed_there keep = absurd other_one
+      each_instruction plain left (LeaveLoop e) is other_one text allowed_there keep = leaves plain left e is text allowed_there
+      each_instruction plain left (Hold v) is other_one text allowed_there keep = holds_nothing left v is other_one named.sub.result refl text
+      each_instruction plain left (EndScope x) is other_one text allowed_there keep = absurd (going x is)
+      each_instruction plain left Finish is other_one text allowed_there keep = absurd other_one
+      each_instruction plain left Fall is other_one text allowed_there keep = (ends_so Fall ProgramError state.memory, tt)
 
       -- ---- the next point
 
@@ -728,7 +730,7 @@ module _ (table : Table) (typed : TypedProgram) (effects : Effects) (input : Lis
 
       pub spares : (p.instr ≡ Finish → ⊥) → sparing
       spares end =
-          spare_acts (record { typing = s; result = named.sub.result; roots = standing.roots table typed effects input ready state top older outer named p frames of_sub at_point }) p.pos p.instr plain_traversal no_calls going end
+          spare_acts (record { typing = s; result = named.sub.result; roots = standing.roots table typed effects input ready state top older outer named p frames of_sub at_point }) p.pos p.instr (innermost.plain_traversal table typed effects input ready state top below more_frames rest named p frames deep stages running awaiting of_sub at_point path views viewed_before kept scope holds placed_before above) no_calls going end
 
       lent_on : sparing → (h : ℕ) (n : PlaceName) → Has facts_now (Lent Observed h n) → Has (after (acts_of_main p.instr) facts_now) (Lent Observed h n)
       lent_on spare h n has = loans_stay s (standing.acts_by table typed effects input ready state top older outer named p frames of_sub at_point s p.instr) spare facts_now Observed h n has
@@ -753,7 +755,7 @@ module _ (table : Table) (typed : TypedProgram) (effects : Effects) (input : Lis
 
       pub goes_there : sparing → (p.instr ≡ Finish → ⊥) → returns_value p.instr ≡ false → (after_step : State) (waits : List Waiting) (loops : List Loop) (k : ℕ)
           → k < successors p.instr → ((n : ℕ) → successor main_turn k ≡ Some n → after_step.frames ≡ record top.frame { waits = waits; loops = loops; next = n } ∷ outer)
-          → Left waits → Inside s IsOld after_step.memory depth (scope_behind p) → LeadsFrom p.instr (Goes after_step) → OthersKept s depth state.memory after_step.memory
+          → Left waits → Inside s IsOld after_step.memory depth (lasting_of s (scope_behind p)) → LeadsFrom p.instr (Goes after_step) → OthersKept s depth state.memory after_step.memory
           → Along (Goes after_step)
       goes_there spare end none after_step waits loops k less frames_then are inside_then (turned_views, turned, well) stay =
           let next = successor_there main_turn k (subst (λ z. k < z) (sym successors_there) less) in
@@ -763,31 +765,31 @@ module _ (table : Table) (typed : TypedProgram) (effects : Effects) (input : Lis
           (placed_left facts_now placed) (only_may turned_views (after (acts_of_main p.instr) facts_now) turned) in
           let placed_next = placed_on program (after (acts_of_main p.instr) facts_now) turned_views (scope_behind p) (q.0).scope well.holds.only q.2 there in
           standing.goes_to_next table typed effects input ready state top older outer named p frames of_sub at_point path no_calls after_step waits loops next.0 next.2 q.0 q.1 (frames_then next.0 next.1) deep stages turned_views
-          (running.0, running.1, wait_still after_step (scope_behind p) inside_then stay well.viewed.far)
+          (running.0, running.1, wait_still after_step (lasting_of s (scope_behind p)) inside_then stay well.viewed.far)
           (standing.waits_next table typed effects input ready state top older outer named p frames of_sub at_point path waits loops next.0 next.2 are, others_await none)
-          (apart_from_them (acts_of_main p.instr) turned_views (view_here s after_step) well.holds.only well.viewed) well.kept
-          (scope_on s ready.owns after_step.memory depth (scope_behind p) (q.0).scope (in_scope after_step.memory (scope_behind p) inside_then) q.2)
+          ((innermost.apart_from_them table typed effects input ready state top below more_frames rest named p frames deep stages running awaiting of_sub at_point path views viewed_before kept scope holds placed_before above) (acts_of_main p.instr) turned_views (view_here s after_step) well.holds.only well.viewed) well.kept
+          (scope_on s ready.owns after_step.memory depth (scope_behind p) (q.0).scope (in_scope after_step.memory (lasting_of s (scope_behind p)) inside_then) q.2)
           (record {
             held = λ x n lasts view e. well.holds.held x n view e;
             within = λ x n view e. (let own_way = well.holds.held x n view e in (placed_next x own_way.0 own_way.1).within);
             only = well.holds.only;
           })
-          (placed_by (after (acts_of_main p.instr) facts_now) (after (acts_of_main p.instr) own_facts) turned_views (q.0).scope (own_loans (acts_of_main p.instr)) placed_next)
+          ((innermost.placed_by table typed effects input ready state top below more_frames rest named p frames deep stages running awaiting of_sub at_point path views viewed_before kept scope holds placed_before above) (after (acts_of_main p.instr) facts_now) (after (acts_of_main p.instr) own_facts) turned_views (q.0).scope ((innermost.own_loans table typed effects input ready state top below more_frames rest named p frames deep stages running awaiting of_sub at_point path views viewed_before kept scope holds placed_before above) (acts_of_main p.instr)) placed_next)
           (still_above after_step.memory stay) views
           (steps_on no_calls end going (refl, refl, refl) (turned_so turned_views turned) refl)
 
-      then_on : (left : Left (steps.waiting main_turn)) → sparing → (p.instr ≡ Finish → ⊥) → returns_value p.instr ≡ false → (outcome : Outcome)
+      pub then_on : (left : Left (steps.waiting main_turn)) → sparing → (p.instr ≡ Finish → ⊥) → returns_value p.instr ≡ false → (outcome : Outcome)
           → LeadsFrom p.instr outcome → GoesFrom left p.instr outcome
           → Each (λ (next : State). OthersKept s depth state.memory next.memory) outcome → Along outcome
       then_on left spare end none (Ends how after_step) leads on stay = leads
       then_on left spare end none (Goes after_step) leads on stay =
           goes_there spare end none after_step on.waits on.loops on.k on.less on.frames on.are on.inside leads stay
 
-      pub goes_plainly : IsOther p.instr → FillsNone s p.instr → (p.instr ≡ Finish → ⊥) → returns_value p.instr ≡ false → Along (turn main_turn p.instr)
-      goes_plainly other_one fills end none =
+      pub goes_plainly : Plainly → IsOther p.instr → FillsNone s p.instr → (p.instr ≡ Finish → ⊥) → returns_value p.instr ≡ false → Along (turn main_turn p.instr)
+      goes_plainly plain other_one fills end none =
           let left = left_after fills in
           let text = standing.fine table typed effects input ready state top older outer named p frames of_sub at_point in
-          let both = each_instruction left p.instr refl other_one text
-          (allowed_now (spares end) (standing.allowed table typed effects input ready state top older outer named p frames of_sub at_point path no_calls))
+          let both = each_instruction plain left p.instr refl other_one text
+          ((innermost.allowed_now table typed effects input ready state top below more_frames rest named p frames deep stages running awaiting of_sub at_point path views viewed_before kept scope holds placed_before above) (spares end) (standing.allowed table typed effects input ready state top older outer named p frames of_sub at_point path no_calls))
           (standing.keeps_there table typed effects input ready state top older outer named p frames of_sub at_point) in
           then_on left (spares end) end none (turn main_turn p.instr) both.0 both.1 (others_keep main_turn named.sub.result p.instr text other_one)

@@ -120,7 +120,7 @@ module _ (t : Turn) (settled : IsSettled (typing t).table) (own_law : OwnsByShap
   other_root : (x : ℕ) → is_within x p.scope ≡ true → (x ≡ y → ⊥) → fades x ≡ false → (r : ℕ) → Lasts t.program p.scope r x
       → (is_observer s x ≡ false → r < x) → r ≡ y → ⊥
   other_root x within off stays r (inl shared) older same = true_false (is_package_object s y) (ap (is_package_object s) (sym same) ∙ shared) not_shared
-  other_root x within off stays r (inr (there, end, around)) older same = by_kind (is_observer s x) refl
+  other_root x within off stays r (inr (there, end, around, plain)) older same = by_kind (is_observer s x) refl
     where
       by_kind : (b : Bool) → is_observer s x ≡ b → ⊥
       by_kind false e =
@@ -246,7 +246,7 @@ module _ (t : Turn) (settled : IsSettled (typing t).table) (own_law : OwnsByShap
 
   lasts_left : (r x : ℕ) → (r ≡ y → ⊥) → Lasts t.program p.scope r x → Lasts t.program q.scope r x
   lasts_left r x off (inl shared) = inl shared
-  lasts_left r x off (inr (within, end, around)) = lasts_on t.program (drop 1 p.scope) q.scope r x leads (inr (rest_within r y p.scope last within off, end, around))
+  lasts_left r x off (inr (within, end, around, plain)) = lasts_on t.program (drop 1 p.scope) q.scope r x leads (inr (rest_within r y p.scope last within off, end, around, plain))
 
   pub placed_left : ArePlaced t.program after_end views_left q.scope
   placed_left x w has =

@@ -1,7 +1,10 @@
 -- The innermost frame of a run, beside those that wait: which acts its facts and theirs allow, where
 -- its variables own, and that the others wait still.
-use Rattle.std.proofs.Common.{◌≡◌, refl, sym, ap, ◌∙◌, subst, ◌⊎◌, inl, inr, ℕ, suc, ◌<◌, Bool, true, false, not, ◌&&◌, ◌||◌, ◌==◌, eq-eqb, List, [], ◌∷◌, ◌++◌, map, take, drop, length, get_or, arith, Some, None, if◌then◌else◌, Option}
-use Rattle.std.specs.Prelude.{is_some}
+use Rattle.soundness.proofs.Lasting.{ownerless}
+use Rattle.typed_tree.specs.declared.object.ObjectKind.{ObjectKind}
+use Rattle.typed_tree.specs.declared.object.ObjectKind.TheVariants as object_kind
+use Rattle.std.specs.List.{AllByRecursion}
+use Rattle.std.proofs.Common.{◌≡◌, refl, sym, ap, ◌∙◌, subst, ◌⊎◌, inl, inr, ℕ, suc, ◌<◌, Bool, true, false, ◌&&◌, ◌||◌, ◌==◌, eq-eqb, List, [], ◌∷◌, ◌++◌, map, take, drop, length, get_or, arith, Some, None, if◌then◌else◌, Option}
 use Rattle.spark_base.specs.Lists.{Has}
 use Rattle.spark_base.proofs.Lists.{Has-append_left, Has-append_cases, Has-map_from}
 use Rattle.place_names.specs.declared.act.Act.{Act}
@@ -11,18 +14,18 @@ use Rattle.place_names.specs.declared.fact.Fact.TheVariants.{Moved, Lent}
 use Rattle.place_names.specs.declared.rule.Loan.{Loan}
 use Rattle.place_names.specs.declared.rule.Loan.TheVariants.{Borrowed, Observed}
 use Rattle.place_names.specs.Names.{Name as PlaceName}
-use Rattle.type_definitions.specs.Types.{Table, full, is_scalar}
-use Rattle.typed_tree.specs.Trees.{TypedTree}
+use Rattle.type_definitions.specs.Types.{Table, full, is_owning}
+use Rattle.typed_tree.specs.Trees.{Call as CallIn, TypedTree}
 use Rattle.typed_tree.specs.Programs.{TypedProgram}
 use Rattle.flow_paths.specs.declared.report.Effects.{Effects}
-use Rattle.flow_paths.specs.Instructions.{Instruction, Call, EndScope}
-use Rattle.flow_paths.specs.Objects.{Typing, Signature, traverses, object_at, is_anonymous, is_package_object, is_variable, is_borrower, is_observer, is_borrowing, is_observing, has_scope_end, view_of}
+use Rattle.flow_paths.specs.Instructions.{Instruction, EndScope}
+use Rattle.flow_paths.specs.Objects.{Typing, traverses, object_at, is_anonymous, is_package_object, is_variable, is_borrower, is_observer, is_borrowing, is_observing, has_scope_end, view_of}
 use Rattle.flow_paths.specs.Points.{NamedPoint, FlowPoint}
 use Rattle.flow_paths.specs.Laid.{FlowSub, FlowProgram, NamedSub, number_in, flow_sub, typing_of, flow_typing, flow_program, flow_named}
 use Rattle.flow_paths.specs.Paths.{ControlPath}
 use Rattle.flow_paths.specs.Effects.{act_reads, act_writes, flow_sub_at, path_points, written_by}
 use Rattle.place_names.specs.Rules.{forbids}
-use Rattle.flow_paths.specs.Scopes.{taken, scope_behind, is_within, is_last, is_ready}
+use Rattle.flow_paths.specs.Scopes.{taken, scope_behind, is_within, is_last, is_ready, is_temporary}
 use Rattle.machine.specs.Words as machine
 use Rattle.machine.specs.Memory.{Memory, given_up}
 use Rattle.machine.specs.Evaluate.{Exception}
@@ -35,7 +38,7 @@ use Rattle.owned_ways.specs.Ways.{Step, OfVariable, OfRoot, Way, Held, after, Al
 use Rattle.owned_ways.specs.Ways as ways
 use Rattle.soundness.specs.Seen.{IsNear, content, word_in, home}
 use Rattle.soundness.specs.Typed.{Kept}
-use Rattle.soundness.specs.Sound.{Stage, facts_of, AreStages, Uses, IsRunnable, AreAwaited, AreWaiting as AreWaitingValues, is_temporary_object, calls_procedures, returns_value, has_returned, awaited, InScope, IsNamedSub, IsAtPoint, view_of as view_here}
+use Rattle.soundness.specs.Sound.{Stage, facts_of, AreStages, Uses, IsRunnable, is_temporary_object, returns_value, has_returned, InScope, IsNamedSub, IsAtPoint, view_of as view_here, IsPlainValue}
 use Rattle.soundness.specs.Ready.{stored_at, IsSupplied}
 use Rattle.soundness.proofs.Contents.{bool_cases, word_no}
 use Rattle.machine.specs.Run.{no_point}
@@ -45,17 +48,16 @@ use Rattle.soundness.proofs.Inherited.{Splits, after_splits, allowed_beside}
 use Rattle.soundness.proofs.Used.{writes_used, reads_used, fact_added}
 use Rattle.soundness.proofs.Around.{IsFar}
 use Rattle.soundness.proofs.Waits.{drop_none}
-use Rattle.soundness.proofs.Taking.{Takes, TakesPlainly}
-use Rattle.soundness.proofs.Waited.{Shares, shares, within_left, FillsNone, brought_count}
+use Rattle.soundness.proofs.Taking.{Takes}
+use Rattle.soundness.proofs.Waited.{within_left, FillsNone}
 use Rattle.soundness.proofs.Eased.{eased, takes_all}
 use Rattle.soundness.proofs.Raised.{raised_owned}
-use Rattle.soundness.proofs.Passing.{plain_type, signature_is}
-use Rattle.soundness.proofs.Steps.{no_leaf}
 use Rattle.owned_loans.specs.Views.{Around, known_gone, Views, Viewed}
 use Rattle.viewed_soundness.proofs.Names.{true_false}
-use Rattle.viewed_soundness.proofs.Outcomes.{named_plain}
-use Rattle.viewed_steps.specs.Sound.{IsResting, HoldsAt, ArePlaced, NoneAbove, Lasts, ViewStage, stages_of, GoneElsewhere, Disturbs, AreWaiting, LeadsOn}
-use Rattle.viewed_steps.specs.Ready.{IsCalled, AreOrderly, IsReady}
+use Rattle.viewed_steps.specs.Awaited.{AreFor, AreValues, temporaries_of, is_held, lasting_of, awaited, AreAwaited, AreScalar, TakesScalars, IsTakenBy, IsTaken}
+use Rattle.viewed_steps.proofs.Waited.{plain_unheld, ended_held, lasting_within, within_lasting, lasting_more, brought_temporaries, Shares, shares, scalar_values}
+use Rattle.viewed_steps.specs.Sound.{HoldsAt, ArePlaced, NoneAbove, Lasts, ViewStage, stages_of, GoneElsewhere, Disturbs, AreWaiting, LeadsOn, IsResting}
+use Rattle.viewed_steps.specs.Ready.{AreOrderly, IsReady}
 use Rattle.viewed_steps.proofs.Lent.{ends, Spare, spare_has}
 use Rattle.viewed_steps.proofs.Inherited.{after_more, apart_act, lending_uses, apart_borrowed, apart_seen}
 use Rattle.viewed_steps.proofs.Beside.{OthersKept, faint_held}
@@ -64,7 +66,6 @@ use Rattle.viewed_steps.proofs.Uses.{writes_there, borrowing_writes, moving_writ
 use Rattle.viewed_steps.proofs.Apart.{spared_there, written_disturbs, moved_apart, seen_apart}
 use Rattle.viewed_steps.proofs.Eased.{eased_viewed}
 use Rattle.viewed_steps.proofs.Placed.{view_ends}
-use Rattle.viewed_steps.proofs.Read.{scalar_named}
 use Rattle.viewed_steps.proofs.Standing.{or_right}
 use Rattle.viewed_steps.proofs.Standing as standing
 use Rattle.viewed_steps.proofs.Packages as packages
@@ -112,12 +113,12 @@ module _ (table : Table) (typed : TypedProgram) (effects : Effects) (input : Lis
       (frames : state.frames ≡ top.frame ∷ (below.stage.frame ∷ rest)) (deep : top.depth ≡ suc (length rest))
       (stages : AreStages (stages_of (below ∷ more_frames)) (below.stage.frame ∷ rest))
       (running : IsRunnable table typed top.frame.sub × IsResting s top × AreWaiting table typed effects state top.frame.sub top.frame.returns (below ∷ more_frames))
-      (awaiting : AreAwaited table typed 0 (top ∷ stages_of (below ∷ more_frames)))
+      (awaiting : AreAwaited table typed None (top ∷ stages_of (below ∷ more_frames)))
       (of_sub : IsNamedSub (flow_named table typed) top.frame.sub named) (at_point : IsAtPoint named.points top.frame.next p)
       (path : ControlPath (path_points program effects (sub_of program top.frame.sub)) top.before top.frame.next) (views : Views)
       (viewed_before : Viewed (home s (suc (length rest))) (is_observer s) (known_gone (home s (suc (length rest))) (GoneElsewhere program effects (below ∷ more_frames))) views
       (view_here s state) (facts_of program effects top))
-      (kept : Kept s state.memory (waiting_in state)) (scope : InScope s state.memory (suc (length rest)) p.scope) (holds : HoldsAt s (suc (length rest)) views state.memory p)
+      (kept : Kept s state.memory (waiting_in state)) (scope : InScope s state.memory (suc (length rest)) (lasting_of s p.scope)) (holds : HoldsAt s (suc (length rest)) views state.memory p)
       (placed_before : ArePlaced program (facts_of program effects top) views p.scope) (above : NoneAbove s (suc (length rest)) state.memory) where
     abbrev pub outer : List Frame
     outer = below.stage.frame ∷ rest
@@ -364,18 +365,15 @@ module _ (table : Table) (typed : TypedProgram) (effects : Effects) (input : Lis
     sub_result of result =
         ap (λ (z : FlowSub). z.result) (standing.sub_is table typed effects input ready state top older outer named p frames of_sub at_point) ∙ result
 
-    -- only functions give results
-    pub plain_result : (of : ℕ) → named.sub.result ≡ Some of → is_scalar (full s.table of) ≡ true
-    plain_result of result = elim ready.class.results [
-      | inr plain ↦ plain.0 top.frame.sub of (ap (λ (z : Signature). z.result) (signature_is program top.frame.sub) ∙ sub_result of result)
-      | inl procedures ↦ absurd (elim (running.0).entered [
-        | inl main ↦ (
-            let same : Some top.frame.sub ≡ Some ready.main = sym main ∙ ready.is_main in
-            let number : top.frame.sub ≡ ready.main = cc in
-            no_some (sym (sub_result of result) ∙ ap (λ n. (sub_of program n).result) number ∙ main_result))
-        | inr (sub, has, q, there, actuals, temporary, calls) ↦
-            called_then actuals temporary (sym (ap calls_procedures calls) ∙ procedures sub has q there) (ready.called sub has q there top.frame.sub actuals temporary calls)
-      ])
+    -- only functions that are called give results
+    pub named_result : (of : ℕ) → named.sub.result ≡ Some of → is_anonymous (full s.table of) ≡ false
+    named_result of result = elim (running.0).entered [
+      | inl main ↦ (
+          let same : Some top.frame.sub ≡ Some ready.main = sym main ∙ ready.is_main in
+          let number : top.frame.sub ≡ ready.main = cc in
+          absurd (no_some (sym (sub_result of result) ∙ ap (λ n. (sub_of program n).result) number ∙ main_result)))
+      | inr (sub, has, q, there, actuals, temporary, calls) ↦
+          ready.class.results sub has q there top.frame.sub actuals temporary calls of (sub_result of result)
     ]
       where
         no_some : Some of ≡ None → ⊥
@@ -386,18 +384,13 @@ module _ (table : Table) (typed : TypedProgram) (effects : Effects) (input : Lis
             ap (λ (z : FlowSub). z.result) (sub_there table typed ready.main ready.main_there.named ready.main_there.stands)
             ∙ ready.main_there.procedure ready.main_there.named ready.main_there.stands
 
-        called_then : (actuals : TypedTree) (temporary : Option ℕ) → calls_procedures (Call top.frame.sub actuals temporary) ≡ true
-            → IsCalled table typed top.frame.sub actuals temporary → ⊥
-        called_then actuals None calls called = (let never : true ≡ false = sym (ap is_some (sub_result of result)) ∙ called.answers in cc)
-        called_then actuals (Some t) calls called = cc
-
     -- so the value is no view
     pub plain_traversal : traverses s.table named.sub.result ≡ false
     plain_traversal = by_result named.sub.result refl
       where
         by_result : (r : Option ℕ) → named.sub.result ≡ r → traverses s.table r ≡ false
         by_result None is = refl
-        by_result (Some of) is = named_plain s.table of (scalar_named s.table of (plain_result of is))
+        by_result (Some of) is = named_result of is
 
     -- ---- what waits
 
@@ -407,8 +400,8 @@ module _ (table : Table) (typed : TypedProgram) (effects : Effects) (input : Lis
     abbrev pub left_scope : List ℕ
     left_scope = drop count p.scope
 
-    pub waits_here : AreWaitingValues s top.frame.waits p.scope
-    waits_here = subst (AreWaitingValues s top.frame.waits) (drop_none p.scope) (awaiting.0 named of_sub p at_point).0
+    pub waits_here : AreValues s top.frame.waits p.scope
+    waits_here = awaiting.0 named of_sub p at_point
 
     pub supplied_here : IsSupplied s p
     supplied_here = standing.supplied table typed effects input ready state top older outer named p frames of_sub at_point
@@ -419,44 +412,58 @@ module _ (table : Table) (typed : TypedProgram) (effects : Effects) (input : Lis
     abbrev pub given_words : List (List machine.Word)
     given_words = (start main_turn).waits
 
-    pub takes_here : Takes count given_words []
-    takes_here = takes_all s (take count top.frame.waits) count shared.count shared.plain
+    -- what is taken is of scalar types
+    abbrev pub Plain : Type 0
+    Plain = AreScalar s (temporaries_of s (take count p.scope))
 
-    pub takes_of : (i : Instruction) → p.instr ≡ i → Takes (taken i) given_words []
-    takes_of i e = subst (λ z. Takes (taken z) given_words []) e takes_here
+    plain_values : Plain → AllByRecursion (IsPlainValue s) (take count top.frame.waits)
+    plain_values plain = scalar_values s ready.accepted.settled (take count top.frame.waits) (temporaries_of s (take count p.scope)) shared.taken plain
+
+    pub takes_here : Plain → Takes count given_words []
+    takes_here plain = takes_all s (take count top.frame.waits) count shared.count (plain_values plain)
+
+    pub takes_of : Plain → (i : Instruction) → p.instr ≡ i → Takes (taken i) given_words []
+    takes_of plain i e = subst (λ z. Takes (taken z) given_words []) e (takes_here plain)
 
     -- the step without the values that it takes
     abbrev pub easy : Turn
     easy = eased main_turn
 
-    pub viewed_easy : Viewed (home s depth) (is_observer s) other views (view_here s easy.state) facts_now × Kept s state.memory (waiting_in easy.state)
-    viewed_easy = eased_viewed main_turn ready.accepted.settled (home s depth) (is_observer s) other views facts_now frames shared.plain viewed kept
+    pub viewed_easy : Plain → Viewed (home s depth) (is_observer s) other views (view_here s easy.state) facts_now × Kept s state.memory (waiting_in easy.state)
+    viewed_easy plain = eased_viewed main_turn ready.accepted.settled (home s depth) (is_observer s) other views facts_now frames (plain_values plain) viewed kept
 
-    pub plainly : (i : Instruction) → p.instr ≡ i → (calls : Bool) → (calls_procedures i ≡ true → calls ≡ false) → TakesPlainly s calls
-    plainly i e calls none =
-        standing.takes_plainly table typed effects input ready (flow_sub own named) (standing.in_program table typed effects input ready state top older outer named p frames of_sub at_point)
-        main_turn.point (standing.in_sub table typed effects input ready state top older outer named p frames of_sub at_point) i e calls none
+    pub taken_there : IsTaken s p
+    taken_there = ready.valued.takes named named_there p point_there_now
 
-    -- a temporary has no end of scope of its own
-    no_end : (x : ℕ) → is_temporary_object s x ≡ true → has_scope_end s x ≡ false
-    no_end x temporary =
-        let scalar = ready.class.temporaries x temporary in
-        (λ j. plain_type s ready.owns (object_at s x).of scalar j || named_plain s.table (object_at s x).of (scalar_named s.table (object_at s x).of scalar) j)
-
-    -- what has one is there still
-    pub left_within : (x : ℕ) → has_scope_end s x ≡ true → is_within x p.scope ≡ true → is_within x left_scope ≡ true
-    left_within x end within = elim (within_left s count p.scope supplied_here.0 x within) [
-      | inr left ↦ left
-      | inl temporary ↦ absurd (true_false (has_scope_end s x) end (no_end x temporary))
+    -- and so it is, where a call alone isn't taken
+    pub plain_here : ((call : TypedTree) → IsTakenBy p.instr call → ⊥) → Plain × TakesScalars s p.instr
+    plain_here none = elim taken_there [
+      | inl plain ↦ plain
+      | inr (x, rest_scope, is, q, n, actuals, result, large, by) ↦ absurd (none (CallIn q n actuals) by)
     ]
+
+    -- what has an end of its own is there still
+    pub left_within : (x : ℕ) → has_scope_end s x ≡ true → is_held s x ≡ false → is_within x p.scope ≡ true → is_within x left_scope ≡ true
+    left_within x end lasts within = elim (within_left s count p.scope supplied_here.0 x within) [
+      | inr left ↦ left
+      | inl temporary ↦ absurd (true_false (is_held s x) (ended_held s x temporary end) lasts)
+    ]
+
+    -- as views have
+    pub view_stays : (x : ℕ) → is_anonymous (view_of s x) ≡ true → is_held s x ≡ false
+    view_stays x view = plain_unheld s x (variable_stays (object_at s x).kind (ready.orderly.local x view).0)
+      where
+        variable_stays : (k : ObjectKind) → is_variable k ≡ true → is_temporary k ≡ false
+        variable_stays object_kind.Variable is = refl
+        variable_stays k is = cc
 
     pub lasts_left : (r x : ℕ) → Lasts program p.scope r x → Lasts program left_scope r x
     lasts_left r x (inl shared_object) = inl shared_object
-    lasts_left r x (inr (within, end, around)) = inr (left_within r end within, end, around)
+    lasts_left r x (inr (within, end, around, plain)) = inr (left_within r end plain within, end, around, plain)
 
     pub placed_left : (facts : List Fact) → ArePlaced program facts views p.scope → ArePlaced program facts views left_scope
     placed_left facts there x w has = (let old = there x w has in record {
-      within = left_within x (view_ends s x (holds.only x w has)) old.within;
+      within = left_within x (view_ends s x (holds.only x w has)) (view_stays x (holds.only x w has)) old.within;
       up = lasts_left (number_of (views.up x)) x old.up;
       root = lasts_left (number_of w) x old.root;
       holder = λ sees. (let h = old.holder sees in (h.0, h.1, lasts_left h.0 x h.2, h.3));
@@ -464,13 +471,10 @@ module _ (table : Table) (typed : TypedProgram) (effects : Effects) (input : Lis
 
     -- the values that wait on, after an instruction that fills no temporary
     abbrev pub Left : List Waiting → Type 0
-    Left waits = AreWaitingValues s waits (scope_behind p)
+    Left waits = AreValues s waits (scope_behind p)
 
     pub left_after : FillsNone s p.instr → Left (steps.waiting main_turn)
-    left_after none = (
-      (shared.left).0,
-      (shared.left).1 ∙ sym (brought_count s p.instr left_scope none supplied_here.1 last_there),
-    )
+    left_after none = subst (AreFor s (steps.waiting main_turn)) (sym (brought_temporaries s p.instr left_scope none supplied_here.1 last_there)) shared.left
       where
         last_there : (x : ℕ) → p.instr ≡ EndScope x → is_last x left_scope ≡ true
         last_there x e =
@@ -489,8 +493,7 @@ module _ (table : Table) (typed : TypedProgram) (effects : Effects) (input : Lis
 
     -- an instruction that returns no value leaves that as it is
     still_awaited : returns_value p.instr ≡ false → awaited sub_here top.before ≡ awaited sub_here (top.frame.next ∷ top.before)
-    still_awaited none =
-        ap (λ b. if is_some sub_here.result && not (b || has_returned sub_here top.before) then 1 else 0) (sym (ap returns_value instr_there ∙ none))
+    still_awaited none = ap (λ b. if b || has_returned sub_here top.before then None else sub_here.result) (sym (ap returns_value instr_there ∙ none))
 
     pub others_await : returns_value p.instr ≡ false → AreAwaited table typed (awaited sub_here (top.frame.next ∷ top.before)) (stages_of older)
     others_await none = subst (λ n. AreAwaited table typed n (stages_of older)) (still_awaited none) awaiting.1
@@ -503,24 +506,31 @@ module _ (table : Table) (typed : TypedProgram) (effects : Effects) (input : Lis
         (f < suc (length rest)) × ((f ≡ 0)
         ⊎ ((q : List Step) × (k : ℕ) × (word_in s.table (content s state.memory [] (OfRoot (OfVariable f x))) q ≡ Held k)))
 
-    pub inside : Inside s IsOld state.memory depth p.scope
+    pub inside : Inside s IsOld state.memory depth (lasting_of s p.scope)
     inside f x q n held = elim (scope f x q n held) [
       | inl less ↦ inl (less, inr (q, n, held))
       | inr mine ↦ inr mine
     ]
 
     -- what is taken owns nothing
-    pub inside_left : Inside s IsOld state.memory depth left_scope
+    pub inside_left : Inside s IsOld state.memory depth (lasting_of s left_scope)
     inside_left f x q n held = elim (inside f x q n held) [
       | inl old ↦ inl old
-      | inr mine ↦ elim (within_left s count p.scope supplied_here.0 x mine.1) [
-        | inr left ↦ inr (mine.0, left)
-        | inl temporary ↦ (
-            let none = word_no s.table (content s state.memory [] (OfRoot (OfVariable f x))) q
-            (no_leaf s.table ready.accepted.settled (object_at s x).of (ready.class.temporaries x temporary) q) in
-            let no_number : ways.Empty ≡ Held n = sym none ∙ held in cc)
-      ]
+      | inr mine ↦ (
+          let there = lasting_within s x p.scope mine.1 in
+          inr (mine.0, within_lasting s x left_scope (by_end (has_scope_end s x) refl there.1 there.0) there.1))
     ]
+      where
+        not_or : (a b : Bool) → a || b ≡ false → a ≡ false
+        not_or true b e = cc
+        not_or false b e = refl
+
+        by_end : (end : Bool) → has_scope_end s x ≡ end → is_held s x ≡ false → is_within x p.scope ≡ true → is_within x left_scope ≡ true
+        by_end true end lasts within = left_within x end lasts within
+        by_end false end lasts within =
+            let none = word_no s.table (content s state.memory [] (OfRoot (OfVariable f x))) q
+            (ownerless s.table ready.owns (object_at s x).of (not_or (is_owning s.table (object_at s x).of) (is_anonymous (view_of s x)) end) q) in
+            let no_number : ways.Empty ≡ Held n = sym none ∙ held in cc
 
     pub in_scope : (m : Memory) (after_scope : List ℕ) → Inside s IsOld m depth after_scope → InScope s m depth after_scope
     in_scope m after_scope in_there f x q n held = elim (in_there f x q n held) [ inl old ↦ inl old.0 | inr mine ↦ inr mine ]
@@ -564,20 +574,26 @@ module _ (table : Table) (typed : TypedProgram) (effects : Effects) (input : Lis
     pub with_successors : (i : Instruction) (n : ℕ) → p.instr ≡ i → n < successors i → n < successors main_turn.point.instr
     with_successors i n e less = subst (λ z. n < successors z) (sym e) less
 
-    pub same_scope : (x : ℕ) → is_within x left_scope ≡ true → is_within x left_scope ≡ true
+    pub same_scope : (x : ℕ) → is_within x (lasting_of s left_scope) ≡ true → is_within x (lasting_of s left_scope) ≡ true
     same_scope x within = within
 
-    pub one_more : (y x : ℕ) → is_within x left_scope ≡ true → is_within x (y ∷ left_scope) ≡ true
-    one_more y x within = or_right (x == y) (is_within x left_scope) within
+    pub one_more : (y x : ℕ) → is_within x (lasting_of s left_scope) ≡ true → is_within x (lasting_of s (y ∷ left_scope)) ≡ true
+    one_more y = lasting_more s left_scope (y ∷ left_scope) (λ x within. or_right (x == y) (is_within x left_scope) within)
 
-    pub new_one : (x : ℕ) → is_within x (x ∷ left_scope) ≡ true
-    new_one x = ap (λ b. b || is_within x left_scope) (eq-eqb x x refl)
+    pub new_there : (x : ℕ) → is_within x (x ∷ left_scope) ≡ true
+    new_there x = ap (λ b. b || is_within x left_scope) (eq-eqb x x refl)
+
+    pub new_one : (x : ℕ) → is_temporary_object s x ≡ false → is_within x (lasting_of s (x ∷ left_scope)) ≡ true
+    new_one x plain = within_lasting s x (x ∷ left_scope) (new_there x) (plain_unheld s x plain)
 
     pub stored_which : (i : Instruction) → p.instr ≡ i → (x : ℕ) → Has (stored_at i) x → (is_package_object s x ≡ true) ⊎ (is_within x left_scope ≡ true)
     stored_which i e x has = ready.scoped.stored named named_there p point_there_now x (subst (λ z. Has (stored_at z) x) (sym e) has)
 
-    pub stored_there : (i : Instruction) → p.instr ≡ i → (x : ℕ) → Has (stored_at i) x → MayHold s IsOld depth left_scope (home s depth x) x
-    stored_there i e x has = may_hold x left_scope (stored_which i e x has)
+    pub stored_there : (i : Instruction) → p.instr ≡ i → (x : ℕ) → Has (stored_at i) x → MayHold s IsOld depth (lasting_of s left_scope) (home s depth x) x
+    stored_there i e x has = may_hold x (lasting_of s left_scope) (elim (stored_which i e x has) [
+      | inl shared_object ↦ inl shared_object
+      | inr within ↦ inr (within_lasting s x left_scope within (ready.valued.lasting named named_there p point_there_now x (subst (λ z. Has (stored_at z) x) (sym e) has)))
+    ])
 
     pub ready_there : (i : Instruction) → p.instr ≡ i → is_ready p i ≡ true
     ready_there i e = subst (λ z. is_ready p z ≡ true) e (standing.is_ready_there table typed effects input ready state top older outer named p frames of_sub at_point)

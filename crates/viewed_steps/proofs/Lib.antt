@@ -17,6 +17,7 @@ pub mod Left
 pub mod Between
 pub mod Carried
 pub mod Called
+pub mod Waited
 pub mod Alike
 pub mod Entered
 pub mod Backed
@@ -28,6 +29,7 @@ pub mod Packages
 pub mod Innermost
 pub mod EachInstruction
 pub mod Operands
+pub mod Alone
 pub mod Results
 pub mod ScopeEnds
 pub mod CallEnds

@@ -1,5 +1,6 @@
 -- The state before the first step is sound, and so each moment of the run is well owned, and none is
 -- a trap.
+use Rattle.viewed_steps.specs.Awaited.{lasting_of}
 use Rattle.std.proofs.Common.{◌≡◌, refl, sym, ap, subst, ℕ, zero, suc, Bool, true, false, nat_le, List, [], ◌∷◌, ◌++◌, get_or, inl, inr, Some, None, if◌then◌else◌}
 use Rattle.spark_base.specs.Lists.{Has}
 use Rattle.type_definitions.specs.Types.{Table}
@@ -97,7 +98,7 @@ module _ (table : Table) (typed : TypedProgram) (effects : Effects) (input : Lis
       of_sub = ready.stands;
       point = p;
       at_point = ([], rest, is, refl);
-      scope = empty_scope s 0 p.scope;
+      scope = empty_scope s 0 (lasting_of s p.scope);
       holds = record {
         held = λ x n lasts view e. absurd (empty_word s (home s 0 x) x n e);
         within = λ x n view e. absurd (empty_word s (home s 0 x) x n e);
@@ -135,7 +136,7 @@ module _ (table : Table) (typed : TypedProgram) (effects : Effects) (input : Lis
       of_sub = ready.main_there.stands;
       point = ready.main_there.point;
       at_point = ([], ready.main_there.points, ready.main_there.begins, refl);
-      scope = empty_scope s 1 ready.main_there.point.scope;
+      scope = empty_scope s 1 (lasting_of s ready.main_there.point.scope);
       holds = record {
         held = λ x n lasts view e. absurd (empty_word s (home s 1 x) x n e);
         within = λ x n view e. absurd (empty_word s (home s 1 x) x n e);

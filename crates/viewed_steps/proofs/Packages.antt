@@ -1,7 +1,8 @@
 -- The package objects are elaborated: no part of theirs is moved, no object has a way, and the main
 -- procedure begins after them.
-use Rattle.std.proofs.Common.{◌≡◌, refl, sym, ap, ◌∙◌, subst, inl, inr, ℕ, ◌<◌, true, false, not, ◌&&◌, ◌||◌, ◌==◌, eq-eqb, List, [], ◌∷◌, ◌++◌, drop, get_or, arith, Option, Some, None, if◌then◌else◌}
-use Rattle.std.specs.Prelude.{is_some}
+use Rattle.soundness.specs.Ready.{Fills}
+use Rattle.viewed_steps.proofs.Waited.{within_lasting, lasting_within, lasting_more, plain_unheld}
+use Rattle.std.proofs.Common.{◌≡◌, refl, sym, ap, ◌∙◌, subst, inl, inr, ℕ, ◌<◌, true, false, not, ◌||◌, ◌==◌, eq-eqb, List, [], ◌∷◌, ◌++◌, drop, get_or, arith, Option, Some, None, if◌then◌else◌, length}
 use Rattle.spark_base.specs.Lists.{Has}
 use Rattle.spark_base.specs.declared.position.Pos.{Pos}
 use Rattle.spark_base.proofs.Lists.{Has-append_cases, Has-map_from}
@@ -36,19 +37,20 @@ use Rattle.owned_ways.proofs.Locations.{reaches_along, named_along as rooted_alo
 use Rattle.soundness.specs.Seen.{IsNear, is_view_formal, content, word_in, home}
 use Rattle.soundness.specs.Typed.{Kept}
 use Rattle.typed_laws.specs.Needed.{IsFine}
-use Rattle.soundness.specs.Sound.{IsNoCall, IsRunnable, WaitsAt, temporaries_in, awaited, Stage, facts_of, AreStages, IsPlain, InScope, IsNamedSub, IsAtPoint, view_of as view_here}
+use Rattle.soundness.specs.Sound.{IsNoCall, IsRunnable, temporaries_in, Stage, facts_of, AreStages, IsPlain, InScope, IsNamedSub, IsAtPoint, view_of as view_here, is_temporary_object}
 use Rattle.soundness.proofs.Contents.{word_root}
 use Rattle.soundness.proofs.Paths.{facts_next}
 use Rattle.soundness.proofs.Points.{named_has, sub_there, point_there}
 use Rattle.soundness.proofs.Used.{path_acts}
 use Rattle.soundness.proofs.Following.{Each, Declares, declare_on}
 use Rattle.soundness.proofs.Beginning.{one_named, one_point}
-use Rattle.soundness.proofs.Waits.{no_waits, take_none, drop_none}
+use Rattle.soundness.proofs.Waits.{no_waits, drop_none}
 use Rattle.soundness.proofs.Successors.{not_true, successor_cases, unmoved_after}
 use Rattle.owned_loans.specs.Views.{Around, known_gone, Views, Viewed}
 use Rattle.viewed_soundness.specs.Holds.{AllKeep}
 use Rattle.viewed_soundness.proofs.Names.{plain_named, true_false}
 use Rattle.viewed_soundness.proofs.Outcomes.{IsGood, Turned, Leads_on}
+use Rattle.viewed_steps.specs.Awaited.{AreFor, temporaries_of, lasting_of, awaited, WaitsAt}
 use Rattle.viewed_steps.specs.Sound.{HoldsAt, NoneAbove, ViewStage, GoneElsewhere, IsFirst, steps_on, begins_main, IsSound, LeadsAlong}
 use Rattle.viewed_steps.specs.Ready.{IsReady}
 use Rattle.viewed_steps.proofs.Declared.{IsElsewhere, OthersStay, not_gone, declare_leads, others_stay}
@@ -143,24 +145,22 @@ module _ (table : Table) (typed : TypedProgram) (effects : Effects) (input : Lis
 
   -- nothing waits at the first point of a subprogram
   pub first_waits : (depth k : ℕ) (returns : List Return) (named : NamedSub) → IsNamedSub (flow_named table typed) k named → (p : NamedPoint) (rest : List NamedPoint)
-      → named.points ≡ p ∷ rest → WaitsAt table typed 0 (record (stage k depth) { frame = frame_at_start k returns })
+      → named.points ≡ p ∷ rest → WaitsAt table typed None (record (stage k depth) { frame = frame_at_start k returns })
   first_waits depth k returns named stands p rest is other other_stands q at_point =
       let same : other ≡ named = one_named (flow_named table typed) k other named other_stands stands in
-      let first : p ≡ q = one_point (p ∷ rest) 0 p q ([], rest, refl, refl) (subst (λ z. IsAtPoint z 0 q) (ap (λ (z : NamedSub). z.points) same ∙ is) at_point) in (
-        (
-          tt,
-          sym (ap (temporaries_in s) (drop_none q.scope)
-              ∙ ap (λ (z : NamedPoint). temporaries_in s z.scope) (sym first)
-              ∙ ready.scoped.starts named (named_has (flow_named table typed) k named stands) p rest is),
-        ),
-        ap (temporaries_in s) (take_none q.scope),
-      )
+      let first : p ≡ q = one_point (p ∷ rest) 0 p q ([], rest, refl, refl) (subst (λ z. IsAtPoint z 0 q) (ap (λ (z : NamedSub). z.points) same ∙ is) at_point) in
+      subst (AreFor s []) (sym (none_of (temporaries_of s q.scope) (ap (λ (z : NamedPoint). temporaries_in s z.scope) (sym first)
+      ∙ ready.scoped.starts named (named_has (flow_named table typed) k named stands) p rest is))) tt
+    where
+      none_of : (xs : List ℕ) → length xs ≡ 0 → xs ≡ []
+      none_of [] none = refl
+      none_of (x ∷ xs) none = absurd (omega (arith, none))
 
   -- the main procedure runs, and nothing is to wait for it
-  pub main_awaits : awaited (sub_of program ready.main) [] ≡ 0
+  pub main_awaits : awaited (sub_of program ready.main) [] ≡ None
   main_awaits =
-      ap (λ b. if b && true then 1 else 0) (ap (λ (z : FlowSub). is_some z.result) (sub_there table typed ready.main ready.main_there.named ready.main_there.stands)
-      ∙ ap is_some (ready.main_there.procedure ready.main_there.named ready.main_there.stands))
+      ap (λ (z : FlowSub). z.result) (sub_there table typed ready.main ready.main_there.named ready.main_there.stands)
+      ∙ ready.main_there.procedure ready.main_there.named ready.main_there.stands
 
   pub main_runs : IsRunnable table typed ready.main
   main_runs = record {
@@ -244,7 +244,7 @@ module _ (table : Table) (typed : TypedProgram) (effects : Effects) (input : Lis
       (of_sub : IsNamedSub (flow_named table typed) top.frame.sub named) (at_point : IsAtPoint named.points top.frame.next p)
       (path : ControlPath (path_points program effects (sub_of program top.frame.sub)) top.before top.frame.next)
       (viewed_before : Viewed (home s 0) (is_observer s) (known_gone (home s 0) (GoneElsewhere program effects [])) views (view_here s state) (facts_of program effects top))
-      (kept : Kept s state.memory (waiting_in state)) (scope : InScope s state.memory 0 p.scope) (holds : HoldsAt s 0 views state.memory p) where
+      (kept : Kept s state.memory (waiting_in state)) (scope : InScope s state.memory 0 (lasting_of s p.scope)) (holds : HoldsAt s 0 views state.memory p) where
     -- where it leads, and how the frames come from those before
     abbrev Along : Outcome → Type 0
     Along outcome = LeadsAlong table typed effects p.instr state.memory (record { stage = top; views = views }) [] outcome
@@ -287,6 +287,9 @@ module _ (table : Table) (typed : TypedProgram) (effects : Effects) (input : Lis
       scope_first : scope_behind p ≡ x ∷ p.scope
       scope_first = ap (λ n. brought p.instr (drop n p.scope)) first_takes ∙ ap (brought p.instr) (drop_none p.scope) ∙ ap (λ i. brought i p.scope) e
 
+      no_temporary : is_temporary_object s x ≡ false
+      no_temporary = subst (λ i. Fills s i (drop (taken i) p.scope)) e (standing.supplied table typed effects input ready state top [] [] named p frames of_sub at_point).1
+
       within_more : (y : ℕ) → is_within y p.scope ≡ true → is_within y (x ∷ p.scope) ≡ true
       within_more y w = or_right (y == x) (is_within y p.scope) w
 
@@ -307,7 +310,7 @@ module _ (table : Table) (typed : TypedProgram) (effects : Effects) (input : Lis
       blank_first q ways.Empty is = is
       blank_first q (ways.Held n) is = absurd (elim (scope 0 x q n is) [
         | inl less ↦ omega (arith, less)
-        | inr mine ↦ undeclared_before mine.1
+        | inr mine ↦ undeclared_before (lasting_within s x p.scope mine.1).0
       ])
       blank_first q ways.Gone is =
           let root : ways.Root = OfVariable 0 x in
@@ -363,7 +366,7 @@ module _ (table : Table) (typed : TypedProgram) (effects : Effects) (input : Lis
           ])
 
       moment_leads : (outcome : Outcome) → LeadsFirst outcome
-          → Each (Declares first_turn running.1.0 (λ f y. f < 0) p.scope (x ∷ p.scope) scope) outcome
+          → Each (Declares first_turn running.1.0 (λ f y. f < 0) (lasting_of s p.scope) (lasting_of s (x ∷ p.scope)) scope) outcome
           → Each (λ (st : State). NoneAbove s 0 st.memory) outcome → Along outcome
       unfolding main_begun
       moment_leads (Ends how after_step) leads on nones = leads
@@ -378,7 +381,7 @@ module _ (table : Table) (typed : TypedProgram) (effects : Effects) (input : Lis
                 (on.frames ∙ ap (led first_turn (record top.frame { waits = [] })) found.1) deep tt turned_views
                 (running.0, (refl, running.1.1, running.1.2), none_now, deep) (refl, refl)
                 (subst (Viewed (home s 0) (is_observer s) nowhere turned_views (view_here s after_step)) facts_on_e well.viewed) well.kept
-                (scope_on s ready.owns after_step.memory 0 (scope_behind p) (q.0).scope (subst (InScope s after_step.memory 0) (sym scope_first) on.inside) lead)
+                (scope_on s ready.owns after_step.memory 0 (scope_behind p) (q.0).scope (subst (λ z. InScope s after_step.memory 0 (lasting_of s z)) (sym scope_first) on.inside) lead)
                 (record {
                   held = λ y n lasts view at. well.holds.held y n view at;
                   within = λ y n view at. (let own_way = well.holds.held y n view at in no_views turned_views none_now y own_way.0 own_way.1);
@@ -421,7 +424,8 @@ module _ (table : Table) (typed : TypedProgram) (effects : Effects) (input : Lis
       declares_first : Along (turn first_turn (Declare x v))
       declares_first =
           moment_leads (turn first_turn (Declare x v)) first_leads
-          (declare_on first_turn running.1.0 (λ f y. f < 0) p.scope (x ∷ p.scope) scope within_more x v (ap (λ b. b || is_within x p.scope) (eq-eqb x x refl)))
+          (declare_on first_turn running.1.0 (λ f y. f < 0) (lasting_of s p.scope) (lasting_of s (x ∷ p.scope)) scope (lasting_more s p.scope (x ∷ p.scope) within_more) x v
+          (within_lasting s x (x ∷ p.scope) (ap (λ b. b || is_within x p.scope) (eq-eqb x x refl)) (plain_unheld s x no_temporary)))
           have_none_on
 
     pub package_step : Along (step program input state)

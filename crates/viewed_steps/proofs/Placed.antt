@@ -27,6 +27,8 @@ use Rattle.owned_loans.specs.Views.{Around, Views}
 use Rattle.viewed_soundness.specs.Holds.{PartsAreNamed}
 use Rattle.viewed_soundness.proofs.Names.{true_false}
 use Rattle.viewed_soundness.proofs.Outcomes.{Turned}
+use Rattle.viewed_steps.specs.Awaited.{is_held, lasting_of}
+use Rattle.viewed_steps.proofs.Waited.{lasting_within, within_lasting}
 use Rattle.viewed_steps.specs.Sound.{Lasts, ArePlaced}
 
 either : (a b : Bool) → a || b ≡ true → (a ≡ true) ⊎ (b ≡ true)
@@ -88,20 +90,25 @@ module _ (s : Typing) where
   pub view_ends : (x : ℕ) → is_anonymous (view_of s x) ≡ true → has_scope_end s x ≡ true
   view_ends x view = or_right (is_owning s.table (object_at s x).of) (is_anonymous (view_of s x)) view
 
-  -- so variables that own stay in scope
-  pub scope_on : OwnsByShape s.table → (m : Memory) (depth : ℕ) (a b : List ℕ) → InScope s m depth a → Leads s a b → InScope s m depth b
-  scope_on own_law m depth a b within leads f x p n held = elim (within f x p n held) [
-    | inl older ↦ inl older
-    | inr mine ↦ inr (mine.0, by_end f x p n (has_scope_end s x) refl mine.1 held)
-  ]
+  owning_on : OwnsByShape s.table → (m : Memory) (a b : List ℕ) → Leads s a b → (f x : ℕ) (p : List ways.Step) (n : ℕ)
+      → word_in s.table (content s m [] (OfRoot (ways.OfVariable f x))) p ≡ Held n → is_within x a ≡ true → is_within x b ≡ true
+  owning_on own_law m a b leads f x p n held there = by_end (has_scope_end s x) refl
     where
-      by_end : (f x : ℕ) (p : List ways.Step) (n : ℕ) (e : Bool) → has_scope_end s x ≡ e → is_within x a ≡ true
-          → word_in s.table (content s m [] (OfRoot (ways.OfVariable f x))) p ≡ Held n → is_within x b ≡ true
-      by_end f x p n true end there held = within_on a b x leads end there
-      by_end f x p n false end there held =
+      by_end : (e : Bool) → has_scope_end s x ≡ e → is_within x b ≡ true
+      by_end true end = within_on a b x leads end there
+      by_end false end =
           let none = word_no s.table (content s m [] (OfRoot (ways.OfVariable f x))) p
           (ownerless s.table own_law (object_at s x).of (not_or (is_owning s.table (object_at s x).of) (is_anonymous (view_of s x)) end) p) in
           let no_number = sym none ∙ held in cc
+
+  -- so variables that own stay in scope, and are no temporaries
+  pub scope_on : OwnsByShape s.table → (m : Memory) (depth : ℕ) (a b : List ℕ) → InScope s m depth (lasting_of s a) → Leads s a b → InScope s m depth (lasting_of s b)
+  scope_on own_law m depth a b within leads f x p n held = elim (within f x p n held) [
+    | inl older ↦ inl older
+    | inr mine ↦ (
+        let there = lasting_within s x a mine.1 in
+        inr (mine.0, within_lasting s x b (owning_on own_law m a b leads f x p n held there.0) there.1))
+  ]
 
 -- ---- what lasts
 
@@ -111,19 +118,19 @@ module _ (program : FlowProgram) where
 
   pub lasts_more : (a b : List ℕ) (r x : ℕ) → ((y : ℕ) → is_within y a ≡ true → is_within y b ≡ true) → Lasts program a r x → Lasts program b r x
   lasts_more a b r x more (inl shared) = inl shared
-  lasts_more a b r x more (inr (within, end, around)) = inr (more r within, end, around)
+  lasts_more a b r x more (inr (within, end, around, plain)) = inr (more r within, end, around, plain)
 
   pub lasts_on : (a b : List ℕ) (r x : ℕ) → Leads s a b → Lasts program a r x → Lasts program b r x
   lasts_on a b r x leads (inl shared) = inl shared
-  lasts_on a b r x leads (inr (within, end, around)) = inr (within_on s a b r leads end within, end, around)
+  lasts_on a b r x leads (inr (within, end, around, plain)) = inr (within_on s a b r leads end within, end, around, plain)
 
   -- what lasts as long as something that lasts as long as an object
   pub lasts_through : ((a b c : ℕ) → encloses program.scopes a b ≡ true → encloses program.scopes b c ≡ true → encloses program.scopes a c ≡ true)
       → (scope : List ℕ) (r y x : ℕ) → is_package_object s y ≡ false → Lasts program scope r y → Lasts program scope y x → Lasts program scope r x
   lasts_through transitive scope r y x local (inl shared) on = inl shared
-  lasts_through transitive scope r y x local (inr (within, end, around)) (inl shared) = absurd (true_false (is_package_object s y) shared local)
-  lasts_through transitive scope r y x local (inr (within, end, around)) (inr (there, last, beyond)) =
-      inr (within, end, transitive (scope_of s r) (scope_of s y) (scope_of s x) around beyond)
+  lasts_through transitive scope r y x local (inr (within, end, around, plain)) (inl shared) = absurd (true_false (is_package_object s y) shared local)
+  lasts_through transitive scope r y x local (inr (within, end, around, plain)) (inr (there, last, beyond, also)) =
+      inr (within, end, transitive (scope_of s r) (scope_of s y) (scope_of s x) around beyond, plain)
 
   pub placed_on : (facts : List Fact) (v : Views) (a b : List ℕ) → ((x : ℕ) (w : Way) → v.way x ≡ Some w → is_anonymous (view_of s x) ≡ true) → Leads s a b
       → ArePlaced program facts v a → ArePlaced program facts v b
@@ -141,6 +148,7 @@ module _ (program : FlowProgram) where
     pub lasts : Lasts program scope y x
     pub within : is_within x scope ≡ true
     pub view : is_anonymous (view_of s x) ≡ true
+    pub plain : is_held s x ≡ false
 
 module _ (t : Turn) (settled : IsSettled (typing t).table) (own_law : OwnsByShape (typing t).table) (other : Around (home (typing t) (length t.outer)))
     (alone : (w : Way) → IsNear (length t.outer) w → other.gone w → ⊥) (no_formals : (x : ℕ) → is_view_formal (typing t) x ≡ false)
@@ -178,7 +186,7 @@ module _ (t : Turn) (settled : IsSettled (typing t).table) (own_law : OwnsByShap
         | inr (k, has_y, is) ↦ subst (λ z. Lasts t.program b z x) (sym is) (through y k has_y from (number_of k) (placed y k has_y).root)
       ];
       holder = λ sees. elim (comes.loan sees) [
-        | inl own ↦ (x, own, inr (from.within, view_ends (typing t) x from.view, itself (scope_of (typing t) x)), sees)
+        | inl own ↦ (x, own, inr (from.within, view_ends (typing t) x from.view, itself (scope_of (typing t) x), from.plain), sees)
         | inr (k, has_y, sees_y, is) ↦ (
             let h = (placed y k has_y).holder sees_y in
             (h.0, subst (λ z. Has facts' (Lent Observed h.0 (name_of z))) (sym is) (lent h.0 (name_of (v.loan y)) h.1), through y k has_y from h.0 h.2, h.3))

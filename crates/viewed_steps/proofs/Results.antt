@@ -1,6 +1,8 @@
 -- An operand of a short circuit, whose value waits, and a return with a value, which waits in the frame
 -- of the caller, lead on.
-use Rattle.std.proofs.Common.{◌≡◌, refl, sym, ap, ◌∙◌, subst, ◌⊎◌, inl, inr, ℕ, suc, ◌+◌, ◌<◌, Bool, true, false, not, ◌||◌, ◌==◌, List, [], ◌∷◌, ◌++◌, drop, length, get_or, arith, append-nil, Option, Some, None, ◌&&◌, if◌then◌else◌}
+use Rattle.viewed_soundness.proofs.Names.{plain_named}
+use Rattle.viewed_soundness.specs.Taken.{GivesPlainly}
+use Rattle.std.proofs.Common.{◌≡◌, refl, sym, ap, ◌∙◌, subst, ◌⊎◌, inl, inr, ℕ, suc, ◌+◌, ◌<◌, Bool, true, false, ◌||◌, ◌==◌, List, [], ◌∷◌, ◌++◌, drop, length, get_or, arith, append-nil, Option, Some, None, if◌then◌else◌, take}
 use Rattle.spark_base.specs.Lists.{Has}
 use Rattle.place_names.specs.declared.act.Act.{Act}
 use Rattle.place_names.specs.declared.act.Act.TheVariants as act
@@ -9,12 +11,12 @@ use Rattle.place_names.specs.declared.fact.Fact.TheVariants.{Moved, Lent}
 use Rattle.place_names.specs.declared.rule.Loan.TheVariants.{Observed}
 use Rattle.place_names.specs.Names.{Name as PlaceName}
 use Rattle.type_definitions.specs.Types.{Table, is_scalar, full}
-use Rattle.typed_tree.specs.Trees.{TypedTree, NoMore, More}
+use Rattle.typed_tree.specs.Trees.{TypedTree, NoMore, More, Name, Call as CallIn}
 use Rattle.typed_tree.specs.Programs.{TypedProgram}
 use Rattle.flow_paths.specs.declared.report.Effects.{Effects}
-use Rattle.flow_paths.specs.Instructions.{Instruction, Call, Evaluate, Hold, EndScope, Finish}
-use Rattle.flow_paths.specs.Objects.{Typing, is_anonymous, is_package_object, is_observer, view_of}
-use Rattle.flow_paths.specs.Names.{has_call, waiting as waits_in}
+use Rattle.flow_paths.specs.Instructions.{Instruction, Call, Evaluate, Hold, EndScope, Finish, Declare, Assign}
+use Rattle.flow_paths.specs.Objects.{Typing, is_anonymous, is_package_object, is_observer, view_of, object_at}
+use Rattle.flow_paths.specs.Names.{waiting as waits_in}
 use Rattle.flow_paths.specs.Acts as flow
 use Rattle.flow_paths.specs.Acts.{acts_in}
 use Rattle.flow_paths.specs.Points.{NamedPoint}
@@ -37,19 +39,21 @@ use Rattle.owned_ways.specs.Ways as ways
 use Rattle.soundness.specs.Seen.{IsNear, is_view_formal, content, word_in, home}
 use Rattle.soundness.specs.Typed.{Kept}
 use Rattle.typed_laws.specs.Needed.{IsFine, Stays, Source, Returns}
-use Rattle.soundness.specs.Sound.{IsNoCall, calls_procedures, Stage, facts_of, AreStages, IsRunnable, AreAwaited, AreWaiting as AreWaitingValues, returns_value, awaited, InScope, IsNamedSub, IsAtPoint, view_of as view_here}
+use Rattle.soundness.specs.Sound.{IsNoCall, Stage, facts_of, AreStages, IsRunnable, returns_value, InScope, IsNamedSub, IsAtPoint, view_of as view_here}
 use Rattle.soundness.proofs.Scalars.{acts}
 use Rattle.soundness.proofs.Scoped.{Inside}
 use Rattle.soundness.proofs.Around.{IsFar}
 use Rattle.soundness.proofs.Waits.{drop_none}
-use Rattle.soundness.proofs.Taking.{Takes, takes_as, TakesPlainly, nothing_more}
+use Rattle.soundness.proofs.Taking.{Takes, takes_as, nothing_more}
 use Rattle.soundness.proofs.Waited.{FillsNone}
 use Rattle.soundness.proofs.Eased.{eased, waits_same}
-use Rattle.soundness.proofs.Successors.{not_true, below_one}
+use Rattle.soundness.proofs.Successors.{below_one}
 use Rattle.owned_loans.specs.Views.{Around, known_gone, Views, Viewed}
 use Rattle.viewed_soundness.specs.Holds.{IsNamed, AllKeep}
 use Rattle.viewed_soundness.proofs.Outcomes.{named_plain, IsGood, Leads_on}
-use Rattle.viewed_steps.specs.Sound.{IsResting, HoldsAt, ArePlaced, NoneAbove, ViewStage, stages_of, GoneElsewhere, AreWaiting, IsStoredAt, returns_one, LeadsAlong}
+use Rattle.viewed_steps.specs.Awaited.{AreFor, AreValues, AreValuesBut, temporaries_of, lasting_of, awaited, AreAwaited, AreScalar, FillsTyped, TakesScalars, IsTakenBy, TakesAlone}
+use Rattle.viewed_steps.proofs.Waited.{temporary_first, lasting_more, Shares}
+use Rattle.viewed_steps.specs.Sound.{HoldsAt, ArePlaced, NoneAbove, ViewStage, stages_of, GoneElsewhere, AreWaiting, IsStoredAt, returns_one, LeadsAlong, IsResting}
 use Rattle.viewed_steps.specs.Taken.{TakenBy}
 use Rattle.viewed_steps.specs.Ready.{IsReady}
 use Rattle.viewed_steps.proofs.Lent.{Spare, loans_stay}
@@ -60,26 +64,25 @@ use Rattle.viewed_steps.proofs.Standing.{or_right}
 use Rattle.viewed_steps.proofs.Standing as standing
 use Rattle.viewed_steps.proofs.Packages as packages
 use Rattle.viewed_steps.proofs.Innermost as innermost
+use Rattle.viewed_steps.proofs.Alone as alone_value
 use Rattle.std.specs.Prelude.{is_some, flat_map}
-use Rattle.std.specs.List.{AllByRecursion}
 use Rattle.type_definitions.specs.Entries.{boolean}
 use Rattle.type_definitions.specs.Types.{words}
 use Rattle.typed_tree.specs.declared.node.ShortCircuit.{ShortCircuit}
-use Rattle.flow_paths.specs.Laid.{FlowSub, flow_sub}
+use Rattle.flow_paths.specs.Laid.{FlowSub}
 use Rattle.flow_paths.specs.Paths.{PathPoint, path_point, goes_on, facts_before}
 use Rattle.machine.specs.Step.{led}
 use Rattle.machine.specs.Evaluate.{Raises, Traps}
 use Rattle.machine.specs.Run.{no_point}
 use Rattle.soundness.specs.Seen.{seen}
-use Rattle.soundness.specs.Sound.{IsPlainValue, is_temporary_object, temporaries_in, has_returned}
+use Rattle.soundness.specs.Sound.{is_temporary_object, has_returned}
 use Rattle.soundness.specs.Ready.{IsSupplied, Fills}
 use Rattle.soundness.proofs.Onward.{Gets, value_inside, source_inside}
 use Rattle.soundness.proofs.Operands.{handed_over, hold_is}
 use Rattle.soundness.proofs.Points.{path_there}
 use Rattle.soundness.proofs.Stays.{Quiet, One}
 use Rattle.soundness.proofs.Standing.{head_of, last_of}
-use Rattle.soundness.proofs.Waited.{Shares, counts, temporary_more}
-use Rattle.soundness.proofs.Waits.{take_none, or_both, waits_of}
+use Rattle.soundness.proofs.Waits.{waits_of}
 use Rattle.soundness.proofs.Numbers.{index_law}
 use Rattle.soundness.proofs.Lasting.{keeps}
 use Rattle.soundness.proofs.Fixed.{plain_word}
@@ -88,10 +91,12 @@ use Rattle.viewed_soundness.specs.Holds.{Holds}
 use Rattle.viewed_soundness.proofs.Evaluated.{Given}
 use Rattle.viewed_soundness.proofs.Outcomes.{unturned, scalar_taken}
 use Rattle.viewed_steps.proofs.Declared.{source_given}
-use Rattle.viewed_steps.proofs.Read.{scalar_named}
 use Rattle.viewed_steps.proofs.Beside.{value_stays, source_stays}
 use Rattle.viewed_steps.proofs.Operands.{left_operand_on, right_operand_on}
 use Rattle.viewed_steps.proofs.EachInstruction as each
+
+none_some : (n : ℕ) → None ≡ Some n → ⊥
+none_some n e = cc
 
 module _ (table : Table) (typed : TypedProgram) (effects : Effects) (input : List ℕ) (ready : IsReady table typed effects) where
   abbrev program : FlowProgram
@@ -116,12 +121,12 @@ module _ (table : Table) (typed : TypedProgram) (effects : Effects) (input : Lis
       (frames : state.frames ≡ top.frame ∷ (below.stage.frame ∷ rest)) (deep : top.depth ≡ suc (length rest))
       (stages : AreStages (stages_of (below ∷ more_frames)) (below.stage.frame ∷ rest))
       (running : IsRunnable table typed top.frame.sub × IsResting s top × AreWaiting table typed effects state top.frame.sub top.frame.returns (below ∷ more_frames))
-      (awaiting : AreAwaited table typed 0 (top ∷ stages_of (below ∷ more_frames)))
+      (awaiting : AreAwaited table typed None (top ∷ stages_of (below ∷ more_frames)))
       (of_sub : IsNamedSub (flow_named table typed) top.frame.sub named) (at_point : IsAtPoint named.points top.frame.next p)
       (path : ControlPath (path_points program effects (sub_of program top.frame.sub)) top.before top.frame.next) (views : Views)
       (viewed_before : Viewed (home s (suc (length rest))) (is_observer s) (known_gone (home s (suc (length rest))) (GoneElsewhere program effects (below ∷ more_frames))) views
       (view_here s state) (facts_of program effects top))
-      (kept : Kept s state.memory (waiting_in state)) (scope : InScope s state.memory (suc (length rest)) p.scope) (holds : HoldsAt s (suc (length rest)) views state.memory p)
+      (kept : Kept s state.memory (waiting_in state)) (scope : InScope s state.memory (suc (length rest)) (lasting_of s p.scope)) (holds : HoldsAt s (suc (length rest)) views state.memory p)
       (placed_before : ArePlaced program (facts_of program effects top) views p.scope) (above : NoneAbove s (suc (length rest)) state.memory) where
     abbrev outer : List Frame
     outer = below.stage.frame ∷ rest
@@ -185,20 +190,29 @@ module _ (table : Table) (typed : TypedProgram) (effects : Effects) (input : Lis
     abbrev given_words : List (List machine.Word)
     given_words = (start main_turn).waits
 
-    abbrev takes_of : (i : Instruction) → p.instr ≡ i → Takes (taken i) given_words []
+    abbrev Plain : Type 0
+    Plain = AreScalar s (temporaries_of s (take (taken p.instr) p.scope))
+
+    abbrev plain_here : ((call : TypedTree) → IsTakenBy p.instr call → ⊥) → Plain × TakesScalars s p.instr
+    plain_here = innermost.plain_here table typed effects input ready state top below more_frames rest named p frames deep stages running awaiting of_sub at_point path views viewed_before kept scope holds placed_before above
+
+    abbrev named_there : Has (flow_named table typed) named
+    named_there = innermost.named_there table typed effects input ready state top below more_frames rest named p frames deep stages running awaiting of_sub at_point path views viewed_before kept scope holds placed_before above
+
+    abbrev point_there_now : Has named.points p
+    point_there_now = innermost.point_there_now table typed effects input ready state top below more_frames rest named p frames deep stages running awaiting of_sub at_point path views viewed_before kept scope holds placed_before above
+
+    abbrev takes_of : Plain → (i : Instruction) → p.instr ≡ i → Takes (taken i) given_words []
     takes_of = innermost.takes_of table typed effects input ready state top below more_frames rest named p frames deep stages running awaiting of_sub at_point path views viewed_before kept scope holds placed_before above
 
     abbrev easy : Turn
     easy = eased main_turn
 
-    abbrev plainly : (i : Instruction) → p.instr ≡ i → (calls : Bool) → (calls_procedures i ≡ true → calls ≡ false) → TakesPlainly s calls
-    plainly = innermost.plainly table typed effects input ready state top below more_frames rest named p frames deep stages running awaiting of_sub at_point path views viewed_before kept scope holds placed_before above
-
     abbrev placed_left : (facts : List Fact) → ArePlaced program facts views p.scope → ArePlaced program facts views left_scope
     placed_left = innermost.placed_left table typed effects input ready state top below more_frames rest named p frames deep stages running awaiting of_sub at_point path views viewed_before kept scope holds placed_before above
 
     abbrev Left : List Waiting → Type 0
-    Left waits = AreWaitingValues s waits (scope_behind p)
+    Left waits = AreValues s waits (scope_behind p)
 
     abbrev left_after : FillsNone s p.instr → Left (steps.waiting main_turn)
     left_after = innermost.left_after table typed effects input ready state top below more_frames rest named p frames deep stages running awaiting of_sub at_point path views viewed_before kept scope holds placed_before above
@@ -214,7 +228,7 @@ module _ (table : Table) (typed : TypedProgram) (effects : Effects) (input : Lis
         (f < suc (length rest)) × ((f ≡ 0)
         ⊎ ((q : List Step) × (k : ℕ) × (word_in s.table (content s state.memory [] (OfRoot (OfVariable f x))) q ≡ Held k)))
 
-    abbrev inside_left : Inside s IsOld state.memory depth left_scope
+    abbrev inside_left : Inside s IsOld state.memory depth (lasting_of s left_scope)
     inside_left = innermost.inside_left table typed effects input ready state top below more_frames rest named p frames deep stages running awaiting of_sub at_point path views viewed_before kept scope holds placed_before above
 
     abbrev in_scope : (m : Memory) (after_scope : List ℕ) → Inside s IsOld m depth after_scope → InScope s m depth after_scope
@@ -256,14 +270,22 @@ module _ (table : Table) (typed : TypedProgram) (effects : Effects) (input : Lis
     -- ---- an operand
 
     module _ (temporary : ℕ) (e : TypedTree) (op : Option ShortCircuit) (is : p.instr ≡ Evaluate temporary e op) where
+      filled_there : FillsTyped program (Evaluate temporary e op) left_scope
+      filled_there = subst (λ i. FillsTyped program i left_scope) is (ready.valued.fills named named_there p point_there_now)
+
       truth_there : is_scalar (full s.table boolean) ≡ true
-      truth_there = elim ready.class.results [
-        | inr plain ↦ plain.1
-        | inl procedures ↦ (
-            let calls = procedures (flow_sub own named) (standing.in_program table typed effects input ready state top older outer named p frames of_sub at_point) main_turn.point
-            (standing.in_sub table typed effects input ready state top older outer named p frames of_sub at_point) in
-            let no_truth : false ≡ true = sym (ap calls_procedures is) ∙ calls in cc)
-      ]
+      truth_there = by_operand op filled_there
+        where
+          by_operand : (o : Option ShortCircuit) → FillsTyped program (Evaluate temporary e o) left_scope → is_scalar (full s.table boolean) ≡ true
+          by_operand (Some o) filled = filled.0
+          by_operand None filled = filled.0
+
+      plain_operand : Plain
+      plain_operand = (plain_here (λ call by. elim by [
+        | inl (x, other) ↦ (let never : Evaluate temporary e op ≡ Declare x (More call NoMore) = sym is ∙ other in cc)
+        | inr (inl (q, x, steps, u, other, calls)) ↦ (let never : Evaluate temporary e op ≡ Assign (Name q x steps u) call = sym is ∙ other in cc)
+        | inr (inr other) ↦ (let never : Evaluate temporary e op ≡ Hold (More call NoMore) = sym is ∙ other in cc)
+      ])).0
 
       evaluates : Stays s e
       evaluates = subst (IsFine s named.sub.result) is (standing.fine table typed effects input ready state top older outer named p frames of_sub at_point)
@@ -278,7 +300,7 @@ module _ (table : Table) (typed : TypedProgram) (effects : Effects) (input : Lis
       no_finish same = (let never : Evaluate temporary e op ≡ Finish = sym is ∙ same in cc)
 
       abbrev good_there : IsGood easy ready.accepted.settled ready.owns other alone no_in_formals views ready.class.parts_named may refl refl views facts_now easy.state
-      good_there = each.good table typed effects input ready state top below more_frames rest named p frames deep stages running awaiting of_sub at_point path views viewed_before kept scope holds placed_before above going_here no_call_here
+      good_there = each.good table typed effects input ready state top below more_frames rest named p frames deep stages running awaiting of_sub at_point path views viewed_before kept scope holds placed_before above going_here no_call_here plain_operand
 
       allowed_operand : AllowsAll facts_now (acts (acts_in s e))
       allowed_operand =
@@ -288,12 +310,12 @@ module _ (table : Table) (typed : TypedProgram) (effects : Effects) (input : Lis
       one_there : Quiet (record { memory = state.memory; waits = [] }) One (value (steps.here main_turn) e (start main_turn))
       one_there =
           (scalar_taken easy ready.accepted.settled ready.owns other alone no_in_formals views ready.class.parts_named may refl refl given_words e evaluates
-          (takes_of (Evaluate temporary e op) is) facts_now good_there allowed_operand).0
+          (takes_of plain_operand (Evaluate temporary e op) is) facts_now good_there allowed_operand).0
 
       -- its value waits
       operand_on : (waits : List machine.Word → List Waiting) (k : List machine.Word → ℕ) → ((ws : List machine.Word) → k ws < successors p.instr)
           → ((ws : List machine.Word) → length ws ≡ 1 → Left (waits ws)) → (y : Evaluated (List machine.Word))
-          → Quiet (record { memory = state.memory; waits = [] }) One y → Gets (λ ws m. Inside s IsOld m depth (scope_behind p)) y
+          → Quiet (record { memory = state.memory; waits = [] }) One y → Gets (λ ws m. Inside s IsOld m depth (lasting_of s (scope_behind p))) y
           → Gets (λ ws m. OthersKept s depth state.memory m) y
           → LeadsFrom p.instr (steps.evaluated main_turn y (λ ws m. Goes (steps.behind main_turn (waits ws) m (k ws))))
           → Along (steps.evaluated main_turn y (λ ws m. Goes (steps.behind main_turn (waits ws) m (k ws))))
@@ -312,8 +334,8 @@ module _ (table : Table) (typed : TypedProgram) (effects : Effects) (input : Lis
           by_operand None = within
           by_operand (Some o) = or_right (x == temporary) (is_within x left_scope) within
 
-      inside_operand : Gets (λ ws m. Inside s IsOld m depth (scope_behind p)) (value (steps.here main_turn) e (start main_turn))
-      inside_operand = value_inside main_turn AnyLeft tt IsOld left_scope (scope_behind p) inside_left more_there e
+      inside_operand : Gets (λ ws m. Inside s IsOld m depth (lasting_of s (scope_behind p))) (value (steps.here main_turn) e (start main_turn))
+      inside_operand = value_inside main_turn AnyLeft tt IsOld (lasting_of s left_scope) (lasting_of s (scope_behind p)) inside_left (lasting_more s left_scope (scope_behind p) more_there) e
 
       fills_here : Fills s (Evaluate temporary e op) left_scope
       fills_here = subst (λ i. Fills s i left_scope) is supplied_here.1
@@ -335,17 +357,20 @@ module _ (table : Table) (typed : TypedProgram) (effects : Effects) (input : Lis
     left_step temporary e o is =
         operand_on temporary e (Some o) is (λ ws. steps.truth_waiting ws ∷ steps.waiting main_turn) (λ ws. if run.decides o ws then 1 else 0)
         (λ ws. subst (λ i. (if run.decides o ws then 1 else 0) < successors i) (sym is) (first_two (run.decides o ws)))
-        (λ ws one. (
-          ((truth_there temporary e (Some o) is, one), (shared.left).0),
-          ap suc (shared.left).1 ∙ sym (ap (λ i. temporaries_in s (brought i left_scope)) is
-              ∙ temporary_more s temporary left_scope (fills_here temporary e (Some o) is)),
+        (λ ws one. subst (AreFor s (steps.truth_waiting ws ∷ steps.waiting main_turn))
+        (sym (ap (λ i. temporaries_of s (brought i left_scope)) is ∙ temporary_first s temporary left_scope (fills_here temporary e (Some o) is))) (
+          (
+            inl (truth_there temporary e (Some o) is, (filled_there temporary e (Some o) is).1),
+            one ∙ sym (plain_word s ready.accepted.settled boolean (truth_there temporary e (Some o) is)),
+          ),
+          shared.left,
         ))
         (value (steps.here main_turn) e (start main_turn)) (one_there temporary e (Some o) is) (inside_operand temporary e (Some o) is) (value_stays main_turn e)
         (leads_here temporary e (Some o) is (λ ws. steps.truth_waiting ws ∷ steps.waiting main_turn) (λ ws. steps.truth_waiting ws ∷ steps.waiting easy)
         (λ ws. if run.decides o ws then 1 else 0)
         (λ ws. ap (λ z. steps.truth_waiting ws ∷ z) (waits_same main_turn))
         (left_operand_on easy ready.accepted.settled ready.owns other alone no_in_formals views ready.class.parts_named may refl refl (truth_there temporary e (Some o) is)
-        given_words e o (evaluates temporary e (Some o) is) (takes_of (Evaluate temporary e (Some o)) is) facts_now (good_there temporary e (Some o) is)
+        given_words e o (evaluates temporary e (Some o) is) (takes_of (plain_operand temporary e (Some o) is) (Evaluate temporary e (Some o)) is) facts_now (good_there temporary e (Some o) is)
         (allowed_operand temporary e (Some o) is)))
       where
         first_two : (b : Bool) → (if b then 1 else 0) < 2
@@ -358,30 +383,36 @@ module _ (table : Table) (typed : TypedProgram) (effects : Effects) (input : Lis
         fills : (x : ℕ) × (rest_scope : List ℕ) × (left_scope ≡ x ∷ rest_scope) × (is_temporary_object s x ≡ true)
         fills = fills_here temporary e None is
 
-        some_left : temporaries_in s left_scope ≡ suc (temporaries_in s fills.1)
-        some_left = ap (temporaries_in s) fills.2 ∙ temporary_more s fills.0 fills.1 fills.3
+        some_left : temporaries_of s left_scope ≡ fills.0 ∷ temporaries_of s fills.1
+        some_left = ap (temporaries_of s) fills.2 ∙ temporary_first s fills.0 fills.1 fills.3
+
+        scalar_first : is_scalar (full s.table (object_at s fills.0).of) ≡ true
+        scalar_first = (filled_there temporary e None is).1 fills.0 fills.1 fills.2
+
+        left_there : AreFor s (steps.waiting main_turn) (fills.0 ∷ temporaries_of s fills.1)
+        left_there = subst (AreFor s (steps.waiting main_turn)) some_left shared.left
 
         by_waits : (vs : List Waiting) → steps.waiting main_turn ≡ vs → Along (steps.operand main_turn e None)
-        by_waits [] none =
-            (let long = sym (shared.left).1 ∙ ap (λ (z : List Waiting). length z) none in absurd (omega (arith, long, some_left)))
+        by_waits [] none = absurd (subst (λ z. AreFor s z (fills.0 ∷ temporaries_of s fills.1)) none left_there)
         by_waits (v ∷ vs) some =
+            let mine : AreFor s (v ∷ vs) (fills.0 ∷ temporaries_of s fills.1) = subst (λ z. AreFor s z (fills.0 ∷ temporaries_of s fills.1)) some left_there in
+            let scalar_value : is_scalar (full s.table v.of) ≡ true = elim (mine.0).0 [
+              | inl both ↦ both.0
+              | inr same ↦ ap (λ z. is_scalar (full s.table z)) same ∙ scalar_first
+            ] in
             operand_on temporary e None is (λ ws. steps.truth_waiting ws ∷ drop 1 (steps.waiting main_turn)) (λ ws. 0)
             (λ ws. subst (λ i. 0 < successors i) (sym is) below_one)
-            (λ ws one. (
-              (
-                (truth_there temporary e None is, one),
-                subst (λ z. AllByRecursion (IsPlainValue s) (drop 1 z)) (sym some)
-                    (subst (AllByRecursion (IsPlainValue s)) (sym (drop_none vs)) (subst (AllByRecursion (IsPlainValue s)) some (shared.left).0).1),
-              ),
-              ap (λ (z : List Waiting). suc (length (drop 1 z))) some ∙ ap (λ (z : List Waiting). suc (length z)) (drop_none vs)
-                  ∙ sym (ap (λ (z : List Waiting). length z) some) ∙ (shared.left).1 ∙ sym (ap (λ i. temporaries_in s (brought i left_scope)) is),
+            (λ ws one. subst (AreFor s (steps.truth_waiting ws ∷ drop 1 (steps.waiting main_turn)))
+            (sym (ap (λ i. temporaries_of s (brought i left_scope)) is ∙ some_left)) (
+              (inl (truth_there temporary e None is, scalar_first), one ∙ sym (plain_word s ready.accepted.settled boolean (truth_there temporary e None is))),
+              subst (λ z. AreFor s z (temporaries_of s fills.1)) (sym (ap (drop 1) some ∙ drop_none vs)) mine.1,
             ))
             (value (steps.here main_turn) e (start main_turn)) (one_there temporary e None is) (inside_operand temporary e None is) (value_stays main_turn e)
             (leads_here temporary e None is (λ ws. steps.truth_waiting ws ∷ drop 1 (steps.waiting main_turn)) (λ ws. steps.truth_waiting ws ∷ drop 1 (steps.waiting easy)) (λ ws. 0)
             (λ ws. ap (λ z. steps.truth_waiting ws ∷ drop 1 z) (waits_same main_turn))
             (right_operand_on easy ready.accepted.settled ready.owns other alone no_in_formals views ready.class.parts_named may refl refl (truth_there temporary e None is)
-            given_words e v vs some ((subst (AllByRecursion (IsPlainValue s)) some (shared.left).0).0).0 (evaluates temporary e None is)
-            (takes_of (Evaluate temporary e None) is) facts_now (good_there temporary e None is) (allowed_operand temporary e None is)))
+            given_words e v vs some scalar_value (evaluates temporary e None is)
+            (takes_of (plain_operand temporary e None is) (Evaluate temporary e None) is) facts_now (good_there temporary e None is) (allowed_operand temporary e None is)))
 
     pub operand_step : (temporary : ℕ) (e : TypedTree) (op : Option ShortCircuit) → p.instr ≡ Evaluate temporary e op
         → Along (turn main_turn (Evaluate temporary e op))
@@ -403,11 +434,8 @@ module _ (table : Table) (typed : TypedProgram) (effects : Effects) (input : Lis
       no_finish_then : p.instr ≡ Finish → ⊥
       no_finish_then same = (let never : Hold (More e last) ≡ Finish = sym is ∙ same in cc)
 
-      plain_result : is_scalar (full s.table of) ≡ true
-      plain_result = innermost.plain_result table typed effects input ready state top below more_frames rest named p frames deep stages running awaiting of_sub at_point path views viewed_before kept scope holds placed_before above of result
-
       pub named_result : IsNamed s.table of
-      named_result = scalar_named s.table of plain_result
+      named_result = plain_named s.table of (innermost.named_result table typed effects input ready state top below more_frames rest named p frames deep stages running awaiting of_sub at_point path views viewed_before kept scope holds placed_before above of result)
 
       acts_then : acts_of_main p.instr ≡ acts (acts_in s e)
       unfolding acts_in
@@ -416,18 +444,15 @@ module _ (table : Table) (typed : TypedProgram) (effects : Effects) (input : Lis
           ∙ ap (λ b. acts (if b then flow.source_acts s e (λ m. act.Give m (flow.gives_variable s (Some of))) else acts_in s e ++ acts_in s last)) (named_plain s.table of named_result)
           ∙ ap acts (ap (λ z. acts_in s e ++ acts_in s z) alone_there ∙ append-nil (acts_in s e))
 
-      takes_value : Takes (waits_in e) given_words []
+      takes_value : Plain → Takes (waits_in e) given_words []
       unfolding waits_in
-      takes_value =
+      takes_value plain =
           takes_as (taken (Hold (More e last))) (waits_in e) given_words []
-          (ap (λ z. waits_in e + waits_in z) alone_there ∙ nothing_more (waits_in e)) (takes_of (Hold (More e last)) is)
+          (ap (λ z. waits_in e + waits_in z) alone_there ∙ nothing_more (waits_in e)) (takes_of plain (Hold (More e last)) is)
 
-      plainly_value : TakesPlainly s (has_call e)
-      unfolding has_call
-      plainly_value = plainly (Hold (More e last)) is (has_call e) (λ calls. (or_both (has_call e) (has_call last) (not_true (has_call e || has_call last) calls)).0)
-
-      abbrev good_value : IsGood easy ready.accepted.settled ready.owns other alone no_in_formals views ready.class.parts_named may refl refl views facts_now easy.state
-      good_value = each.good table typed effects input ready state top below more_frames rest named p frames deep stages running awaiting of_sub at_point path views viewed_before kept scope holds placed_before above going_then no_call_then
+      plainly_value : TakesScalars s p.instr → GivesPlainly s e
+      unfolding GivesPlainly
+      plainly_value plain = (subst (TakesScalars s) is plain).0
 
       abbrev spare_value : Spare s (standing.acts_by table typed effects input ready state top older outer named p frames of_sub at_point s p.instr)
       spare_value = each.spares table typed effects input ready state top below more_frames rest named p frames deep stages running awaiting of_sub at_point path views viewed_before kept scope holds placed_before above going_then no_call_then no_finish_then
@@ -442,11 +467,13 @@ module _ (table : Table) (typed : TypedProgram) (effects : Effects) (input : Lis
       left_values = left_after (subst (FillsNone s) (sym is) tt)
 
       no_value_left : steps.waiting main_turn ≡ []
-      no_value_left = no_values (steps.waiting main_turn) ((shared.left).1 ∙ subst (λ i. Fills s i left_scope) is supplied_here.1)
+      no_value_left =
+          no_values (steps.waiting main_turn) (temporaries_of s left_scope) (subst (λ i. Fills s i left_scope) is supplied_here.1) shared.left
         where
-          no_values : (waits : List Waiting) → length waits ≡ 0 → waits ≡ []
-          no_values [] none = refl
-          no_values (v ∷ waits) none = absurd (omega (arith, none))
+          no_values : (waits : List Waiting) (xs : List ℕ) → length xs ≡ 0 → AreFor s waits xs → waits ≡ []
+          no_values [] xs none all = refl
+          no_values (v ∷ waits) [] none all = absurd all
+          no_values (v ∷ waits) (x ∷ xs) none all = absurd (omega (arith, none))
 
       some_result : is_some sub_here.result ≡ true
       some_result = ap is_some sub_result
@@ -455,15 +482,15 @@ module _ (table : Table) (typed : TypedProgram) (effects : Effects) (input : Lis
       returns_here = ap returns_value (instr_there ∙ is)
 
       -- it hasn't returned before, and it has then
-      awaited_before : awaited sub_here top.before ≡ 1
+      awaited_before : awaited sub_here top.before ≡ Some of
       awaited_before =
           let not_yet = (ready.returning top.frame.sub (running.0).entered some_result top.before top.frame.next path).0 returns_here in
-          (λ j. if some_result j && not (not_yet j) then 1 else 0)
+          ap (λ z. if z then None else sub_here.result) not_yet ∙ sub_result
 
-      awaited_then : awaited sub_here (top.frame.next ∷ top.before) ≡ 0
-      awaited_then = (λ j. if some_result j && not (returns_here j || has_returned sub_here top.before) then 1 else 0)
+      awaited_then : awaited sub_here (top.frame.next ∷ top.before) ≡ None
+      awaited_then = ap (λ z. if z || has_returned sub_here top.before then None else sub_here.result) returns_here
 
-      one_awaited : AreAwaited table typed 1 (stages_of (below ∷ more_frames))
+      one_awaited : AreAwaited table typed (Some of) (stages_of (below ∷ more_frames))
       one_awaited = subst (λ n. AreAwaited table typed n (stages_of (below ∷ more_frames))) awaited_before awaiting.1
 
       abbrev value_of : List machine.Word → Waiting
@@ -472,25 +499,22 @@ module _ (table : Table) (typed : TypedProgram) (effects : Effects) (input : Lis
       abbrev below_with : Waiting → ViewStage
       below_with v = record below { stage = record below.stage { frame = record below.stage.frame { waits = v ∷ below.stage.frame.waits } } }
 
-      await_with : (v : Waiting) → IsPlainValue s v → (others : List ViewStage) → AreAwaited table typed 1 (stages_of (below ∷ others))
-          → AreAwaited table typed 0 (stages_of (below_with v ∷ others))
-      await_with v plain [] await = (let never = await.0 in absurd (omega (arith, never)))
-      await_with v plain (h ∷ others) await = (
-        λ other_named other_stands q at_q. (
-            let was = await.0 other_named other_stands q at_q in
-            let all = counts s 1 q.scope in
-            let long = was.0.1 in
-            let first = was.1 in
-            let whole : suc (length below.stage.frame.waits) ≡ temporaries_in s q.scope = omega (arith, all, long, first) in (
-              ((plain, was.0.0), whole ∙ ap (temporaries_in s) (sym (drop_none q.scope))),
-              ap (temporaries_in s) (take_none q.scope),
-            )),
+      value_there : (ws : List machine.Word) → length ws ≡ words s.table of → (waits : List Waiting) (xs : List ℕ) → AreValuesBut s (Some of) waits xs
+          → AreFor s (value_of ws ∷ waits) xs
+      value_there ws long waits [] all = absurd all
+      value_there ws long waits (x ∷ xs) (fits, all) = ((fits, long), all)
+
+      await_with : (ws : List machine.Word) → length ws ≡ words s.table of → (others : List ViewStage) → AreAwaited table typed (Some of) (stages_of (below ∷ others))
+          → AreAwaited table typed None (stages_of (below_with (value_of ws) ∷ others))
+      await_with ws long [] await = (let never = await.0 in absurd (none_some of (sym never)))
+      await_with ws long (h ∷ others) await = (
+        λ other_named other_stands q at_q. value_there ws long below.stage.frame.waits (temporaries_of s q.scope) (await.0 other_named other_stands q at_q),
         await.1,
       )
 
-      wait_with : (v : Waiting) (st : State) (others : List ViewStage) → AreAwaited table typed 1 (stages_of (below ∷ others))
+      wait_with : (v : Waiting) (st : State) (others : List ViewStage) → AreAwaited table typed (Some of) (stages_of (below ∷ others))
           → AreWaiting table typed effects st top.frame.sub top.frame.returns (below ∷ others) → AreWaiting table typed effects st top.frame.sub top.frame.returns (below_with v ∷ others)
-      wait_with v st [] await waits = (let never = await.0 in absurd (omega (arith, never)))
+      wait_with v st [] await waits = (let never = await.0 in absurd (none_some of (sym never)))
       wait_with v st (h ∷ others) await waits =
           let was = waits.0 in (
             record {
@@ -547,11 +571,10 @@ module _ (table : Table) (typed : TypedProgram) (effects : Effects) (input : Lis
 
       returned_to : (ws : List machine.Word) (m : Memory)
           → Viewed (home s depth) (is_observer s) other views (seen s m (value_of ws ∷ waiting_in easy.state) state.leaks) (after (acts (acts_in s e)) facts_now)
-          → Kept s m (value_of ws ∷ waiting_in easy.state) → Holds s depth views m → length ws ≡ words s.table of → Inside s IsOld m depth left_scope
+          → Kept s m (value_of ws ∷ waiting_in easy.state) → Holds s depth views m → length ws ≡ words s.table of → Inside s IsOld m depth (lasting_of s left_scope)
           → OthersKept s depth state.memory m → Along (Goes (state_then ws m))
       returned_to ws m viewed_then kept_then holds_then long inside_then stay =
           let v : Waiting = value_of ws in
-          let plain_value : IsPlainValue s v = (plain_result, long ∙ plain_word s ready.accepted.settled of plain_result) in
           let view = seen s m (v ∷ waiting_in easy.state) state.leaks in
           let view_same : view ≡ view_here s (state_then ws m) = ap (λ z. seen s m z state.leaks) (sym (hands_then ws m)) in
           let well_all : Viewed (home s depth) (is_observer s) other views view (after (acts_of_main p.instr) facts_now) =
@@ -563,7 +586,7 @@ module _ (table : Table) (typed : TypedProgram) (effects : Effects) (input : Lis
           let facts_there : facts_of program effects top_then ≡ facts_then =
           ap (λ (z : FlowSub). facts_before (path_points program effects z) (top.frame.next ∷ top.before)) (standing.sub_is table typed effects input ready state top older outer named p frames of_sub at_point)
           ∙ standing.facts_on table typed effects input ready state top older outer named p frames of_sub at_point path no_call_then in
-          let inside_behind : Inside s IsOld m depth (scope_behind p) = subst (λ i. Inside s IsOld m depth (brought i left_scope)) (sym is) inside_then in
+          let inside_behind : Inside s IsOld m depth (lasting_of s (scope_behind p)) = subst (λ i. Inside s IsOld m depth (lasting_of s (brought i left_scope))) (sym is) inside_then in
           let more_behind : (x : ℕ) → is_within x left_scope ≡ true → is_within x (scope_behind p) ≡ true =
           (λ x within. subst (λ i. is_within x (brought i left_scope) ≡ true) (sym is) within) in
           let there = turned_placed easy ready.accepted.settled ready.owns other alone no_in_formals views ready.class.parts_named left_scope (scope_behind p) refl refl
@@ -580,12 +603,12 @@ module _ (table : Table) (typed : TypedProgram) (effects : Effects) (input : Lis
                 running.0,
                 running.1,
                 wait_with v (state_then ws m) more_frames one_awaited
-                    (wait_still (state_then ws m) (scope_behind p) inside_behind stay
+                    (wait_still (state_then ws m) (lasting_of s (scope_behind p)) inside_behind stay
                     (λ w n keeps. subst (λ z. ways.Reaches z w (ways.OfCell n)) view_same (well_all.far w n keeps))),
               );
               awaited = (
                 standing.waits_next table typed effects input ready state top older outer named p frames of_sub at_point path (steps.waiting main_turn) top.frame.loops next_number next_has left_values,
-                subst (λ n. AreAwaited table typed n (stages_of (below_with v ∷ more_frames))) (sym awaited_then) (await_with v plain_value more_frames one_awaited),
+                subst (λ n. AreAwaited table typed n (stages_of (below_with v ∷ more_frames))) (sym awaited_then) (await_with ws long more_frames one_awaited),
               );
               path = subst (λ (z : FlowSub). ControlPath (path_points program effects z) (top.frame.next ∷ top.before) next_number)
                   (sym (standing.sub_is table typed effects input ready state top older outer named p frames of_sub at_point))
@@ -607,8 +630,8 @@ module _ (table : Table) (typed : TypedProgram) (effects : Effects) (input : Lis
               of_sub = of_sub;
               point = found.0;
               at_point = found.1;
-              scope = subst (λ d. InScope s m d (found.0).scope) (sym deep)
-                  (scope_on s ready.owns m depth (scope_behind p) (found.0).scope (in_scope m (scope_behind p) inside_behind) found.2);
+              scope = subst (λ d. InScope s m d (lasting_of s (found.0).scope)) (sym deep)
+                  (scope_on s ready.owns m depth (scope_behind p) (found.0).scope (in_scope m (lasting_of s (scope_behind p)) inside_behind) found.2);
               holds = subst (λ d. HoldsAt s d views m found.0) (sym deep) (record {
                 held = λ x n lasts view_is at. holds_then.held x n view_is at;
                 within = λ x n view_is at. (let own_way = holds_then.held x n view_is at in (placed_next x own_way.0 own_way.1).within);
@@ -624,19 +647,47 @@ module _ (table : Table) (typed : TypedProgram) (effects : Effects) (input : Lis
       then_returned : (y : Evaluated (List machine.Word))
           → Given (steps.here main_turn) ready.accepted.settled state.leaks [] other alone (keeps s ready.accepted.settled ready.owns) no_in_formals index_law ready.owns views
           ready.class.parts_named of (waiting_in easy.state) (after (acts (acts_in s e)) facts_now) y
-          → Gets (λ ws m. Inside s IsOld m depth left_scope) y → Gets (λ ws m. OthersKept s depth state.memory m) y
+          → Gets (λ ws m. Inside s IsOld m depth (lasting_of s left_scope)) y → Gets (λ ws m. OthersKept s depth state.memory m) y
           → Along (steps.evaluated main_turn y (λ ws m. Goes (state_then ws m)))
       then_returned (Done ws n) (good, long, same) inside_then stay = returned_to ws n.memory good.viewed good.kept good.holds long inside_then stay
       then_returned (Raises x n) given inside_then stay = ((λ trap. trap), raised_well n.memory)
       then_returned (Traps x n) never inside_then stay = absurd never
 
-      value_step : Along (steps.hold main_turn (More e last))
-      value_step =
+      -- what the value comes to
+      abbrev IsGivenValue : Type 0
+      IsGivenValue =
+          Given (steps.here main_turn) ready.accepted.settled state.leaks [] other alone (keeps s ready.accepted.settled ready.owns) no_in_formals index_law ready.owns views
+          ready.class.parts_named of (waiting_in easy.state) (after (acts (acts_in s e)) facts_now) (steps.taken_by main_turn of e (start main_turn))
+
+      value_step : IsGivenValue → Along (steps.hold main_turn (More e last))
+      value_step given =
           subst (Along) (sym (hold_is program input main_turn.point state top.frame below.stage.frame rest e last of sub_result))
-          (then_returned (steps.taken_by main_turn of e (start main_turn))
-          (source_given easy ready.accepted.settled ready.owns other alone no_in_formals views ready.class.parts_named may refl refl given_words of e named_result source plainly_value takes_value facts_now good_value allowed_value keeps_value)
-          (source_inside main_turn AnyLeft tt IsOld left_scope left_scope inside_left (λ x within. within) of e)
+          (then_returned (steps.taken_by main_turn of e (start main_turn)) given
+          (source_inside main_turn AnyLeft tt IsOld (lasting_of s left_scope) (lasting_of s left_scope) inside_left (λ x within. within) of e)
           (source_stays main_turn of e))
+
+      plain_given : Plain × TakesScalars s p.instr → IsGivenValue
+      plain_given plain =
+          source_given easy ready.accepted.settled ready.owns other alone no_in_formals views ready.class.parts_named may refl refl given_words of e named_result source
+          (plainly_value plain.1) (takes_value plain.0) facts_now
+          (each.good table typed effects input ready state top below more_frames rest named p frames deep stages running awaiting of_sub at_point path views viewed_before kept scope holds placed_before above going_then no_call_then plain.0) allowed_value keeps_value
+
+      -- what was given alone
+      alone_given : TakesAlone s p → IsGivenValue
+      unfolding acts_in
+      alone_given alone_taken = elim (alone_taken.8) [
+        | inl (x, other_instr) ↦ (let never : Hold (More e last) ≡ Declare x (More (CallIn alone_taken.3 alone_taken.4 alone_taken.5) NoMore) = sym is ∙ other_instr in cc)
+        | inr (inl (q, x, steps, u, other_instr, calls)) ↦ (
+            let never : Hold (More e last) ≡ Assign (Name q x steps u) (CallIn alone_taken.3 alone_taken.4 alone_taken.5) = sym is ∙ other_instr in cc)
+        | inr (inr same_instr) ↦ (
+            let call : TypedTree = CallIn alone_taken.3 alone_taken.4 alone_taken.5 in
+            let both : Hold (More e last) ≡ Hold (More call NoMore) = sym is ∙ same_instr in
+            let is_call : e ≡ call = cc in
+            subst (λ z. Source s of z → Given (steps.here main_turn) ready.accepted.settled state.leaks [] other alone (keeps s ready.accepted.settled ready.owns) no_in_formals
+            index_law ready.owns views ready.class.parts_named of (waiting_in easy.state) (after (acts (acts_in s z)) facts_now) (steps.taken_by main_turn of z (start main_turn)))
+            (sym is_call)
+            (λ source_call. alone_value.source_alone table typed effects input ready state top below more_frames rest named p frames deep stages running awaiting of_sub at_point path views viewed_before kept scope holds placed_before above going_then alone_taken of named_result source_call) source)
+      ]
 
     pub return_step : (e last : TypedTree) → p.instr ≡ Hold (More e last) → Along (turn main_turn (Hold (More e last)))
     return_step e last is = by_result named.sub.result refl (subst (IsFine s named.sub.result) is (standing.fine table typed effects input ready state top older outer named p frames of_sub at_point))
@@ -644,4 +695,9 @@ module _ (table : Table) (typed : TypedProgram) (effects : Effects) (input : Lis
         by_result : (r : Option ℕ) → named.sub.result ≡ r → Returns s r (More e last) → Along (steps.hold main_turn (More e last))
         by_result None none never = cc
         by_result (Some of) result (value_there, same, source) =
-            value_step e last is of result (subst (Source s of) (sym (ap head_of same)) source) (ap last_of same)
+            let source_here : Source s of e = subst (Source s of) (sym (ap head_of same)) source in
+            let last_is : last ≡ NoMore = ap last_of same in
+            value_step e last is of result source_here last_is (elim (innermost.taken_there table typed effects input ready state top below more_frames rest named p frames deep stages running awaiting of_sub at_point path views viewed_before kept scope holds placed_before above) [
+              | inl plain ↦ plain_given e last is of result source_here last_is plain
+              | inr alone_taken ↦ alone_given e last is of result source_here last_is alone_taken
+            ])

@@ -1,5 +1,6 @@
 -- The end of a scope leads on.
-use Rattle.std.proofs.Common.{◌≡◌, refl, sym, ap, ◌∙◌, subst, ◌⊎◌, inl, inr, ℕ, zero, suc, ◌<◌, true, false, List, [], ◌∷◌, ◌++◌, map, drop, length, arith, Some}
+use Rattle.soundness.specs.Ready.{Fills, IsSupplied}
+use Rattle.std.proofs.Common.{◌≡◌, refl, sym, ap, ◌∙◌, subst, ◌⊎◌, inl, inr, ℕ, zero, suc, ◌<◌, true, false, List, [], ◌∷◌, ◌++◌, map, drop, length, arith, Some, None}
 use Rattle.spark_base.specs.Lists.{Has}
 use Rattle.place_names.specs.declared.act.Act.{Act}
 use Rattle.place_names.specs.declared.act.Act.TheVariants as act
@@ -18,7 +19,7 @@ use Rattle.flow_paths.specs.Laid.{FlowProgram, NamedSub, number_in, flow_typing,
 use Rattle.flow_paths.specs.Paths.{ControlPath}
 use Rattle.flow_paths.specs.Effects.{path_points}
 use Rattle.place_names.specs.Rules.{forbids}
-use Rattle.flow_paths.specs.Scopes.{taken, brought, scope_behind, is_ready, Leads}
+use Rattle.flow_paths.specs.Scopes.{taken, brought, scope_behind, is_ready, Leads, is_last}
 use Rattle.machine.specs.Memory.{Memory}
 use Rattle.machine.specs.States.{Waiting, Frame, State, Outcome, Goes, Ends, sub_of}
 use Rattle.machine.specs.Step.{Turn, turn, successor}
@@ -29,7 +30,7 @@ use Rattle.owned_ways.specs.Ways.{Step, OfVariable, OfRoot, Way, Held, after, Al
 use Rattle.owned_ways.specs.Ways as ways
 use Rattle.soundness.specs.Seen.{IsNear, is_view_formal, content, word_in, home}
 use Rattle.soundness.specs.Typed.{Kept}
-use Rattle.soundness.specs.Sound.{IsNoCall, Stage, facts_of, AreStages, IsRunnable, AreAwaited, AreWaiting as AreWaitingValues, returns_value, awaited, InScope, IsNamedSub, IsAtPoint, view_of as view_here}
+use Rattle.soundness.specs.Sound.{IsNoCall, Stage, facts_of, AreStages, IsRunnable, returns_value, InScope, IsNamedSub, IsAtPoint, view_of as view_here, is_temporary_object}
 use Rattle.soundness.proofs.Scoped.{Inside}
 use Rattle.soundness.proofs.Inherited.{Splits, allowed_beside}
 use Rattle.soundness.proofs.Around.{IsFar}
@@ -40,7 +41,9 @@ use Rattle.soundness.proofs.Waits.{drop_none}
 use Rattle.soundness.proofs.Successors.{below_one, successor_there}
 use Rattle.owned_loans.specs.Views.{Around, known_gone, Views, Viewed}
 use Rattle.viewed_soundness.proofs.Outcomes.{Is_left}
-use Rattle.viewed_steps.specs.Sound.{IsResting, HoldsAt, ArePlaced, NoneAbove, ViewStage, stages_of, GoneElsewhere, AreWaiting, AreLeft, leaves_scope, LeadsAlong}
+use Rattle.viewed_steps.specs.Awaited.{AreValues, lasting_of, awaited, AreAwaited}
+use Rattle.viewed_steps.proofs.Waited.{plain_unheld, last_lasting, lasting_last}
+use Rattle.viewed_steps.specs.Sound.{HoldsAt, ArePlaced, NoneAbove, ViewStage, stages_of, GoneElsewhere, AreWaiting, AreLeft, leaves_scope, LeadsAlong, IsResting}
 use Rattle.viewed_steps.specs.Ready.{AreOrderly, IsReady}
 use Rattle.viewed_steps.proofs.Inherited.{apart_end, lent_end}
 use Rattle.viewed_steps.proofs.Placed.{scope_on}
@@ -75,12 +78,12 @@ module _ (table : Table) (typed : TypedProgram) (effects : Effects) (input : Lis
       (frames : state.frames ≡ top.frame ∷ (below.stage.frame ∷ rest)) (deep : top.depth ≡ suc (length rest))
       (stages : AreStages (stages_of (below ∷ more_frames)) (below.stage.frame ∷ rest))
       (running : IsRunnable table typed top.frame.sub × IsResting s top × AreWaiting table typed effects state top.frame.sub top.frame.returns (below ∷ more_frames))
-      (awaiting : AreAwaited table typed 0 (top ∷ stages_of (below ∷ more_frames)))
+      (awaiting : AreAwaited table typed None (top ∷ stages_of (below ∷ more_frames)))
       (of_sub : IsNamedSub (flow_named table typed) top.frame.sub named) (at_point : IsAtPoint named.points top.frame.next p)
       (path : ControlPath (path_points program effects (sub_of program top.frame.sub)) top.before top.frame.next) (views : Views)
       (viewed_before : Viewed (home s (suc (length rest))) (is_observer s) (known_gone (home s (suc (length rest))) (GoneElsewhere program effects (below ∷ more_frames))) views
       (view_here s state) (facts_of program effects top))
-      (kept : Kept s state.memory (waiting_in state)) (scope : InScope s state.memory (suc (length rest)) p.scope) (holds : HoldsAt s (suc (length rest)) views state.memory p)
+      (kept : Kept s state.memory (waiting_in state)) (scope : InScope s state.memory (suc (length rest)) (lasting_of s p.scope)) (holds : HoldsAt s (suc (length rest)) views state.memory p)
       (placed_before : ArePlaced program (facts_of program effects top) views p.scope) (above : NoneAbove s (suc (length rest)) state.memory) where
     abbrev outer : List Frame
     outer = below.stage.frame ∷ rest
@@ -104,7 +107,7 @@ module _ (table : Table) (typed : TypedProgram) (effects : Effects) (input : Lis
     main_turn = standing.t table typed effects input ready state top older outer named p frames of_sub at_point
 
     abbrev Left : List Waiting → Type 0
-    Left waits = AreWaitingValues s waits (scope_behind p)
+    Left waits = AreValues s waits (scope_behind p)
 
     abbrev left_after : FillsNone s p.instr → Left (steps.waiting main_turn)
     left_after = innermost.left_after table typed effects input ready state top below more_frames rest named p frames deep stages running awaiting of_sub at_point path views viewed_before kept scope holds placed_before above
@@ -172,11 +175,14 @@ module _ (table : Table) (typed : TypedProgram) (effects : Effects) (input : Lis
         (f < suc (length rest)) × ((f ≡ 0)
         ⊎ ((q : List Step) × (k : ℕ) × (word_in s.table (content s state.memory [] (OfRoot (OfVariable f x))) q ≡ Held k)))
 
-    abbrev inside : Inside s IsOld state.memory depth p.scope
+    abbrev inside : Inside s IsOld state.memory depth (lasting_of s p.scope)
     inside = innermost.inside table typed effects input ready state top below more_frames rest named p frames deep stages running awaiting of_sub at_point path views viewed_before kept scope holds placed_before above
 
     abbrev in_scope : (m : Memory) (after_scope : List ℕ) → Inside s IsOld m depth after_scope → InScope s m depth after_scope
     in_scope = innermost.in_scope table typed effects input ready state top below more_frames rest named p frames deep stages running awaiting of_sub at_point path views viewed_before kept scope holds placed_before above
+
+    abbrev supplied_here : IsSupplied s p
+    supplied_here = innermost.supplied_here table typed effects input ready state top below more_frames rest named p frames deep stages running awaiting of_sub at_point path views viewed_before kept scope holds placed_before above
 
     abbrev home_frame : (x : ℕ) → is_package_object s x ≡ false → home s depth x ≡ depth
     home_frame = innermost.home_frame table typed effects input ready state top below more_frames rest named p frames deep stages running awaiting of_sub at_point path views viewed_before kept scope holds placed_before above
@@ -216,6 +222,16 @@ module _ (table : Table) (typed : TypedProgram) (effects : Effects) (input : Lis
 
       scope_is : scope_behind p ≡ drop 1 p.scope
       scope_is = ap (λ i. brought i (drop (taken i) p.scope)) is ∙ ap (drop 1) (drop_none p.scope)
+
+      no_temporary : is_temporary_object s y ≡ false
+      no_temporary = subst (λ i. Fills s i (drop (taken i) p.scope)) is supplied_here.1
+
+      -- it is the last one of those that last
+      lasting_left : lasting_of s (drop 1 p.scope) ≡ drop 1 (lasting_of s p.scope)
+      lasting_left = last_lasting s y p.scope (ready_there (EndScope y) is) (plain_unheld s y no_temporary)
+
+      still_last : is_last y (lasting_of s p.scope) ≡ true
+      still_last = lasting_last s y p.scope (ready_there (EndScope y) is) (plain_unheld s y no_temporary)
 
       not_shared : is_package_object s y ≡ false
       not_shared = ready.scoped.ends named named_there p point_there_now y is
@@ -266,7 +282,7 @@ module _ (table : Table) (typed : TypedProgram) (effects : Effects) (input : Lis
       then_left : (outcome : Outcome)
           → Is_left main_turn ready.accepted.settled ready.owns other alone no_in_formals views ready.class.parts_named no_source frames nothing_taken
           left_views y (after (acts_of_main (EndScope y)) facts_now) outcome
-          → Each (GoesOn main_turn Left left_values IsOld p.scope (drop 1 p.scope) inside) outcome
+          → Each (GoesOn main_turn Left left_values IsOld (lasting_of s p.scope) (drop 1 (lasting_of s p.scope)) inside) outcome
           → Each (λ (next : State). OthersKept s depth state.memory next.memory) outcome → Along outcome
       then_left (Ends how after_step) leads on stay = absurd leads
       then_left (Goes after_step) (still_viewed, still_kept, memory) on stay =
@@ -279,11 +295,11 @@ module _ (table : Table) (typed : TypedProgram) (effects : Effects) (input : Lis
           lead facts_now end_allowed.0 viewed kept holds placed (not_lent y not_shared))) in
           let frames_there = on.frames next_point.0 (ap (successor main_turn) (only_first on.k (subst (λ z. on.k < z) (ap successors is) on.less)) ∙ next_point.1) in
           standing.goes_to_next table typed effects input ready state top older outer named p frames of_sub at_point path no_call_here after_step on.waits on.loops next_point.0 next_point.2 at_next_point.0 at_next_point.1
-          frames_there deep stages left_views (running.0, running.1, wait_still after_step (drop 1 p.scope) on.inside stay still_viewed.far)
+          frames_there deep stages left_views (running.0, running.1, wait_still after_step (drop 1 (lasting_of s p.scope)) on.inside stay still_viewed.far)
           (standing.waits_next table typed effects input ready state top older outer named p frames of_sub at_point path on.waits on.loops next_point.0 next_point.2 on.are, others_await (ap returns_value is))
           (apart_from_them (acts_of_main p.instr) left_views (view_here s after_step) still_holds.only
           (subst (Viewed (home s depth) (is_observer s) other left_views (view_here s after_step)) facts_are_there still_viewed)) still_kept
-          (scope_on s ready.owns after_step.memory depth (drop 1 p.scope) (at_next_point.0).scope (in_scope after_step.memory (drop 1 p.scope) on.inside) lead)
+          (scope_on s ready.owns after_step.memory depth (drop 1 p.scope) (at_next_point.0).scope (subst (InScope s after_step.memory depth) (sym lasting_left) (in_scope after_step.memory (drop 1 (lasting_of s p.scope)) on.inside)) lead)
           still_holds
           (placed_by (after (acts_of_main p.instr) facts_now) (after (acts_of_main p.instr) own_facts) left_views (at_next_point.0).scope (own_loans (acts_of_main p.instr))
           (subst (λ z. ArePlaced program z left_views (at_next_point.0).scope) facts_are_there
@@ -300,5 +316,5 @@ module _ (table : Table) (typed : TypedProgram) (effects : Effects) (input : Lis
           p at_next_point.0 y is (home_frame y not_shared) not_shared (ready_there (EndScope y) is) ready.orderly.local (λ x within off. orderly.ended y x is within off)
           (λ x within sees region. orderly.followed y x is at_next_point.0 (next_point.0, next_point.2, at_next_point.1) within sees region)
           lead facts_now end_allowed.0 viewed kept holds placed (not_lent y not_shared))
-          (end_scope_follows main_turn Left left_values IsOld p.scope (drop 1 p.scope) inside y (ready_there (EndScope y) is) refl (with_successors (EndScope y) 0 is below_one))
+          (end_scope_follows main_turn Left left_values IsOld (lasting_of s p.scope) (drop 1 (lasting_of s p.scope)) inside y still_last refl (with_successors (EndScope y) 0 is below_one))
           (end_scope_keeps main_turn y)

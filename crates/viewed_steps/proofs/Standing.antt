@@ -1,5 +1,5 @@
 -- A frame that stands at a point of a program that is ready: its acts, its facts and its successors.
-use Rattle.std.proofs.Common.{◌≡◌, refl, sym, ap, ◌∙◌, subst, inl, inr, ℕ, Bool, true, false, ◌&&◌, ◌||◌, List, [], ◌∷◌, ◌++◌, length, get_or, append-nil, Option}
+use Rattle.std.proofs.Common.{◌≡◌, refl, sym, ap, ◌∙◌, subst, inl, inr, ℕ, Bool, true, false, ◌&&◌, ◌||◌, List, [], ◌∷◌, ◌++◌, length, get_or, append-nil, Option, None}
 use Rattle.spark_base.specs.Lists.{Has}
 use Rattle.place_names.specs.declared.act.Act.{Act}
 use Rattle.place_names.specs.declared.act.Placed.{Placed}
@@ -24,20 +24,19 @@ use Rattle.owned_ways.specs.Ways.{after, AllowsAll}
 use Rattle.soundness.specs.Seen.{is_view_formal, home}
 use Rattle.soundness.specs.Typed.{Kept}
 use Rattle.typed_laws.specs.Needed.{IsFine}
-use Rattle.soundness.specs.Sound.{IsNoCall, calls_procedures, temporaries_in, WaitsAt, AreAwaited, AreWaiting as AreWaitingValues, Stage, facts_of, AreStages, InScope, IsNamedSub, IsAtPoint, view_of as view_here}
+use Rattle.soundness.specs.Sound.{IsNoCall, Stage, facts_of, AreStages, InScope, IsNamedSub, IsAtPoint, view_of as view_here}
 use Rattle.soundness.proofs.Contents.{bool_cases}
 use Rattle.soundness.specs.Ready.{IsSupplied}
 use Rattle.soundness.proofs.Passing.{plain_type, signature_is}
 use Rattle.soundness.proofs.Beginning.{one_named, one_point}
-use Rattle.soundness.proofs.Taking.{TakesPlainly}
 use Rattle.soundness.proofs.Typings.{Agree, flow_agrees, instruction_same}
-use Rattle.soundness.proofs.Waited.{leads_count}
-use Rattle.soundness.proofs.Waits.{take_none, drop_none}
 use Rattle.soundness.proofs.Scalars.{acts}
 use Rattle.soundness.proofs.Paths.{accepted_point, facts_next}
 use Rattle.soundness.proofs.Points.{flow_at, named_has, point_has, sub_there, sub_has, point_there, point_in, path_there, IsLaid, next_there}
 use Rattle.owned_loans.specs.Views.{known_gone, Views, Viewed}
 use Rattle.viewed_soundness.specs.Holds.{AllKeep}
+use Rattle.viewed_steps.specs.Awaited.{AreFor, AreValues, temporaries_of, lasting_of, WaitsAt, AreAwaited}
+use Rattle.viewed_steps.proofs.Waited.{leads_temporaries}
 use Rattle.viewed_steps.specs.Sound.{HoldsAt, ArePlaced, NoneAbove, ViewStage, stages_of, GoneElsewhere, IsRunning, Follows, LeadsAlong}
 use Rattle.viewed_steps.specs.Ready.{IsReady}
 
@@ -78,14 +77,6 @@ module _ (table : Table) (typed : TypedProgram) (effects : Effects) (input : Lis
 
   pub laid : (named : NamedSub) → Has (flow_named table typed) named → IsLaid s named
   laid named has = ready.scoped.goes named has
-
-  -- what an instruction takes is plain
-  pub takes_plainly : (sub : FlowSub) → Has program.subs sub → (p : FlowPoint) → Has sub.points p → (i : Instruction) → p.instr ≡ i → (calls : Bool)
-      → (calls_procedures i ≡ true → calls ≡ false) → TakesPlainly s calls
-  takes_plainly sub in_program p in_sub i e calls none = elim ready.class.results [
-    | inr plain ↦ inr plain
-    | inl procedures ↦ inl (none (sym (ap calls_procedures e) ∙ procedures sub in_program p in_sub))
-  ]
 
   pub local : (x : ℕ) → is_anonymous (view_of s x) ≡ true → is_package_object s x ≡ false
   local x view = (ready.orderly.local x view).1
@@ -229,28 +220,22 @@ module _ (table : Table) (typed : TypedProgram) (effects : Effects) (input : Lis
       next_at n next = next_there s named (laid named named_in) p point_in_named n next
 
       -- what waits there
-      pub waits_next : (waits : List Waiting) (loops : List Loop) (n : ℕ) → Has here.next n → AreWaitingValues s waits (scope_behind p)
-          → WaitsAt table typed 0 (at_next waits loops n)
+      pub waits_next : (waits : List Waiting) (loops : List Loop) (n : ℕ) → Has here.next n → AreValues s waits (scope_behind p)
+          → WaitsAt table typed None (at_next waits loops n)
       waits_next waits loops n next are other other_stands q at_q =
           let found = next_at n next in
           let same_sub : other ≡ named = one_named (flow_named table typed) top.frame.sub other named other_stands of_sub in
           let same_point : found.0 ≡ q =
-          one_point named.points n found.0 q found.1 (subst (λ (z : NamedSub). IsAtPoint z.points n q) same_sub at_q) in (
-            (
-              are.0,
-              are.1 ∙ leads_count s (scope_behind p) (found.0).scope found.2 ∙ ap (λ (z : NamedPoint). temporaries_in s z.scope) same_point
-                  ∙ ap (temporaries_in s) (sym (drop_none q.scope)),
-            ),
-            ap (temporaries_in s) (take_none q.scope),
-          )
+          one_point named.points n found.0 q found.1 (subst (λ (z : NamedSub). IsAtPoint z.points n q) same_sub at_q) in
+          subst (AreFor s waits) (leads_temporaries s (scope_behind p) (found.0).scope found.2 ∙ ap (λ (z : NamedPoint). temporaries_of s z.scope) same_point) are
 
       pub goes_to_next : IsNoCall p.instr → (after_step : State) (waits : List Waiting) (loops : List Loop) (n : ℕ) (next : Has here.next n) (q : NamedPoint) → IsAtPoint named.points n q
           → after_step.frames ≡ record top.frame { waits = waits; loops = loops; next = n } ∷ outer
           → top.depth ≡ length outer → AreStages (stages_of older) outer → (views : Views)
           → IsRunning table typed effects after_step (record { stage = at_next waits loops n; views = views }) older
-          → AreAwaited table typed 0 (at_next waits loops n ∷ stages_of older)
+          → AreAwaited table typed None (at_next waits loops n ∷ stages_of older)
           → Viewed (home s (length outer)) (is_observer s) (known_gone (home s (length outer)) (GoneElsewhere program effects older)) views (view_here s after_step) (after (acts_here p.instr) facts)
-          → Kept s after_step.memory (waiting_in after_step) → InScope s after_step.memory (length outer) q.scope
+          → Kept s after_step.memory (waiting_in after_step) → InScope s after_step.memory (length outer) (lasting_of s q.scope)
           → HoldsAt s (length outer) views after_step.memory q → ArePlaced program (after (acts_here p.instr) facts) views q.scope
           → NoneAbove s (length outer) after_step.memory → (before : Views)
           → Follows program effects p.instr state.memory (record { stage = top; views = before }) older after_step.memory (record { stage = at_next waits loops n; views = views }) older
@@ -276,7 +261,7 @@ module _ (table : Table) (typed : TypedProgram) (effects : Effects) (input : Lis
               of_sub = of_sub;
               point = q;
               at_point = at;
-              scope = subst (λ d. InScope s after_step.memory d q.scope) (sym deep) scope;
+              scope = subst (λ d. InScope s after_step.memory d (lasting_of s q.scope)) (sym deep) scope;
               holds = subst (λ d. HoldsAt s d views after_step.memory q) (sym deep) holds;
               placed = subst (λ z. ArePlaced program z views q.scope) (sym facts_there) placed;
               none_above = subst (λ d. NoneAbove s d after_step.memory) (sym deep) above;

@@ -32,6 +32,7 @@ use Rattle.owned_loans.proofs.Moves.{view_named, named_way, view_on, own_loan}
 use Rattle.viewed_steps.specs.Taken.{TakenBy}
 use Rattle.viewed_steps.proofs.Between.{taken_from as words_taken, taken_base, still_taken, near_base}
 use Rattle.viewed_steps.proofs.Roots.{borrower_goes, view_goes}
+use Rattle.viewed_steps.specs.Awaited.{lasting_of}
 use Rattle.viewed_steps.specs.Sound.{ViewStage, stages_of, GoneElsewhere, IsWaiting, IsFirst, AreWaiting}
 
 -- ---- near ways
@@ -295,7 +296,7 @@ module _ (table : Table) (typed : TypedProgram) (effects : Effects)
       | inl first ↦ absurd (subst (λ z. TakenBy z w) (first.1).2 taken).1
       | inr (some, less, callee, backs, waits) ↦ (
           let base = taken_base g.stage.returns g.stage.depth
-          (words_taken s state.memory g.stage.depth (facts_of program effects g.stage) waits.point.scope backs g.stage.returns waits.taken) w taken in
+          (words_taken s state.memory g.stage.depth (facts_of program effects g.stage) (lasting_of s waits.point.scope) backs g.stage.returns waits.taken) w taken in
           (g.stage.depth, base.0, base.1, less))
     ]
     gone_low w (g, has, inl (u, moved, leads)) = elim (between g has) [
@@ -321,7 +322,7 @@ module _ (table : Table) (typed : TypedProgram) (effects : Effects)
       | inl first ↦ absurd (subst (λ z. TakenBy z w) (first.1).2 taken).1
       | inr (some, less, callee, backs, waits) ↦ absurd (
           let base = taken_base g.stage.returns g.stage.depth
-          (words_taken s state.memory g.stage.depth (facts_of program effects g.stage) waits.point.scope backs g.stage.returns waits.taken) w taken in
+          (words_taken s state.memory g.stage.depth (facts_of program effects g.stage) (lasting_of s waits.point.scope) backs g.stage.returns waits.taken) w taken in
           elim (near_base depth w g.stage.depth base.0 near base.1) [
             | inl none ↦ omega (arith, some, none)
             | inr same ↦ omega (arith, less, same)
@@ -629,7 +630,7 @@ module _ (table : Table) (typed : TypedProgram) (effects : Effects)
         only = waits.holds.only;
       };
       placed = waits.placed;
-      taken = still_taken s state.memory next.memory g.stage.depth (facts_of program effects g.stage) waits.point.scope
+      taken = still_taken s state.memory next.memory g.stage.depth (facts_of program effects g.stage) (lasting_of s waits.point.scope)
           (λ y p c held. still g.stage.depth y p c some less held) backs g.stage.returns waits.taken;
     }
       where

@@ -1,3 +1,5 @@
+-- what waits in frames
+pub mod Awaited
 -- what a call takes from places of its caller
 pub mod Taken
 -- what holds at each moment

@@ -19,9 +19,10 @@ use Rattle.flow_paths.specs.Views.{encloses, scope_of}
 use Rattle.machine.specs.States.{sub_of}
 use Rattle.soundness.specs.Typed.{OwnsByShape}
 use Rattle.soundness.specs.Sound.{Accepted, IsNamedSub, IsAtPoint, IsProcedure, IsRunnable}
-use Rattle.soundness.specs.Ready.{root_of, AreScoped, AreNew, AreElaborated, AreReturning}
+use Rattle.soundness.specs.Ready.{root_of, stored_at, AreScoped, AreNew, AreElaborated, AreReturning}
 use Rattle.typed_laws.specs.Needed.{Matches, Stays, IsPlace}
 use Rattle.viewed_soundness.specs.Holds.{AllKeep}
+use Rattle.viewed_steps.specs.Awaited.{is_held, IsTaken, FillsTyped}
 use Rattle.viewed_steps.specs.Sound.{IsScalarObject, IsViewClass, Lasts}
 
 -- ---- calls
@@ -43,6 +44,17 @@ pub record ArePassed (table : Table) (typed : TypedProgram) : Type 0 where
   pub passed : (sub : NamedSub) → Has (flow_named table typed) sub → (p : NamedPoint) → Has sub.points p → (n : ℕ) (actuals : TypedTree) (result : Option ℕ)
       → p.instr ≡ Call n actuals result → (x : ℕ) → Has (roots_passed actuals) x
       → (is_package_object (flow_typing (flow_program table typed)) x ≡ true) ⊎ (is_within x (drop (taken p.instr) p.scope) ≡ true)
+
+-- What waits: what is stored at or passed is no temporary that owns; what is taken is of scalar types, or
+-- what a function gave, alone; and what is filled fits.
+pub record AreValued (table : Table) (typed : TypedProgram) : Type 0 where
+  pub lasting : (sub : NamedSub) → Has (flow_named table typed) sub → (p : NamedPoint) → Has sub.points p → (x : ℕ) → Has (stored_at p.instr) x
+      → is_held (flow_typing (flow_program table typed)) x ≡ false
+  pub passed : (sub : NamedSub) → Has (flow_named table typed) sub → (p : NamedPoint) → Has sub.points p → (n : ℕ) (actuals : TypedTree) (result : Option ℕ)
+      → p.instr ≡ Call n actuals result → (x : ℕ) → Has (roots_passed actuals) x → is_held (flow_typing (flow_program table typed)) x ≡ false
+  pub takes : (sub : NamedSub) → Has (flow_named table typed) sub → (p : NamedPoint) → Has sub.points p → IsTaken (flow_typing (flow_program table typed)) p
+  pub fills : (sub : NamedSub) → Has (flow_named table typed) sub → (p : NamedPoint) → Has sub.points p
+      → FillsTyped (flow_program table typed) p.instr (drop (taken p.instr) p.scope)
 
 -- What is passed stays within what it names. One that is copied back to is a name: of a scalar type; or,
 -- of mode `in out`, of a place of the type of the formal in an object that belongs to no package.
@@ -142,6 +154,7 @@ pub record IsReady (table : Table) (typed : TypedProgram) (effects : Effects) : 
   pub orderly : ViewsAreOrderly table typed
   pub called : AreCalled table typed
   pub returning : AreReturning (flow_program table typed) effects
+  pub valued : AreValued table typed
   pub packages : NamedSub
   pub stands : IsNamedSub (flow_named table typed) 0 packages
   pub main : ℕ

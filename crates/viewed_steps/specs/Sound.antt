@@ -2,7 +2,7 @@
 --
 -- A frame that waits for a call to end has its views still: what was called names no object of the
 -- frame, and leaves package objects alone of which a part is lent.
-use Rattle.std.specs.Prelude.{suc, ◌≡◌, ◌⊎◌, ◌<◌, ℕ, true, List, [], ◌∷◌, map, get_or, Option, Some, None}
+use Rattle.std.specs.Prelude.{◌≡◌, ◌⊎◌, ◌<◌, ℕ, true, false, List, [], ◌∷◌, map, get_or, Option, Some, None, suc}
 use Rattle.spark_base.specs.Lists.{Has}
 use Rattle.spark_base.specs.declared.position.Pos.{Pos}
 use Rattle.place_names.specs.declared.act.Mode.TheVariants as mode
@@ -31,10 +31,11 @@ use Rattle.machine.specs.Run.{step}
 use Rattle.owned_ways.specs.Ways.{Step, OfVariable, OfRoot, Held, Way, name_of, number_of}
 use Rattle.soundness.specs.Seen.{content, word_in, home}
 use Rattle.soundness.specs.Typed.{Kept}
-use Rattle.soundness.specs.Sound.{calls_procedures, AreCopied, is_temporary_object, ArePlainResults, IsNamedSub, IsAtPoint, IsRunnable, Stage, facts_of, AreStages, AreAwaited, Uses, IsPlain, InScope, IsTrap}
+use Rattle.soundness.specs.Sound.{AreCopied, is_temporary_object, IsNamedSub, IsAtPoint, IsRunnable, Stage, facts_of, AreStages, Uses, IsPlain, InScope, IsTrap}
 use Rattle.soundness.specs.Sound as owners
 use Rattle.owned_loans.specs.Views.{known_gone, Views, IsMovedBy, AreClear, AreViews, Viewed}
 use Rattle.viewed_soundness.specs.Holds.{IsNamed, PartsAreNamed}
+use Rattle.viewed_steps.specs.Awaited.{is_held, lasting_of, AreNamedResults, AreAwaited}
 use Rattle.viewed_steps.specs.Taken.{TakenBy, AreTaken, AreCarried}
 
 -- ---- the class
@@ -46,14 +47,12 @@ IsScalarObject s x = is_scalar (full s.table (object_at s x).of) ≡ true
 abbrev pub IsKindOfFormal : Typing → ℕ → Type 0
 IsKindOfFormal s x = IsScalarObject s x ⊎ (((object_at s x).mode ≡ mode.InOut) × IsNamed s.table (object_at s x).of)
 
--- Anonymous access types are those of objects alone. Procedures are called, or functions too, and
--- then all have results of scalar types; formals are such, those of functions of scalar types, and
--- actuals that are copied back to go through no access value.
+-- Anonymous access types are those of objects alone, and functions that are called have no results of
+-- such types; formals are such, those of functions of scalar types, and actuals that are copied back to
+-- go through no access value.
 pub record IsViewClass (program : FlowProgram) : Type 0 where
   pub parts_named : PartsAreNamed program.table
-  pub results : ((sub : FlowSub) → Has program.subs sub → (p : FlowPoint) → Has sub.points p → calls_procedures p.instr ≡ true)
-      ⊎ ArePlainResults (flow_typing program)
-  pub temporaries : (x : ℕ) → is_temporary_object (flow_typing program) x ≡ true → is_scalar (full program.table (object_at (flow_typing program) x).of) ≡ true
+  pub results : AreNamedResults program
   pub formals : (x : ℕ) → is_formal (flow_typing program) x ≡ true → IsKindOfFormal (flow_typing program) x
   pub functions : (n t : ℕ) → (sub_at (flow_typing program) n).result ≡ Some t → (x : ℕ) → Has (sub_at (flow_typing program) n).formals x
       → is_formal (flow_typing program) x ≡ true → IsScalarObject (flow_typing program) x
@@ -64,12 +63,14 @@ pub record IsViewClass (program : FlowProgram) : Type 0 where
 -- ---- where objects last
 
 -- An object is there as long as another one may be used, where these objects are in scope: it is a
--- package object, or its scope ends at a point of its own and encloses that of the other one.
+-- package object, or its scope ends at a point of its own and encloses that of the other one, and it is
+-- no temporary.
 abbrev pub Lasts : FlowProgram → List ℕ → ℕ → ℕ → Type 0
 Lasts program scope r x =
     (is_package_object (flow_typing program) r ≡ true)
     ⊎ ((is_within r scope ≡ true) × (has_scope_end (flow_typing program) r ≡ true)
-    × (encloses program.scopes (scope_of (flow_typing program) r) (scope_of (flow_typing program) x) ≡ true))
+    × (encloses program.scopes (scope_of (flow_typing program) r) (scope_of (flow_typing program) x) ≡ true)
+    × (is_held (flow_typing program) r ≡ false))
 
 -- Where the scope of an object ends at a point, those of the objects of the same region do so at
 -- the points that follow. Its observers aren't used any more, and what they observed may end first.
@@ -153,7 +154,7 @@ pub record IsWaiting (table : Table) (typed : TypedProgram) (effects : Effects) 
   pub at_point : IsAtPoint named.points g.stage.frame.next point
   pub scope : (x : ℕ) (p : List Step) (n : ℕ)
       → word_in (flow_program table typed).table (content (flow_typing (flow_program table typed)) state.memory [] (OfRoot (OfVariable g.stage.depth x))) p ≡ Held n
-      → is_within x point.scope ≡ true
+      → is_within x (lasting_of (flow_typing (flow_program table typed)) point.scope) ≡ true
   pub lends : (l : Loan) (h : ℕ) (name : PlaceName) → Has (facts_of (flow_program table typed) effects g.stage) (Lent l h name)
       → is_package_object (flow_typing (flow_program table typed)) name.root ≡ true → Disturbs effects l callee name.root → ⊥
   pub unmoved : (name : PlaceName) → Has (facts_of (flow_program table typed) effects g.stage) (Moved name)
@@ -165,8 +166,8 @@ pub record IsWaiting (table : Table) (typed : TypedProgram) (effects : Effects) 
       (owners.view_of (flow_typing (flow_program table typed)) state) (facts_of (flow_program table typed) effects g.stage)
   pub holds : HoldsAt (flow_typing (flow_program table typed)) g.stage.depth g.views state.memory point
   pub placed : ArePlaced (flow_program table typed) (facts_of (flow_program table typed) effects g.stage) g.views point.scope
-  pub taken : AreTaken (flow_typing (flow_program table typed)) state.memory g.stage.depth (facts_of (flow_program table typed) effects g.stage) point.scope
-      backs g.stage.returns
+  pub taken : AreTaken (flow_typing (flow_program table typed)) state.memory g.stage.depth (facts_of (flow_program table typed) effects g.stage)
+      (lasting_of (flow_typing (flow_program table typed)) point.scope) backs g.stage.returns
 
 -- The frame of the package objects has no views, and nothing waits in it.
 abbrev pub IsFirst : ViewStage → Type 0
@@ -196,7 +197,7 @@ pub record IsSound (table : Table) (typed : TypedProgram) (effects : Effects) (s
   pub stages : AreStages (top ∷ stages_of older) state.frames
   pub running : IsRunning table typed effects state (record { stage = top; views = views }) older
   -- what waits is what is in scope
-  pub awaited : AreAwaited table typed 0 (top ∷ stages_of older)
+  pub awaited : AreAwaited table typed None (top ∷ stages_of older)
   pub path : ControlPath (path_points (flow_program table typed) effects (sub_of (flow_program table typed) top.frame.sub)) top.before top.frame.next
   -- the state is well owned, each view has a way to its cell, and what ways find gone is moved
   pub viewed : Viewed (home (flow_typing (flow_program table typed)) top.depth) (is_observer (flow_typing (flow_program table typed)))
@@ -209,7 +210,7 @@ pub record IsSound (table : Table) (typed : TypedProgram) (effects : Effects) (s
   pub point : NamedPoint
   pub at_point : IsAtPoint named.points top.frame.next point
   -- variables that own are in scope, and so are views
-  pub scope : InScope (flow_typing (flow_program table typed)) state.memory top.depth point.scope
+  pub scope : InScope (flow_typing (flow_program table typed)) state.memory top.depth (lasting_of (flow_typing (flow_program table typed)) point.scope)
   pub holds : HoldsAt (flow_typing (flow_program table typed)) top.depth views state.memory point
   pub placed : ArePlaced (flow_program table typed) (facts_of (flow_program table typed) effects top) views point.scope
   pub none_above : NoneAbove (flow_typing (flow_program table typed)) top.depth state.memory

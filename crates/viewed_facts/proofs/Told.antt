@@ -1,0 +1,293 @@
+-- Where a step of an instruction goes on that is no call and isn't the end of a scope, facts of all frames are exact,
+-- with the views then.
+use Rattle.std.proofs.Common.{◌≡◌, refl, sym, ap, ◌∙◌, subst, inl, inr, ℕ, suc, true, false, List, [], ◌∷◌, ◌++◌, map, length, Some, None, ◌⊎◌, take}
+use Rattle.place_names.specs.declared.rule.Loan.TheVariants.{Borrowed}
+use Rattle.spark_base.specs.Lists.{Has}
+use Rattle.spark_base.specs.declared.position.Pos.{Pos}
+use Rattle.place_names.specs.declared.act.Act.{Act}
+use Rattle.place_names.specs.declared.act.Placed.{Placed}
+use Rattle.place_names.specs.declared.fact.Fact.{Fact}
+use Rattle.place_names.specs.declared.fact.Fact.TheVariants.{Moved}
+use Rattle.place_names.specs.Names.{Name as PlaceName}
+use Rattle.place_names.specs.Facts.{removes}
+use Rattle.type_definitions.specs.Types.{Table}
+use Rattle.typed_tree.specs.Trees.{TypedTree, Name, NoMore, More, Call as CallIn}
+use Rattle.typed_tree.specs.Programs.{TypedProgram}
+use Rattle.flow_paths.specs.declared.report.Effects.{Effects}
+use Rattle.flow_paths.specs.declared.point.LeakSpot.{LeakSpot}
+use Rattle.flow_paths.specs.Instructions.{Instruction, Declare, Assign, Hold, EndScope, Finish}
+use Rattle.flow_paths.specs.Objects.{Typing, object_at, is_anonymous, is_package_object, is_observer, view_of}
+use Rattle.flow_paths.specs.Names.{waiting as waits_in}
+use Rattle.flow_paths.specs.Points.{NamedPoint}
+use Rattle.flow_paths.specs.Laid.{FlowProgram, NamedSub, number_in, flow_sub, typing_of, flow_typing, flow_program, flow_named}
+use Rattle.flow_paths.specs.Paths.{PathPoint, ControlPath, facts_before}
+use Rattle.flow_paths.specs.Effects.{act_writes, path_points}
+use Rattle.flow_paths.specs.LeakPlan.{IsExcused}
+use Rattle.flow_paths.specs.Scopes.{taken}
+use Rattle.machine.specs.Memory.{Memory, stored}
+use Rattle.machine.specs.Words as machine
+use Rattle.machine.specs.Words.{fits_type}
+use Rattle.machine.specs.States.{Frame, State, Outcome, Goes, Ends, sub_of}
+use Rattle.machine.specs.Step.{Turn, start}
+use Rattle.machine.specs.Owners.{waiting_in}
+use Rattle.machine.specs.Run.{step}
+use Rattle.owned_ways.specs.Ways.{Way, Told, after, AllowsAll}
+use Rattle.soundness.specs.Seen.{home, seen, IsNear, is_view_formal}
+use Rattle.soundness.specs.Typed.{Kept}
+use Rattle.soundness.specs.Sound.{Stage, facts_of, AreStages, IsRunnable, IsNoCall, InScope, Uses, IsNamedSub, IsAtPoint, view_of as view_here}
+use Rattle.typed_laws.specs.Needed.{IsFine, Leads, Source}
+use Rattle.soundness.proofs.Contents.{bool_cases}
+use Rattle.soundness.proofs.Taking.{Takes, takes_as, nothing_more}
+use Rattle.soundness.proofs.Eased.{eased}
+use Rattle.soundness.proofs.Inherited.{after_splits}
+use Rattle.soundness.proofs.Around.{IsFar}
+use Rattle.owned_loans.specs.Views.{Around, known_gone, Views, Viewed, IsThrough}
+use Rattle.viewed_soundness.proofs.Names.{true_false}
+use Rattle.viewed_soundness.proofs.Outcomes.{IsGood}
+use Rattle.viewed_steps.specs.Sound.{IsResting, HoldsAt, ArePlaced, NoneAbove, ViewStage, stages_of, GoneElsewhere, AreWaiting, IsStoredAt, AreTurned}
+use Rattle.viewed_steps.specs.Awaited.{AreAwaited, lasting_of, AreScalar, temporaries_of, TakesScalars}
+use Rattle.viewed_steps.specs.Ready.{AreOrderly, IsReady}
+use Rattle.viewed_steps.proofs.Lent.{spare_has}
+use Rattle.viewed_steps.proofs.Waiting.{StandsBetween, beside_them, handed}
+use Rattle.viewed_steps.proofs.Standing as standing
+use Rattle.viewed_steps.proofs.Packages as packages
+use Rattle.viewed_steps.proofs.Innermost as innermost
+use Rattle.viewed_steps.proofs.EachInstruction as each
+use Rattle.viewed_facts.specs.Exact.{IsDefiniteOf, IsExact}
+use Rattle.viewed_facts.proofs.Instructions.{ExactOn, turned_exact}
+use Rattle.viewed_facts.proofs.Viewing.{reborrow_unmoved}
+use Rattle.viewed_facts.proofs.Frames.{elsewhere as moved_elsewhere, spare_keeps, IsDefiniteHere}
+use Rattle.viewed_facts.proofs.Here as here
+use Rattle.viewed_facts.proofs.Stepping as stepping
+
+module _ (table : Table) (typed : TypedProgram) (effects : Effects) (input : List ℕ) (ready : IsReady table typed effects) where
+  abbrev program : FlowProgram
+  program = flow_program table typed
+
+  abbrev s : Typing
+  s = flow_typing program
+
+  abbrev own : Typing
+  own = typing_of table typed
+
+  abbrev no_formals : (x : ℕ) → is_view_formal s x ≡ false
+  no_formals = standing.no_in_formals table typed effects input ready
+
+  abbrev local : (x : ℕ) → is_anonymous (view_of s x) ≡ true → is_package_object s x ≡ false
+  local = standing.local table typed effects input ready
+
+  abbrev unmoved_stage : (e : Stage) → e.frame.sub ≡ 0 → (name : PlaceName) → Has (facts_of program effects e) (Moved name) → ⊥
+  unmoved_stage = packages.unmoved_stage table typed effects input ready
+
+  -- a point of a procedure, in a state that is sound and whose facts are exact
+  module _ (state : State) (top : Stage) (below : ViewStage) (more_frames : List ViewStage) (rest : List Frame) (named : NamedSub) (p : NamedPoint)
+      (frames : state.frames ≡ top.frame ∷ (below.stage.frame ∷ rest)) (deep : top.depth ≡ suc (length rest))
+      (stages : AreStages (stages_of (below ∷ more_frames)) (below.stage.frame ∷ rest))
+      (running : IsRunnable table typed top.frame.sub × IsResting s top × AreWaiting table typed effects state top.frame.sub top.frame.returns (below ∷ more_frames))
+      (awaiting : AreAwaited table typed None (top ∷ stages_of (below ∷ more_frames)))
+      (of_sub : IsNamedSub (flow_named table typed) top.frame.sub named) (at_point : IsAtPoint named.points top.frame.next p)
+      (path : ControlPath (path_points program effects (sub_of program top.frame.sub)) top.before top.frame.next) (views : Views)
+      (viewed_before : Viewed (home s (suc (length rest))) (is_observer s) (known_gone (home s (suc (length rest))) (GoneElsewhere program effects (below ∷ more_frames))) views
+      (view_here s state) (facts_of program effects top))
+      (kept : Kept s state.memory (waiting_in state)) (scope : InScope s state.memory (suc (length rest)) (lasting_of s p.scope)) (holds : HoldsAt s (suc (length rest)) views state.memory p)
+      (placed_before : ArePlaced program (facts_of program effects top) views p.scope) (above : NoneAbove s (suc (length rest)) state.memory)
+      (exact_before : Told (seen s state.memory [] []) (IsDefiniteOf program effects (record { stage = top; views = views } ∷ (below ∷ more_frames)))) where
+    abbrev outer : List Frame
+    outer = below.stage.frame ∷ rest
+
+    abbrev older : List ViewStage
+    older = below ∷ more_frames
+
+    abbrev depth : ℕ
+    depth = suc (length rest)
+
+    abbrev between : (g : ViewStage) → Has (below ∷ more_frames) g → StandsBetween table typed effects unmoved_stage local state (suc (length rest)) g
+    between = innermost.between table typed effects input ready state top below more_frames rest named p frames deep stages running awaiting of_sub at_point path views viewed_before kept scope holds placed_before above
+
+    abbrev other : Around (home s (suc (length rest)))
+    other = beside_them table typed effects unmoved_stage local state (suc (length rest)) (below ∷ more_frames) between
+
+    abbrev alone : (w : Way) → IsNear (suc (length rest)) w → IsFar (suc (length rest)) (GoneElsewhere program effects (below ∷ more_frames)) w → ⊥
+    alone = innermost.alone table typed effects input ready state top below more_frames rest named p frames deep stages running awaiting of_sub at_point path views viewed_before kept scope holds placed_before above
+
+    abbrev elsewhere : Way → Type 0
+    elsewhere = moved_elsewhere table typed effects unmoved_stage local state (suc (length rest)) (below ∷ more_frames) between views (innermost.own_views table typed effects input ready state top below more_frames rest named p frames deep stages running awaiting of_sub at_point path views viewed_before kept scope holds placed_before above)
+
+    abbrev away : (w : Way) → elsewhere w → (IsNear (suc (length rest)) w → ⊥) ⊎ IsThrough (home s (suc (length rest))) other.lent Borrowed w
+    away = here.away table typed effects input ready state top below more_frames rest named p frames deep stages running awaiting of_sub at_point path views viewed_before kept scope holds placed_before above exact_before
+
+    abbrev at : Turn
+    at = standing.t table typed effects input ready state top older outer named p frames of_sub at_point
+
+    abbrev points : List PathPoint
+    points = path_points program effects (flow_sub own named)
+
+    abbrev own_facts : List Fact
+    own_facts = standing.facts table typed effects input ready state top older outer named p frames of_sub at_point path
+
+    abbrev around : List Fact
+    around = handed table typed effects unmoved_stage local state depth older between
+
+    abbrev facts_now : List Fact
+    facts_now = own_facts ++ around
+
+    abbrev own_views : (x : ℕ) (w : Way) → views.way x ≡ Some w → is_package_object s x ≡ false
+    own_views = innermost.own_views table typed effects input ready state top below more_frames rest named p frames deep stages running awaiting of_sub at_point path views viewed_before kept scope holds placed_before above
+
+    abbrev home_frame : (x : ℕ) → is_package_object s x ≡ false → home s depth x ≡ depth
+    home_frame = innermost.home_frame table typed effects input ready state top below more_frames rest named p frames deep stages running awaiting of_sub at_point path views viewed_before kept scope holds placed_before above
+
+    abbrev orderly : AreOrderly program p (λ q. (n : ℕ) × Has (map (number_in named.points) p.next) n × IsAtPoint named.points n q)
+    orderly = innermost.orderly table typed effects input ready state top below more_frames rest named p frames deep stages running awaiting of_sub at_point path views viewed_before kept scope holds placed_before above
+
+    abbrev none_taken : ℕ → ℕ → Type 0
+    none_taken a b = ⊥
+
+    abbrev exact : IsExact s (home s depth) views elsewhere state.memory facts_now
+    exact = here.exact table typed effects input ready state top below more_frames rest named p frames deep stages running awaiting of_sub at_point path views viewed_before kept scope holds placed_before above exact_before
+
+    abbrev Excused : LeakSpot → Type 0
+    Excused = IsExcused points top.frame.next
+
+    abbrev placed_by : Instruction → List Placed
+    placed_by i = standing.acts_by table typed effects input ready state top older outer named p frames of_sub at_point s i
+
+    abbrev acts_by : Instruction → List Act
+    acts_by i = standing.acts_here table typed effects input ready state top older outer named p frames of_sub at_point i
+
+    abbrev given_words : List (List machine.Word)
+    given_words = (start at).waits
+
+    abbrev Plain : Type 0
+    Plain = AreScalar s (temporaries_of s (take (taken p.instr) p.scope))
+
+    abbrev Plainly : Type 0
+    Plainly = Plain × TakesScalars s p.instr
+
+    abbrev takes_of : Plain → (i : Instruction) → p.instr ≡ i → Takes (taken i) given_words []
+    takes_of = innermost.takes_of table typed effects input ready state top below more_frames rest named p frames deep stages running awaiting of_sub at_point path views viewed_before kept scope holds placed_before above
+
+    abbrev easy : Turn
+    easy = eased at
+
+    abbrev fine_here : IsFine s named.sub.result p.instr
+    fine_here = here.fine_here table typed effects input ready state top below more_frames rest named p frames deep stages running awaiting of_sub at_point path views viewed_before kept scope holds placed_before above exact_before
+
+    abbrev writes_none : (name : PlaceName) → (Uses effects top.frame.sub name.root → ⊥) → is_package_object s name.root ≡ true → (a : Placed) → Has (placed_by p.instr) a
+        → act_writes name.root a.act ≡ false
+    writes_none = here.writes_none table typed effects input ready state top below more_frames rest named p frames deep stages running awaiting of_sub at_point path views viewed_before kept scope holds placed_before above exact_before
+
+    abbrev after_around : ((name : PlaceName) → (Uses effects top.frame.sub name.root → ⊥) → is_package_object s name.root ≡ true → (a : Placed) → Has (placed_by p.instr) a
+        → removes a.act (Moved name) ≡ false) → (name : PlaceName) → Has around (Moved name) → Has (after (acts_by p.instr) facts_now) (Moved name)
+    after_around = here.after_around table typed effects input ready state top below more_frames rest named p frames deep stages running awaiting of_sub at_point path views viewed_before kept scope holds placed_before above exact_before
+
+    abbrev all_told : (next : Memory) (later : Views) → ((x : ℕ) (w : Way) → later.way x ≡ Some w → is_anonymous (view_of s x) ≡ true) → IsNoCall p.instr
+        → ((name : PlaceName) → Has around (Moved name) → Has (after (acts_by p.instr) facts_now) (Moved name))
+        → IsExact s (home s depth) later elsewhere next (after (acts_by p.instr) facts_now)
+        → Told (seen s next [] []) (IsDefiniteHere table typed effects unmoved_stage local depth later (facts_before points (top.frame.next ∷ top.before)) older)
+    all_told = here.all_told table typed effects input ready state top below more_frames rest named p frames deep stages running awaiting of_sub at_point path views viewed_before kept scope holds placed_before above exact_before
+
+    -- ---- an instruction that isn't the end of a scope
+
+    module _ (going : (x : ℕ) → p.instr ≡ EndScope x → ⊥) (no_calls : IsNoCall p.instr) where
+      abbrev ExactAt : List Fact → List LeakSpot → Outcome → Type 0
+      ExactAt facts spots outcome = ExactOn easy ready.accepted.settled ready.owns other alone no_formals views ready.class.parts_named none_taken refl refl elsewhere away Excused facts spots outcome
+
+      abbrev good : Plainly → IsGood easy ready.accepted.settled ready.owns other alone no_formals views ready.class.parts_named none_taken refl refl views facts_now easy.state
+      good = stepping.good table typed effects input ready state top below more_frames rest named p frames deep stages running awaiting of_sub at_point path views viewed_before kept scope holds placed_before above exact_before going no_calls
+
+      abbrev allowed_there : (p.instr ≡ Finish → ⊥) → AllowsAll facts_now (acts_by p.instr)
+      allowed_there = stepping.allowed_there table typed effects input ready state top below more_frames rest named p frames deep stages running awaiting of_sub at_point path views viewed_before kept scope holds placed_before above exact_before going no_calls
+
+      abbrev main_exact : (p.instr ≡ Finish → ⊥) → ExactAt (after (acts_by p.instr) facts_now) at.point.leaks (step program input state)
+      main_exact = stepping.main_exact table typed effects input ready state top below more_frames rest named p frames deep stages running awaiting of_sub at_point path views viewed_before kept scope holds placed_before above exact_before going no_calls
+
+      -- ---- facts of all frames
+
+      kept_around : (p.instr ≡ Finish → ⊥) → (name : PlaceName) → Has around (Moved name) → Has (after (acts_by p.instr) facts_now) (Moved name)
+      kept_around end name has =
+          after_around (λ name spared shared a there.
+          spare_keeps s name a.act (spare_has s (placed_by p.instr) (each.spares table typed effects input ready state top below more_frames rest named p frames deep stages running awaiting of_sub at_point path views viewed_before kept scope holds placed_before above going no_calls end) a there) (writes_none name spared shared a there)) name has
+
+      -- no moved name is rooted in a view that is declared or assigned
+      assigned_unmoved : Plainly → (q : Pos) (x u : ℕ) (e : TypedTree) → p.instr ≡ Assign (Name q x NoMore u) e → (p.instr ≡ Finish → ⊥)
+          → is_anonymous (view_of s x) ≡ true → is_observer s x ≡ false
+          → (n : PlaceName) → Has (after (acts_by p.instr) facts_now) (Moved n) → n.root ≡ x → ⊥
+      unfolding Leads waits_in
+      assigned_unmoved plain q x u e is end view borrows n has root = by_fine (subst (IsFine s named.sub.result) is fine_here)
+        where
+          by_fine : IsFine s None (Assign (Name q x NoMore u) e) → ⊥
+          by_fine (v, (leads, type), source) =
+              let found = orderly.assigned q x u e is view in
+              from_name found.0 found.1 found.3 found.2 found.4 (found.6 borrows) (subst (λ z. Source s z e) (sym (leads ∙ type)) source) leads
+            where
+              from_name : (r : Pos) (y w : ℕ) (path_of : TypedTree) → e ≡ Name r y path_of w → y ≡ x → Source s (object_at s x).of e → (object_at s x).of ≡ u → ⊥
+              from_name r y w path_of here_is itself source_there of =
+                  let instr_is : p.instr ≡ Assign (Name q x NoMore (object_at s x).of) (Name r y path_of w) =
+                  is ∙ (λ j. Assign (Name q x NoMore (sym of j)) (here_is j)) in
+                  let takes : Takes (waits_in path_of) given_words [] =
+                  takes_as (taken (Assign (Name q x NoMore (object_at s x).of) (Name r y path_of w))) (waits_in path_of) given_words [] (nothing_more (waits_in path_of))
+                  (takes_of plain.0 (Assign (Name q x NoMore (object_at s x).of) (Name r y path_of w)) instr_is) in
+                  reborrow_unmoved easy ready.accepted.settled ready.owns other alone no_formals views ready.class.parts_named none_taken refl refl elsewhere away Excused given_words p.pos q r x y w path_of view (ready.orderly.local x view).0 (home_frame x (local x view))
+                  (subst (Source s (object_at s x).of) here_is source_there) takes borrows itself facts_now (good plain)
+                  (subst (λ i. AllowsAll facts_now (acts_by i)) instr_is (allowed_there end)) n (subst (λ i. Has (after (acts_by i) facts_now) (Moved n)) instr_is has) root
+
+      -- what a view gets isn't what a function gave
+      plain_there : (q : Pos) (x u : ℕ) (e : TypedTree) → p.instr ≡ Assign (Name q x NoMore u) e → is_anonymous (view_of s x) ≡ true → IsFine s None (Assign (Name q x NoMore u) e) → Plainly
+      unfolding Leads
+      plain_there q x u e is view (v, (leads, type), source) =
+          let target : Assign (Name q x NoMore u) e ≡ Assign (Name q x NoMore (object_at s x).of) e = ap (λ z. Assign (Name q x NoMore z) e) (sym leads) in
+          let found = orderly.assigned q x (object_at s x).of e (is ∙ target) view in
+          elim (innermost.taken_there table typed effects input ready state top below more_frames rest named p frames deep stages running awaiting of_sub at_point path views viewed_before kept scope holds placed_before above) [
+            | inl plain ↦ plain
+            | inr taken_alone ↦ absurd (elim taken_alone.8 [
+              | inl (y, other_instr) ↦ (let never : Assign (Name q x NoMore u) e ≡ Declare y (More (CallIn taken_alone.3 taken_alone.4 taken_alone.5) NoMore) = sym is ∙ other_instr in cc)
+              | inr (inl (r, y, steps_there, w, same, calls)) ↦ (
+                  let there : Assign (Name q x NoMore u) e ≡ Assign (Name r y steps_there w) (CallIn taken_alone.3 taken_alone.4 taken_alone.5) = sym is ∙ same in
+                  by_source e taken_alone.3 taken_alone.4 taken_alone.5 found.0 found.1 found.2 found.3 (assigned_same there) found.4)
+              | inr (inr other_instr) ↦ (let never : Assign (Name q x NoMore u) e ≡ Hold (More (CallIn taken_alone.3 taken_alone.4 taken_alone.5) NoMore) = sym is ∙ other_instr in cc)
+            ])
+          ]
+        where
+          assigned_same : {a b c d : TypedTree} → Assign a b ≡ Assign c d → b ≡ d
+          assigned_same e = cc
+
+          by_source : (e : TypedTree) (k : Pos) (n : ℕ) (actuals : TypedTree) (r : Pos) (y : ℕ) (steps_there : TypedTree) (w : ℕ)
+              → e ≡ CallIn k n actuals → e ≡ Name r y steps_there w → ⊥
+          by_source e k n actuals r y steps_there w is same = cc
+
+      stored_unmoved : (p.instr ≡ Finish → ⊥) → ((n : PlaceName) → Has (after (acts_by p.instr) own_facts) (Moved n) → is_observer s n.root ≡ false)
+          → (x : ℕ) → is_anonymous (view_of s x) ≡ true → IsStoredAt p.instr x → (n : PlaceName) → Has (after (acts_by p.instr) facts_now) (Moved n) → n.root ≡ x → ⊥
+      stored_unmoved end clear x view stored n has root =
+          elim (after_splits (acts_by p.instr) facts_now own_facts around (innermost.from_both table typed effects input ready state top below more_frames rest named p frames deep stages running awaiting of_sub at_point path views viewed_before kept scope holds placed_before above) (Moved n) has) [
+            | inr there ↦ innermost.not_handed table typed effects input ready state top below more_frames rest named p frames deep stages running awaiting of_sub at_point path views viewed_before kept scope holds placed_before above n there (ap (is_package_object s) root ∙ local x view)
+            | inl mine ↦ elim stored [
+              | inl (v, e) ↦ packages.new_after table typed effects input ready state top older outer named p frames of_sub at_point path x v e no_calls n mine root
+              | inr (q, u, e, is) ↦ elim (bool_cases (is_observer s x)) [
+                | inl sees ↦ true_false (is_observer s x) sees (ap (is_observer s) (sym root) ∙ clear n mine)
+                | inr borrows ↦ assigned_unmoved (plain_there q x u e is view (subst (IsFine s named.sub.result) is fine_here)) q x u e is end view borrows n has root
+              ]
+            ]
+          ]
+
+      -- They are exact after the step, too, with the views then.
+      pub told_next : (p.instr ≡ Finish → ⊥) → (next : State) → step program input state ≡ Goes next → (later : Views)
+          → ((x : ℕ) (w : Way) → later.way x ≡ Some w → is_anonymous (view_of s x) ≡ true)
+          → ((n : PlaceName) → Has (facts_before points (top.frame.next ∷ top.before)) (Moved n) → is_observer s n.root ≡ false) → AreTurned p.instr views later
+          → Told (seen s next.memory [] []) (IsDefiniteHere table typed effects unmoved_stage local depth later (facts_before points (top.frame.next ∷ top.before)) older)
+      told_next end next is later only clear turned =
+          all_told next.memory later only no_calls (kept_around end)
+          (turned_exact easy ready.accepted.settled ready.owns other alone no_formals views ready.class.parts_named none_taken refl refl elsewhere away Excused next.memory later (after (acts_by p.instr) facts_now) holds.only
+          (λ x w has. elim (turned x w has) [
+            | inl old ↦ inl old
+            | inr stored ↦ inr (λ n moved root.
+                stored_unmoved end (λ m has_it. clear m (subst (λ z. Has z (Moved m)) (sym (standing.facts_on table typed effects input ready state top older outer named p frames of_sub at_point path no_calls)) has_it)) x (only x w has) stored n moved root)
+          ])
+          (goes_exact (step program input state) is (main_exact end)))
+        where
+          goes_exact : (outcome : Outcome) → outcome ≡ Goes next → ExactAt (after (acts_by p.instr) facts_now) at.point.leaks outcome
+              → IsExact s (home s depth) views elsewhere next.memory (after (acts_by p.instr) facts_now)
+          goes_exact (Goes after_step) same_step on = (
+              let state_same : after_step ≡ next = cc in
+              subst (λ (z : State). IsExact s (home s depth) views elsewhere z.memory (after (acts_by p.instr) facts_now)) state_same on.0)
+          goes_exact (Ends how after_step) same_step on = cc

@@ -1,0 +1,117 @@
+-- What waits in frames: the values of the temporaries in scope, one for each.
+use Rattle.std.specs.Prelude.{◌≡◌, ◌⊎◌, ℕ, Bool, true, false, not, ◌&&◌, List, [], ◌∷◌, take, filter, length, Option, Some, None, if◌then◌else◌}
+use Rattle.std.specs.List.{AllByRecursion}
+use Rattle.spark_base.specs.Lists.{Has}
+use Rattle.type_definitions.specs.Entries.{boolean}
+use Rattle.type_definitions.specs.Types.{Table, words, full, is_scalar}
+use Rattle.typed_tree.specs.Trees.{TypedTree, Name, Call as CallIn, NoMore, More}
+use Rattle.typed_tree.specs.Programs.{TypedProgram}
+use Rattle.spark_base.specs.declared.position.Pos.{Pos}
+use Rattle.flow_paths.specs.Instructions.{Instruction, Declare, Assign, Call, Evaluate, Hold}
+use Rattle.flow_paths.specs.Objects.{Typing, object_at, sub_at, is_anonymous, has_scope_end}
+use Rattle.flow_paths.specs.Names.{has_call}
+use Rattle.flow_paths.specs.Points.{NamedPoint, FlowPoint}
+use Rattle.flow_paths.specs.Laid.{FlowSub, FlowProgram, NamedSub, flow_typing, flow_program, flow_named}
+use Rattle.flow_paths.specs.Scopes.{taken}
+use Rattle.machine.specs.States.{Waiting, sub_of}
+use Rattle.soundness.specs.Sound.{is_temporary_object, has_returned, IsNamedSub, IsAtPoint, Stage}
+use Rattle.viewed_soundness.specs.Taken.{GivesPlainly}
+
+-- ---- values
+
+-- What has a type may be the value of a temporary: both types are scalar, or they are the same.
+abbrev pub Fits : Typing → ℕ → ℕ → Type 0
+Fits s r x =
+    ((is_scalar (full s.table r) ≡ true) × (is_scalar (full s.table (object_at s x).of) ≡ true)) ⊎ (r ≡ (object_at s x).of)
+
+abbrev pub IsValueFor : Typing → Waiting → ℕ → Type 0
+IsValueFor s v x = Fits s v.of x × (length v.words ≡ words s.table v.of)
+
+abbrev pub AreFor : Typing → List Waiting → List ℕ → Type 0
+AreFor s [] [] = Unit {0}
+AreFor s (v ∷ vs) (x ∷ xs) = IsValueFor s v x × AreFor s vs xs
+AreFor s _ _ = ⊥
+
+abbrev pub temporaries_of : Typing → List ℕ → List ℕ
+temporaries_of s scope = filter (is_temporary_object s) scope
+
+-- A temporary whose type has an end of scope, as owning ones have. (It has none.)
+abbrev pub is_held : Typing → ℕ → Bool
+is_held s x = is_temporary_object s x && has_scope_end s x
+
+-- The others in scope.
+abbrev pub lasting_of : Typing → List ℕ → List ℕ
+lasting_of s scope = filter (λ x. not (is_held s x)) scope
+
+-- The values of the temporaries in scope, the latest ones first.
+abbrev pub AreValues : Typing → List Waiting → List ℕ → Type 0
+AreValues s waits scope = AreFor s waits (temporaries_of s scope)
+
+-- The latest temporary may be empty, for the result of what was called.
+abbrev pub AreValuesBut : Typing → Option ℕ → List Waiting → List ℕ → Type 0
+AreValuesBut s None waits xs = AreFor s waits xs
+AreValuesBut s (Some r) waits [] = ⊥
+AreValuesBut s (Some r) waits (x ∷ xs) = Fits s r x × AreFor s waits xs
+
+-- ---- frames
+
+-- A function has given its result if it has executed the return; before that, the temporary of its
+-- caller that is to hold the result is empty.
+abbrev pub awaited : FlowSub → List ℕ → Option ℕ
+awaited sub before = if has_returned sub before then None else sub.result
+
+abbrev pub WaitsAt : Table → TypedProgram → Option ℕ → Stage → Type 0
+WaitsAt table typed empty g =
+    (named : NamedSub) → IsNamedSub (flow_named table typed) g.frame.sub named → (p : NamedPoint) → IsAtPoint named.points g.frame.next p
+    → AreValuesBut (flow_typing (flow_program table typed)) empty g.frame.waits (temporaries_of (flow_typing (flow_program table typed)) p.scope)
+
+-- In the frame of the package objects nothing waits, or is to.
+abbrev pub AreAwaited : Table → TypedProgram → Option ℕ → List Stage → Type 0
+AreAwaited table typed empty [] = Unit {0}
+AreAwaited table typed empty (e ∷ []) = (empty ≡ None) × (e.frame.waits ≡ [])
+AreAwaited table typed empty (g ∷ (h ∷ older)) =
+    WaitsAt table typed empty g × AreAwaited table typed (awaited (sub_of (flow_program table typed) g.frame.sub) g.before) (h ∷ older)
+
+-- ---- what the text is like
+
+-- What is filled fits.
+abbrev pub FillsTyped : FlowProgram → Instruction → List ℕ → Type 0
+FillsTyped program (Call n actuals (Some x)) left = (r : ℕ) → (sub_of program n).result ≡ Some r → Fits (flow_typing program) r x
+FillsTyped program (Evaluate x e (Some op)) left =
+    (is_scalar (full program.table boolean) ≡ true) × (is_scalar (full program.table (object_at (flow_typing program) x).of) ≡ true)
+FillsTyped program (Evaluate t e None) left =
+    (is_scalar (full program.table boolean) ≡ true)
+    × ((x : ℕ) (rest : List ℕ) → left ≡ x ∷ rest → is_scalar (full program.table (object_at (flow_typing program) x).of) ≡ true)
+FillsTyped program i left = Unit {0}
+
+-- What is taken is of scalar types.
+abbrev pub AreScalar : Typing → List ℕ → Type 0
+AreScalar s xs = AllByRecursion (λ x. is_scalar (full s.table (object_at s x).of) ≡ true) xs
+
+abbrev pub TakesScalars : Typing → Instruction → Type 0
+TakesScalars s (Declare x v) = GivesPlainly s v
+TakesScalars s (Assign target e) = GivesPlainly s e
+TakesScalars s (Hold v) = GivesPlainly s v
+TakesScalars s i = Unit {0}
+
+-- Or it is what a function gave, alone: an object is declared with it, or it is assigned or returned.
+abbrev pub IsTakenBy : Instruction → TypedTree → Type 0
+IsTakenBy i call =
+    ((x : ℕ) × (i ≡ Declare x (More call NoMore)))
+    ⊎ (((p : Pos) × (x : ℕ) × (path : TypedTree) × (u : ℕ) × (i ≡ Assign (Name p x path u) call) × (has_call path ≡ false))
+    ⊎ (i ≡ Hold (More call NoMore)))
+
+abbrev pub TakesAlone : Typing → NamedPoint → Type 0
+TakesAlone s p =
+    (x : ℕ) × (rest : List ℕ) × (p.scope ≡ x ∷ rest) × (q : Pos) × (n : ℕ) × (actuals : TypedTree) × ((sub_at s n).result ≡ Some (object_at s x).of)
+    × (is_scalar (full s.table (object_at s x).of) ≡ false)
+    × IsTakenBy p.instr (CallIn q n actuals)
+
+abbrev pub IsTaken : Typing → NamedPoint → Type 0
+IsTaken s p = (AreScalar s (filter (is_temporary_object s) (take (taken p.instr) p.scope)) × TakesScalars s p.instr) ⊎ TakesAlone s p
+
+-- Functions that are called have no results of anonymous types.
+abbrev pub AreNamedResults : FlowProgram → Type 0
+AreNamedResults program =
+    (sub : FlowSub) → Has program.subs sub → (p : FlowPoint) → Has sub.points p → (n : ℕ) (actuals : TypedTree) (result : Option ℕ)
+    → p.instr ≡ Call n actuals result → (t : ℕ) → (sub_of program n).result ≡ Some t → is_anonymous (full program.table t) ≡ false
