@@ -9,3 +9,4 @@ pub mod Points
 pub mod Stored
 pub mod Turns
 pub mod Runs
+pub mod After

@@ -6,6 +6,7 @@ use Rattle.type_definitions.specs.Entries.{boolean}
 use Rattle.run_values.specs.declared.value.Kind.{Kind}
 use Rattle.run_values.specs.declared.value.Kind.TheVariants as sort
 use Rattle.machine.specs.States.{sub_of}
+use Rattle.machine.specs.States as machine
 use Rattle.machine.specs.Typed.{Position, sorts}
 use Rattle.machine.specs.Run.{no_point}
 use Rattle.run_codes.specs.Codes.{Point}
@@ -13,12 +14,12 @@ use Rattle.run_codes.specs.Flat.{kind_of, kinds}
 use Rattle.run_codes.specs.Programs.{Program}
 use Rattle.run_codes.specs.Points.{Frame}
 use Rattle.run_codes.specs.Points as points
-use Rattle.run_codes.specs.Related.{IsTable}
-use Rattle.run_points.specs.States.{site_of}
+use Rattle.run_codes.specs.Related.{types, IsTable}
+use Rattle.run_points.specs.States.{site_of, StateStands, FramesStand, FirstRuns}
 use Rattle.run_points.specs.Turns.{IsLowered, around_sub}
-use Rattle.handled_steps.specs.Looks.{IsOneData, LooksPoint, taken_kinds, turn_of}
+use Rattle.handled_steps.specs.Looks.{IsOneData, LooksPoint, LooksStep, taken_kinds, turn_of}
 use Rattle.handled_kinds.specs.Kinds.{HasKinds}
-use Rattle.handled_kinds.specs.Stacks.{stack_kinds, StandsOn}
+use Rattle.handled_kinds.specs.Stacks.{stack_kinds, EndsWithPackages, StandsOn, subs_of, AreBased, IsStacked}
 use Rattle.handled_kinds.specs.Turns.{DoesKept}
 use Rattle.handled_kinds.proofs.Stacks.{stack_has, taken_has}
 use Rattle.handled_kinds.proofs.Turns.{point_looks}
@@ -47,3 +48,34 @@ module _ (program : FlowProgram) (p : Program) (lowered : IsLowered program p) (
     where
       turn : Point → points.Turn
       turn q = turn_of table p input s f outer q
+
+  -- Where a state stands for one of the machine, the frame that runs is at a point of its subprogram.
+  pub state_looks : (input : List ℕ) (s : machine.State) (g : points.State) (here : List Kind) → StateStands program s g → IsStacked table p (subs_of s) g.frames here
+      → ((f : Frame) (outer : List Frame) (q : Point) → g.frames ≡ f ∷ outer → slice_get p.points f.next ≡ Some q
+      → DoesKept (turn_of table p input g f outer q) here (taken_kinds (turn_of table p input g f outer q)) q.does)
+      → LooksStep table p input g here g.frames
+  state_looks input s g here stands stacked kept = by s.frames g.frames stands.frames stands.runs stacked.ends stacked.kinds stacked.based (λ f outer q same next. kept f outer q same next)
+    where
+      by : (fs : List machine.Frame) (gs : List Frame) → FramesStand program stands.laid (types s.memory) g.memory.stack fs gs → FirstRuns program fs
+          → EndsWithPackages (map (λ (f : machine.Frame). f.sub) fs) → here ≡ stack_kinds table p (map (λ (f : machine.Frame). f.sub) fs)
+          → AreBased table p (map (λ (f : machine.Frame). f.sub) fs) gs
+          → ((f : Frame) (outer : List Frame) (q : Point) → gs ≡ f ∷ outer → slice_get p.points f.next ≡ Some q
+          → DoesKept (turn_of table p input g f outer q) here (taken_kinds (turn_of table p input g f outer q)) q.does)
+          → LooksStep table p input g here gs
+      by [] [] stand runs ends all based kept = tt
+      by [] (h ∷ gs) stand runs ends all based kept = absurd stand
+      by (f ∷ fs) [] stand runs ends all based kept = absurd stand
+      by (f ∷ fs) (h ∷ gs) stand runs ends all based kept =
+          step_looks input g h gs here
+          (record {
+            sub = f.sub;
+            rest = map (λ (f : machine.Frame). f.sub) fs;
+            at = f.next;
+            ends = ends;
+            kinds = all;
+            base = based.0;
+            next = stand.0.next;
+            within = runs;
+            few = stand.0.few;
+          })
+          (λ q there. kept h gs q refl there)

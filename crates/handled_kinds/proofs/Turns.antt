@@ -280,7 +280,11 @@ module _ (a : Around) (laws : IsTable a.site.typing.table) (truth : IsOneData (k
       let w = and_then_some (from at.0) (scalar_of (shape_of table (type_of a x))) d at.2 in
       let n = and_then_some (turned at.0) (going a q 0) d w.2 in
       let k = map_some (Next at.0 (at.0 + 1) reversed default n.0) (going a q 1) d n.2 in
-      subst Fits k.2 (λ kept. parameter_looks x at.0 w.0 at.1 w.1)
+      by at.0 n.0 k.0 (parameter_looks x at.0 w.0 at.1 w.1) k.2
+    where
+      by : (at : ℕ) (turn leave : Option ℕ) → HasData here (f.base + at) × HasLoop here (f.base + (at + 1))
+          → Next at (at + 1) reversed (first_word (default_words table (type_of a x))) turn leave ≡ d → Fits d
+      by at turn leave words e = subst Fits e (λ kept. words)
 
   operand_fits : (e : TypedTree) (left : Option ShortCircuit) (d : Does) → operand a q e left ≡ Some d → Fits d
   operand_fits e (Some op) d is =
