@@ -7,3 +7,4 @@ pub mod Small
 pub mod Sound
 pub mod Observed
 pub mod Lent
+pub mod Handed

@@ -4,5 +4,6 @@
 //! types and is of the class of the law. Nothing is reported of it (`Quiet`), so its runs are sound
 //! (`Sound`): the class and acceptance don't contradict each other. `Observed` has a text with an
 //! observer, and the same of it; that nothing is reported of it is computed along its paths
-//! (`Unreported`). Nothing here runs.
+//! (`Unreported`). `Lent` has one with a call, and `Handed` one with a formal that owns. Nothing here
+//! runs.
 #![tactic(auto)]

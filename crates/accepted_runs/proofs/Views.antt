@@ -29,9 +29,9 @@ use Rattle.accepted_runs.proofs.Functions.{AreInThirdClass}
 
 -- ---- with calls
 
--- Formals are of scalar types, or of mode `in out` and of no anonymous access type, those of functions and of the main
--- procedure of scalar types. Results are of scalar types, or procedures alone are called. Actuals of modes `out` and
--- `in out` go through no access value, and those for formals of other types than scalar ones belong to no package.
+-- Formals are of scalar types, or of mode `in out` and of no anonymous access type. Results are of scalar types, or
+-- procedures alone are called. Actuals of modes `out` and `in out` go through no access value, and those for formals of
+-- other types than scalar ones belong to no package.
 pub record AreInSecondViewClass (trees : List (List SourceUnit)) : Type 0 where
   -- there is a main procedure, so that there are runs
   pub main : ℕ

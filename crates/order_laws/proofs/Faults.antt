@@ -28,18 +28,24 @@ told_none None other e = refl
 told_none (Some f) None e = cc
 told_none (Some f) (Some g) e = cc
 
-each_none : (known : Known) (units : List Code) → flat_map (unit_faults (outside known)) units ≡ [] → (u : Code) → Has units u → code_faults (outside known) u ≡ []
+each_none : (known : Known) (units : List Code) → flat_map (unit_faults (outside known)) units ≡ [] → (u : Code) → Has units u → unit_faults (outside known) u ≡ []
 each_none known [] e u has = absurd has
 each_none known (v ∷ units) e u (inl is) =
-    subst (λ z. code_faults (outside known) z ≡ []) is
-    (nothing_left (code_faults (outside known) v) (main_faults v) (nothing_left (unit_faults (outside known) v) (flat_map (unit_faults (outside known)) units) e))
+    subst (λ z. unit_faults (outside known) z ≡ []) is (nothing_left (unit_faults (outside known) v) (flat_map (unit_faults (outside known)) units) e)
 each_none known (v ∷ units) e u (inr has) =
     each_none known units (nothing_right (unit_faults (outside known) v) (flat_map (unit_faults (outside known)) units) e) u has
 
-pub units_faultless : (p : Program) → type_fault p ≡ None → (u : Code) → Has p.units u → code_faults (outside (known_of p)) u ≡ []
+whole_faultless : (p : Program) → type_fault p ≡ None → (u : Code) → Has p.units u → unit_faults (outside (known_of p)) u ≡ []
 unfolding type_fault sentence_faults
-units_faultless p none u has =
+whole_faultless p none u has =
     each_none (known_of p) p.units
     (first_none (sentence_faults (known_of p) p.units)
     (decided_none (first (type_sizes (known_of p) p.units)) (first (sentence_faults (known_of p) p.units))
     (told_none (fault_known (known_of p) p.units) (fault_known (known_with true p) p.units) none))) u has
+
+pub units_faultless : (p : Program) → type_fault p ≡ None → (u : Code) → Has p.units u → code_faults (outside (known_of p)) u ≡ []
+units_faultless p none u has = nothing_left (code_faults (outside (known_of p)) u) (main_faults u) (whole_faultless p none u has)
+
+-- So the main procedure has no formals.
+pub mains_faultless : (p : Program) → type_fault p ≡ None → (u : Code) → Has p.units u → main_faults u ≡ []
+mains_faultless p none u has = nothing_right (code_faults (outside (known_of p)) u) (main_faults u) (whole_faultless p none u has)

@@ -73,7 +73,7 @@ abbrev pub object_of : DeclaredObject → Object
 object_of o = o.object
 
 -- An object stands at the place of its number, if no other one has that.
-object_there : (all : List DeclaredObject) (o : DeclaredObject) → Once (map number_of all) → Has all o
+pub object_there : (all : List DeclaredObject) (o : DeclaredObject) → Once (map number_of all) → Has all o
     → get_or (map object_of all) (position_or_len (nat_eq o.number) (map number_of all)) text_io ≡ o.object
 object_there [] o once has = absurd has
 object_there (x ∷ all) o once has = elim (either (nat_eq o.number x.number)) [

@@ -15,5 +15,7 @@ pub mod Called
 -- what the third class says as it is laid out
 pub mod Temporaries
 pub mod Classes
+pub mod Mains
+pub mod Functions
 pub mod Owners
 pub mod Examples

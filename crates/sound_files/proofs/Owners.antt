@@ -1,5 +1,5 @@
 -- What the class with formals that own says of the program as it is laid out, and that the third class is a part of it.
-use Rattle.std.proofs.Common.{◌≡◌, refl, sym, ap, ◌∙◌, subst, ◌⊎◌, inl, inr, ℕ, suc, Bool, true, false, not, ◌&&◌, List, [], ◌∷◌, get_or, Option, Some, None, is_some}
+use Rattle.std.proofs.Common.{◌≡◌, sym, ap, ◌∙◌, subst, ◌⊎◌, inl, inr, ℕ, suc, true, false, not, ◌&&◌, List, [], ◌∷◌, get_or, Option, Some, None, is_some}
 use Rattle.spark_base.specs.Lists.{Has}
 use Rattle.place_names.specs.declared.act.Mode.TheVariants as mode
 use Rattle.resolved_tree.specs.Trees.{Program}
@@ -14,7 +14,6 @@ use Rattle.flow_paths.specs.Points.{FlowPoint}
 use Rattle.flow_paths.specs.Laid.{FlowSub, FlowProgram, flow_typing, flow_program}
 use Rattle.machine.specs.States.{no_sub, sub_of}
 use Rattle.machine.specs.Run.{no_point}
-use Rattle.soundness.specs.Ready.{root_of}
 use Rattle.soundness.proofs.Passing.{signature_is}
 use Rattle.soundness.proofs.Typings.{Agree, flow_agrees}
 use Rattle.called_subs.specs.Called.{PointCalls}
@@ -22,7 +21,8 @@ use Rattle.called_subs.proofs.Main.{points_asked_at}
 use Rattle.called_subs.proofs.Statements.{IsFineSub}
 use Rattle.ready_laws.specs.InOrder.{IsSub}
 use Rattle.order_laws.specs.Orderly.{typed_of, typing_in, bodies_of}
-use Rattle.sound_files.specs.Class.{IsScalarAt, AreOwnActuals, FormalsAreScalar, FormalsAreKinds, FunctionsTakeScalars, MainTakesScalars, PassOwnObjects, CallsFunctions, CallsWithOwners}
+use Rattle.sound_files.specs.Class.{IsScalarAt, AreOwnActuals, FormalsAreScalar, FormalsAreKinds, PassOwnObjects, CallsFunctions, CallsWithOwners}
+use Rattle.sound_files.proofs.Functions.{FunctionsTakeScalars}
 use Rattle.sound_files.proofs.Called.{at_number}
 use Rattle.sound_files.proofs.Classes.{all_of, signature_at, signature_same, signature_there, all_called}
 
@@ -91,17 +91,9 @@ module _ (p : Program) where
       (functions_own all n t x (sym (ap (λ (z : Signature). z.result) (signature_same p n)) ∙ result)
       (subst (λ (z : Signature). Has z.formals x) (signature_same p n) has) (formal_own x is))
 
-  formal_wide : (x : ℕ) → is_formal own x ≡ true → is_formal wide x ≡ true
-  formal_wide x is = elim (alike.object x) [
-    | inl same ↦ ap (λ (o : Object). is_formal_kind o.kind) same ∙ is
-    | inr (a, b) ↦ absurd (let no : false ≡ true = sym b.1 ∙ is in cc)
-  ]
-
-  pub main_there : MainTakesScalars p → (n : ℕ) (sub : TypedSub) → (typed_of p).main ≡ Some (suc n) → IsSub (bodies_of p) n sub
-      → ((x : ℕ) → Has sub.formals x → is_formal own x ≡ true) → (x : ℕ) → Has (sub_at wide (suc n)).formals x → IsScalarAt wide x
-  main_there all n sub main stands known x has =
-      let there : Has sub.formals x = subst (λ (z : Signature). Has z.formals x) (signature_there p n sub stands) has in
-      scalar_wide x (formal_wide x (known x there)) (all n sub main stands x there (known x there))
+  -- The main procedure has none.
+  pub main_there : (n : ℕ) (sub : TypedSub) → IsSub (bodies_of p) n sub → sub.formals ≡ [] → (x : ℕ) → Has (sub_at wide (suc n)).formals x → IsScalarAt wide x
+  main_there n sub stands none x has = absurd (subst (λ fs. Has fs x) (ap (λ (z : Signature). z.formals) (signature_there p n sub stands) ∙ none) has)
 
   -- ---- actuals
 
@@ -138,8 +130,6 @@ module _ (p : Program) where
   calls_functions calls = record {
     results = calls.results;
     formals = λ x is. inl (calls.formals x is);
-    functions = λ sub has t result x formal is. calls.formals x is;
-    main = λ n sub main stands x formal is. calls.formals x is;
     copied = calls.copied;
     passed = all_called p Passed (λ n actuals. scalar_passed calls.formals (sub_at own n).formals actuals);
   }

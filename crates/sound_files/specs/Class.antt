@@ -1,7 +1,7 @@
 -- Programs with a main procedure and without anonymous access types, by their text: those without formals and
 -- calls, those that call procedures alone, whose formals are of scalar types, and those that call functions, too,
 -- whose results are. And programs with formals of types that own.
-use Rattle.std.specs.Prelude.{suc, ◌≡◌, ◌⊎◌, ℕ, true, false, List, ◌∷◌, Option, Some, None}
+use Rattle.std.specs.Prelude.{◌≡◌, ◌⊎◌, ℕ, true, false, List, ◌∷◌, Option, Some, None}
 use Rattle.spark_base.specs.Lists.{Has}
 use Rattle.place_names.specs.declared.act.Mode.TheVariants as mode
 use Rattle.resolved_tree.specs.Trees.{Code, Program}
@@ -16,7 +16,6 @@ use Rattle.flow_paths.specs.Laid.{FlowSub, FlowProgram, flow_typing, flow_progra
 use Rattle.machine.specs.States.{sub_of}
 use Rattle.soundness.specs.Sound.{calls_nothing, calls_procedures, AreCopied}
 use Rattle.soundness.specs.Ready.{root_of}
-use Rattle.ready_laws.specs.InOrder.{IsSub}
 use Rattle.gathered_laws.specs.Named.{IsNamed}
 use Rattle.called_subs.specs.Called.{CodeCalls}
 use Rattle.order_laws.specs.Orderly.{typed_of, typing_in, bodies_of}
@@ -93,17 +92,6 @@ FormalsAreKinds p =
     (x : ℕ) → is_formal (typing_in p) x ≡ true
     → IsScalarAt (typing_in p) x ⊎ (((object_at (typing_in p) x).mode ≡ mode.InOut) × (is_anonymous (view_of (typing_in p) x) ≡ false))
 
--- Formals of functions are of scalar types,
-abbrev pub FunctionsTakeScalars : Program → Type 0
-FunctionsTakeScalars p =
-    (sub : TypedSub) → Has (bodies_of p) sub → (t : ℕ) → sub.result ≡ Some t → (x : ℕ) → Has sub.formals x → is_formal (typing_in p) x ≡ true → IsScalarAt (typing_in p) x
-
--- and so are those of the main procedure.
-abbrev pub MainTakesScalars : Program → Type 0
-MainTakesScalars p =
-    (n : ℕ) (sub : TypedSub) → (typed_of p).main ≡ Some (suc n) → IsSub (bodies_of p) n sub → (x : ℕ) → Has sub.formals x → is_formal (typing_in p) x ≡ true
-    → IsScalarAt (typing_in p) x
-
 -- An actual for a formal that isn't of a scalar type is rooted in an object that belongs to no package.
 abbrev pub AreOwnActuals : Typing → List ℕ → TypedTree → Type 0
 AreOwnActuals s (x ∷ formals) (More e rest) =
@@ -119,8 +107,6 @@ pub record CallsWithOwners (p : Program) : Type 0 where
   -- results are of scalar types; or procedures alone are called
   pub results : CallsProcedures (flow_program (known_of p).table (typed_of p)) ⊎ ResultsAreScalar p
   pub formals : FormalsAreKinds p
-  pub functions : FunctionsTakeScalars p
-  pub main : MainTakesScalars p
   -- actuals of modes `out` and `in out` go through no access value
   pub copied : CopyToVariables p
   pub passed : PassOwnObjects p

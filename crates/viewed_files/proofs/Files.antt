@@ -2,7 +2,6 @@
 -- nothing is reported and formals and results are of scalar types.
 use Rattle.std.proofs.Common.{◌≡◌, refl, sym, ◌∙◌, subst, ◌⊎◌, inl, inr, ℕ, Bool, true, false, List, [], ◌∷◌, Some, None}
 use Rattle.spark_base.specs.Lists.{Has}
-use Rattle.spark_base.proofs.Lists.{Has-append_right}
 use Rattle.ada_lexer.specs.Tokens.{Cut}
 use Rattle.ada_tree.specs.declared.unit.SourceUnit.{SourceUnit}
 use Rattle.name_events.specs.Outline.{source_events}
@@ -65,6 +64,8 @@ use Rattle.meant_files.proofs.Codes as codes
 use Rattle.sound_files.specs.Class.{CallsProcedures, CallsWithOwners}
 use Rattle.sound_files.proofs.Laws.{table_laws, files_declared, integers_scalar, truths_scalar}
 use Rattle.sound_files.proofs.Called.{files_bodies}
+use Rattle.sound_files.proofs.Mains.{main_formless}
+use Rattle.sound_files.proofs.Functions.{functions_scalar}
 use Rattle.sound_files.proofs.Owners.{kinds_there, functions_there, main_there, passed_there}
 use Rattle.sound_files.proofs.Classes.{copies, are_answered, plain_results, temporaries_plain}
 use Rattle.typed_files.proofs.Main.{files_fine, files_steps}
@@ -91,9 +92,6 @@ named_type (shape.Access e k true) plain d c n is = cc
 named_type (shape.Access e true false) plain d c n is = cc
 named_type (shape.Access e false false) plain d c n is = cc
 named_type z plain d c n is = cc
-
-sub_in : (subs : List TypedSub) (k : ℕ) (sub : TypedSub) → IsSub subs k sub → Has subs sub
-sub_in subs k sub (front, rest, is, long) = subst (λ z. Has z sub) (sym is) (Has-append_right front (sub ∷ rest) sub (inl refl))
 
 same_anonymous : (w : View) → is_anonymous w ≡ false → flow.is_anonymous w ≡ false
 same_anonymous (view.Access d k true) e = refl
@@ -268,14 +266,14 @@ module _ (files : List (List SourceUnit)) where
         results = results;
         temporaries = temporaries_plain p calls.results truths integers order.lasting;
         formals = kinds;
-        functions = functions_there p calls.functions;
+        functions = functions_there p (functions_scalar p (units_faultless p no_fault) text_orderly.once calls.formals);
         copied = λ sub has q there n actuals result is known. copies p calls.copied sub has q there n actuals result is;
         sources = named_sources flow_of_files typed results;
         order = order;
         answered = subst (AreAnswered table (typed_of p)) rest_is (are_answered p (files_bodies files up named) typed);
         passes = passes;
         passed = passed;
-        main_plain = main_there p calls.main order.number order.main order.is_main main_in (text_orderly.formals order.main (sub_in (bodies_of p) order.number order.main main_in));
+        main_plain = main_there p order.number order.main main_in (main_formless p no_fault text_orderly.written order.number order.main order.is_main main_in);
         still = subst (AreStill table (typed_of p)) first_is (packages_still p no_fault text_orderly.written);
         views = views_here;
       }

@@ -1,0 +1,192 @@
+-- A text with a procedure that takes an access value in a formal of mode `in out` and gives it back, of the class of the
+-- law on runs with borrowers and observers, and that law of it.
+use Rattle.std.specs.Prelude.{codes}
+use Rattle.std.proofs.Common.{◌≡◌, ℕ, ◌+◌, ◌⊎◌, inl, inr, Bool, true, false, not, ◌&&◌, ◌||◌, List, [], ◌∷◌, refl, sym, subst, Some, None, Ok, Err, true≢false}
+use Rattle.spark_base.specs.Lists.{Has}
+use Rattle.ada_lexer.specs.Tokens.{Cut, CutResult, tokens}
+use Rattle.place_names.specs.declared.act.Mode.{Mode}
+use Rattle.place_names.specs.declared.act.Mode.TheVariants as mode
+use Rattle.ada_tree.specs.declared.declaration.Item.TheVariants as item
+use Rattle.ada_tree.specs.declared.declaration.Indication.TheVariants as indication
+use Rattle.ada_tree.specs.declared.expression.Arg.TheVariants as arg
+use Rattle.ada_tree.specs.declared.expression.Name.TheVariants as name
+use Rattle.ada_tree.specs.declared.expression.Suffix.TheVariants as suffix
+use Rattle.ada_tree.specs.declared.statement.Stmt.TheVariants as stmt
+use Rattle.ada_tree.specs.declared.subprogram.Decl.TheVariants as decl
+use Rattle.ada_tree.specs.declared.subprogram.Formal.TheVariants as formal
+use Rattle.ada_tree.specs.declared.subprogram.Subspec.{Subspec}
+use Rattle.ada_tree.specs.declared.subprogram.Subspec.TheVariants as subspec
+use Rattle.ada_tree.specs.declared.unit.BodyPart.TheVariants as part
+use Rattle.ada_tree.specs.declared.unit.Context.TheVariants as context
+use Rattle.ada_tree.specs.declared.unit.SourceUnit.{SourceUnit}
+use Rattle.ada_tree.specs.declared.unit.SourceUnit.TheVariants as unit
+use Rattle.ada_grammar.proofs.SmallSources.{IsTextOf, computes, source_of, at, id, mark, selected, expr_of, object, null_at, sole, formals_of, package_of, package_body_of, subprogram_of}
+use Rattle.name_events.specs.Faults.{name_fault}
+use Rattle.type_definitions.specs.Types.{full}
+use Rattle.type_definitions.specs.Whole.{type_fault}
+use Rattle.typing_steps.specs.Programs.{program_of}
+use Rattle.typed_tree.specs.declared.object.Object.{Object}
+use Rattle.typed_tree.specs.Programs.{TypedSub, text_io}
+use Rattle.flow_paths.specs.Objects.{Typing, object_at, sub_at, is_formal_kind, is_formal, is_anonymous, is_package_object}
+use Rattle.flow_paths.specs.Points.{FlowPoint}
+use Rattle.flow_paths.specs.Laid.{FlowSub}
+use Rattle.flow_paths.specs.Effects.{asks_for_end, path_points}
+use Rattle.flow_paths.specs.Aliases.{alias_reports}
+use Rattle.flow_paths.specs.Views.{encloses_within}
+use Rattle.soundness.specs.Sound.{calls_procedures, goes_through_none, AreCopied}
+use Rattle.program_check.specs.Sources.{flow_of}
+use Rattle.file_positions.specs.Texts.{AreParsed}
+use Rattle.file_positions.proofs.Cuts.{cut_in_order}
+use Rattle.called_subs.specs.Called.{Calls, CodeCalls}
+use Rattle.order_laws.specs.Orderly.{typed_of, typing_in}
+use Rattle.sound_files.specs.Class.{CallsProcedures, IsScalarAt, FormalsAreKinds, AreOwnActuals, CopyToVariables, PassOwnObjects}
+use Rattle.viewed_files.proofs.Files.{parsed_called_sound}
+use Rattle.accepted_runs.proofs.Runs.{RunsAreSound}
+use Rattle.accepted_runs.proofs.Views.{AreInSecondViewClass}
+use Rattle.accepted_examples.proofs.Naming.{naming}
+use Rattle.accepted_examples.proofs.Typing.{typing}
+use Rattle.accepted_examples.proofs.Lowering.{lowering}
+use Rattle.accepted_examples.proofs.Quiet.{all_pass, each, at_any}
+use Rattle.accepted_examples.proofs.Unreported.{path_passes, sub_passes, nothing, no_reports, no_effects}
+
+-- "procedure Q (X : in out T)", from its column on
+abbrev front : ℕ → Subspec
+front column =
+    subspec.Procedure (at column) (id (column + 10) "Q")
+    (Some (formals_of (column + 12) (formal.Moded (at (column + 13)) (id (column + 13) "X") [] (at (column + 15)) (Some (at (column + 17))) (Some (at (column + 20))) (mark (column + 24) "T")) []
+    (column + 25)))
+
+abbrev pub units : List SourceUnit
+units =
+    unit.OfPackage (at 1) []
+    (package_of 1 (id 9 "A") None 11 (decl.OfItem (at 14) (item.AccessType (at 14) (id 19 "T") (at 21) (at 24) (mark 31 "Integer") (at 38))
+    ∷ decl.Subprogram (at 40) (front 40) None (at 66) ∷ []) None 68 None 71)
+    ∷ unit.OfBody (at 73) []
+    (package_body_of 73 81 (id 86 "A") None 88 (part.Completed (at 91) (subprogram_of 91 (front 91) None 118 [] 121 (null_at 127) 133 None 136) ∷ []) 138 None 141)
+    ∷ unit.OfSubprogram (at 143) (context.With (at 143) (mark 148 "A") [] (at 149) ∷ [])
+    (subprogram_of 151 (subspec.Procedure (at 151) (id 161 "P") None) None 163
+    (item.Objects (at 166) (id 166 "Y") [] (at 168) None (indication.Mark (at 170) (selected 170 "A" 171 172 "T")) (at 173) ∷ []) 175
+    (sole 181 (stmt.Call (at 181) (name.Prefixed (at 181) (id 181 "A") (suffix.Selected (at 182) (id 183 "Q")
+    ∷ suffix.Applied (at 185) (arg.Positional (at 186) (expr_of 186 (object 186 "Y"))) [] (at 187) ∷ [])) (at 188))) 190 None 193)
+    ∷ []
+
+abbrev pub files : List (List SourceUnit)
+files = units ∷ []
+
+pub spelled : IsTextOf "package A is type T is access Integer; procedure Q (X : in out T); end; package body A is procedure Q (X : in out T) is begin null; end; end; with A; procedure P is Y : A.T; begin A.Q (Y); end;" units
+unfolding computes
+spelled = source_of (search) (search) refl
+
+pub named : name_fault files ≡ None
+unfolding computes naming
+named = refl
+
+pub typed : type_fault (program_of files) ≡ None
+unfolding computes naming typing lowering
+typed = refl
+
+-- ---- it is of the class
+
+pub is_main : (typed_of (program_of files)).main ≡ Some 2
+unfolding computes naming typing lowering
+is_main = refl
+
+pub calls : CallsProcedures (flow_of files)
+unfolding computes naming typing lowering
+calls = λ sub has p there.
+    each (λ (p : FlowPoint). calls_procedures p.instr) sub.points
+    (each (λ (s : FlowSub). all_pass (λ (p : FlowPoint). calls_procedures p.instr) s.points) (flow_of files).subs refl sub has) p there
+
+abbrev own : Typing
+own = typing_in (program_of files)
+
+abbrev is_back : Mode → Bool
+is_back mode.InOut = true
+is_back m = false
+
+back_is : (m : Mode) → is_back m ≡ true → m ≡ mode.InOut
+back_is mode.InOut e = refl
+back_is mode.In e = absurd (true≢false (sym e))
+back_is mode.Out e = absurd (true≢false (sym e))
+
+abbrev kind_if_formal : Object → Bool
+kind_if_formal o = not (is_formal_kind o.kind) || (is_back o.mode && not (is_anonymous (full own.table o.of)))
+
+kinds : all_pass kind_if_formal own.objects ≡ true
+unfolding computes naming typing lowering
+kinds = refl
+
+pub formals : FormalsAreKinds (program_of files)
+formals x is =
+    by (is_formal own x) (object_at own x).mode (is_anonymous (full own.table (object_at own x).of)) is
+    (at_any (λ (o : Object). kind_if_formal o ≡ true) own.objects text_io refl (each kind_if_formal own.objects kinds) x)
+  where
+    by : (f : Bool) (m : Mode) (a : Bool) → f ≡ true → not f || (is_back m && not a) ≡ true → IsScalarAt own x ⊎ ((m ≡ mode.InOut) × (a ≡ false))
+    by false m a f e = absurd (true≢false (sym f))
+    by true mode.InOut false f e = inr (refl, refl)
+    by true mode.InOut true f e = absurd (true≢false (sym e))
+    by true mode.In a f e = absurd (true≢false (sym e))
+    by true mode.Out a f e = absurd (true≢false (sym e))
+
+-- Of three subprograms, the last one calls.
+of_three : (P : TypedSub → Type 0) (a b c : TypedSub) → P a → P b → P c → (sub : TypedSub) → Has (a ∷ (b ∷ (c ∷ []))) sub → P sub
+of_three P a b c x y z sub (inl is) = subst P is x
+of_three P a b c x y z sub (inr (inl is)) = subst P is y
+of_three P a b c x y z sub (inr (inr (inl is))) = subst P is z
+of_three P a b c x y z sub (inr (inr (inr none))) = absurd none
+
+pub copied : CopyToVariables (program_of files)
+unfolding computes naming typing lowering Calls CodeCalls goes_through_none
+copied =
+    of_three (λ sub. CodeCalls (λ n actuals. AreCopied own (sub_at own n).formals actuals) sub.body) _ _ _ tt (tt, tt)
+    (tt, ((((λ back. refl), tt), (tt, tt)), tt))
+
+pub passed : PassOwnObjects (program_of files)
+unfolding computes naming typing lowering Calls CodeCalls
+passed =
+    of_three (λ sub. CodeCalls (λ n actuals. AreOwnActuals own (sub_at own n).formals actuals) sub.body) _ _ _ tt (tt, tt)
+    (tt, ((((λ is owns y has. elim has [ inl same ↦ subst (λ z. is_package_object own z ≡ false) same refl | inr none ↦ absurd none ]), tt), (tt, tt)), tt))
+
+pub class : AreInSecondViewClass files
+class = record { main = 2; is_main = is_main; calls = record { results = inl calls; formals = formals; copied = copied; passed = passed } }
+
+-- ---- nothing is reported of it
+
+passes : all_pass (sub_passes (flow_of files)) (flow_of files).subs ≡ true
+unfolding computes naming typing lowering asks_for_end encloses_within
+passes = refl
+
+no_aliases : alias_reports (flow_of files) (nothing (flow_of files) passes) ≡ []
+unfolding computes naming typing lowering
+no_aliases = refl
+
+paths : all_pass (λ (sub : FlowSub). path_passes 9 (path_points (flow_of files) (nothing (flow_of files) passes) sub) [] 0) (flow_of files).subs ≡ true
+unfolding computes naming typing lowering
+paths = refl
+
+-- ---- so its runs are sound
+
+abbrev found : CutResult → List Cut
+found (Ok cuts) = cuts
+found (Err fault) = []
+
+abbrev text : List ℕ
+text = codes "package A is type T is access Integer; procedure Q (X : in out T); end; package body A is procedure Q (X : in out T) is begin null; end; end; with A; procedure P is Y : A.T; begin A.Q (Y); end;"
+
+abbrev cuts : List Cut
+cuts = found (tokens 0 text 1000)
+
+is_cut : tokens 0 text 1000 ≡ Ok cuts
+unfolding computes
+is_cut = refl
+
+parsed : AreParsed 0 (cuts ∷ []) files
+unfolding computes
+parsed = (cut_in_order 0 text 1000 cuts is_cut, spelled, tt)
+
+pub handed_sound : RunsAreSound files
+handed_sound input =
+    parsed_called_sound files (cuts ∷ []) parsed named typed class.main class.is_main (nothing (flow_of files) passes) (no_effects (flow_of files) passes)
+    (no_reports (flow_of files) passes no_aliases 9
+    (each (λ (sub : FlowSub). path_passes 9 (path_points (flow_of files) (nothing (flow_of files) passes) sub) [] 0) (flow_of files).subs paths))
+    class.calls input
