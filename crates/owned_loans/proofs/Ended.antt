@@ -1,5 +1,5 @@
 -- The end of a variable or of a hand keeps the ways of views that don't begin there.
-use Rattle.std.proofs.Common.{◌≡◌, refl, sym, ap, ◌∙◌, subst, ◌⊎◌, inl, inr, ℕ, Bool, true, false, not, ◌==◌, eqb-true, eq-eqb, List, [], ◌∷◌, Some, None}
+use Rattle.std.proofs.Common.{◌≡◌, refl, sym, ap, ◌∙◌, subst, ◌⊎◌, inl, inr, ℕ, Bool, true, false, not, ◌==◌, eqb-true, eq-eqb, List, [], ◌∷◌, suc, arith, Some, None}
 use Rattle.std.specs.List.{filter}
 use Rattle.spark_base.specs.Lists.{Has}
 use Rattle.spark_base.proofs.Lists.{Has-append_cases, Has-filter, Has-filter_passes}
@@ -18,9 +18,10 @@ use Rattle.owned_ways.proofs.Assigned.{kept_fact, is_false}
 use Rattle.owned_ways.proofs.Named.{longer}
 use Rattle.owned_ways.proofs.Dropped.{named_base, dropped, left}
 use Rattle.owned_loans.specs.Views.{Views, Around, expand, IsMovedBy, ExcusedBy, HasLoan, Viewed}
-use Rattle.owned_loans.proofs.Ways.{root_on, lifts, lifted_root, lifted_way}
+use Rattle.owned_loans.proofs.Ways.{root_on, on_named, Lifted, lifts, lifted_root, lifted_way}
 use Rattle.owned_loans.proofs.Clear.{before_or_new, clear_same}
-use Rattle.owned_loans.proofs.Moves.{view_named, view_on, as_sound, all_known}
+use Rattle.owned_loans.proofs.Meeting.{stands_named}
+use Rattle.owned_loans.proofs.Moves.{view_named, view_rooted, reached, view_on, as_sound, all_known}
 
 along_base : (w : Way) (p : List Step) → base_of (along w p) ≡ base_of w
 along_base w [] = refl
@@ -38,6 +39,13 @@ drop_reaches s t r owned d (All w) l (m, n, reach, h, e) off =
     off (ap base_of same ∙ along_base (Object r) b.0)) in
     (m, n, drop_reaches s t r owned d w m reach off, d.off m outside ∙ h, e)
 
+pub number_base : (w : Way) (f y : ℕ) → base_of w ≡ OfRoot (OfVariable f y) → number_of w ≡ y
+number_base (Object (OfVariable g z)) f y e = cc
+number_base (Object (OfHand h)) f y e = cc
+number_base (Lost n) f y e = cc
+number_base (Into w i) f y e = number_base w f y e
+number_base (All w) f y e = number_base w f y e
+
 module _ (home : ℕ → ℕ) (observer : ℕ → Bool) (other : Around home) (v : Views) where
   variable_hand : (f x h : ℕ) → OfRoot (OfVariable f x) ≡ OfRoot (OfHand h) → ⊥
   variable_hand f x h e = cc
@@ -52,10 +60,11 @@ module _ (home : ℕ → ℕ) (observer : ℕ → Bool) (other : Around home) (v
         known = all_known home observer other v t facts sound.known;
         clear = viewed.clear;
         views = λ x w has. (let view = viewed.views x w has in
-            let base = named_base home w (view_named home observer other v s facts viewed.views x w has) in
+            let root = view_rooted home observer other v s facts viewed.views x w has in
             view_on home observer other v s t facts facts x w view (λ seen n loan. loan)
-            (drop_reaches s t (OfHand h) viewed.owned d w (OfCell (v.cell x)) view.reaches
-            (λ e. variable_hand (home (number_of w)) (number_of w) h (sym base ∙ e))));
+            (drop_reaches s t (OfHand h) viewed.owned d w (OfCell (v.cell x)) (reached home observer other v s facts x w view)
+            (λ e. variable_hand root.0 root.1 h (sym root.2 ∙ e))));
+        whole = viewed.whole;
         lends = viewed.lends;
         far = λ w n keeps. (let root = other.begins w n keeps in
             drop_reaches s t (OfHand h) viewed.owned d w (OfCell n) (viewed.far w n keeps) (λ e. variable_hand root.0 root.1 h (sym root.2 ∙ e)));
@@ -78,8 +87,8 @@ module _ (home : ℕ → ℕ) (observer : ℕ → Bool) (other : Around home) (v
   -- have loans of others.
   pub record Leaves (x : ℕ) (facts : List Fact) : Type 0 where
     pub none : v.way x ≡ None
-    pub roots : (y : ℕ) (w : Way) → v.way y ≡ Some w → number_of w ≡ x → ⊥
-    pub loans : (y : ℕ) (w : Way) → v.way y ≡ Some w → observer y ≡ true → HasLoan observer true y facts (name_of (v.loan y))
+    pub roots : (y : ℕ) (w : Way) → v.way y ≡ Some w → Named home w → number_of w ≡ x → ⊥
+    pub loans : (y : ℕ) (w : Way) → v.way y ≡ Some w → Named home w → observer y ≡ true → HasLoan observer true y facts (name_of (v.loan y))
     pub unlent : (l : Loan) (n : Name) → other.lent l n → n.root ≡ x → ⊥
 
   -- what is known of ways that the variable doesn't begin, or elsewhere
@@ -87,7 +96,7 @@ module _ (home : ℕ → ℕ) (observer : ℕ → Bool) (other : Around home) (v
   Aside x facts w = ExcusedBy home v other facts w × ((number_of w ≡ x → ⊥) ⊎ other.gone w)
 
   split : (s : View) (facts : List Fact) (x : ℕ) → Viewed home observer other v s facts → v.way x ≡ None
-      → ((y : ℕ) (w : Way) → v.way y ≡ Some w → number_of w ≡ x → ⊥) → ((l : Loan) (n : Name) → other.lent l n → n.root ≡ x → ⊥)
+      → ((y : ℕ) (w : Way) → v.way y ≡ Some w → Named home w → number_of w ≡ x → ⊥) → ((l : Loan) (n : Name) → other.lent l n → n.root ≡ x → ⊥)
       → Sound home (Aside x facts) s (filter (belongs_to x) facts)
   split s facts x viewed none roots unlent = record {
     owned = viewed.owned;
@@ -95,10 +104,17 @@ module _ (home : ℕ → ℕ) (observer : ℕ → Bool) (other : Around home) (v
     known = λ w l n r h. by_root w (viewed.known w l n r h) (number_of w == x) refl;
   }
     where
+      -- a way that what was moved is rooted in is named
+      whole : (u : Way) (l : Lifted v u) → IsMoved home facts u → Named home l.way
+      whole u l moved =
+          let plain = viewed.clear.owned (name_of u) moved.1 in
+          on_named home l.way l.rest (subst (Named home) (lifted_way v u l)
+          (stands_named home observer v s facts viewed.views (suc (number_of u)) u (omega arith) (moved.0, plain)))
+
       direct : (w : Way) → IsMovedBy home v facts w → number_of w ≡ x → IsMoved home facts w
       direct w (u, moved, same) is = elim (lifts v u) [
         | inl e ↦ subst (IsMoved home facts) (sym e ∙ same) moved
-        | inr l ↦ absurd (roots l.object l.way l.has
+        | inr l ↦ absurd (roots l.object l.way l.has (whole u l moved)
             (sym (root_on l.way l.rest) ∙ ap number_of (sym (lifted_way v u l)) ∙ ap number_of same ∙ is))
       ]
 
@@ -155,18 +171,28 @@ module _ (home : ℕ → ℕ) (observer : ℕ → Bool) (other : Around home) (v
         ];
         clear = clear_same observer facts viewed.clear act refl;
         views = λ y w has. (let view = viewed.views y w has in
-            let base = named_base home w (view_named home observer other v s facts viewed.views y w has) in
-            record {
-              named = view.named;
-              leads = view.leads;
-              begins = view.begins;
-              deep = view.deep;
-              plain = view.plain;
-              older = view.older;
-              lent = own_loan y w has (observer y) refl view.lent;
-              reaches = drop_reaches s t (OfVariable (home x) x) viewed.owned d w (OfCell (v.cell y)) view.reaches
-                  (λ e. leaves.roots y w has (same_variable (home (number_of w)) (home x) (number_of w) x (sym base ∙ e)));
-            });
+            let root = view_rooted home observer other v s facts viewed.views y w has in
+            let reaches = drop_reaches s t (OfVariable (home x) x) viewed.owned d w (OfCell (v.cell y)) (reached home observer other v s facts y w view)
+            (λ e. (let same = same_frame root.0 (home x) root.1 x (sym root.2 ∙ e) in elim root.3 [
+              | inl own ↦ leaves.roots y w has own (number_base w root.0 root.1 root.2 ∙ same.1)
+              | inr foreign ↦ (
+                  let here = same_frame foreign.0 (home x) foreign.1 x (sym foreign.2 ∙ e) in
+                  foreign.3 (here.0 ∙ ap home (sym here.1)))
+            ])) in
+            elim view [
+              | inr passed ↦ inr (record { sees = passed.sees; foreign = passed.foreign; reaches = reaches })
+              | inl own ↦ inl (record {
+                named = own.named;
+                leads = own.leads;
+                begins = own.begins;
+                deep = own.deep;
+                plain = own.plain;
+                older = own.older;
+                lent = own_loan y w has (view_named home observer other v s facts viewed.views y w own) (observer y) refl own.lent;
+                reaches = reaches;
+              })
+            ]);
+        whole = viewed.whole;
         lends = λ l n lent. (let old = viewed.lends l n lent in record {
           has = kept_fact act facts (Lent l n.root n) old.has
               (is_false (n.root == x) (λ same. leaves.unlent l n lent (eqb-true n.root x same)));
@@ -184,10 +210,10 @@ module _ (home : ℕ → ℕ) (observer : ℕ → Bool) (other : Around home) (v
             ])));
       }
     where
-      own_loan : (y : ℕ) (w : Way) → v.way y ≡ Some w → (b : Bool) → observer y ≡ b → HasLoan observer (observer y) y facts (name_of (v.loan y))
+      own_loan : (y : ℕ) (w : Way) → v.way y ≡ Some w → Named home w → (b : Bool) → observer y ≡ b → HasLoan observer (observer y) y facts (name_of (v.loan y))
           → HasLoan observer (observer y) y (effect (EndScope x borrower) facts) (name_of (v.loan y))
-      own_loan y w has true e loan = subst (λ z. HasLoan observer z y (effect (EndScope x borrower) facts) (name_of (v.loan y))) (sym e) (leaves.loans y w has e)
-      own_loan y w has false e loan =
+      own_loan y w has named true e loan = subst (λ z. HasLoan observer z y (effect (EndScope x borrower) facts) (name_of (v.loan y))) (sym e) (leaves.loans y w has named e)
+      own_loan y w has named false e loan =
           let act : Act = EndScope x borrower in
           let old = subst (λ z. HasLoan observer z y facts (name_of (v.loan y))) e loan in
           subst (λ z. HasLoan observer z y (effect act facts) (name_of (v.loan y))) (sym e)

@@ -18,7 +18,7 @@ use Rattle.owned_loans.proofs.Clear.{clear_same}
 use Rattle.owned_loans.proofs.Safe.{off_view}
 use Rattle.owned_loans.proofs.Others.{off_kept}
 use Rattle.owned_loans.proofs.Allowed.{loan_kept, free_unlent}
-use Rattle.owned_loans.proofs.Moves.{IsPlace, expand_under, named_way, as_sound, view_on, own_loan, lends_on}
+use Rattle.owned_loans.proofs.Moves.{IsPlace, expand_under, named_way, as_sound, reached, view_on, own_loan, lends_on}
 
 -- ---- what a release leaves
 
@@ -120,8 +120,9 @@ module _ (home : ℕ → ℕ) (observer : ℕ → Bool) (other : Around home) (v
         clear = clear_same observer facts viewed.clear act refl;
         views = λ x w has. (let view = viewed.views x w has in
             view_on home observer other v s t facts (effect act facts) x w view (λ seen m. own_loan observer facts (effect act facts) (loan_kept act facts (λ l h z. refl)) seen x m)
-            (reaches_on s t at n step (expand v k) w (OfCell (v.cell x)) viewed.owned held target view.reaches
+            (reaches_on s t at n step (expand v k) w (OfCell (v.cell x)) viewed.owned held target (reached home observer other v s facts x w view)
             (λ past. off_view home observer v s facts viewed.views viewed.clear k x w name (free_unlent facts k allowed) has past)));
+        whole = viewed.whole;
         lends = λ l m lent. lends_on observer v facts (effect act facts) (loan_kept act facts (λ l h z. refl)) l m (viewed.lends l m lent);
         far = λ w n' keeps. reaches_on s t at n step (expand v k) w (OfCell n') viewed.owned held target (viewed.far w n' keeps)
             (λ past. off_kept home observer other v s facts viewed k w n' name whole (free_unlent facts k allowed) keeps past);

@@ -3,9 +3,10 @@
 use Rattle.std.proofs.Common.{◌≡◌, refl, sym, ap, ◌∙◌, subst, ◌⊎◌, inl, inr, ℕ, Bool, true, false, List, zero, suc, ◌<◌, ◌≤◌, ◌+◌, nat_lt, ltb-true, ltb-false, arith, Some}
 use Rattle.std.proofs.Math.Nat.{eq-or-lt_of_le}
 use Rattle.place_names.specs.declared.fact.Fact.{Fact}
-use Rattle.owned_ways.specs.Ways.{OfVariable, Way, Object, All, View, Under, Named, number_of}
+use Rattle.owned_ways.specs.Ways.{OfVariable, OfRoot, Way, Object, All, View, Under, Named, base_of, number_of}
 use Rattle.owned_ways.proofs.Named.{longer}
-use Rattle.owned_loans.specs.Views.{on, Views, expand, AreViews}
+use Rattle.owned_ways.proofs.Dropped.{named_base}
+use Rattle.owned_loans.specs.Views.{on, Views, expand, IsView, IsForeign, AreViews}
 use Rattle.owned_loans.proofs.Ways.{Meet, beginnings, under_on, meets_on, root_on, on_under, named_on, on_named, expand_on, other_front, Lifted, lifts, lifted_root, lifted_way, next_of}
 
 order : (a b : ℕ) → (a ≡ b) ⊎ ((a < b) ⊎ (b < a))
@@ -26,37 +27,79 @@ module _ (home : ℕ → ℕ) (observer : ℕ → Bool) (v : Views) (s : View) (
     pub less : observer b ≡ false → number_of y < b
     pub loan : Under (v.loan b) y
 
+  true_false : (b : Bool) → b ≡ true → b ≡ false → ⊥
+  true_false b e f = cc
+
+  -- what isn't an observer has a loan of its own
+  pub own_view : (x : ℕ) (w : Way) → v.way x ≡ Some w → observer x ≡ false → IsView home observer v s facts x w
+  own_view x w has plain = elim (views x w has) [ inl view ↦ view | inr passed ↦ absurd (true_false (observer x) passed.sees plain) ]
+
+  -- a view whose way is named is one of the frame
+  pub named_view : (x : ℕ) (w : Way) → v.way x ≡ Some w → Named home w → IsView home observer v s facts x w
+  named_view x w has named = elim (views x w has) [
+    | inl view ↦ view
+    | inr passed ↦ absurd (
+        let same = variables (home (number_of w)) (number_of w) passed.foreign.0 passed.foreign.1 (sym (named_base home w named) ∙ passed.foreign.2) in
+        passed.foreign.3 (sym same.0 ∙ ap home same.1))
+  ]
+    where
+      variables : (f x g y : ℕ) → OfRoot (OfVariable f x) ≡ OfRoot (OfVariable g y) → (f ≡ g) × (x ≡ y)
+      variables f x g y e = (cc, cc)
+
   -- one step from a view to what it was taken from
-  pub next : (x : Way) (l : Lifted v x) → Named home x → Next x (next_of v x l) l.object
-  next x l named =
-      let view = views l.object l.way l.has in record {
-        plain = (
-          named_on home (v.up l.object) l.rest view.named,
-          ap observer (root_on (v.up l.object) l.rest) ∙ view.plain,
-        );
-        same = expand_on v (v.up l.object) l.rest view.deep ∙ ap (λ z. on z l.rest) view.leads ∙ sym (lifted_way v x l);
-        less = λ e. subst (λ z. z < l.object) (sym (root_on (v.up l.object) l.rest)) (view.older e);
-        loan = under_on (v.loan l.object) (v.up l.object) (on (v.up l.object) l.rest) view.begins (on_under (v.up l.object) l.rest);
-      }
+  pub next : (x : Way) (l : Lifted v x) → IsView home observer v s facts l.object l.way → Named home x → Next x (next_of v x l) l.object
+  next x l view named = record {
+    plain = (
+      named_on home (v.up l.object) l.rest view.named,
+      ap observer (root_on (v.up l.object) l.rest) ∙ view.plain,
+    );
+    same = expand_on v (v.up l.object) l.rest view.deep ∙ ap (λ z. on z l.rest) view.leads ∙ sym (lifted_way v x l);
+    less = λ e. subst (λ z. z < l.object) (sym (root_on (v.up l.object) l.rest)) (view.older e);
+    loan = under_on (v.loan l.object) (v.up l.object) (on (v.up l.object) l.rest) view.begins (on_under (v.up l.object) l.rest);
+  }
 
   borrowed : (x : Way) (l : Lifted v x) → IsPlain x → observer l.object ≡ false
   borrowed x l plain = ap observer (sym (lifted_root v x l)) ∙ plain.1
+
+  pub next_plain : (x : Way) (l : Lifted v x) → IsPlain x → Next x (next_of v x l) l.object
+  next_plain x l plain = next x l (own_view l.object l.way l.has (borrowed x l plain)) plain.0
 
   -- what a name stands for is rooted in an owner, which isn't younger
   pub low : (n : ℕ) (x : Way) → number_of x < n → IsPlain x → number_of (expand v x) ≤ number_of x
   low zero x less plain = absurd (omega arith)
   low (suc n) x less plain = elim (lifts v x) [
     | inl e ↦ (let same = ap number_of e in (omega arith))
-    | inr l ↦ (let on = next x l plain.0 in
+    | inr l ↦ (let on = next_plain x l plain in
         let root = lifted_root v x l in
         let down = on.less (borrowed x l plain) in
         let rest = low n (next_of v x l) (omega arith) on.plain in
         let same = ap number_of on.same in (omega arith))
   ]
 
+  -- and is named
+  pub stands_named : (n : ℕ) (x : Way) → number_of x < n → IsPlain x → Named home (expand v x)
+  stands_named zero x less plain = absurd (omega arith)
+  stands_named (suc n) x less plain = elim (lifts v x) [
+    | inl e ↦ subst (Named home) (sym e) plain.0
+    | inr l ↦ (let on = next_plain x l plain in
+        let root = lifted_root v x l in
+        let down = on.less (borrowed x l plain) in
+        subst (Named home) on.same (stands_named n (next_of v x l) (omega arith) on.plain))
+  ]
+
+  -- so it isn't what belongs to another frame
+  pub not_foreign : (x w : Way) → IsPlain x → IsForeign home w → base_of (expand v x) ≡ base_of w → ⊥
+  not_foreign x w plain foreign base =
+      let named = named_base home (expand v x) (stands_named (suc (number_of x)) x (omega arith) plain) in
+      let same = variables (home (number_of (expand v x))) (number_of (expand v x)) foreign.0 foreign.1 (sym named ∙ base ∙ foreign.2) in
+      foreign.3 (sym same.0 ∙ ap home same.1)
+    where
+      variables : (f x g y : ℕ) → OfRoot (OfVariable f x) ≡ OfRoot (OfVariable g y) → (f ≡ g) × (x ≡ y)
+      variables f x g y e = (cc, cc)
+
   pub lower : (x : Way) (l : Lifted v x) → IsPlain x → number_of (expand v x) < number_of x
   lower x l plain =
-      let on = next x l plain.0 in
+      let on = next_plain x l plain in
       let root = lifted_root v x l in
       let down = on.less (borrowed x l plain) in
       let rest = low (suc (number_of (next_of v x l))) (next_of v x l) (omega arith) on.plain in
@@ -132,7 +175,7 @@ module _ (home : ℕ → ℕ) (observer : ℕ → Bool) (v : Views) (s : View) (
 
   lift_upper : (x y : Way) (l : Lifted v x) → IsPlain x → number_of y < number_of x → Meeting (next_of v x l) y → Meeting x y
   lift_upper x y l px less m =
-      let on = next x l px.0 in
+      let on = next_plain x l px in
       let root = lifted_root v x l in
       let is = borrowed x l px in
       let down = on.less is in
@@ -172,7 +215,7 @@ module _ (home : ℕ → ℕ) (observer : ℕ → Bool) (v : Views) (s : View) (
 
   lift_lower : (x y : Way) (l : Lifted v y) → IsPlain y → number_of x < number_of y → Meeting x (next_of v y l) → Meeting x y
   lift_lower x y l py less m =
-      let on = next y l py.0 in
+      let on = next_plain y l py in
       let root = lifted_root v y l in
       let is = borrowed y l py in
       let down = on.less is in
@@ -213,14 +256,14 @@ module _ (home : ℕ → ℕ) (observer : ℕ → Bool) (v : Views) (s : View) (
         | inr z ↦ elim z [
           | inl more ↦ elim (lifts v y) [
             | inl e ↦ (let is = ap number_of e in let most = low (suc (number_of x)) x (omega arith) px in absurd (omega arith))
-            | inr l ↦ (let on = next y l py.0 in
+            | inr l ↦ (let on = next_plain y l py in
                 let down = on.less (borrowed y l py) in
                 let at = lifted_root v y l in
                 lift_lower x y l py more (meeting_from n x (next_of v y l) (omega arith) px on.plain (subst (Under (expand v x)) (sym on.same) u)))
           ]
           | inr more ↦ elim (lifts v x) [
             | inl e ↦ (let is = ap number_of e in let most = low (suc (number_of y)) y (omega arith) py in absurd (omega arith))
-            | inr l ↦ (let on = next x l px.0 in
+            | inr l ↦ (let on = next_plain x l px in
                 let down = on.less (borrowed x l px) in
                 let at = lifted_root v x l in
                 lift_upper x y l px more (meeting_from n (next_of v x l) y (omega arith) on.plain py (subst (λ z. Under z (expand v y)) (sym on.same) u)))

@@ -1,6 +1,6 @@
 -- A move keeps owners, what is known and the ways of views, where the facts allow its act on a name
 -- that may be rooted in a borrower. So does a cell that is made.
-use Rattle.std.proofs.Common.{◌≡◌, refl, sym, ap, ◌∙◌, subst, inl, inr, ℕ, Bool, true, false, not, List, [], ◌∷◌, zero, suc, ◌<◌, arith, Some, None}
+use Rattle.std.proofs.Common.{◌≡◌, refl, sym, ap, ◌∙◌, subst, ◌⊎◌, inl, inr, ℕ, Bool, true, false, not, List, [], ◌∷◌, suc, ◌<◌, arith, Some, None}
 use Rattle.std.specs.List.{filter}
 use Rattle.spark_base.specs.Lists.{Has}
 use Rattle.spark_base.proofs.Lists.{Has-append_right, Has-map}
@@ -21,9 +21,8 @@ use Rattle.owned_ways.proofs.Assigned.{kept_fact, is_false, Apart, given_apart, 
 use Rattle.owned_ways.proofs.Moving.{Given, keeps, owned_after, covered_after, known_after}
 use Rattle.owned_ways.proofs.Released.{freshly, fresh_on}
 use Rattle.owned_ways.proofs.Dropped.{named_base}
-use Rattle.owned_loans.specs.Views.{on, Views, Around, way_at, expand, expand_root, IsMovedBy, IsAway, ExcusedBy, AreClear, HasLoan, IsView, AreViews, IsLentToOthers, Viewed}
-use Rattle.owned_loans.proofs.Ways.{lifts, lifted_root, next_of}
-use Rattle.owned_loans.proofs.Meeting.{IsPlain, next}
+use Rattle.owned_loans.specs.Views.{on, Views, Around, way_at, expand, expand_root, IsMovedBy, IsAway, ExcusedBy, AreClear, HasLoan, IsView, IsForeign, IsPassed, AreViews, IsLentToOthers, Viewed}
+use Rattle.owned_loans.proofs.Meeting.{IsPlain, stands_named}
 use Rattle.owned_loans.proofs.Clear.{nothing_new, clear_move, clear_same}
 use Rattle.owned_loans.proofs.Safe.{off_view}
 use Rattle.owned_loans.proofs.Others.{off_kept, clean_away}
@@ -145,9 +144,17 @@ module _ (home : ℕ → ℕ) (other : Around home) where
       variable_hand i e = no_hand_base w i e
 
 module _ (home : ℕ → ℕ) (observer : ℕ → Bool) (other : Around home) (v : Views) where
-  pub view_on : (s t : View) (facts facts' : List Fact) (x : ℕ) (w : Way) → IsView home observer v s facts x w
+  -- A view with a value, of its own frame or of another one's.
+  abbrev pub Either : View → List Fact → ℕ → Way → Type 0
+  Either s facts x w = IsView home observer v s facts x w ⊎ IsPassed home observer v s x w
+
+  pub reached : (s : View) (facts : List Fact) (x : ℕ) (w : Way) → Either s facts x w → Reaches s w (OfCell (v.cell x))
+  reached s facts x w (inl view) = view.reaches
+  reached s facts x w (inr passed) = passed.reaches
+
+  own_on : (s t : View) (facts facts' : List Fact) (x : ℕ) (w : Way) → IsView home observer v s facts x w
       → ((seen : Bool) (n : Name) → HasLoan observer seen x facts n → HasLoan observer seen x facts' n) → Reaches t w (OfCell (v.cell x)) → IsView home observer v t facts' x w
-  view_on s t facts facts' x w view loans reaches = record {
+  own_on s t facts facts' x w view loans reaches = record {
     named = view.named;
     leads = view.leads;
     begins = view.begins;
@@ -157,6 +164,11 @@ module _ (home : ℕ → ℕ) (observer : ℕ → Bool) (other : Around home) (v
     lent = loans (observer x) (name_of (v.loan x)) view.lent;
     reaches = reaches;
   }
+
+  pub view_on : (s t : View) (facts facts' : List Fact) (x : ℕ) (w : Way) → Either s facts x w
+      → ((seen : Bool) (n : Name) → HasLoan observer seen x facts n → HasLoan observer seen x facts' n) → Reaches t w (OfCell (v.cell x)) → Either t facts' x w
+  view_on s t facts facts' x w (inl view) loans reaches = inl (own_on s t facts facts' x w view loans reaches)
+  view_on s t facts facts' x w (inr passed) loans reaches = inr (record { sees = passed.sees; foreign = passed.foreign; reaches = reaches })
 
   -- No way of a view goes past a place.
   abbrev pub Off : Way → Type 0
@@ -181,7 +193,8 @@ module _ (home : ℕ → ℕ) (observer : ℕ → Bool) (other : Around home) (v
     clear = clear;
     views = λ x w has. (let view = viewed.views x w has in
         view_on s t facts facts' x w view (λ seen n. own_loan observer facts facts' loans seen x n)
-        (keeps s t f k from to given w (OfCell (v.cell x)) view.reaches (λ p. off x w has p) (λ p. away x w has p)));
+        (keeps s t f k from to given w (OfCell (v.cell x)) (reached s facts x w view) (λ p. off x w has p) (λ p. away x w has p)));
+    whole = viewed.whole;
     lends = λ l n lent. lends_on observer v facts facts' loans l n (viewed.lends l n lent);
     far = λ w n held. keeps s t f k from to given w (OfCell n) (viewed.far w n held) (λ p. far_off w n held p) (λ p. far_away w n held p);
   }
@@ -189,23 +202,23 @@ module _ (home : ℕ → ℕ) (observer : ℕ → Bool) (other : Around home) (v
   -- what a name stands for is named
   pub named_way : (s : View) (facts : List Fact) (views : AreViews home observer v s facts) (n : ℕ) (u : Way) → number_of u < n
       → IsPlain home observer v s facts views u → Named home (expand v u)
-  named_way s facts views zero u less plain = absurd (omega arith)
-  named_way s facts views (suc n) u less plain = elim (lifts v u) [
-    | inl e ↦ subst (Named home) (sym e) plain.0
-    | inr l ↦ (let on = next home observer v s facts views u l plain.0 in
-        let root = lifted_root v u l in
-        let down = on.less (ap observer (sym root) ∙ plain.1) in
-        subst (Named home) on.same (named_way s facts views n (next_of v u l) (omega arith) on.plain))
-  ]
+  named_way s facts views n u less plain = stands_named home observer v s facts views n u less plain
 
-  pub view_named : (s : View) (facts : List Fact) (views : AreViews home observer v s facts) (x : ℕ) (w : Way) → v.way x ≡ Some w → Named home w
-  view_named s facts views x w has =
-      let view = views x w has in
+  pub view_named : (s : View) (facts : List Fact) (views : AreViews home observer v s facts) (x : ℕ) (w : Way) → IsView home observer v s facts x w → Named home w
+  view_named s facts views x w view =
       subst (Named home) view.leads (named_way s facts views (suc (number_of (v.up x))) (v.up x) (omega arith) (view.named, view.plain))
+
+  -- the way of each view begins at a variable
+  pub view_rooted : (s : View) (facts : List Fact) (views : AreViews home observer v s facts) (x : ℕ) (w : Way) → v.way x ≡ Some w
+      → (f : ℕ) × (y : ℕ) × (base_of w ≡ OfRoot (OfVariable f y)) × (Named home w ⊎ IsForeign home w)
+  view_rooted s facts views x w has = elim (views x w has) [
+    | inl view ↦ (let named = view_named s facts views x w view in (home (number_of w), number_of w, named_base home w named, inl named))
+    | inr passed ↦ (passed.foreign.0, passed.foreign.1, passed.foreign.2, inr passed.foreign)
+  ]
 
   pub hand_off : (s : View) (facts : List Fact) (views : AreViews home observer v s facts) (f : Way) → InHand f → Off f
   hand_off s facts views f inhand x w has past =
-      unnamed home w (hand_under f w inhand (past_under f w past)) (view_named s facts views x w has)
+      (let root = view_rooted s facts views x w has in no_hand_base w (hand_under f w inhand (past_under f w past)) root.2)
 
   hand_far : (f : Way) → InHand f → OffFar f
   hand_far f inhand w n keeps past = far_hand home other f w n inhand keeps past
@@ -315,9 +328,10 @@ module _ (home : ℕ → ℕ) (observer : ℕ → Bool) (other : Around home) (v
         covered = sound.covered;
         known = all_known t facts sound.known;
         clear = viewed.clear;
+        whole = viewed.whole;
         lends = viewed.lends;
         views = λ x w has. (let view = viewed.views x w has in
-            view_on s t facts facts x w view (λ seen n has. has) (fresh_on s t at fresh w (OfCell (v.cell x)) view.reaches));
+            view_on s t facts facts x w view (λ seen n has. has) (fresh_on s t at fresh w (OfCell (v.cell x)) (reached s facts x w view)));
         far = λ w n keeps. fresh_on s t at fresh w (OfCell n) (viewed.far w n keeps);
       }
 
@@ -328,9 +342,10 @@ module _ (home : ℕ → ℕ) (observer : ℕ → Bool) (other : Around home) (v
         covered = sound.covered;
         known = all_known t facts sound.known;
         clear = viewed.clear;
+        whole = viewed.whole;
         lends = viewed.lends;
         views = λ x w has. (let view = viewed.views x w has in
-            view_on s t facts facts x w view (λ seen n has. has) (same_reaches s t same w (OfCell (v.cell x)) view.reaches));
+            view_on s t facts facts x w view (λ seen n has. has) (same_reaches s t same w (OfCell (v.cell x)) (reached s facts x w view)));
         far = λ w n keeps. same_reaches s t same w (OfCell n) (viewed.far w n keeps);
       }
 
@@ -347,7 +362,8 @@ module _ (home : ℕ → ℕ) (observer : ℕ → Bool) (other : Around home) (v
     ];
     clear = nothing_new observer facts facts' back viewed.clear;
     views = λ x w has. (let view = viewed.views x w has in
-        view_on s s facts facts' x w view (λ seen n. own_loan observer facts facts' (λ l h m. on (Lent l h m)) seen x n) view.reaches);
+        view_on s s facts facts' x w view (λ seen n. own_loan observer facts facts' (λ l h m. on (Lent l h m)) seen x n) (reached s facts x w view));
+    whole = viewed.whole;
     lends = λ l n lent. lends_on observer v facts facts' (λ k h m. on (Lent k h m)) l n (viewed.lends l n lent);
     far = viewed.far;
   }

@@ -7,14 +7,14 @@ use Rattle.place_names.specs.declared.rule.Loan.TheVariants.{Borrowed, Observed}
 use Rattle.place_names.specs.declared.fact.Fact.{Fact}
 use Rattle.place_names.specs.declared.fact.Fact.TheVariants.{Lent}
 use Rattle.place_names.specs.Names.{overlaps}
-use Rattle.owned_ways.specs.Ways.{OfVariable, OfRoot, Way, View, Under, Past, Named, name_of, number_of, sels_of}
-use Rattle.owned_ways.proofs.Locations.{past_under, not_past}
+use Rattle.owned_ways.specs.Ways.{OfVariable, OfRoot, Way, View, Under, Past, Named, base_of, name_of, number_of, sels_of}
+use Rattle.owned_ways.proofs.Locations.{past_under, not_past, under_itself}
 use Rattle.owned_ways.proofs.Named.{longer, under_leads}
 use Rattle.owned_ways.proofs.Dropped.{named_base}
-use Rattle.owned_loans.specs.Views.{Around, Views, expand, HasLoan, IsAway, IsLentToOthers, Viewed}
-use Rattle.owned_loans.proofs.Ways.{Meet, flip, meets_on, beginnings, under_on, meet_overlaps, Lifted, next_of, lifts, lifted_root}
+use Rattle.owned_loans.specs.Views.{Around, Views, expand, HasLoan, IsAway, IsView, IsLentToOthers, Viewed}
+use Rattle.owned_loans.proofs.Ways.{Meet, base_on, lifted_way, flip, meets_on, beginnings, under_on, meet_overlaps, Lifted, next_of, lifts, lifted_root}
 use Rattle.owned_loans.proofs.Meeting.{IsPlain, next, Lends, Both, meeting}
-use Rattle.owned_loans.proofs.Safe.{under_shorter, Open, OpenWhole, Unlent, Unborrowed, Unmoved, loan_of, no_both, open_way, open_itself, seen_way, clean_below, seen_below}
+use Rattle.owned_loans.proofs.Safe.{under_shorter, Open, OpenWhole, Unlent, Unborrowed, Unmoved, loan_of, no_both, open_way, open_above, seen_above, seen_way, clean_below, seen_below}
 
 -- what a way begins with doesn't go past it
 past_front : (k w : Way) → Under k w → Past w k → ⊥
@@ -151,11 +151,12 @@ module _ (home : ℕ → ℕ) (observer : ℕ → Bool) (other : Around home) (v
         ]
 
     -- a name through an observer meets none
-    seen_through : (u w : Way) (z : Lifted v u) → Named home u → observer z.object ≡ true → Under k w → Meet w (expand v u) → ⊥
-    seen_through u w z named_u is under meets =
-        let on = next home observer v s facts viewed.views u z named_u in
+    seen_own : (u w : Way) (z : Lifted v u) → IsView home observer v s facts z.object z.way → Named home u → observer z.object ≡ true → Under k w
+        → Meet w (expand v u) → ⊥
+    seen_own u w z view named_u is under meets =
+        let on = next home observer v s facts viewed.views u z view named_u in
         let y : Way = next_of v u z in
-        let held_loan = subst (λ b. HasLoan observer b z.object facts (name_of (v.loan z.object))) is (viewed.views z.object z.way z.has).lent in
+        let held_loan = subst (λ b. HasLoan observer b z.object facts (name_of (v.loan z.object))) is view.lent in
         let seen : (b : ℕ) → LendsIt b → Meet (v.loan b) (v.loan z.object) → ⊥ =
         λ b lends m. viewed.clear.seen b held_loan.0 (name_of (v.loan b)) (name_of (v.loan z.object)) (loan b lends) held_loan.1 (meet_overlaps (v.loan b) (v.loan z.object) m) in
         let own : Meet k (v.loan z.object) → ⊥ =
@@ -186,6 +187,20 @@ module _ (home : ℕ → ℕ) (observer : ℕ → Bool) (other : Around home) (v
         met w e under (inl above) = inl (under_on k w e under above)
         met w e under (inr below) = beginnings k e w under below
 
+    seen_through : (u w : Way) (z : Lifted v u) → Named home u → observer z.object ≡ true → Under k w → Meet w (expand v u) → ⊥
+    seen_through u w z named_u is under meets = elim (viewed.views z.object z.way z.has) [
+      | inl view ↦ seen_own u w z view named_u is under meets
+      | inr passed ↦ (
+          let base : base_of w ≡ base_of (expand v u) = met_base w (expand v u) meets in
+          let rooted = sym (named_base home k named) ∙ sym (longer k w under).base ∙ base ∙ ap base_of (lifted_way v u z) ∙ base_on z.way z.rest ∙ passed.foreign.2 in
+          let same = root_variable (home (number_of k)) (number_of k) passed.foreign.0 passed.foreign.1 rooted in
+          passed.foreign.3 (sym same.0 ∙ ap home same.1))
+    ]
+      where
+        met_base : (a b : Way) → Meet a b → base_of a ≡ base_of b
+        met_base a b (inl u) = sym (longer a b u).base
+        met_base a b (inr u) = (longer b a u).base
+
   -- ---- all of it
 
   -- what is changed lies above no way of others
@@ -205,16 +220,24 @@ module _ (home : ℕ → ℕ) (observer : ℕ → Bool) (other : Around home) (v
   open_away u w name free past (inl moved) = open_way home observer v s facts viewed.views viewed.clear u w name free past moved
   open_away u w name free past (inr away) = (let t = other.through w away in open_through t.0 t.1 t.3 u w name free t.2 past)
 
-  -- nor is it the name itself, if that is open as a whole
+  -- nor is it the name itself, or what begins it, if that is open as a whole
+  pub above_away : (u w : Way) → IsName u → OpenWhole facts u → Under w (expand v u) → IsAway home v other facts w → ⊥
+  above_away u w name free above (inl moved) = open_above home observer v s facts viewed.views viewed.clear u w name free above moved
+  above_away u w name free above (inr away) =
+      (let t = other.through w away in itself_through t.0 t.1 t.3 u name free (under_on t.0 w (expand v u) t.2 above))
+
   pub itself_away : (u : Way) → IsName u → OpenWhole facts u → IsAway home v other facts (expand v u) → ⊥
-  itself_away u name free (inl moved) = open_itself home observer v s facts viewed.views viewed.clear u name free moved
-  itself_away u name free (inr away) = (let t = other.through (expand v u) away in itself_through t.0 t.1 t.3 u name free t.2)
+  itself_away u name free away = above_away u (expand v u) name free (under_itself (expand v u)) away
 
   -- nor above one through an observer
   pub seen_away : (u w : Way) (l : Lifted v u) → Named home u → observer l.object ≡ true → Past w (expand v u) → IsAway home v other facts w → ⊥
   seen_away u w l named is past (inl moved) = seen_way home observer v s facts viewed.views viewed.clear u w l named is past moved
   seen_away u w l named is past (inr away) =
       (let t = other.through w away in seen_through t.0 t.1 t.3 u w l named is t.2 (inl (past_under w (expand v u) past)))
+
+  pub seen_above_away : (u w : Way) (l : Lifted v u) → Named home u → observer l.object ≡ true → Under w (expand v u) → IsAway home v other facts w → ⊥
+  seen_above_away u w l named is above (inl moved) = seen_above home observer v s facts viewed.views viewed.clear u w l named is above moved
+  seen_above_away u w l named is above (inr away) = (let t = other.through w away in seen_through t.0 t.1 t.3 u w l named is t.2 (inl above))
 
   -- nor at or below a name that overlaps nothing moved or borrowed
   pub clean_away : (u w : Way) → IsName u → Unborrowed facts u → Unmoved facts u → Under (expand v u) w → IsAway home v other facts w → ⊥

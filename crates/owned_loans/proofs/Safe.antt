@@ -9,12 +9,12 @@ use Rattle.place_names.specs.declared.rule.Loan.TheVariants.{Borrowed, Observed}
 use Rattle.place_names.specs.declared.fact.Fact.{Fact}
 use Rattle.place_names.specs.declared.fact.Fact.TheVariants.{Moved, Lent}
 use Rattle.place_names.specs.Names.{Name, overlaps, leads_to}
-use Rattle.owned_ways.specs.Ways.{OfVariable, Way, Object, Lost, Into, All, View, Under, Past, Named, IsMoved, name_of, number_of, sels_of, sel_of}
+use Rattle.owned_ways.specs.Ways.{OfVariable, Way, Object, Lost, Into, All, View, Under, Past, Named, IsMoved, base_of, name_of, number_of, sels_of, sel_of}
 use Rattle.owned_ways.proofs.Locations.{past_under, not_past, under_itself}
 use Rattle.owned_ways.proofs.Named.{longer, under_leads}
-use Rattle.owned_loans.specs.Views.{Views, expand, expand_root, IsMovedBy, AreClear, HasLoan, AreViews}
-use Rattle.owned_loans.proofs.Ways.{Meet, meets_on, beginnings, under_on, meet_overlaps, Lifted, next_of}
-use Rattle.owned_loans.proofs.Meeting.{IsPlain, next, low, Lends, Beside, Both, meeting}
+use Rattle.owned_loans.specs.Views.{Views, expand, expand_root, IsMovedBy, AreClear, HasLoan, IsView, IsForeign, AreViews}
+use Rattle.owned_loans.proofs.Ways.{Meet, base_on, lifted_way, meets_on, beginnings, under_on, meet_overlaps, Lifted, next_of}
+use Rattle.owned_loans.proofs.Meeting.{IsPlain, own_view, next, not_foreign, low, Lends, Beside, Both, meeting}
 
 -- what begins a way and isn't the way has a shorter name
 pub under_shorter : (t w : Way) → Under t w → (t ≡ w) ⊎ (length (sels_of t) < length (sels_of w))
@@ -68,7 +68,7 @@ module _ (home : ℕ → ℕ) (observer : ℕ → Bool) (v : Views) (s : View) (
 
   -- the loan of a borrower
   pub loan_of : (b : ℕ) → Lends home observer v s facts views b → Has facts (Lent Borrowed b (name_of (v.loan b)))
-  loan_of b l = subst (λ z. HasLoan observer z b facts (name_of (v.loan b))) l.2 (views b l.0 l.1).lent
+  loan_of b l = subst (λ z. HasLoan observer z b facts (name_of (v.loan b))) l.2 (own_view home observer v s facts views b l.0 l.1 l.2).lent
 
   pub no_both : Both home observer v s facts views → ⊥
   no_both b =
@@ -111,10 +111,10 @@ module _ (home : ℕ → ℕ) (observer : ℕ → Bool) (v : Views) (s : View) (
         | inr less ↦ (omega arith)
       ]
 
-  -- nor is it the name itself, if that is open as a whole
-  pub open_itself : (u : Way) → IsName u → OpenWhole facts u → IsMovedBy home v facts (expand v u) → ⊥
-  open_itself u plain free (m, moved, same) =
-      elim (meeting home observer v s facts views m u (moved_plain m moved) plain (subst (λ z. Under z (expand v u)) (sym same) (under_itself (expand v u)))) [
+  -- nor is what begins the name, if that is open as a whole
+  pub open_above : (u w : Way) → IsName u → OpenWhole facts u → Under w (expand v u) → IsMovedBy home v facts w → ⊥
+  open_above u w plain free above (m, moved, same) =
+      elim (meeting home observer v s facts views m u (moved_plain m moved) plain (subst (λ z. Under z (expand v u)) (sym same) above)) [
         | inl under ↦ free.moved (name_of m) moved.1 (under_leads m u under)
         | inr more ↦ elim more [
           | inl a ↦ free.lent a.object (name_of (v.loan a.object)) (loan_of a.object a.lends)
@@ -123,14 +123,25 @@ module _ (home : ℕ → ℕ) (observer : ℕ → Bool) (v : Views) (s : View) (
         ]
       ]
 
-  -- nothing that was moved lies above a name through an observer
-  pub seen_way : (u w : Way) (l : Lifted v u) → Named home u → observer l.object ≡ true → Past w (expand v u) → IsMovedBy home v facts w → ⊥
-  seen_way u w l named is past (m, moved, same) =
-      let on = next home observer v s facts views u l named in
+  -- so it isn't the name itself
+  pub open_itself : (u : Way) → IsName u → OpenWhole facts u → IsMovedBy home v facts (expand v u) → ⊥
+  open_itself u plain free moved = open_above u (expand v u) plain free (under_itself (expand v u)) moved
+
+  -- what was moved isn't what a name through a view of another frame's stands for, nor does one begin
+  -- the other
+  foreign_off : (u w : Way) (l : Lifted v u) → IsForeign home l.way → base_of w ≡ base_of (expand v u) → IsMovedBy home v facts w → ⊥
+  foreign_off u w l foreign base (m, moved, same) =
+      not_foreign home observer v s facts views m l.way (moved_plain m moved) foreign
+      (ap base_of same ∙ base ∙ ap base_of (lifted_way v u l) ∙ base_on l.way l.rest)
+
+  seen_way_own : (u w : Way) (l : Lifted v u) → IsView home observer v s facts l.object l.way → Named home u → observer l.object ≡ true → Under w (expand v u)
+      → IsMovedBy home v facts w → ⊥
+  seen_way_own u w l view named is above (m, moved, same) =
+      let on = next home observer v s facts views u l view named in
       let y : Way = next_of v u l in
-      let loan = subst (λ z. HasLoan observer z l.object facts (name_of (v.loan l.object))) is (views l.object l.way l.has).lent in
+      let loan = subst (λ z. HasLoan observer z l.object facts (name_of (v.loan l.object))) is view.lent in
       let upper : Under (expand v m) (expand v y) =
-      subst (Under (expand v m)) (sym on.same) (subst (λ z. Under z (expand v u)) (sym same) (past_under w (expand v u) past)) in
+      subst (Under (expand v m)) (sym on.same) (subst (λ z. Under z (expand v u)) (sym same) above) in
       elim (meeting home observer v s facts views m y (moved_plain m moved) on.plain upper) [
         | inl under ↦ unmoved_loan m Observed loan.0 (v.loan l.object) moved loan.1 (beginnings m (v.loan l.object) y under on.loan)
         | inr more ↦ elim more [
@@ -140,6 +151,16 @@ module _ (home : ℕ → ℕ) (observer : ℕ → Bool) (v : Views) (s : View) (
           | inr more ↦ elim more [ inl b ↦ not_beside m y moved b | inr c ↦ no_both c ]
         ]
       ]
+
+  -- nothing that was moved begins a name through an observer, or lies above it
+  pub seen_above : (u w : Way) (l : Lifted v u) → Named home u → observer l.object ≡ true → Under w (expand v u) → IsMovedBy home v facts w → ⊥
+  seen_above u w l named is above moved = elim (views l.object l.way l.has) [
+    | inl view ↦ seen_way_own u w l view named is above moved
+    | inr passed ↦ foreign_off u w l passed.foreign (sym (longer w (expand v u) above).base) moved
+  ]
+
+  pub seen_way : (u w : Way) (l : Lifted v u) → Named home u → observer l.object ≡ true → Past w (expand v u) → IsMovedBy home v facts w → ⊥
+  seen_way u w l named is past moved = seen_above u w l named is (past_under w (expand v u) past) moved
 
   -- nothing that was moved is, or lies in, a name that overlaps nothing moved or borrowed
   pub clean_below : (u w : Way) → IsName u → Unborrowed facts u → Unmoved facts u → Under (expand v u) w → IsMovedBy home v facts w → ⊥
@@ -159,12 +180,12 @@ module _ (home : ℕ → ℕ) (observer : ℕ → Bool) (v : Views) (s : View) (
       flipped : (a b : Way) → Meet a b → Meet b a
       flipped a b m = elim m [ inl u ↦ inr u | inr u ↦ inl u ]
 
-  -- nothing that was moved is, or lies in, what a name through an observer stands for
-  pub seen_below : (u w : Way) (l : Lifted v u) → Named home u → observer l.object ≡ true → Under (expand v u) w → IsMovedBy home v facts w → ⊥
-  seen_below u w l named is under (m, moved, same) =
-      let on = next home observer v s facts views u l named in
+  seen_below_own : (u w : Way) (l : Lifted v u) → IsView home observer v s facts l.object l.way → Named home u → observer l.object ≡ true → Under (expand v u) w
+      → IsMovedBy home v facts w → ⊥
+  seen_below_own u w l view named is under (m, moved, same) =
+      let on = next home observer v s facts views u l view named in
       let y : Way = next_of v u l in
-      let loan = subst (λ z. HasLoan observer z l.object facts (name_of (v.loan l.object))) is (views l.object l.way l.has).lent in
+      let loan = subst (λ z. HasLoan observer z l.object facts (name_of (v.loan l.object))) is view.lent in
       let lower : Under (expand v y) (expand v m) = subst (λ z. Under z (expand v m)) (sym on.same) (subst (Under (expand v u)) (sym same) under) in
       elim (meeting home observer v s facts views y m on.plain (moved_plain m moved) lower) [
         | inl below ↦ unmoved_loan m Observed loan.0 (v.loan l.object) moved loan.1 (inr (under_on (v.loan l.object) y m on.loan below))
@@ -183,13 +204,20 @@ module _ (home : ℕ → ℕ) (observer : ℕ → Bool) (v : Views) (s : View) (
       turned : (a b : Way) → Meet a b → Meet b a
       turned a b m = elim m [ inl u ↦ inr u | inr u ↦ inl u ]
 
+  -- nothing that was moved is, or lies in, what a name through an observer stands for
+  pub seen_below : (u w : Way) (l : Lifted v u) → Named home u → observer l.object ≡ true → Under (expand v u) w → IsMovedBy home v facts w → ⊥
+  seen_below u w l named is under moved = elim (views l.object l.way l.has) [
+    | inl view ↦ seen_below_own u w l view named is under moved
+    | inr passed ↦ foreign_off u w l passed.foreign (longer (expand v u) w under).base moved
+  ]
+
   abbrev own_name : ℕ → Way
   own_name x = All (Object (OfVariable (home x) x))
 
   -- the way of a borrower is rooted in an older object
   pub root_before : (x : ℕ) (w : Way) → v.way x ≡ Some w → observer x ≡ false → number_of w < x
   root_before x w has is =
-      let view = views x w has in
+      let view = own_view home observer v s facts views x w has is in
       let less = view.older is in
       let most = low home observer v s facts views (suc (number_of (v.up x))) (v.up x) (omega arith) (view.named, view.plain) in
       let same = ap number_of view.leads in (omega arith)
@@ -223,9 +251,8 @@ module _ (home : ℕ → ℕ) (observer : ℕ → Bool) (v : Views) (s : View) (
             let less = root_before x w has is in absurd (omega arith))
       ]
 
-  off_observer : (u : Way) (x : ℕ) (w : Way) → IsName u → Unlent facts u → v.way x ≡ Some w → observer x ≡ true → Past (expand v u) w → ⊥
-  off_observer u x w plain unlent has is past =
-      let view = views x w has in
+  off_observer : (u : Way) (x : ℕ) (w : Way) → IsName u → Unlent facts u → IsView home observer v s facts x w → observer x ≡ true → Past (expand v u) w → ⊥
+  off_observer u x w plain unlent view is past =
       let loan = subst (λ z. HasLoan observer z x facts (name_of (v.loan x))) is view.lent in
       let under : Under (expand v u) (expand v (v.up x)) = subst (Under (expand v u)) (sym view.leads) (past_under (expand v u) w past) in
       elim (meeting home observer v s facts views u (v.up x) plain (view.named, view.plain) under) [
@@ -247,5 +274,8 @@ module _ (home : ℕ → ℕ) (observer : ℕ → Bool) (v : Views) (s : View) (
   off_view u x w plain unlent has past = by_kind (observer x) refl
     where
       by_kind : (b : Bool) → observer x ≡ b → ⊥
-      by_kind true e = off_observer u x w plain unlent has e past
+      by_kind true e = elim (views x w has) [
+        | inl view ↦ off_observer u x w plain unlent view e past
+        | inr passed ↦ not_foreign home observer v s facts views u w plain passed.foreign (sym (longer (expand v u) w (past_under (expand v u) w past)).base)
+      ]
       by_kind false e = off_borrower u x w plain unlent has e past

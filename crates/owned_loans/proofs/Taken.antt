@@ -1,5 +1,5 @@
 -- Borrow, Observe and Reborrow: a view gets the way of the cell that a name designates.
-use Rattle.std.proofs.Common.{◌≡◌, refl, sym, ap, ◌∙◌, subst, inl, inr, ℕ, ◌==◌, eqb-true, eq-eqb, Bool, true, false, List, [], ◌∷◌, ◌<◌, arith, Option, Some, None, if◌then◌else◌}
+use Rattle.std.proofs.Common.{◌≡◌, refl, sym, ap, ◌∙◌, subst, ◌⊎◌, inl, inr, ℕ, ◌==◌, eqb-true, eq-eqb, Bool, true, false, List, [], ◌∷◌, ◌<◌, arith, Option, Some, None, if◌then◌else◌}
 use Rattle.spark_base.specs.Lists.{Has}
 use Rattle.spark_base.proofs.Lists.{Has-append_right}
 use Rattle.std.specs.List.{filter}
@@ -14,16 +14,16 @@ use Rattle.place_names.specs.declared.fact.Fact.{Fact}
 use Rattle.place_names.specs.declared.fact.Fact.TheVariants.{Moved, Lent}
 use Rattle.place_names.specs.Facts.{removes, effect}
 use Rattle.place_names.specs.Rules.{moved_or_lent}
-use Rattle.owned_ways.specs.Ways.{OfVariable, OfHand, OfCell, Way, Object, Lost, Into, All, View, Reaches, Under, Named, number_of, name_of, Allows}
+use Rattle.owned_ways.specs.Ways.{OfVariable, OfHand, OfCell, base_of, Way, Object, Lost, Into, All, View, Reaches, Under, Named, number_of, name_of, Allows}
 use Rattle.owned_ways.proofs.Named.{longer}
 use Rattle.owned_ways.proofs.Assigned.{kept_fact}
 use Rattle.owned_ways.proofs.Locations.{under_itself}
-use Rattle.owned_loans.specs.Views.{Views, Around, expand_root, expand, IsObject, AreClear, HasLoan, IsView, Viewed, Becomes, with_view, Unused}
-use Rattle.owned_loans.proofs.Ways.{on_deep, Lifted, next_of}
-use Rattle.owned_loans.proofs.Meeting.{next}
+use Rattle.owned_loans.specs.Views.{Views, Around, expand_root, expand, IsObject, AreClear, HasLoan, IsView, Viewed, Becomes, with_view, Unused, on, IsForeign, IsPassed, AreViews}
+use Rattle.owned_loans.proofs.Ways.{beginnings, under_on, on_under, base_on, on_deep, Lifted, lifted_way, next_of}
+use Rattle.owned_loans.proofs.Meeting.{own_view, named_view, next, not_foreign}
 use Rattle.owned_loans.proofs.Clear.{refused, clear_borrow, clear_observe, clear_same}
 use Rattle.owned_loans.proofs.Allowed.{LoansStay, loan_kept}
-use Rattle.owned_loans.proofs.Moves.{own_loan}
+use Rattle.owned_loans.proofs.Moves.{own_loan, view_named}
 
 -- names that aren't rooted in the view stand for what they stood for
 expand_other : (v t : Views) (b : ℕ) (o : Option Way) (loan up : Way) (n : ℕ) → Becomes v t b o loan up n → (u : Way) → (number_of u ≡ b → ⊥) → expand t u ≡ expand v u
@@ -81,10 +81,28 @@ module _ (home : ℕ → ℕ) (observer : ℕ → Bool) (other : Around home) (v
     reaches = subst (λ z. Reaches s w (OfCell z)) (sym (becomes.cells x off)) view.reaches;
   }
 
-  pub rebound : (s : View) (facts facts' : List Fact) → Viewed home observer other v s facts → Unused other.lent v facts b
+  old_either : (s : View) (facts facts' : List Fact) (x : ℕ) (w : Way) → (x ≡ b → ⊥) → (Named home w → number_of (v.up x) ≡ b → ⊥)
+      → AreViews home observer v s facts → IsView home observer v s facts x w ⊎ IsPassed home observer v s x w → LoansStay facts facts'
+      → IsView home observer t s facts' x w ⊎ IsPassed home observer t s x w
+  old_either s facts facts' x w off unused views (inl view) loans =
+      inl (old_view s facts facts' x w off (unused (view_named home observer other v s facts views x w view)) view loans)
+  old_either s facts facts' x w off unused views (inr passed) loans = inr (record {
+    sees = passed.sees;
+    foreign = passed.foreign;
+    reaches = subst (λ z. Reaches s w (OfCell z)) (sym (becomes.cells x off)) passed.reaches;
+  })
+
+  -- What is asked of the way that an observer gets from what belongs to another frame.
+  pub record FitsPassed (s : View) (w : Way) : Type 0 where
+    pub sees : observer b ≡ true
+    pub foreign : IsForeign home w
+    pub reaches : Reaches s w (OfCell n)
+    pub whole : (z : Way) → other.gone z → Under z w ⊎ Under w z → ⊥
+
+  pub rebound_any : (s : View) (facts facts' : List Fact) → Viewed home observer other v s facts → Unused home other.lent v facts b
       → ((m : Name) → Has facts (Moved m) → Has facts' (Moved m)) → LoansStay facts facts' → AreClear observer facts'
-      → ((w : Way) → o ≡ Some w → Fits home observer v s facts' b loan up n w) → Viewed home observer other t s facts'
-  rebound s facts facts' viewed unused stays loans clear fits = record {
+      → ((w : Way) → o ≡ Some w → Fits home observer v s facts' b loan up n w ⊎ FitsPassed s w) → Viewed home observer other t s facts'
+  rebound_any s facts facts' viewed unused stays loans clear fits = record {
     owned = viewed.owned;
     covered = viewed.covered;
     known = λ w l m r h. elim (viewed.known w l m r h) [
@@ -98,6 +116,7 @@ module _ (home : ℕ → ℕ) (observer : ℕ → Bool) (other : Around home) (v
     ];
     clear = clear;
     views = λ x w has. by_object x w has (x == b) refl;
+    whole = λ x w z has foreign gone meets. by_root x w z has foreign gone meets (x == b) refl;
     lends = λ l m lent. (let old = viewed.lends l m lent in record {
       has = loans l m.root m old.has;
       none = becomes.ways m.root (unused.unlent l m lent) ∙ old.none;
@@ -106,15 +125,39 @@ module _ (home : ℕ → ℕ) (observer : ℕ → Bool) (other : Around home) (v
     far = viewed.far;
   }
     where
-      by_object : (x : ℕ) (w : Way) → t.way x ≡ Some w → (c : Bool) → (x == b) ≡ c → IsView home observer t s facts' x w
+      fit : (w : Way) → Fits home observer v s facts' b loan up n w ⊎ FitsPassed s w → IsView home observer t s facts' b w ⊎ IsPassed home observer t s b w
+      fit w (inl own) = inl (new_view s facts' w own)
+      fit w (inr passed) = inr (record {
+        sees = passed.sees;
+        foreign = passed.foreign;
+        reaches = subst (λ z. Reaches s w (OfCell z)) (sym becomes.cell_is) passed.reaches;
+      })
+
+      fit_whole : (w z : Way) → Fits home observer v s facts' b loan up n w ⊎ FitsPassed s w → IsForeign home w → other.gone z → Under z w ⊎ Under w z → ⊥
+      fit_whole w z (inr passed) foreign gone meets = passed.whole z gone meets
+      fit_whole w z (inl own) foreign gone meets =
+          not_foreign home observer v s facts viewed.views up w (own.named, own.plain) foreign (ap base_of own.leads)
+
+      by_root : (x : ℕ) (w z : Way) → t.way x ≡ Some w → IsForeign home w → other.gone z → Under z w ⊎ Under w z → (c : Bool) → (x == b) ≡ c → ⊥
+      by_root x w z has foreign gone meets true e =
+          fit_whole w z (fits w (sym becomes.way_is ∙ ap t.way (sym (eqb-true x b e)) ∙ has)) foreign gone meets
+      by_root x w z has foreign gone meets false e =
+          viewed.whole x w z (sym (becomes.ways x (λ same. (let is = eq-eqb x b same in cc))) ∙ has) foreign gone meets
+
+      by_object : (x : ℕ) (w : Way) → t.way x ≡ Some w → (c : Bool) → (x == b) ≡ c → IsView home observer t s facts' x w ⊎ IsPassed home observer t s x w
       by_object x w has true e =
           let same = eqb-true x b e in
-          subst (λ z. IsView home observer t s facts' z w) (sym same)
-          (new_view s facts' w (fits w (sym becomes.way_is ∙ ap t.way (sym same) ∙ has)))
+          subst (λ z. IsView home observer t s facts' z w ⊎ IsPassed home observer t s z w) (sym same)
+          (fit w (fits w (sym becomes.way_is ∙ ap t.way (sym same) ∙ has)))
       by_object x w has false e =
           let off : x ≡ b → ⊥ = λ same. (let is = eq-eqb x b same in cc) in
           let old = sym (becomes.ways x off) ∙ has in
-          old_view s facts facts' x w off (unused.untaken x w old off) (viewed.views x w old) loans
+          old_either s facts facts' x w off (λ named. unused.untaken x w old named off) viewed.views (viewed.views x w old) loans
+
+  pub rebound : (s : View) (facts facts' : List Fact) → Viewed home observer other v s facts → Unused home other.lent v facts b
+      → ((m : Name) → Has facts (Moved m) → Has facts' (Moved m)) → LoansStay facts facts' → AreClear observer facts'
+      → ((w : Way) → o ≡ Some w → Fits home observer v s facts' b loan up n w) → Viewed home observer other t s facts'
+  rebound s facts facts' viewed unused stays loans clear fits = rebound_any s facts facts' viewed unused stays loans clear (λ w e. inl (fits w e))
 
 -- ---- the acts
 
@@ -129,19 +172,22 @@ module _ (home : ℕ → ℕ) (observer : ℕ → Bool) (other : Around home) (v
   true_false : (c : Bool) → c ≡ true → c ≡ false → ⊥
   true_false c e f = cc
 
+  own_of : (x : ℕ) (w : Way) → v.way x ≡ Some w → Named home w → IsView home observer v s facts x w
+  own_of = named_view home observer v s facts viewed.views
+
   -- nothing is rooted in an observer but names that are looked at
-  pub observer_unused : (b : ℕ) → observer b ≡ true → Unused other.lent v facts b
+  pub observer_unused : (b : ℕ) → observer b ≡ true → Unused home other.lent v facts b
   observer_unused b is = record {
     unmoved = λ n has e. true_false (observer b) is (ap observer (sym e) ∙ viewed.clear.owned n has);
     unlent = λ l n lent e. true_false (observer b) is (ap observer (sym e) ∙ (viewed.lends l n lent).plain);
-    untaken = λ x w has off e. true_false (observer b) is (ap observer (sym e) ∙ (viewed.views x w has).plain);
+    untaken = λ x w has named off e. true_false (observer b) is (ap observer (sym e) ∙ (own_of x w has named).plain);
   }
 
   -- The way to what a name designates, if it designates a cell.
   abbrev pub Designates : Option Way → Way → ℕ → Type 0
   Designates o u n = (w : Way) → o ≡ Some w → (w ≡ expand v (All u)) × Reaches s w (OfCell n)
 
-  pub borrowed : (b : ℕ) (o : Option Way) (u : Way) (n : ℕ) → Becomes v t b o u (All u) n → Unused other.lent v facts b → observer b ≡ false
+  pub borrowed : (b : ℕ) (o : Option Way) (u : Way) (n : ℕ) → Becomes v t b o u (All u) n → Unused home other.lent v facts b → observer b ≡ false
       → Named home u → observer (number_of u) ≡ false → number_of u < b → Designates o u n → Allows facts (Borrow b (name_of u))
       → Viewed home observer other t s (effect (Borrow b (name_of u)) facts)
   borrowed b o u n becomes unused borrows named plain less designates allowed =
@@ -181,18 +227,44 @@ module _ (home : ℕ → ℕ) (observer : ℕ → Bool) (other : Around home) (v
         reaches = (designates w e).1;
       })
 
+  -- what an observer sees that belongs to another frame
+  passed_on : (b : ℕ) (o : Option Way) (u : Way) (n : ℕ) (l : Lifted v (All u)) → IsPassed home observer v s l.object l.way → (loan up : Way)
+      (becomes : Becomes v t b o loan up n) → observer b ≡ true → Designates o u n → (w : Way) → o ≡ Some w → FitsPassed home observer other v t b o loan up n becomes s w
+  passed_on b o u n l passed loan up becomes observes designates w e =
+      let stands : w ≡ on l.way l.rest = (designates w e).0 ∙ lifted_way v (All u) l in
+      record {
+        sees = observes;
+        foreign = (passed.foreign.0, passed.foreign.1, ap base_of stands ∙ base_on l.way l.rest ∙ passed.foreign.2, passed.foreign.3);
+        reaches = (designates w e).1;
+        whole = λ z gone meets. viewed.whole l.object l.way z l.has passed.foreign gone
+            (nearer z (subst (λ k. Under z k ⊎ Under k z) stands meets));
+      }
+    where
+      nearer : (z : Way) → Under z (on l.way l.rest) ⊎ Under (on l.way l.rest) z → Under z l.way ⊎ Under l.way z
+      nearer z (inl above) = beginnings z l.way (on l.way l.rest) above (on_under l.way l.rest)
+      nearer z (inr below) = inr (under_on l.way (on l.way l.rest) z (on_under l.way l.rest) below)
+
+  -- an observer of what another frame's belongs to takes a loan, which serves for nothing
+  pub observed_passed : (b : ℕ) (o : Option Way) (u loan up : Way) (n : ℕ) (l : Lifted v (All u)) → IsPassed home observer v s l.object l.way
+      → Becomes v t b o loan up n → observer b ≡ true → Designates o u n → (seen : Bool) → Allows facts (Observe b (name_of u) seen)
+      → Viewed home observer other t s (effect (Observe b (name_of u) seen) facts)
+  observed_passed b o u loan up n l passed becomes observes designates seen allowed =
+      let act : Act = Observe b (name_of u) seen in
+      rebound_any home observer other v t b o loan up n becomes s facts (effect act facts) viewed (observer_unused b observes)
+      (stays act (λ m. refl)) (loan_kept act facts (λ k h z. refl)) (clear_observe observer facts viewed.clear b (name_of u) seen allowed)
+      (λ w e. inr (passed_on b o u n l passed loan up becomes observes designates w e))
+
   -- what another observer sees: its loan serves
-  pub observed_again : (b : ℕ) (o : Option Way) (u : Way) (n : ℕ) (l : Lifted v (All u)) → observer l.object ≡ true
+  own_again : (b : ℕ) (o : Option Way) (u : Way) (n : ℕ) (l : Lifted v (All u)) → IsView home observer v s facts l.object l.way → observer l.object ≡ true
       → Becomes v t b o (v.loan l.object) (next_of v (All u) l) n → observer b ≡ true → Named home u → Designates o u n
-      → Viewed home observer other t s (effect (Observe b (name_of u) true) facts)
-  observed_again b o u n l sees becomes observes named designates =
-      let act : Act = Observe b (name_of u) true in
-      let view = viewed.views l.object l.way l.has in
-      let on = next home observer v s facts viewed.views (All u) l named in
+      → (seen : Bool) → Allows facts (Observe b (name_of u) seen) → Viewed home observer other t s (effect (Observe b (name_of u) seen) facts)
+  own_again b o u n l view sees becomes observes named designates seen allowed =
+      let act : Act = Observe b (name_of u) seen in
+      let on = next home observer v s facts viewed.views (All u) l view named in
       let loan = subst (λ z. HasLoan observer z l.object facts (name_of (v.loan l.object))) sees view.lent in
       rebound home observer other v t b o (v.loan l.object) (next_of v (All u) l) n becomes s facts (effect act facts) viewed (observer_unused b observes)
       (stays act (λ m. refl)) (loan_kept act facts (λ k h z. refl))
-      (clear_same observer facts viewed.clear act refl)
+      (clear_observe observer facts viewed.clear b (name_of u) seen allowed)
       (λ w e. record {
         named = on.plain.0;
         leads = on.same ∙ sym (designates w e).0;
@@ -205,13 +277,21 @@ module _ (home : ℕ → ℕ) (observer : ℕ → Bool) (other : Around home) (v
         reaches = (designates w e).1;
       })
 
+  pub observed_again : (b : ℕ) (o : Option Way) (u : Way) (n : ℕ) (l : Lifted v (All u)) → observer l.object ≡ true
+      → Becomes v t b o (v.loan l.object) (next_of v (All u) l) n → observer b ≡ true → Named home u → Designates o u n
+      → (seen : Bool) → Allows facts (Observe b (name_of u) seen) → Viewed home observer other t s (effect (Observe b (name_of u) seen) facts)
+  observed_again b o u n l sees becomes observes named designates seen allowed = elim (viewed.views l.object l.way l.has) [
+    | inl view ↦ own_again b o u n l view sees becomes observes named designates seen allowed
+    | inr passed ↦ observed_passed b o u (v.loan l.object) (next_of v (All u) l) n l passed becomes observes designates seen allowed
+  ]
+
   -- no name that is rooted in an object that is reborrowed was moved, or is lent
-  pub reborrow_unused : (b : ℕ) (m : Name) → Allows facts (Reborrow b m) → Unused other.lent v facts b
+  pub reborrow_unused : (b : ℕ) (m : Name) → Allows facts (Reborrow b m) → Unused home other.lent v facts b
   reborrow_unused b m allowed = record {
     unmoved = λ n has e. refused (moved_or_lent (object b) (Moved n)) O7 (object b) (Moved n) (whole n b e) (allowed (Moved n) has);
     unlent = λ l n lent e.
         refused (moved_or_lent (object b) (Lent l n.root n)) O7 (object b) (Lent l n.root n) (whole n b e) (allowed (Lent l n.root n) (viewed.lends l n lent).has);
-    untaken = λ x w has off e. (let view = viewed.views x w has in
+    untaken = λ x w has named off e. (let view = own_of x w has named in
         not_lent (observer x) x (v.loan x) (sym (longer (v.loan x) (v.up x) view.begins).root ∙ e) view.lent);
   }
     where
@@ -236,9 +316,9 @@ module _ (home : ℕ → ℕ) (observer : ℕ → Bool) (other : Around home) (v
       → Allows facts (Reborrow b (name_of u)) → Viewed home observer other t s (effect (Reborrow b (name_of u)) facts)
   reborrowed b o u n l same becomes borrows named designates allowed =
       let act : Act = Reborrow b (name_of u) in
-      let view = viewed.views l.object l.way l.has in
-      let on = next home observer v s facts viewed.views (All u) l named in
       let is : observer l.object ≡ false = ap observer same ∙ borrows in
+      let view = own_view home observer v s facts viewed.views l.object l.way l.has is in
+      let on = next home observer v s facts viewed.views (All u) l view named in
       let loan = subst (λ z. HasLoan observer z l.object facts (name_of (v.loan l.object))) is view.lent in
       rebound home observer other v t b o (v.loan l.object) (next_of v (All u) l) n becomes s facts (effect act facts) viewed
       (reborrow_unused b (name_of u) allowed)
@@ -258,7 +338,7 @@ module _ (home : ℕ → ℕ) (observer : ℕ → Bool) (other : Around home) (v
       })
 
   -- a view that no name is rooted in any more gives its way up
-  pub given_up : (b : ℕ) (loan up : Way) (n : ℕ) → Becomes v t b None loan up n → Unused other.lent v facts b → Viewed home observer other t s facts
+  pub given_up : (b : ℕ) (loan up : Way) (n : ℕ) → Becomes v t b None loan up n → Unused home other.lent v facts b → Viewed home observer other t s facts
   given_up b loan up n becomes unused =
       rebound home observer other v t b None loan up n becomes s facts facts viewed unused (λ m has. has) (λ l h m has. has) viewed.clear
       (λ w e. absurd (none_some w e))

@@ -1,7 +1,7 @@
 -- How ways go on, and the names of owners that names through views stand for.
 use Rattle.std.proofs.Common.{◌≡◌, refl, sym, ap, ◌∙◌, subst, ◌⊎◌, inl, inr, ℕ, true, List, [], ◌∷◌, length, suc, ◌+◌, arith, Option, Some, None}
 use Rattle.place_names.specs.Names.{overlaps}
-use Rattle.owned_ways.specs.Ways.{Root, OfVariable, OfHand, Way, Object, Lost, Into, All, Under, Named, number_of, name_of}
+use Rattle.owned_ways.specs.Ways.{Root, OfVariable, OfHand, Way, Object, Lost, Into, All, Under, Named, base_of, number_of, name_of}
 use Rattle.owned_ways.proofs.Locations.{depth, under_depth, under_itself}
 use Rattle.owned_ways.proofs.Named.{under_overlaps, under_front}
 use Rattle.owned_loans.specs.Views.{Go, Part, Down, go, on, Views, expand_root, way_at, expand, IsObject}
@@ -47,6 +47,11 @@ meet_overlaps a b m = elim m [ inl u ↦ under_front a b u | inr u ↦ under_ove
 root_go : (g : Go) (w : Way) → number_of (go g w) ≡ number_of w
 root_go (Part i) w = refl
 root_go Down w = refl
+
+pub base_on : (w : Way) (r : List Go) → base_of (on w r) ≡ base_of w
+base_on w [] = refl
+base_on w (Part i ∷ r) = base_on w r
+base_on w (Down ∷ r) = base_on w r
 
 pub root_on : (w : Way) (r : List Go) → number_of (on w r) ≡ number_of w
 root_on w [] = refl

@@ -126,8 +126,19 @@ pub record IsView (home : ℕ → ℕ) (observer : ℕ → Bool) (v : Views) (s 
   pub lent : HasLoan observer (observer x) x facts (name_of (v.loan x))
   pub reaches : Reaches s w (OfCell (v.cell x))
 
+-- A way begins at a variable of another frame.
+abbrev pub IsForeign : (ℕ → ℕ) → Way → Type 0
+IsForeign home w = (f : ℕ) × (y : ℕ) × (base_of w ≡ OfRoot (OfVariable f y)) × (f ≡ home y → ⊥)
+
+-- A view that sees what belongs to another frame: a formal that nothing is changed through, or what
+-- was taken from one. It needs no loan of its own frame.
+pub record IsPassed (home : ℕ → ℕ) (observer : ℕ → Bool) (v : Views) (s : View) (x : ℕ) (w : Way) : Type 0 where
+  pub sees : observer x ≡ true
+  pub foreign : IsForeign home w
+  pub reaches : Reaches s w (OfCell (v.cell x))
+
 abbrev pub AreViews : (ℕ → ℕ) → (ℕ → Bool) → Views → View → List Fact → Type 0
-AreViews home observer v s facts = (x : ℕ) (w : Way) → v.way x ≡ Some w → IsView home observer v s facts x w
+AreViews home observer v s facts = (x : ℕ) (w : Way) → v.way x ≡ Some w → IsView home observer v s facts x w ⊎ IsPassed home observer v s x w
 
 -- A place that is lent to others is a part of an object that is no view. The facts know the loan as
 -- one of that object.
@@ -144,6 +155,8 @@ pub record Viewed (home : ℕ → ℕ) (observer : ℕ → Bool) (other : Around
   pub known : Known s (ExcusedBy home v other facts)
   pub clear : AreClear observer facts
   pub views : AreViews home observer v s facts
+  -- nothing that is gone for others meets what a view of theirs sees
+  pub whole : (x : ℕ) (w z : Way) → v.way x ≡ Some w → IsForeign home w → other.gone z → Under z w ⊎ Under w z → ⊥
   pub lends : (l : Loan) (n : Name) → other.lent l n → IsLentToOthers observer v facts l n
   pub far : (w : Way) (n : ℕ) → other.kept w n → Reaches s w (OfCell n)
 
@@ -170,7 +183,7 @@ with_view v b way loan up cell = record {
 
 -- No name of a moved place is rooted in an object, nor is a place that is lent to others, and no
 -- other view was taken from it.
-pub record Unused (lent : Loan → Name → Type 0) (v : Views) (facts : List Fact) (b : ℕ) : Type 0 where
+pub record Unused (home : ℕ → ℕ) (lent : Loan → Name → Type 0) (v : Views) (facts : List Fact) (b : ℕ) : Type 0 where
   pub unmoved : (n : Name) → Has facts (Moved n) → n.root ≡ b → ⊥
   pub unlent : (l : Loan) (n : Name) → lent l n → n.root ≡ b → ⊥
-  pub untaken : (x : ℕ) (w : Way) → v.way x ≡ Some w → (x ≡ b → ⊥) → number_of (v.up x) ≡ b → ⊥
+  pub untaken : (x : ℕ) (w : Way) → v.way x ≡ Some w → Named home w → (x ≡ b → ⊥) → number_of (v.up x) ≡ b → ⊥

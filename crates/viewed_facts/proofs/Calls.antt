@@ -1,16 +1,17 @@
 -- What is called moved stays so in calls and their ends: it is in no place that a call takes.
+use Rattle.viewed_soundness.specs.Holds.{sees_only}
 use Rattle.std.proofs.Common.{◌≡◌, sym, ap, ◌∙◌, subst, ◌⊎◌, inl, inr, ℕ, suc, ◌<◌, Bool, true, false, List, [], ◌∷◌, length, append-nil, arith, if◌then◌else◌}
 use Rattle.spark_base.specs.Lists.{Has}
 use Rattle.place_names.specs.declared.fact.Fact.{Fact}
 use Rattle.place_names.specs.declared.rule.Loan.TheVariants.{Borrowed}
-use Rattle.flow_paths.specs.Objects.{Typing, is_observer, is_package_object}
+use Rattle.flow_paths.specs.Objects.{Typing, is_package_object}
 use Rattle.machine.specs.Memory.{Memory}
 use Rattle.machine.specs.States.{Return, Frame}
 use Rattle.owned_ways.specs.Ways.{Step, Root, OfVariable, Loc, OfRoot, OfCell, Inside, Way, Object, Lost, Into, All, Gone, Held, View, part, along, Reaches, Under, Told, Named, base_of, number_of}
 use Rattle.owned_ways.proofs.Locations.{under_along, under_itself}
 use Rattle.owned_ways.proofs.Dropped.{named_base}
 use Rattle.part_offsets.specs.Parts.{IsSettled}
-use Rattle.soundness.specs.Seen.{word_in, content, seen, home}
+use Rattle.soundness.specs.Seen.{word_in, content, seen, home, is_view_formal}
 use Rattle.soundness.proofs.Contents.{word_part, word_root}
 use Rattle.soundness.specs.Sound.{AreStages}
 use Rattle.owned_loans.specs.Views.{Views, AreClear, AreViews, IsMovedBy}
@@ -19,6 +20,7 @@ use Rattle.viewed_steps.specs.Sound.{ViewStage, stages_of}
 use Rattle.viewed_steps.specs.Taken.{TakenBy, AreCarried, IsPassedOn, AreTaken}
 use Rattle.viewed_steps.proofs.Between.{base_under, same_variable, taken_from}
 use Rattle.viewed_steps.proofs.Entered.{not_observing, inside_plain, inside_named, inside_number, inside_itself}
+use Rattle.viewed_steps.proofs.Views.{observes_not}
 
 -- ---- ways from variables, where words are carried
 
@@ -122,15 +124,15 @@ passed_of s m depth facts scope (r ∷ rest) (k ∷ ways) (inr (one, apart, anot
 passed_of s m depth facts scope (r ∷ rest) (k ∷ ways) (inr (one, apart, another, more)) to (inr has) = passed_of s m depth facts scope rest ways more to has
 
 module _ (s : Typing) (settled : IsSettled s.table) (depth : ℕ) (facts : List Fact) (scope : List ℕ) (r : Return) (to : Way)
-    (passed : IsPassedOn s depth facts scope r.formal r.to to) where
+    (passed : IsPassedOn s depth facts scope r.formal r.to to) (no_formals : (x : ℕ) → is_view_formal s x ≡ false) where
   -- nothing that the frame moved is there
-  pub passed_clean : (v : Views) (view : View) → AreViews (home s depth) (is_observer s) v view facts → AreClear (is_observer s) facts
+  pub passed_clean : (v : Views) (view : View) → AreViews (home s depth) (sees_only s) v view facts → AreClear (sees_only s) facts
       → (w : Way) → IsMovedBy (home s depth) v facts w → Under to w → ⊥
   passed_clean v view views clear w moved under =
-      clean_below (home s depth) (is_observer s) v view facts views clear to w (
+      clean_below (home s depth) (sees_only s) v view facts views clear to w (
         inside_named s settled depth r.to to passed.inside,
-        ap (is_observer s) (inside_number s settled depth r.to to passed.inside)
-            ∙ not_observing s (passed.inside).object (inside_plain s settled depth r.to to passed.inside),
+        ap (sees_only s) (inside_number s settled depth r.to to passed.inside)
+            ∙ observes_not s no_formals (passed.inside).object (not_observing s (passed.inside).object (inside_plain s settled depth r.to to passed.inside)),
       ) (λ h n has over. passed.unlent Borrowed h n has over) passed.whole
       (subst (λ z. Under z w) (sym (inside_itself s settled depth r.to to passed.inside v)) under) moved
 

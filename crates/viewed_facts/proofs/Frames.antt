@@ -1,5 +1,6 @@
 -- Facts of all frames, as the innermost one has them: its own, those of the frames around on package
 -- objects beside them, and what those frames have moved of their own.
+use Rattle.viewed_soundness.specs.Holds.{sees_only}
 use Rattle.std.proofs.Common.{◌≡◌, refl, sym, ap, ◌∙◌, subst, ◌⊎◌, inl, inr, ℕ, suc, Bool, true, false, not, ◌&&◌, ◌==◌, List, ◌++◌, arith, Option, Some, None}
 use Rattle.place_names.specs.declared.rule.Loan.TheVariants.{Borrowed}
 use Rattle.spark_base.specs.Lists.{Has}
@@ -15,7 +16,7 @@ use Rattle.type_definitions.specs.Types.{Table}
 use Rattle.typed_tree.specs.Programs.{TypedProgram}
 use Rattle.flow_paths.specs.declared.report.Effects.{Effects}
 use Rattle.flow_paths.specs.Effects.{act_writes}
-use Rattle.flow_paths.specs.Objects.{Typing, is_anonymous, is_observer, is_package_object, view_of}
+use Rattle.flow_paths.specs.Objects.{Typing, is_anonymous, is_package_object, view_of}
 use Rattle.flow_paths.specs.Laid.{FlowProgram, flow_typing, flow_program}
 use Rattle.machine.specs.States.{Return, State}
 use Rattle.owned_ways.specs.Ways.{Way, View, Told, Named, number_of, sels_of, name_of, Under}
@@ -78,7 +79,7 @@ module _ (table : Table) (typed : TypedProgram) (effects : Effects)
       → IsDefiniteBy (home s g.stage.depth) g.views (facts_of program effects g.stage) w → Named (home s g.stage.depth) w
   waiting_named state callee backs g waits w (u, moved, plain, leads) =
       subst (Named (home s g.stage.depth)) leads
-      (named_way (home s g.stage.depth) (is_observer s) (known_gone (home s g.stage.depth) (λ z. ⊥)) g.views (view_here s state) (facts_of program effects g.stage)
+      (named_way (home s g.stage.depth) (sees_only s) (known_gone (home s g.stage.depth) (λ z. ⊥)) g.views (view_here s state) (facts_of program effects g.stage)
       waits.views (suc (number_of u)) u (omega arith) (moved.0, waits.clear.owned (name_of u) moved.1))
 
   pub between_named : (state : State) (depth : ℕ) (g : ViewStage) → StandsBetween table typed effects unmoved local state depth g → (w : Way)
@@ -105,7 +106,7 @@ module _ (table : Table) (typed : TypedProgram) (effects : Effects)
     -- a name of a package object stands for itself
     itself : (u : Way) → is_package_object s (number_of u) ≡ true → Named (home s depth) u → expand v u ≡ u
     itself u shared named =
-        stands_itself (home s depth) (is_observer s) (known_gone (home s depth) (λ z. ⊥)) v u named (by_way (v.way (number_of u)) refl)
+        stands_itself (home s depth) (sees_only s) (known_gone (home s depth) (λ z. ⊥)) v u named (by_way (v.way (number_of u)) refl)
       where
         by_way : (o : Option Way) → v.way (number_of u) ≡ o → v.way (number_of u) ≡ None
         by_way None is = is
@@ -123,7 +124,7 @@ module _ (table : Table) (typed : TypedProgram) (effects : Effects)
             let g : ViewStage = from.0 in
             let there : Named (home s g.stage.depth) u = package_named s depth g.stage.depth u from.3 named in
             let by_them : expand g.views u ≡ u =
-            stands_itself (home s g.stage.depth) (is_observer s) (known_gone (home s g.stage.depth) (λ z. ⊥)) g.views u there
+            stands_itself (home s g.stage.depth) (sees_only s) (known_gone (home s g.stage.depth) (λ z. ⊥)) g.views u there
             (no_view_there table typed effects unmoved local state depth older between g from.1 (number_of u) from.3) in
             inr (
               g,
@@ -172,9 +173,9 @@ module _ (table : Table) (typed : TypedProgram) (effects : Effects)
                 itself u shared named ∙ same,
               ))
           | inr l ↦ (
-              let plain : is_observer s (number_of d.0) ≡ false = waits.clear.owned (name_of d.0) d.1.1 in
-              let goes = borrower_goes (home s g.stage.depth) (is_observer s) g.views (view_here s state) (facts_of program effects g.stage) waits.views l.object l.way
-              (ap (is_observer s) (sym (lifted_root g.views d.0 l)) ∙ plain) l.has in
+              let plain : sees_only s (number_of d.0) ≡ false = waits.clear.owned (name_of d.0) d.1.1 in
+              let goes = borrower_goes (home s g.stage.depth) (sees_only s) g.views (view_here s state) (facts_of program effects g.stage) waits.views l.object l.way
+              (ap (sees_only s) (sym (lifted_root g.views d.0 l)) ∙ plain) l.has in
               let named : Named (home s g.stage.depth) w = waiting_named state callee backs g waits w d in
               let under : Under goes.1 w = subst (Under goes.1) (sym (lifted_way g.views d.0 l) ∙ d.3) (under_on goes.1 l.way (on l.way l.rest) goes.4 (on_under l.way l.rest)) in
               inr (

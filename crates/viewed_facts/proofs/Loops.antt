@@ -14,7 +14,7 @@ use Rattle.place_names.specs.Facts.{effect}
 use Rattle.type_definitions.specs.Types.{shape_of, words, is_scalar, full}
 use Rattle.typed_tree.specs.Trees.{TypedTree, Name, NoMore, More}
 use Rattle.flow_paths.specs.declared.point.LeakSpot.{LeakSpot}
-use Rattle.flow_paths.specs.Objects.{Typing, object_at, is_observer}
+use Rattle.flow_paths.specs.Objects.{Typing, object_at}
 use Rattle.flow_paths.specs.Names.{name_of, waiting as waits_in}
 use Rattle.flow_paths.specs.Scopes.{taken}
 use Rattle.flow_paths.specs.Acts.{acts_in, source_acts}
@@ -51,7 +51,7 @@ use Rattle.soundness.proofs.Loops.{scalar_same}
 use Rattle.owned_loans.specs.Views.{Around, Views, expand, IsThrough}
 use Rattle.owned_loans.proofs.Allowed.{write_open}
 use Rattle.owned_loans.proofs.Moves.{named_way}
-use Rattle.viewed_soundness.specs.Holds.{PartsAreNamed}
+use Rattle.viewed_soundness.specs.Holds.{PartsAreNamed, sees_only}
 use Rattle.viewed_soundness.proofs.Stays.{Goes as GoesAlong, name_quiet, taking, steps_taking}
 use Rattle.viewed_soundness.proofs.Evaluated.{Ready, live_trunk, blank_ready}
 use Rattle.viewed_soundness.proofs.Outcomes.{IsGood, start_is, live}
@@ -60,6 +60,7 @@ use Rattle.viewed_steps.proofs.Read.{Gets}
 use Rattle.viewed_facts.specs.Exact.{IsExact}
 use Rattle.viewed_facts.proofs.Memories.{stored_exact}
 use Rattle.viewed_facts.proofs.Instructions.{ExactOn, same_exact}
+use Rattle.viewed_steps.proofs.Views.{all_owners}
 
 module _ (t : Turn) (settled : IsSettled (typing t).table) (own_law : OwnsByShape (typing t).table) (other : Around (home (typing t) (length t.outer)))
     (alone : (w : Way) → IsNear (length t.outer) w → other.gone w → ⊥) (no_formals : (x : ℕ) → is_view_formal (typing t) x ≡ false)
@@ -82,7 +83,7 @@ module _ (t : Turn) (settled : IsSettled (typing t).table) (own_law : OwnsByShap
   now = record { memory = t.state.memory; waits = [] }
 
   abbrev Good : List Fact → Type 0
-  Good facts = IsGood t settled own_law other alone no_formals v parts_named may frames none v facts t.state
+  Good facts = IsGood t settled own_law other alone v parts_named may frames none v facts t.state
 
   abbrev Exact : Memory → List Fact → Type 0
   Exact n facts = IsExact s (home s depth) v elsewhere n facts
@@ -154,7 +155,7 @@ module _ (t : Turn) (settled : IsSettled (typing t).table) (own_law : OwnsByShap
       → ExactHere (after (acts (acts_in s low ++ acts_in s high)) facts) (steps.evaluated t (steps.bounds t low high (at ws)) f)
   started_on ws mid x f low high starts scalar stays stays' takes takes' facts good allowed exact =
       let each = allows_both facts (acts (acts_in s low)) (acts (acts_in s high)) (subst (AllowsAll facts) (acts_append (acts_in s low) (acts_in s high)) allowed) in
-      let alive = live t settled own_law other alone no_formals v parts_named may frames none facts good in
+      let alive = live t settled own_law other alone v parts_named may frames none facts good in
       let first_bound = taking (here t) settled hands t.state.leaks m [] other facts v good.kept good.viewed good.holds alone alive index_law own_law parts_named AsValue low stays ws mid takes each.0 in
       let second_bound = taking (here t) settled hands t.state.leaks m [] other facts v good.kept good.viewed good.holds alone alive index_law own_law parts_named AsValue high stays' mid [] takes'
       (subst (λ z. AllowsAll z (acts (acts_in s high))) first_bound.1 each.1) in
@@ -196,7 +197,7 @@ module _ (t : Turn) (settled : IsSettled (typing t).table) (own_law : OwnsByShap
   line_exact line facts exact =
       subst (λ z. ExactHere facts (steps.evaluated t (Done [] z) (λ bytes m. Goes (record (behind t (waiting t) m 0) {
         output = t.state.output ++ bytes ++ (if line then 10 ∷ [] else []);
-      })))) (sym (start_is t settled own_law other alone no_formals v parts_named may frames none)) (written_exact facts exact line (Done [] now) (refl, tt))
+      })))) (sym (start_is t settled own_law other alone v parts_named may frames none)) (written_exact facts exact line (Done [] now) (refl, tt))
 
   -- ---- input
 
@@ -205,12 +206,12 @@ module _ (t : Turn) (settled : IsSettled (typing t).table) (own_law : OwnsByShap
     abbrev value_in : Waiting
     value_in = record { of = u; words = machine.Int i ∷ [] }
 
-    ready_in : Ready (here t) settled t.state.leaks [] other alone (keeps s settled own_law) no_formals index_law own_law v parts_named m (value_in ∷ hands) facts
-    ready_in = blank_ready (here t) settled t.state.leaks [] other alone (keeps s settled own_law) no_formals index_law own_law v parts_named
+    ready_in : Ready (here t) settled t.state.leaks [] other alone (keeps s settled own_law) index_law own_law v parts_named m (value_in ∷ hands) facts
+    ready_in = blank_ready (here t) settled t.state.leaks [] other alone (keeps s settled own_law) index_law own_law v parts_named
         m hands facts u (machine.Int i ∷ []) (λ k has. elim has [ inl e ↦ cc | inr e ↦ e ])
         (record { viewed = good.viewed; kept = good.kept; holds = good.holds })
 
-    module _ (w : Way) (named : Named (home s depth) w) (plain : is_observer s (number_of w) ≡ false) (allowed : Allows facts (act.Write (ways.name_of w))) where
+    module _ (w : Way) (named : Named (home s depth) w) (plain : sees_only s (number_of w) ≡ false) (allowed : Allows facts (act.Write (ways.name_of w))) where
       abbrev behind_it : List Fact
       behind_it = effect (act.Write (ways.name_of w)) facts
 
@@ -224,12 +225,12 @@ module _ (t : Turn) (settled : IsSettled (typing t).table) (own_law : OwnsByShap
             | inr out ↦ subst (ExactHere behind_it) (sym (gets.at_outside k m i end next out)) tt
             | inl fits ↦ (
                 let long : 1 ≡ words s.table k.of = sym (ap (words s.table) of ∙ settled.word_law u ∙ (plain_shape (shape_of s.table u) scalar).3 (words s.table)) in
-                let rooted = named_rooted (home s depth) (expand v w) (named_way (home s depth) (is_observer s) other v
-                (seen s m (value_in ∷ hands) t.state.leaks) facts ready_in.viewed.views (suc (number_of w)) w (omega arith) (named, plain)) in
-                let owns = live_trunk (here t) settled t.state.leaks [] other alone (keeps s settled own_law) no_formals index_law own_law v parts_named m (value_in ∷ hands)
+                let rooted = all_owners s no_formals (expand v w) (named_rooted (home s depth) (expand v w) (named_way (home s depth) (sees_only s) other v
+                (seen s m (value_in ∷ hands) t.state.leaks) facts ready_in.viewed.views (suc (number_of w)) w (omega arith) (named, plain))) in
+                let owns = live_trunk (here t) settled t.state.leaks [] other alone (keeps s settled own_law) index_law own_law v parts_named m (value_in ∷ hands)
                 ready_in.viewed.owned (expand v w) l rooted reaches in
                 subst (ExactHere behind_it) (sym (gets.at_number k m i end next fits)) (
-                  stored_exact s settled (home s depth) (is_observer s) other v elsewhere away_from m value_in hands t.state.leaks facts k l w t.point.pos ready_in.viewed ready_in.kept
+                  stored_exact s settled (home s depth) (sees_only s) other v elsewhere away_from m value_in hands t.state.leaks facts k l w t.point.pos ready_in.viewed ready_in.kept
                       place named plain reaches owns allowed long (inl (ap (shape_of s.table) (sym of))) exact,
                   tt,
                 ))
@@ -249,7 +250,7 @@ module _ (t : Turn) (settled : IsSettled (typing t).table) (own_law : OwnsByShap
       by_item (item.Number j end) e mine y is = got_at y is end (e ∙ ap (λ z. item.Number z end) (mine j end refl))
 
     -- the steps of the name are evaluated
-    then_got : (x : ℕ) (path : TypedTree) → is_observer s x ≡ false → Allows facts (act.Write (name_of x path)) → (it : Item) → next_item t.input t.state.at ≡ it
+    then_got : (x : ℕ) (path : TypedTree) → sees_only s x ≡ false → Allows facts (act.Write (name_of x path)) → (it : Item) → next_item t.input t.state.at ≡ it
         → ((j : ℤ) (end : ℕ) → it ≡ item.Number j end → j ≡ i) → (y : Evaluated (List run.Step)) → Quiet now (λ way. GoesAlong s.table (object_at s x).of u path way) y
         → ExactHere (effect (act.Write (name_of x path)) facts) (steps.evaluated t (followed_by y (λ way now. walked s way (variable_place (here t) x) now)) f)
     then_got x path plain allowed it next mine (Done way n) (same, goes) =
@@ -261,11 +262,11 @@ module _ (t : Turn) (settled : IsSettled (typing t).table) (own_law : OwnsByShap
         }) in
         subst (λ (z : Now). ExactHere (effect (act.Write (name_of x path)) facts) (steps.evaluated t (walked s way (variable_place (here t) x) z) f)) (sym same)
         (subst (λ z. ExactHere (effect (act.Write z) facts) (steps.evaluated t (walked s way (variable_place (here t) x) now) f)) called
-        (by_item w named (ap (is_observer s) (number_along way (Object (OfVariable (home s depth x) x))) ∙ plain)
+        (by_item w named (ap (sees_only s) (number_along way (Object (OfVariable (home s depth x) x))) ∙ plain)
         (subst (λ z. Allows facts (act.Write z)) (sym called) allowed) it next mine
         (walked s way (variable_place (here t) x) now)
         (name_quiet (here t) settled (value_in ∷ hands) t.state.leaks m [] other facts v ready_in.kept ready_in.viewed ready_in.holds alone
-        (live_trunk (here t) settled t.state.leaks [] other alone (keeps s settled own_law) no_formals index_law own_law v parts_named m (value_in ∷ hands) ready_in.viewed.owned)
+        (live_trunk (here t) settled t.state.leaks [] other alone (keeps s settled own_law) index_law own_law v parts_named m (value_in ∷ hands) ready_in.viewed.owned)
         index_law own_law parts_named x path u way goes (λ q q_named q_called. write_open facts q (subst (λ z. Allows facts (act.Write z)) (sym q_called) allowed)))))
     then_got x path plain allowed it next mine (Raises e n) is = tt
     then_got x path plain allowed it next mine (Traps e n) never = tt
@@ -275,7 +276,7 @@ module _ (t : Turn) (settled : IsSettled (typing t).table) (own_law : OwnsByShap
 
   pub got_on : (ws : List (List machine.Word)) (f : Place → Memory → Outcome) (p : Pos) (x u : ℕ) (path : TypedTree)
       → Gets t settled own_law other alone no_formals v parts_named may frames none f
-      → is_scalar (full s.table u) ≡ true → Leads s (object_at s x).of path u → Takes (waits_in path) ws [] → is_observer s x ≡ false → (facts : List Fact) → Good facts
+      → is_scalar (full s.table u) ≡ true → Leads s (object_at s x).of path u → Takes (waits_in path) ws [] → sees_only s x ≡ false → (facts : List Fact) → Good facts
       → AllowsAll facts (acts (source_acts s (Name p x path u) out_act)) → Exact m facts
       → ExactHere (after (acts (source_acts s (Name p x path u) out_act)) facts) (steps.evaluated t (place_of (here t) (Name p x path u) (at ws)) f)
   got_on ws f p x u path gets scalar lead takes plain facts good allowed exact =
@@ -284,7 +285,7 @@ module _ (t : Turn) (settled : IsSettled (typing t).table) (own_law : OwnsByShap
       acts_append (acts_in s path) (record { pos = p; act = out_act (name_of x path) } ∷ []) in
       let each = allows_both facts b (out_act (name_of x path) ∷ []) (subst (AllowsAll facts) whole_acts allowed) in
       let inner = steps_taking (here t) settled hands t.state.leaks m [] other facts v good.kept good.viewed good.holds alone
-      (live t settled own_law other alone no_formals v parts_named may frames none facts good) index_law own_law parts_named (object_at s x).of u path lead ws [] takes each.0 in
+      (live t settled own_law other alone v parts_named may frames none facts good) index_law own_law parts_named (object_at s x).of u path lead ws [] takes each.0 in
       let actual : Allows facts (out_act (name_of x path)) = subst (λ z. Allows z (out_act (name_of x path))) inner.1 each.1.0 in
       let writes : Allows facts (act.Write (name_of x path)) = (λ g has. switched (breaks_O3 (name_of x path) g) _ _ (actual g has)) in
       let behind_acts : after (acts (source_acts s (Name p x path u) out_act)) facts ≡ effect (act.Write (name_of x path)) facts =

@@ -14,7 +14,7 @@ use Rattle.type_definitions.specs.declared.table.Shape.TheVariants as shape
 use Rattle.type_definitions.specs.Types.{Table, shape_of, parts, view_of as view_of_shape}
 use Rattle.typed_tree.specs.Trees.{TypedTree, Name}
 use Rattle.flow_paths.specs.declared.point.LeakSpot.{LeakSpot}
-use Rattle.flow_paths.specs.Objects.{Typing, object_at, is_observer, designated, designated_of}
+use Rattle.flow_paths.specs.Objects.{Typing, object_at, designated, designated_of}
 use Rattle.flow_paths.specs.Names.{name_of, waiting as waits_in}
 use Rattle.flow_paths.specs.Scopes.{taken}
 use Rattle.flow_paths.specs.Acts.{acts_in, source_acts, spot}
@@ -39,7 +39,7 @@ use Rattle.typed_laws.specs.Needed.{Leads}
 use Rattle.soundness.proofs.Near.{named_near}
 use Rattle.soundness.proofs.Contents.{checks_made}
 use Rattle.soundness.proofs.Joined.{below_cell}
-use Rattle.soundness.proofs.Walks.{both_true, way_along, Walked, slot_at, one_slot, type_is, held_there, cell_spot}
+use Rattle.soundness.proofs.Walks.{both_true, way_along, Walked}
 use Rattle.soundness.proofs.Frees.{releases}
 use Rattle.soundness.proofs.Owners.{strip}
 use Rattle.soundness.proofs.Steps.{alike}
@@ -50,7 +50,7 @@ use Rattle.soundness.proofs.Numbers.{index_law}
 use Rattle.owned_loans.specs.Views.{Around, Views, expand, ExcusedBy, IsThrough}
 use Rattle.owned_loans.proofs.Allowed.{free_open}
 use Rattle.owned_loans.proofs.Moves.{IsPlace, named_way}
-use Rattle.viewed_soundness.specs.Holds.{IsNamed, PartsAreNamed}
+use Rattle.viewed_soundness.specs.Holds.{IsNamed, PartsAreNamed, sees_only, IsOwners}
 use Rattle.viewed_soundness.proofs.Names.{is_place}
 use Rattle.viewed_soundness.proofs.Stays.{Goes, name_quiet, steps_taking}
 use Rattle.viewed_soundness.proofs.Viewing.{expand_down}
@@ -64,6 +64,8 @@ use Rattle.viewed_facts.proofs.Steps.{definite_variable, variables_after, told_r
 use Rattle.viewed_facts.proofs.Memories.{told_seen, exact_from}
 use Rattle.viewed_facts.proofs.Checks.{place_holds}
 use Rattle.viewed_facts.proofs.Instructions.{ExactOn}
+use Rattle.viewed_soundness.proofs.Walks.{slot_at, one_slot, type_is, held_there, cell_spot}
+use Rattle.viewed_steps.proofs.Views.{all_owners}
 
 module _ (t : Turn) (settled : IsSettled (typing t).table) (own_law : OwnsByShape (typing t).table) (other : Around (home (typing t) (length t.outer)))
     (alone : (w : Way) → IsNear (length t.outer) w → other.gone w → ⊥) (no_formals : (x : ℕ) → is_view_formal (typing t) x ≡ false)
@@ -86,7 +88,7 @@ module _ (t : Turn) (settled : IsSettled (typing t).table) (own_law : OwnsByShap
   now = record { memory = t.state.memory; waits = [] }
 
   abbrev Good : List Fact → Type 0
-  Good facts = IsGood t settled own_law other alone no_formals v parts_named may frames none v facts t.state
+  Good facts = IsGood t settled own_law other alone v parts_named may frames none v facts t.state
 
   abbrev Exact : Memory → List Fact → Type 0
   Exact n facts = IsExact s (home s depth) v elsewhere n facts
@@ -114,8 +116,8 @@ module _ (t : Turn) (settled : IsSettled (typing t).table) (own_law : OwnsByShap
     abbrev seen_here : View
     seen_here = seen s m hands t.state.leaks
 
-    alive_trunk : (w : Way) (l : Loc) → IsRooted w → Reaches seen_here w l → (content s m hands (trunk l)).owns ≡ true
-    alive_trunk = live t settled own_law other alone no_formals v parts_named may frames none facts good
+    alive_trunk : (w : Way) (l : Loc) → IsOwners s w → Reaches seen_here w l → (content s m hands (trunk l)).owns ≡ true
+    alive_trunk = live t settled own_law other alone v parts_named may frames none facts good
 
     abbrev excused : Way → Type 0
     excused = ExcusedBy (home s depth) v other facts
@@ -134,23 +136,23 @@ module _ (t : Turn) (settled : IsSettled (typing t).table) (own_law : OwnsByShap
     slot_here k = slot_at s settled hands t.state.leaks m [] excused good.kept good.viewed.owned good.viewed.known alive_trunk k
 
     -- the place is found
-    module _ (w : Way) (named : Named (home s depth) w) (plain : is_observer s (number_of w) ≡ false) (place : IsPlace v w) (allowed : Allows facts (act.Free (ways.name_of w))) where
+    module _ (w : Way) (named : Named (home s depth) w) (plain : sees_only s (number_of w) ≡ false) (place : IsPlace v w) (allowed : Allows facts (act.Free (ways.name_of w))) where
       abbrev behind : List Fact
       behind = effect (act.Free (ways.name_of w)) facts
 
       stands : Named (home s depth) (expand v w)
-      stands = named_way (home s depth) (is_observer s) other v seen_here facts good.viewed.views (suc (number_of w)) w (omega arith) (named, plain)
+      stands = named_way (home s depth) (sees_only s) other v seen_here facts good.viewed.views (suc (number_of w)) w (omega arith) (named, plain)
 
-      rooted : IsRooted (expand v w)
-      rooted = named_rooted (home s depth) (expand v w) stands
+      rooted : IsOwners s (expand v w)
+      rooted = all_owners s no_formals (expand v w) (named_rooted (home s depth) (expand v w) stands)
 
       clean : excused (expand v w) → ⊥
-      clean (inl moved) = free_clean (home s depth) (is_observer s) other v seen_here facts good.viewed w named plain allowed moved
+      clean (inl moved) = free_clean (home s depth) (sees_only s) other v seen_here facts good.viewed w named plain allowed moved
       clean (inr o) = alone (expand v w) (named_near s depth (expand v w) stands) o
 
       nothing : (k : ℕ) → ExactHere behind (spots_of (ways.name_of w) pos' count k) (steps.goes t m 0)
       nothing k = (
-        told_fewer (home s depth) (is_observer s) other v elsewhere away_from (seen s m [] []) facts behind fewer exact,
+        told_fewer (home s depth) (sees_only s) other v elsewhere away_from (seen s m [] []) facts behind fewer exact,
         none_made Excused (spots_of (ways.name_of w) pos' count k),
       )
         where
@@ -186,13 +188,13 @@ module _ (t : Turn) (settled : IsSettled (typing t).table) (own_law : OwnsByShap
           let designates : Reaches seen_here (expand v (All w)) (OfCell n) =
           subst (λ z. Reaches seen_here z (OfCell n)) (sym (expand_down v w place)) (l, n, reaches, held, refl) in
           subst (ExactHere behind (spots_of (ways.name_of w) pos' count k.of)) (sym (does.at_cell k m n (word ∙ ap (λ z. z ∷ []) e) alive)) (
-            exact_from s settled (home s depth) (is_observer s) other v elsewhere away_from (seen s next hands (t.state.leaks ++ leaks)) next hands behind
-                (variables_after (home s depth) (is_observer s) other v elsewhere away_from seen_here facts good.viewed (act.Free (ways.name_of w)) (λ n none. absurd none)) (λ z. refl)
-                (told_released (home s depth) (is_observer s) other v elsewhere away_from seen_here (seen s next hands (t.state.leaks ++ leaks)) w l n facts good.viewed named plain
+            exact_from s settled (home s depth) (sees_only s) other v elsewhere away_from (seen s next hands (t.state.leaks ++ leaks)) next hands behind
+                (variables_after (home s depth) (sees_only s) other v elsewhere away_from seen_here facts good.viewed (act.Free (ways.name_of w)) (λ n none. absurd none)) (λ z. refl)
+                (told_released (home s depth) (sees_only s) other v elsewhere away_from seen_here (seen s next hands (t.state.leaks ++ leaks)) w l n facts good.viewed named plain
                 freed_there reaches held allowed
-                (told_seen s settled (home s depth) (is_observer s) other v elsewhere away_from m hands t.state.leaks facts good.viewed exact)),
+                (told_seen s settled (home s depth) (sees_only s) other v elsewhere away_from m hands t.state.leaks facts good.viewed exact)),
             place_holds s settled (home s depth) v elsewhere m hands t.state.leaks facts
-                (definite_variable (home s depth) (is_observer s) other v elsewhere away_from seen_here facts good.viewed) exact (cell_place t' n) (OfCell n) (All w) in_cell named designates
+                (definite_variable (home s depth) (sees_only s) other v elsewhere away_from seen_here facts good.viewed) exact (cell_place t' n) (OfCell n) (All w) in_cell named designates
                 Excused pos pos' count known,
           )
 
@@ -210,7 +212,7 @@ module _ (t : Turn) (settled : IsSettled (typing t).table) (own_law : OwnsByShap
       released_at known (Traps e n) never = none_made Excused (spots_of (ways.name_of w) pos' count u)
 
     -- the steps of the name are evaluated
-    then_released : (x : ℕ) (path : TypedTree) → is_observer s x ≡ false → Allows facts (act.Free (name_of x path))
+    then_released : (x : ℕ) (path : TypedTree) → sees_only s x ≡ false → Allows facts (act.Free (name_of x path))
         → Knows Excused pos' (extend (name_of x path) (sel.Deref ∷ [])) count facts (parts s.table (designated s.table u)) → (y : Evaluated (List run.Step))
         → Quiet now (λ way. Goes s.table (object_at s x).of u path way) y
         → ExactHere (effect (act.Free (name_of x path)) facts) (spots_of (name_of x path) pos' count u)
@@ -225,8 +227,8 @@ module _ (t : Turn) (settled : IsSettled (typing t).table) (own_law : OwnsByShap
         let frees : Allows facts (act.Free (ways.name_of w)) = subst (λ z. Allows facts (act.Free z)) (sym called) allowed in
         subst (λ (z : Now). ExactHere (effect (act.Free (name_of x path)) facts) (spots_of (name_of x path) pos' count u) (steps.evaluated t (walked s way (variable_place (here t) x) z) f)) (sym same)
         (subst (λ z. ExactHere (effect (act.Free z) facts) (spots_of z pos' count u) (steps.evaluated t (walked s way (variable_place (here t) x) now) f)) called
-        (released_at w named (ap (is_observer s) (number_along way (Object (OfVariable (home s depth x) x))) ∙ plain)
-        (is_place s v (home s depth x) x u way goes.lead (named_type s.table u d access) good.holds.only) frees
+        (released_at w named (ap (sees_only s) (number_along way (Object (OfVariable (home s depth x) x))) ∙ plain)
+        (is_place s v (home s depth x) x u way goes.lead (named_type s.table u d access) (no_formals x) good.holds.only) frees
         (subst (λ z. Knows Excused pos' (extend z (sel.Deref ∷ [])) count facts (parts s.table (designated s.table u))) (sym called) known)
         (walked s way (variable_place (here t) x) now)
         (name_quiet (here t) settled hands t.state.leaks m [] other facts v good.kept good.viewed good.holds alone alive_trunk index_law own_law parts_named x path u way goes
@@ -236,7 +238,7 @@ module _ (t : Turn) (settled : IsSettled (typing t).table) (own_law : OwnsByShap
 
   -- a release, whose name takes these values
   pub released_on : (ws : List (List machine.Word)) (f : Place → Memory → Outcome) (pos p : Pos) (x u d : ℕ) (path : TypedTree) → Does f pos
-      → shape_of s.table u ≡ shape.Access d false true → Leads s (object_at s x).of path u → Takes (waits_in path) ws [] → is_observer s x ≡ false
+      → shape_of s.table u ≡ shape.Access d false true → Leads s (object_at s x).of path u → Takes (waits_in path) ws [] → sees_only s x ≡ false
       → (facts : List Fact) → Good facts → AllowsAll facts (acts (source_acts s (Name p x path u) act.Free)) → Exact m facts
       → (pos' : Pos) (count : ℕ) → Knows Excused pos' (extend (name_of x path) (sel.Deref ∷ [])) count (after (acts (acts_in s path)) facts) (parts s.table (designated s.table u))
       → ExactHere (after (acts (source_acts s (Name p x path u) act.Free)) facts) (spots_of (name_of x path) pos' count u)
@@ -248,7 +250,7 @@ module _ (t : Turn) (settled : IsSettled (typing t).table) (own_law : OwnsByShap
       acts_append (acts_in s path) (record { pos = p; act = act.Free (name_of x path) } ∷ []) in
       let each = allows_both facts b (act.Free (name_of x path) ∷ []) (subst (AllowsAll facts) whole_acts allowed) in
       let inner = steps_taking (here t) settled hands t.state.leaks m [] other facts v good.kept good.viewed good.holds alone
-      (live t settled own_law other alone no_formals v parts_named may frames none facts good) index_law own_law parts_named (object_at s x).of u path lead ws [] takes each.0 in
+      (live t settled own_law other alone v parts_named may frames none facts good) index_law own_law parts_named (object_at s x).of u path lead ws [] takes each.0 in
       let frees : Allows facts (act.Free (name_of x path)) = subst (λ z. Allows z (act.Free (name_of x path))) inner.1 each.1.0 in
       let behind_acts : after (acts (source_acts s (Name p x path u) act.Free)) facts ≡ effect (act.Free (name_of x path)) facts =
       ap (λ z. after z facts) whole_acts ∙ after_append b (act.Free (name_of x path) ∷ []) facts ∙ ap (effect (act.Free (name_of x path))) inner.1 in

@@ -61,7 +61,7 @@ use Rattle.soundness.proofs.Operands.{handed_over, hold_is}
 use Rattle.soundness.proofs.Inherited.{after_splits}
 use Rattle.soundness.proofs.Around.{IsFar}
 use Rattle.owned_loans.specs.Views.{Around, known_gone, Views, Viewed, IsThrough}
-use Rattle.viewed_soundness.specs.Holds.{IsNamed, AllKeep}
+use Rattle.viewed_soundness.specs.Holds.{IsNamed, AllKeep, sees_only}
 use Rattle.viewed_soundness.proofs.Names.{plain_named, true_false}
 use Rattle.viewed_soundness.proofs.Evaluated.{keep_both}
 use Rattle.viewed_soundness.proofs.Outcomes.{named_plain, IsGood, Leads_on, assigned_acts}
@@ -87,6 +87,7 @@ use Rattle.viewed_facts.proofs.Releases.{released_on}
 use Rattle.viewed_facts.proofs.Loops.{next_exact, started_on, output_on, line_exact, got_on}
 use Rattle.viewed_facts.proofs.Frames.{elsewhere as moved_elsewhere}
 use Rattle.viewed_facts.proofs.Here as here
+use Rattle.viewed_steps.proofs.Views.{all_held, observes_not}
 
 module _ (table : Table) (typed : TypedProgram) (effects : Effects) (input : List ℕ) (ready : IsReady table typed effects) where
   abbrev program : FlowProgram
@@ -115,7 +116,7 @@ module _ (table : Table) (typed : TypedProgram) (effects : Effects) (input : Lis
       (awaiting : AreAwaited table typed None (top ∷ stages_of (below ∷ more_frames)))
       (of_sub : IsNamedSub (flow_named table typed) top.frame.sub named) (at_point : IsAtPoint named.points top.frame.next p)
       (path : ControlPath (path_points program effects (sub_of program top.frame.sub)) top.before top.frame.next) (views : Views)
-      (viewed_before : Viewed (home s (suc (length rest))) (is_observer s) (known_gone (home s (suc (length rest))) (GoneElsewhere program effects (below ∷ more_frames))) views
+      (viewed_before : Viewed (home s (suc (length rest))) (sees_only s) (known_gone (home s (suc (length rest))) (GoneElsewhere program effects (below ∷ more_frames))) views
       (view_here s state) (facts_of program effects top))
       (kept : Kept s state.memory (waiting_in state)) (scope : InScope s state.memory (suc (length rest)) (lasting_of s p.scope)) (holds : HoldsAt s (suc (length rest)) views state.memory p)
       (placed_before : ArePlaced program (facts_of program effects top) views p.scope) (above : NoneAbove s (suc (length rest)) state.memory)
@@ -159,7 +160,7 @@ module _ (table : Table) (typed : TypedProgram) (effects : Effects) (input : Lis
     abbrev facts_now : List Fact
     facts_now = own_facts ++ around
 
-    abbrev viewed : Viewed (home s depth) (is_observer s) other views (view_here s state) facts_now
+    abbrev viewed : Viewed (home s depth) (sees_only s) other views (view_here s state) facts_now
     viewed = innermost.viewed table typed effects input ready state top below more_frames rest named p frames deep stages running awaiting of_sub at_point path views viewed_before kept scope holds placed_before above
 
     abbrev own_views : (x : ℕ) (w : Way) → views.way x ≡ Some w → is_package_object s x ≡ false
@@ -207,7 +208,7 @@ module _ (table : Table) (typed : TypedProgram) (effects : Effects) (input : Lis
     abbrev easy : Turn
     easy = eased at
 
-    abbrev viewed_easy : Plain → Viewed (home s depth) (is_observer s) other views (view_here s easy.state) facts_now × Kept s state.memory (waiting_in easy.state)
+    abbrev viewed_easy : Plain → Viewed (home s depth) (sees_only s) other views (view_here s easy.state) facts_now × Kept s state.memory (waiting_in easy.state)
     viewed_easy = innermost.viewed_easy table typed effects input ready state top below more_frames rest named p frames deep stages running awaiting of_sub at_point path views viewed_before kept scope holds placed_before above
 
     abbrev knows : (i : Instruction) → p.instr ≡ i → (front others : List Placed) → placed_by i ≡ front ++ others → (pos : Pos) (name : PlaceName) (qs : List (List Sel))
@@ -229,14 +230,11 @@ module _ (table : Table) (typed : TypedProgram) (effects : Effects) (input : Lis
       abbrev Exacts : Instruction → Type 0
       Exacts i = ExactAt (after (acts_by i) facts_now) (spots_by i) (turn at i)
 
-      pub good : Plainly → IsGood easy ready.accepted.settled ready.owns other alone no_formals views ready.class.parts_named none_taken refl refl views facts_now easy.state
+      pub good : Plainly → IsGood easy ready.accepted.settled ready.owns other alone views ready.class.parts_named none_taken refl refl views facts_now easy.state
       good plain = record {
         viewed = (viewed_easy plain.0).0;
         kept = (viewed_easy plain.0).1;
-        holds = record {
-          held = λ x n view e. holds.held x n (λ fading. going fading.0 fading.1) view e;
-          only = holds.only;
-        };
+        holds = all_held s no_formals depth views state.memory (λ x n view e. holds.held x n (λ fading. going fading.0 fading.1) view e) holds.only holds.named;
       }
 
       -- With these values out of the frame, the step makes the same of memory.
@@ -252,7 +250,7 @@ module _ (table : Table) (typed : TypedProgram) (effects : Effects) (input : Lis
       NoTrap (Goes t) = Unit {0}
       NoTrap (Ends e t) = IsTrap e → ⊥
 
-      no_trap : (facts : List Fact) (o : Outcome) → Leads_on easy ready.accepted.settled ready.owns other alone no_formals views ready.class.parts_named none_taken refl refl facts o → NoTrap o
+      no_trap : (facts : List Fact) (o : Outcome) → Leads_on easy ready.accepted.settled ready.owns other alone views ready.class.parts_named none_taken refl refl facts o → NoTrap o
       no_trap facts (Goes t) leads = tt
       no_trap facts (Ends e t) leads = leads.0
 
@@ -264,8 +262,8 @@ module _ (table : Table) (typed : TypedProgram) (effects : Effects) (input : Lis
 
       -- where nothing is taken, the step is like it is
       module _ (nothing : taken at.point.instr ≡ 0) where
-        good_there : IsGood at ready.accepted.settled ready.owns other alone no_formals views ready.class.parts_named none_taken frames nothing views facts_now state
-        good_there = record { viewed = viewed; kept = kept; holds = record { held = λ x n view e. holds.held x n (λ fading. going fading.0 fading.1) view e; only = holds.only } }
+        good_there : IsGood at ready.accepted.settled ready.owns other alone views ready.class.parts_named none_taken frames nothing views facts_now state
+        good_there = record { viewed = viewed; kept = kept; holds = all_held s no_formals depth views state.memory (λ x n view e. holds.held x n (λ fading. going fading.0 fading.1) view e) holds.only holds.named }
 
         writes_line : (line : Bool) → Exacts (Output NoMore line)
         unfolding acts_in
@@ -303,10 +301,10 @@ module _ (table : Table) (typed : TypedProgram) (effects : Effects) (input : Lis
 
       -- a return with a value
       holds_value : (e : TypedTree) (of : ℕ) → p.instr ≡ Hold (More e NoMore) → named.sub.result ≡ Some of
-          → (IsNamed s.table of → AllowsAll facts_now (acts (acts_in s e)) → AllKeep (is_observer s) (acts (acts_in s e))
-          → ExactTo (steps.here at) ready.accepted.settled state.leaks [] other alone (keeps s ready.accepted.settled ready.owns) no_formals index_law ready.owns views
+          → (IsNamed s.table of → AllowsAll facts_now (acts (acts_in s e)) → AllKeep (sees_only s) (acts (acts_in s e))
+          → ExactTo (steps.here at) ready.accepted.settled state.leaks [] other alone (keeps s ready.accepted.settled ready.owns) index_law ready.owns views
           ready.class.parts_named elsewhere away (after (acts (acts_in s e)) facts_now) (steps.taken_by at of e (start at)))
-          → AllowsAll facts_now (acts_by (Hold (More e NoMore))) → AllKeep (is_observer s) (acts_by (Hold (More e NoMore))) → Exacts (Hold (More e NoMore))
+          → AllowsAll facts_now (acts_by (Hold (More e NoMore))) → AllKeep (sees_only s) (acts_by (Hold (More e NoMore))) → Exacts (Hold (More e NoMore))
       unfolding acts_in
       holds_value e of is result value_exact allowed_there keep =
           let type_there : IsNamed s.table of = plain_named s.table of (innermost.named_result table typed effects input ready state top below more_frames rest named p frames deep stages running awaiting of_sub at_point path views viewed_before kept scope holds placed_before above of result) in
@@ -324,7 +322,7 @@ module _ (table : Table) (typed : TypedProgram) (effects : Effects) (input : Lis
           (λ ws m. Goes (handed_over program input at.point state top.frame below.stage.frame rest of ws m)) (λ ws m on. on)
           (waits_exact easy ready.accepted.settled ready.owns other alone no_formals views ready.class.parts_named none_taken refl refl elsewhere away Excused
           (after (acts (acts_in s e)) facts_now) (steps.taken_by at of e (start at))
-          (value_exact type_there (subst (AllowsAll facts_now) same allowed_there) (subst (AllKeep (is_observer s)) same keep))
+          (value_exact type_there (subst (AllowsAll facts_now) same allowed_there) (subst (AllKeep (sees_only s)) same keep))
           (λ ws m. Goes (handed_over program input at.point state top.frame below.stage.frame rest of ws m)) (λ ws m still. (still, tt)))))
 
       -- ---- what a function gave, alone
@@ -335,7 +333,7 @@ module _ (table : Table) (typed : TypedProgram) (effects : Effects) (input : Lis
 
         abbrev CallExact : ℕ → Type 0
         CallExact u =
-            ExactTo (steps.here at) ready.accepted.settled state.leaks [] other alone (keeps s ready.accepted.settled ready.owns) no_formals index_law ready.owns views
+            ExactTo (steps.here at) ready.accepted.settled state.leaks [] other alone (keeps s ready.accepted.settled ready.owns) index_law ready.owns views
             ready.class.parts_named elsewhere away facts_now (steps.taken_by at u (CallIn taken_alone.3 taken_alone.4 taken_alone.5) (start at))
 
         -- the value comes from the frame, and memory is as it was
@@ -344,12 +342,12 @@ module _ (table : Table) (typed : TypedProgram) (effects : Effects) (input : Lis
         call_exact u type_there =
             let words : List machine.Word = (alone_value.first_value table typed effects input ready state top below more_frames rest named p frames deep stages running awaiting of_sub at_point path views viewed_before kept scope holds placed_before above going taken_alone).0.words in
             let now : List (List machine.Word) → Now = (λ ws. record { memory = state.memory; waits = ws }) in
-            subst (λ b. ExactTo (steps.here at) ready.accepted.settled state.leaks [] other alone (keeps s ready.accepted.settled ready.owns) no_formals index_law ready.owns views
+            subst (λ b. ExactTo (steps.here at) ready.accepted.settled state.leaks [] other alone (keeps s ready.accepted.settled ready.owns) index_law ready.owns views
             ready.class.parts_named elsewhere away facts_now (if b then run.viewed (steps.here at) call (start at) else followed_by (value (steps.here at) call (start at)) (checked (steps.here at) u)))
             (sym (named_plain s.table u type_there))
-            (checked_exact (steps.here at) ready.accepted.settled state.leaks [] other alone (keeps s ready.accepted.settled ready.owns) no_formals index_law ready.owns views
+            (checked_exact (steps.here at) ready.accepted.settled state.leaks [] other alone (keeps s ready.accepted.settled ready.owns) index_law ready.owns views
             ready.class.parts_named elsewhere away u facts_now (value (steps.here at) call (start at))
-            (subst (λ ws. ExactTo (steps.here at) ready.accepted.settled state.leaks [] other alone (keeps s ready.accepted.settled ready.owns) no_formals index_law ready.owns views
+            (subst (λ ws. ExactTo (steps.here at) ready.accepted.settled state.leaks [] other alone (keeps s ready.accepted.settled ready.owns) index_law ready.owns views
             ready.class.parts_named elsewhere away facts_now (value (steps.here at) call (now ws))) (sym (alone_value.first_value table typed effects input ready state top below more_frames rest named p frames deep stages running awaiting of_sub at_point path views viewed_before kept scope holds placed_before above going taken_alone).1.3) exact))
 
         declares_alone : (y : ℕ) → p.instr ≡ Declare y (More call NoMore) → Exacts (Declare y (More call NoMore))
@@ -386,7 +384,7 @@ module _ (table : Table) (typed : TypedProgram) (effects : Effects) (input : Lis
             (assigned_acts s p.pos y u target steps_there call type_there leads) r (name_of y steps_there) (parts s.table u))
             (followed_by (steps.taken_by at u call (start at))
             (λ ws now. followed_by (place_of (steps.here at) target now) (λ k now. Done (record { words = ws; place = k }) now)))
-            (then_placed (steps.here at) ready.accepted.settled state.leaks [] other alone (keeps s ready.accepted.settled ready.owns) no_formals index_law ready.owns views
+            (then_placed (steps.here at) ready.accepted.settled state.leaks [] other alone (keeps s ready.accepted.settled ready.owns) index_law ready.owns views
             ready.class.parts_named elsewhere away Excused [] [] r y u steps_there (waiting_in easy.state) facts_now
             (alone_value.plain_root table typed effects input ready state top below more_frames rest named p frames deep stages running awaiting of_sub at_point path views viewed_before kept scope holds placed_before above going no_calls taken_alone r y steps_there u is calls end) leads (no_takes steps_there calls [])
             (alone_value.allowed_steps table typed effects input ready state top below more_frames rest named p frames deep stages running awaiting of_sub at_point path views viewed_before kept scope holds placed_before above going no_calls taken_alone r y steps_there u is calls end) (steps.taken_by at u call (start at))
@@ -394,7 +392,7 @@ module _ (table : Table) (typed : TypedProgram) (effects : Effects) (input : Lis
             (call_exact u type_there))))
 
         returns_alone : (of : ℕ) → p.instr ≡ Hold (More call NoMore) → named.sub.result ≡ Some of
-            → AllowsAll facts_now (acts_by (Hold (More call NoMore))) → AllKeep (is_observer s) (acts_by (Hold (More call NoMore))) → Exacts (Hold (More call NoMore))
+            → AllowsAll facts_now (acts_by (Hold (More call NoMore))) → AllKeep (sees_only s) (acts_by (Hold (More call NoMore))) → Exacts (Hold (More call NoMore))
         unfolding acts_in
         returns_alone of is result allowed_there keep = holds_value call of is result (λ type_there allows keeps. call_exact of type_there) allowed_there keep
 
@@ -403,14 +401,14 @@ module _ (table : Table) (typed : TypedProgram) (effects : Effects) (input : Lis
         result_there is None result none = (let never : ◌≡◌ {A = TypedTree} (More call NoMore) NoMore = none in cc)
         result_there is (Some of) result there = (of, result)
 
-        alone_exact : (p.instr ≡ Finish → ⊥) → AllowsAll facts_now (acts_by p.instr) → AllKeep (is_observer s) (acts_by p.instr) → Exacts p.instr
+        alone_exact : (p.instr ≡ Finish → ⊥) → AllowsAll facts_now (acts_by p.instr) → AllKeep (sees_only s) (acts_by p.instr) → Exacts p.instr
         alone_exact end allowed_there keep = elim taken_alone.8 [
           | inl (y, is) ↦ subst Exacts (sym is) (declares_alone y is)
           | inr (inl (r, y, steps_there, u, is, calls)) ↦ subst Exacts (sym is) (assigns_alone r y steps_there u is calls end)
           | inr (inr is) ↦ (
               let result = result_there is named.sub.result refl (subst (IsFine s named.sub.result) is fine_here) in
               subst Exacts (sym is)
-              (returns_alone result.0 is result.1 (subst (λ i. AllowsAll facts_now (acts_by i)) is allowed_there) (subst (λ i. AllKeep (is_observer s) (acts_by i)) is keep)))
+              (returns_alone result.0 is result.1 (subst (λ i. AllowsAll facts_now (acts_by i)) is allowed_there) (subst (λ i. AllKeep (sees_only s) (acts_by i)) is keep)))
         ]
 
       -- ---- what is taken is scalar
@@ -426,7 +424,7 @@ module _ (table : Table) (typed : TypedProgram) (effects : Effects) (input : Lis
         -- ---- declarations
 
         declares : (x : ℕ) (v : TypedTree) → p.instr ≡ Declare x v → FirstSource s (object_at s x).of v
-            → AllowsAll facts_now (acts_by (Declare x v)) → AllKeep (is_observer s) (acts_by (Declare x v)) → Exacts (Declare x v)
+            → AllowsAll facts_now (acts_by (Declare x v)) → AllKeep (sees_only s) (acts_by (Declare x v)) → Exacts (Declare x v)
         unfolding waits_in
         declares x v e text allowed_there keep = by_view (is_anonymous (view_of s x)) refl
           where
@@ -460,7 +458,7 @@ module _ (table : Table) (typed : TypedProgram) (effects : Effects) (input : Lis
         -- ---- assignments
 
         assigns : (target e : TypedTree) → p.instr ≡ Assign target e → IsFine s None (Assign target e)
-            → AllowsAll facts_now (acts_by (Assign target e)) → AllKeep (is_observer s) (acts_by (Assign target e)) → Exacts (Assign target e)
+            → AllowsAll facts_now (acts_by (Assign target e)) → AllKeep (sees_only s) (acts_by (Assign target e)) → Exacts (Assign target e)
         unfolding waits_in
         assigns (Name q x steps u) e is (v, (leads, type), source) allowed_there keep =
             by_view (subst (λ z. Source s z e) (sym type) source) (is_anonymous (full s.table u)) refl
@@ -501,7 +499,7 @@ module _ (table : Table) (typed : TypedProgram) (effects : Effects) (input : Lis
                   (assigned_main (after (acts (stored_acts s (Name q x steps u) e)) facts_now) (spots_by (Assign (Name q x steps u) e)) (Name q x steps u) u e
                   (assign_on easy ready.accepted.settled ready.owns other alone no_formals views ready.class.parts_named none_taken refl refl elsewhere away Excused given_words two.0 q x u steps e own_type gives leads
                   (subst (TakesScalars s) is plain.1) two.1 two.2 facts_now (good plain)
-                  (subst (λ z. AllowsAll facts_now (acts z)) same_acts allowed_there) (subst (λ z. AllKeep (is_observer s) (acts z)) same_acts keep) exact (length front)
+                  (subst (λ z. AllowsAll facts_now (acts z)) same_acts allowed_there) (subst (λ z. AllKeep (sees_only s) (acts z)) same_acts keep) exact (length front)
                   (knows (Assign (Name q x steps u) e) is front (record { pos = q; act = act.Write (name_of x steps) } ∷ []) same_acts q (name_of x steps) (parts s.table u)))))
             ]
             by_view source true view = elim (leads_or s ready.class.parts_named steps (object_at s x).of u leads) [
@@ -550,9 +548,9 @@ module _ (table : Table) (typed : TypedProgram) (effects : Effects) (input : Lis
             let scalar_there : is_scalar (full s.table u) ≡ true = subst (λ z. is_scalar (full s.table z) ≡ true) (sym type) scalar in
             (input_eased at (Both (Input target)) (raising (Input target)) (λ trap m on. on.0 tt) target (
               no_trap _ _ (sound_got_on easy ready.accepted.settled ready.owns other alone no_formals views ready.class.parts_named none_taken refl refl given_words
-                  gets_here q x u path_of gets_so scalar_there leads (takes_of plain.0 (Input target) is) (orderly.read q x u path_of is) facts_now (good plain) allowed_there),
+                  gets_here q x u path_of gets_so scalar_there leads (takes_of plain.0 (Input target) is) (observes_not s no_formals x (orderly.read q x u path_of is)) facts_now (good plain) allowed_there),
               got_on easy ready.accepted.settled ready.owns other alone no_formals views ready.class.parts_named none_taken refl refl elsewhere away Excused given_words
-                  gets_here q x u path_of gets_so scalar_there leads (takes_of plain.0 (Input target) is) (orderly.read q x u path_of is) facts_now (good plain) allowed_there exact,
+                  gets_here q x u path_of gets_so scalar_there leads (takes_of plain.0 (Input target) is) (observes_not s no_formals x (orderly.read q x u path_of is)) facts_now (good plain) allowed_there exact,
             )).1
         reads target is (v, never, scalar) allowed_there = absurd never
 
@@ -568,7 +566,7 @@ module _ (table : Table) (typed : TypedProgram) (effects : Effects) (input : Lis
         }
 
         releases : (target : TypedTree) → p.instr ≡ Release target → IsFine s None (Release target)
-            → AllowsAll facts_now (acts_by (Release target)) → AllKeep (is_observer s) (acts_by (Release target)) → Exacts (Release target)
+            → AllowsAll facts_now (acts_by (Release target)) → AllKeep (sees_only s) (acts_by (Release target)) → Exacts (Release target)
         unfolding waits_in
         releases (Name q x path_of u) is (v, d, (leads, type), access) allowed_there keep =
             let target : TypedTree = Name q x path_of u in
@@ -583,10 +581,10 @@ module _ (table : Table) (typed : TypedProgram) (effects : Effects) (input : Lis
                   q (extend (name_of x path_of) (sel.Deref ∷ [])) (parts s.table (designated s.table u))),
             )).1
           where
-            last_kept : (before : List Placed) → AllKeep (is_observer s) (acts (before ++ record { pos = q; act = act.Free (name_of x path_of) } ∷ [])) → is_observer s x ≡ false
+            last_kept : (before : List Placed) → AllKeep (sees_only s) (acts (before ++ record { pos = q; act = act.Free (name_of x path_of) } ∷ [])) → sees_only s x ≡ false
             last_kept before keep =
-                (keep_both (is_observer s) (acts before) (act.Free (name_of x path_of) ∷ [])
-                (subst (AllKeep (is_observer s)) (acts_append before (record { pos = q; act = act.Free (name_of x path_of) } ∷ [])) keep)).1.0
+                (keep_both (sees_only s) (acts before) (act.Free (name_of x path_of) ∷ [])
+                (subst (AllKeep (sees_only s)) (acts_append before (record { pos = q; act = act.Free (name_of x path_of) } ∷ [])) keep)).1.0
         releases target is (v, d, never, access) allowed_there keep = absurd never
 
         chosen_exact : (b : Bool) (k : ℕ) → ExactAt facts_now [] (if b then steps.goes at state.memory k else steps.raised at ConstraintError state.memory)
@@ -645,7 +643,7 @@ module _ (table : Table) (typed : TypedProgram) (effects : Effects) (input : Lis
 
         -- a return with a value, and one without
         holds_plain : (e : TypedTree) (of : ℕ) → p.instr ≡ Hold (More e NoMore) → named.sub.result ≡ Some of → Source s of e
-            → AllowsAll facts_now (acts_by (Hold (More e NoMore))) → AllKeep (is_observer s) (acts_by (Hold (More e NoMore))) → Exacts (Hold (More e NoMore))
+            → AllowsAll facts_now (acts_by (Hold (More e NoMore))) → AllKeep (sees_only s) (acts_by (Hold (More e NoMore))) → Exacts (Hold (More e NoMore))
         unfolding GivesPlainly waits_in
         holds_plain e of is result source allowed_there keep =
             holds_value e of is result (λ type_there allows keeps.
@@ -654,7 +652,7 @@ module _ (table : Table) (typed : TypedProgram) (effects : Effects) (input : Lis
             facts_now (good plain) allows keeps exact) allowed_there keep
 
         returns : (v : TypedTree) (r : Option ℕ) → p.instr ≡ Hold v → named.sub.result ≡ r → Returns s r v → AllowsAll facts_now (acts_by (Hold v))
-            → AllKeep (is_observer s) (acts_by (Hold v)) → Exacts (Hold v)
+            → AllKeep (sees_only s) (acts_by (Hold v)) → Exacts (Hold v)
         unfolding acts_in waits_in
         returns v None is result none allowed_there keep =
             subst (λ z. Exacts (Hold z)) (sym none)
@@ -662,10 +660,10 @@ module _ (table : Table) (typed : TypedProgram) (effects : Effects) (input : Lis
         returns v (Some of) is result (e, same, source) allowed_there keep =
             subst (λ z. Exacts (Hold z)) (sym same)
             (holds_plain e of (is ∙ ap Hold same) result source (subst (λ z. AllowsAll facts_now (acts_by (Hold z))) same allowed_there)
-            (subst (λ z. AllKeep (is_observer s) (acts_by (Hold z))) same keep))
+            (subst (λ z. AllKeep (sees_only s) (acts_by (Hold z))) same keep))
 
         each_instruction : (i : Instruction) → p.instr ≡ i → (i ≡ Finish → ⊥) → IsFine s named.sub.result i → AllowsAll facts_now (acts_by i)
-            → AllKeep (is_observer s) (acts_by i) → Exacts i
+            → AllKeep (sees_only s) (acts_by i) → Exacts i
         each_instruction Skip is end text allowed_there keep = skips
         each_instruction (Declare x v) is end text allowed_there keep = declares x v is text allowed_there keep
         each_instruction (Assign target e) is end text allowed_there keep = assigns target e is text allowed_there keep

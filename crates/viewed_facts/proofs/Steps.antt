@@ -244,7 +244,7 @@ module _ (home : ℕ → ℕ) (observer : ℕ → Bool) (other : Around home) (v
   told_fewer s facts facts' less told w l (inl d) reach = told w l (inl (d.0, (d.1.0, less (name_of d.0) d.1.1), d.2, d.3)) reach
 
   -- a view gets another way, or none, where no moved name is rooted in it
-  pub told_rebound : (s : View) (t : Views) (b : ℕ) (o : Option Way) (loan up : Way) (n : ℕ) → Becomes v t b o loan up n → (facts facts' : List Fact) → Unused other.lent v facts b
+  pub told_rebound : (s : View) (t : Views) (b : ℕ) (o : Option Way) (loan up : Way) (n : ℕ) → Becomes v t b o loan up n → (facts facts' : List Fact) → Unused home other.lent v facts b
       → ((m : Name) → Has facts' (Moved m) → Has facts (Moved m)) → Told s (IsDefinite home v elsewhere facts) → Told s (IsDefinite home t elsewhere facts')
   told_rebound s t b o loan up n becomes facts facts' unused less told w l (inr e) reach = told w l (inr e) reach
   told_rebound s t b o loan up n becomes facts facts' unused less told w l (inl d) reach =

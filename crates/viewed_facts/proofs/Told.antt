@@ -1,6 +1,7 @@
 -- Where a step of an instruction goes on that is no call and isn't the end of a scope, facts of all frames are exact,
 -- with the views then.
-use Rattle.std.proofs.Common.{◌≡◌, refl, sym, ap, ◌∙◌, subst, inl, inr, ℕ, suc, true, false, List, [], ◌∷◌, ◌++◌, map, length, Some, None, ◌⊎◌, take}
+use Rattle.viewed_soundness.specs.Holds.{sees_only}
+use Rattle.std.proofs.Common.{◌≡◌, refl, sym, ap, ◌∙◌, subst, inl, inr, ℕ, suc, true, false, List, [], ◌∷◌, ◌++◌, map, length, Some, None, ◌⊎◌, take, ◌||◌}
 use Rattle.place_names.specs.declared.rule.Loan.TheVariants.{Borrowed}
 use Rattle.spark_base.specs.Lists.{Has}
 use Rattle.spark_base.specs.declared.position.Pos.{Pos}
@@ -87,7 +88,7 @@ module _ (table : Table) (typed : TypedProgram) (effects : Effects) (input : Lis
       (awaiting : AreAwaited table typed None (top ∷ stages_of (below ∷ more_frames)))
       (of_sub : IsNamedSub (flow_named table typed) top.frame.sub named) (at_point : IsAtPoint named.points top.frame.next p)
       (path : ControlPath (path_points program effects (sub_of program top.frame.sub)) top.before top.frame.next) (views : Views)
-      (viewed_before : Viewed (home s (suc (length rest))) (is_observer s) (known_gone (home s (suc (length rest))) (GoneElsewhere program effects (below ∷ more_frames))) views
+      (viewed_before : Viewed (home s (suc (length rest))) (sees_only s) (known_gone (home s (suc (length rest))) (GoneElsewhere program effects (below ∷ more_frames))) views
       (view_here s state) (facts_of program effects top))
       (kept : Kept s state.memory (waiting_in state)) (scope : InScope s state.memory (suc (length rest)) (lasting_of s p.scope)) (holds : HoldsAt s (suc (length rest)) views state.memory p)
       (placed_before : ArePlaced program (facts_of program effects top) views p.scope) (above : NoneAbove s (suc (length rest)) state.memory)
@@ -193,7 +194,7 @@ module _ (table : Table) (typed : TypedProgram) (effects : Effects) (input : Lis
       abbrev ExactAt : List Fact → List LeakSpot → Outcome → Type 0
       ExactAt facts spots outcome = ExactOn easy ready.accepted.settled ready.owns other alone no_formals views ready.class.parts_named none_taken refl refl elsewhere away Excused facts spots outcome
 
-      abbrev good : Plainly → IsGood easy ready.accepted.settled ready.owns other alone no_formals views ready.class.parts_named none_taken refl refl views facts_now easy.state
+      abbrev good : Plainly → IsGood easy ready.accepted.settled ready.owns other alone views ready.class.parts_named none_taken refl refl views facts_now easy.state
       good = stepping.good table typed effects input ready state top below more_frames rest named p frames deep stages running awaiting of_sub at_point path views viewed_before kept scope holds placed_before above exact_before going no_calls
 
       abbrev allowed_there : (p.instr ≡ Finish → ⊥) → AllowsAll facts_now (acts_by p.instr)
@@ -256,7 +257,7 @@ module _ (table : Table) (typed : TypedProgram) (effects : Effects) (input : Lis
               → e ≡ CallIn k n actuals → e ≡ Name r y steps_there w → ⊥
           by_source e k n actuals r y steps_there w is same = cc
 
-      stored_unmoved : (p.instr ≡ Finish → ⊥) → ((n : PlaceName) → Has (after (acts_by p.instr) own_facts) (Moved n) → is_observer s n.root ≡ false)
+      stored_unmoved : (p.instr ≡ Finish → ⊥) → ((n : PlaceName) → Has (after (acts_by p.instr) own_facts) (Moved n) → sees_only s n.root ≡ false)
           → (x : ℕ) → is_anonymous (view_of s x) ≡ true → IsStoredAt p.instr x → (n : PlaceName) → Has (after (acts_by p.instr) facts_now) (Moved n) → n.root ≡ x → ⊥
       stored_unmoved end clear x view stored n has root =
           elim (after_splits (acts_by p.instr) facts_now own_facts around (innermost.from_both table typed effects input ready state top below more_frames rest named p frames deep stages running awaiting of_sub at_point path views viewed_before kept scope holds placed_before above) (Moved n) has) [
@@ -264,7 +265,7 @@ module _ (table : Table) (typed : TypedProgram) (effects : Effects) (input : Lis
             | inl mine ↦ elim stored [
               | inl (v, e) ↦ packages.new_after table typed effects input ready state top older outer named p frames of_sub at_point path x v e no_calls n mine root
               | inr (q, u, e, is) ↦ elim (bool_cases (is_observer s x)) [
-                | inl sees ↦ true_false (is_observer s x) sees (ap (is_observer s) (sym root) ∙ clear n mine)
+                | inl sees ↦ true_false (sees_only s x) (ap (λ b. b || is_view_formal s x) sees) (ap (sees_only s) (sym root) ∙ clear n mine)
                 | inr borrows ↦ assigned_unmoved (plain_there q x u e is view (subst (IsFine s named.sub.result) is fine_here)) q x u e is end view borrows n has root
               ]
             ]
@@ -273,7 +274,7 @@ module _ (table : Table) (typed : TypedProgram) (effects : Effects) (input : Lis
       -- They are exact after the step, too, with the views then.
       pub told_next : (p.instr ≡ Finish → ⊥) → (next : State) → step program input state ≡ Goes next → (later : Views)
           → ((x : ℕ) (w : Way) → later.way x ≡ Some w → is_anonymous (view_of s x) ≡ true)
-          → ((n : PlaceName) → Has (facts_before points (top.frame.next ∷ top.before)) (Moved n) → is_observer s n.root ≡ false) → AreTurned p.instr views later
+          → ((n : PlaceName) → Has (facts_before points (top.frame.next ∷ top.before)) (Moved n) → sees_only s n.root ≡ false) → AreTurned p.instr views later
           → Told (seen s next.memory [] []) (IsDefiniteHere table typed effects unmoved_stage local depth later (facts_before points (top.frame.next ∷ top.before)) older)
       told_next end next is later only clear turned =
           all_told next.memory later only no_calls (kept_around end)

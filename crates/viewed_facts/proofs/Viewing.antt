@@ -39,7 +39,7 @@ use Rattle.soundness.proofs.Numbers.{index_law}
 use Rattle.owned_loans.specs.Views.{Around, Views, IsThrough}
 use Rattle.owned_loans.proofs.Allowed.{Cleared, borrow_clears, observe_clears, reborrow_clears}
 use Rattle.owned_loans.proofs.Taken.{reborrow_unused}
-use Rattle.viewed_soundness.specs.Holds.{PartsAreNamed}
+use Rattle.viewed_soundness.specs.Holds.{PartsAreNamed, sees_only}
 use Rattle.viewed_soundness.proofs.Stays.{steps_taking}
 use Rattle.viewed_soundness.proofs.Sources.{source_on}
 use Rattle.viewed_soundness.proofs.Outcomes.{IsGood, live}
@@ -79,7 +79,7 @@ module _ (t : Turn) (settled : IsSettled (typing t).table) (own_law : OwnsByShap
   at ws = record { memory = t.state.memory; waits = ws }
 
   abbrev Good : List Fact → Type 0
-  Good facts = IsGood t settled own_law other alone no_formals v parts_named may frames none v facts t.state
+  Good facts = IsGood t settled own_law other alone v parts_named may frames none v facts t.state
 
   abbrev Exact : Memory → List Fact → Type 0
   Exact n facts = IsExact s (home s depth) v elsewhere n facts
@@ -88,14 +88,14 @@ module _ (t : Turn) (settled : IsSettled (typing t).table) (own_law : OwnsByShap
   ExactHere facts outcome = ExactOn t settled own_law other alone no_formals v parts_named may frames none elsewhere away Excused facts [] outcome
 
   abbrev Observes_here : ℕ → ℕ → ℕ → ℕ → TypedTree → Type 0
-  Observes_here x y u d path = Observes t settled own_law other alone no_formals v parts_named may frames none x y u d path
+  Observes_here x y u d path = Observes t settled own_law other alone v parts_named may frames none x y u d path
 
   -- the type of a view has no access parts
   pub view_parts : (x : ℕ) → is_anonymous (view_of s x) ≡ true → parts s.table (object_at s x).of ≡ []
   view_parts x view =
       let sh = view_shape (shape_of s.table (object_at s x).of) view in
       settled.part_law (object_at s x).of ∙ ap (parts_of (parts s.table)) sh.3
-      ∙ no_parts t settled own_law other alone no_formals v parts_named may frames none sh.0 sh.1 sh.2 (sym (ap (λ z. is_anonymous (view_of_shape z)) sh.3) ∙ view) (parts s.table)
+      ∙ no_parts t settled own_law other alone v parts_named may frames none sh.0 sh.1 sh.2 (sym (ap (λ z. is_anonymous (view_of_shape z)) sh.3) ∙ view) (parts s.table)
 
   -- ---- what the source gives
 
@@ -114,14 +114,14 @@ module _ (t : Turn) (settled : IsSettled (typing t).table) (own_law : OwnsByShap
   is_shown : (ws : List (List machine.Word)) (x y u d : ℕ) (p r : Pos) (path : TypedTree) (a : PlaceName → Act) → Observes_here x y u d path
       → Takes (waits_in path) ws []
       → (facts : List Fact) → Good facts → AllowsAll facts (acts (acts_in s path ++ record { pos = r; act = a (name_of y path) } ∷ []))
-      → ((w : Way) → ways.name_of w ≡ name_of y path → is_observer s y ≡ false → Allows facts (a (name_of y path)) → Cleared facts w)
+      → ((w : Way) → ways.name_of w ≡ name_of y path → sees_only s y ≡ false → Allows facts (a (name_of y path)) → Cleared facts w)
       → IsShown ws y u p path (a (name_of y path)) facts (acts (acts_in s path ++ record { pos = r; act = a (name_of y path) } ∷ []))
   is_shown ws x y u d p r path a observes takes facts good allowed clears =
       let b : List Act = acts (acts_in s path) in
       let whole_acts : acts (acts_in s path ++ record { pos = r; act = a (name_of y path) } ∷ []) ≡ b ++ (a (name_of y path) ∷ []) =
       acts_append (acts_in s path) (record { pos = r; act = a (name_of y path) } ∷ []) in
       let each = allows_both facts b (a (name_of y path) ∷ []) (subst (AllowsAll facts) whole_acts allowed) in
-      let alive = live t settled own_law other alone no_formals v parts_named may frames none facts good in
+      let alive = live t settled own_law other alone v parts_named may frames none facts good in
       let inner = steps_taking (here t) settled hands t.state.leaks m [] other facts v good.kept good.viewed good.holds alone alive
       index_law own_law parts_named (object_at s y).of u path observes.lead ws [] takes each.0 in
       let mine : Allows facts (a (name_of y path)) = subst (λ z. Allows z (a (name_of y path))) inner.1 each.1.0 in
@@ -140,7 +140,7 @@ module _ (t : Turn) (settled : IsSettled (typing t).table) (own_law : OwnsByShap
 
   view_exact : (ws : List (List machine.Word)) (x y u d : ℕ) (p : Pos) (path : TypedTree) (a : PlaceName → Act) → Observes_here x y u d path → Takes (waits_in path) ws []
       → (facts : List Fact) → Good facts → AllowsAll facts (acts (source_acts s (Name p y path u) a))
-      → ((w : Way) → ways.name_of w ≡ name_of y path → is_observer s y ≡ false → Allows facts (a (name_of y path)) → Cleared facts w)
+      → ((w : Way) → ways.name_of w ≡ name_of y path → sees_only s y ≡ false → Allows facts (a (name_of y path)) → Cleared facts w)
       → ((n : PlaceName) → Has (adds (a (name_of y path))) (Moved n) → ⊥) → Exact m facts
       → ExactHere (after (acts (source_acts s (Name p y path u) a)) facts) (Declares_here ws x (More (Name p y path u) NoMore))
   unfolding initial
@@ -197,11 +197,11 @@ module _ (t : Turn) (settled : IsSettled (typing t).table) (own_law : OwnsByShap
   then_put : (pos q : Pos) (x y u w d : ℕ) (path : TypedTree) (facts facts' : List Fact) → Good facts → Observes_here x y u d path
       → ((n : PlaceName) → Has facts' (Moved n) → Has facts (Moved n)) → Exact m facts → (e : Evaluated (List machine.Word))
       → Quiet now (λ ws. (z : machine.Word) × (ws ≡ z ∷ [])) e
-      → ExactHere facts' (Puts t settled own_law other alone no_formals v parts_named may frames none pos q x w e)
+      → ExactHere facts' (Puts t settled own_law other alone v parts_named may frames none pos q x w e)
   then_put pos q x y u w d path facts facts' good observes less exact (Done ws n) (same, (z, is)) =
       let k : Place = run.variable_place (here t) x in
-      let there = stored_is t settled own_law other alone no_formals v parts_named may frames none x y u d path facts observes good z in
-      subst (ExactHere facts') (sym (put_at t settled own_law other alone no_formals v parts_named may frames none pos q x w ws n))
+      let there = stored_is t settled own_law other alone v parts_named may frames none x y u d path facts observes good z in
+      subst (ExactHere facts') (sym (put_at t settled own_law other alone v parts_named may frames none pos q x w ws n))
       (subst (λ (z : Now). ExactHere facts' (leaking_goes (checks_at s pos z.memory k) (goes t (stored s k ws z.memory) 0))) (sym same)
       (subst (λ z. ExactHere facts' (leaking_goes (checks_at s pos m k) (goes t (stored s k z m) 0))) (sym is)
       (subst (λ z. ExactHere facts' (leaking_goes (checks_at s pos m k) (goes t z 0))) (sym there)
@@ -211,16 +211,16 @@ module _ (t : Turn) (settled : IsSettled (typing t).table) (own_law : OwnsByShap
 
   put_exact : (ws : List (List machine.Word)) (pos q p r : Pos) (x y u d : ℕ) (path : TypedTree) (a : PlaceName → Act) → Observes_here x y u d path → Takes (waits_in path) ws []
       → (facts : List Fact) → Good facts → AllowsAll facts (acts (acts_in s path ++ record { pos = r; act = a (name_of y path) } ∷ []))
-      → ((w : Way) → ways.name_of w ≡ name_of y path → is_observer s y ≡ false → Allows facts (a (name_of y path)) → Cleared facts w)
+      → ((w : Way) → ways.name_of w ≡ name_of y path → sees_only s y ≡ false → Allows facts (a (name_of y path)) → Cleared facts w)
       → ((n : PlaceName) → Has (adds (a (name_of y path))) (Moved n) → ⊥) → Exact m facts
       → ExactHere (after (acts (acts_in s path ++ record { pos = r; act = a (name_of y path) } ∷ [])) facts)
-      (Puts t settled own_law other alone no_formals v parts_named may frames none pos q x (object_at s x).of (taken_by t (object_at s x).of (Name p y path u) (at ws)))
+      (Puts t settled own_law other alone v parts_named may frames none pos q x (object_at s x).of (taken_by t (object_at s x).of (Name p y path u) (at ws)))
   put_exact ws pos q p r x y u d path a observes takes facts good allowed clears none_moved exact =
       let shown = is_shown ws x y u d p r path a observes takes facts good allowed clears in
       let e : TypedTree = Name p y path u in
       let of : ℕ = (object_at s x).of in
-      subst (λ z. ExactHere z (Puts t settled own_law other alone no_formals v parts_named may frames none pos q x of (taken_by t of e (at ws)))) (sym shown.behind)
-      (subst (λ c. ExactHere (effect (a (name_of y path)) facts) (Puts t settled own_law other alone no_formals v parts_named may frames none pos q x of
+      subst (λ z. ExactHere z (Puts t settled own_law other alone v parts_named may frames none pos q x of (taken_by t of e (at ws)))) (sym shown.behind)
+      (subst (λ c. ExactHere (effect (a (name_of y path)) facts) (Puts t settled own_law other alone v parts_named may frames none pos q x of
       (if c then viewed (here t) e (at ws) else followed_by (value (here t) e (at ws)) (checked (here t) of)))) (sym observes.anonymous)
       (then_put pos q x y u of d path facts (effect (a (name_of y path)) facts) good observes (moves_nothing (a (name_of y path)) facts none_moved) exact
       (evaluate (here t) AsView e (at ws)) shown.quiet_there))
@@ -228,7 +228,7 @@ module _ (t : Turn) (settled : IsSettled (typing t).table) (own_law : OwnsByShap
   -- a view is assigned; its type has no access parts
   abbrev Puts_here : List (List machine.Word) → TypedTree → Pos → ℕ → TypedTree → Outcome
   Puts_here ws target r x e =
-      Puts t settled own_law other alone no_formals v parts_named may frames none (target_pos t target) r x (object_at s x).of (taken_by t (object_at s x).of e (at ws))
+      Puts t settled own_law other alone v parts_named may frames none (target_pos t target) r x (object_at s x).of (taken_by t (object_at s x).of e (at ws))
 
   pub view_assigned_on : (ws : List (List machine.Word)) (pos r q : Pos) (x y u : ℕ) (path : TypedTree) → is_anonymous (view_of s x) ≡ true → is_variable (object_at s x).kind ≡ true
       → home s depth x ≡ depth → Source s (object_at s x).of (Name q y path u) → Takes (waits_in path) ws [] → (is_observer s x ≡ false → y ≡ x)
@@ -286,6 +286,6 @@ module _ (t : Turn) (settled : IsSettled (typing t).table) (own_law : OwnsByShap
       else (if is_observer s x then source_acts s e (observe s x) else stored_acts s target e)) is in
       let shown = is_shown ws x y u from_it.0 q r path (act.Reborrow x) from_it.1 takes facts good (subst (λ z. AllowsAll facts (acts z)) same allowed)
       (λ w called plain goes_by. reborrow_clears facts x w (ap (λ (n : PlaceName). n.root) called ∙ itself) (subst (λ n. Allows facts (act.Reborrow x n)) (sym called) goes_by)) in
-      (reborrow_unused (home s depth) (is_observer s) other v v (seen s m hands t.state.leaks) facts good.viewed x (name_of y path) shown.mine).unmoved n
+      (reborrow_unused (home s depth) (sees_only s) other v v (seen s m hands t.state.leaks) facts good.viewed x (name_of y path) shown.mine).unmoved n
       (moves_nothing (act.Reborrow x (name_of y path)) facts (λ k none_there. absurd none_there) n
       (subst (λ z. Has z (Moved n)) (ap (λ z. after (acts z) facts) same ∙ shown.behind) has)) root

@@ -39,7 +39,7 @@ use Rattle.soundness.proofs.Passing.{reads_keep}
 use Rattle.soundness.proofs.Lasting.{keeps}
 use Rattle.owned_loans.specs.Views.{Around, Views, Viewed}
 use Rattle.owned_loans.proofs.Allowed.{cleared_open}
-use Rattle.viewed_soundness.specs.Holds.{IsNamed, PartsAreNamed}
+use Rattle.viewed_soundness.specs.Holds.{IsNamed, PartsAreNamed, sees_only, IsOwners}
 use Rattle.viewed_soundness.proofs.Names.{Starts, true_false, view_access, not_view, plain_observer}
 use Rattle.viewed_soundness.proofs.Stays.{Goes}
 use Rattle.viewed_soundness.proofs.Evaluated.{matches_named, live_trunk}
@@ -55,6 +55,7 @@ use Rattle.null_places.proofs.Laws.{Premises, Behaves, Finds, IsAt, IsWholeAt}
 use Rattle.null_places.proofs.Scalars.{PassedSame, scalar_none, value_passed_same, to_passed_same, from_passed_same}
 use Rattle.viewed_nulls.proofs.Names.{owner_found}
 use Rattle.viewed_nulls.proofs.Viewed.{viewed_premises, IsReadyIn, viewed_behaves}
+use Rattle.viewed_steps.proofs.Views.{observes_not}
 
 -- A name that goes through no access value to a place of no anonymous type is that of no view.
 own_variable : (table : Table) (t u : ℕ) (way : List run.Step) (w : Way) → ((z : Way) → Past z (way_along way w) → ⊥) → Starts table t way u → IsNamed table u
@@ -84,14 +85,14 @@ module _ (h : Here) (settled : IsSettled h.typing.table) (leaks : List Leak) (ot
   law : Behaves h (viewed_premises h parts_named) m hands facts
   law = viewed_behaves h settled leaks other alone no_formals index_law own_law v parts_named m hands facts ready only
 
-  live : (w : Way) (l : Loc) → IsRooted w → Reaches (seen h.typing m hands leaks) w l → (content h.typing m hands (trunk l)).owns ≡ true
-  live = live_trunk h settled leaks [] other alone (keeps h.typing settled own_law) no_formals index_law own_law v parts_named m hands ready.viewed.owned
+  live : (w : Way) (l : Loc) → IsOwners h.typing w → Reaches (seen h.typing m hands leaks) w l → (content h.typing m hands (trunk l)).owns ≡ true
+  live = live_trunk h settled leaks [] other alone (keeps h.typing settled own_law) index_law own_law v parts_named m hands ready.viewed.owned
 
   abbrev Kind : ℕ → Type 0
   Kind x = IsKindOfFormal h.typing x
 
   abbrev ViewedWith : List Fact → Type 0
-  ViewedWith known = Viewed (home h.typing h.frame) (is_observer h.typing) other v (seen h.typing m hands leaks) known
+  ViewedWith known = Viewed (home h.typing h.frame) (sees_only h.typing) other v (seen h.typing m hands leaks) known
 
   abbrev way_for : ℕ → Passing
   way_for x = way_to h.typing own_law procedure x
@@ -115,9 +116,9 @@ module _ (h : Here) (settled : IsSettled h.typing.table) (leaks : List Leak) (ot
       subst (λ z. Allows known (act.Actual z mode.InOut owning access)) (sym called) allowed in
       let unlent = passed_unlent known w owning access mine in
       let unmoved = passed_unmoved known w owning access mine in
-      let plain : is_observer h.typing y ≡ false =
-      plain_observer h.typing y (own_variable h.typing.table (object_at h.typing y).of u way (Object (OfVariable (home h.typing h.frame y) y)) nothing_past goes.lead own) in (
-        owner_found h settled hands leaks m on other known v ready.kept viewed ready.holds alone live only index_law own_law parts_named y u way goes.lead plain
+      let plain : sees_only h.typing y ≡ false =
+      observes_not h.typing no_formals y (plain_observer h.typing y (own_variable h.typing.table (object_at h.typing y).of u way (Object (OfVariable (home h.typing h.frame y) y)) nothing_past goes.lead own)) in (
+        owner_found h settled hands leaks m on other known v ready.kept viewed ready.holds alone live only no_formals index_law own_law parts_named y u way goes.lead plain
             (λ e. cleared_open known w ((λ b n has over. unlent Borrowed b n has over), unmoved)) (λ b n has over. unlent Borrowed b n has over) unmoved,
         (law.direct on y u path way goes direct).1,
       )
@@ -196,18 +197,18 @@ module _ (h : Here) (settled : IsSettled h.typing.table) (leaks : List Leak) (ot
       let still : after (acts head) facts ≡ facts = reads_keep head (head_of_reads h.typing own_law procedure x mode_of e stay.0) facts in
       let each_copy = allows_both known (acts copy) (acts copies_left) (subst (AllowsAll known) (acts_append copy copies_left) copies) in
       let first = one_same known viewed mode_of owning access x e fits kind stay.0 copied.0 before two.0 two.1 compares.0 each.0 each_copy.0 in
-      let given = one_given h settled hands leaks m [] other facts v ready.kept ready.viewed ready.holds alone live index_law own_law parts_named procedure before two.0 mode_of owning access x e
+      let given = one_given h settled hands leaks m [] other facts v ready.kept ready.viewed ready.holds alone live no_formals index_law own_law parts_named procedure before two.0 mode_of owning access x e
       fits kind stay.0 copied.0 two.1 each.0 in
       let next : Passed → Now → Evaluated (List Passed) =
       (λ a now. followed_by (all_passed h (map (way_to h.typing own_law procedure) formals) formals rest now) (λ more now. Done (a ∷ more) now)) in
       then_same h.typing
-      (λ y. Quiet (at two.0) (λ a. IsGiven h settled hands leaks m [] other facts v ready.kept ready.viewed ready.holds alone live index_law own_law parts_named procedure x mode_of e a) y)
+      (λ y. Quiet (at two.0) (λ a. IsGiven h settled hands leaks m [] other facts v ready.kept ready.viewed ready.holds alone live no_formals index_law own_law parts_named procedure x mode_of e a) y)
       (passed h (way_for x) x e (at before)) (passed h (way_for x) x e n') next next given (first.0 n' same)
       (λ a n n'' q now. subst (λ z. SameTo h.typing (next a z) (next a n'')) (sym q.0)
       (simply h.typing (all_passed h (map (way_to h.typing own_law procedure) formals) formals rest (at two.0)) (all_passed h (map (way_to h.typing own_law procedure) formals) formals rest n'')
       (λ more now. Done (a ∷ more) now) (λ more now. Done (a ∷ more) now)
       (all_same two.0 on (after (acts copy) known)
-      (head_acted h settled hands leaks m [] other facts v ready.kept ready.viewed ready.holds alone live index_law own_law parts_named procedure mode_of owning access x e a known fits q.1 viewed)
+      (head_acted h settled hands leaks m [] other facts v ready.kept ready.viewed ready.holds alone live no_formals index_law own_law parts_named procedure mode_of owning access x e a known fits q.1 viewed)
       formals rest (λ y has. kinds y (inr has)) stay.1 copied.1 two.2 compares.1
       (subst (λ z. AllowsAll z (acts others)) still each.1) each_copy.1 n''
       (subst (λ z. SameNow h.typing z n'') q.0 now))

@@ -3,7 +3,7 @@ use Rattle.std.proofs.Common.{◌≡◌, refl, sym, ap, ◌∙◌, subst, inl, i
 use Rattle.place_names.specs.declared.fact.Fact.{Fact}
 use Rattle.type_definitions.specs.declared.table.Shape.TheVariants as shape
 use Rattle.type_definitions.specs.Types.{shape_of, view_of as view_of_shape}
-use Rattle.flow_paths.specs.Objects.{Typing, object_at, designated, designated_of, is_anonymous, is_observer, view_of}
+use Rattle.flow_paths.specs.Objects.{Typing, object_at, designated, designated_of, is_anonymous, view_of}
 use Rattle.machine.specs.Words as machine
 use Rattle.machine.specs.Memory.{Slot, Memory, Place, cell, no_slot, slots_of, variable_slots, words_of}
 use Rattle.machine.specs.Evaluate.{Here, Now, Evaluated, Done, Raises, Traps, followed_by, cell_place, designated_place, walked, variable_place, Touched}
@@ -13,7 +13,7 @@ use Rattle.owned_ways.specs.Ways.{OfVariable, Loc, OfRoot, OfCell, Way, Object, 
 use Rattle.owned_ways.proofs.Assigned.{named_rooted}
 use Rattle.owned_ways.proofs.Locations.{under_along, under_itself}
 use Rattle.part_offsets.specs.Parts.{IsSettled}
-use Rattle.soundness.specs.Seen.{IsNear, content, trunk, seen, home}
+use Rattle.soundness.specs.Seen.{IsNear, content, trunk, seen, home, is_view_formal}
 use Rattle.soundness.specs.Typed.{Kept, Spot}
 use Rattle.soundness.proofs.Near.{named_near, near_along}
 use Rattle.soundness.proofs.Walks.{way_along, Lead, Walked}
@@ -23,10 +23,10 @@ use Rattle.owned_loans.specs.Views.{Around, Views, expand, ExcusedBy, Viewed}
 use Rattle.owned_loans.proofs.Ways.{Lifted, lifted_root}
 use Rattle.owned_loans.proofs.Safe.{OpenWhole, Unborrowed, Unmoved}
 use Rattle.owned_loans.proofs.Others.{itself_away, seen_away_below, clean_away}
-use Rattle.owned_loans.proofs.Moves.{named_way, view_named}
-use Rattle.viewed_soundness.specs.Holds.{PartsAreNamed, Holds}
-use Rattle.viewed_soundness.proofs.Names.{Starts, starts_leads, plain_named, plain_observer, true_false, view_access, way_live, Opens, IsRaised, one_slot, owner_clean, view_clean, name_walked, name_lifted}
-use Rattle.viewed_soundness.proofs.Sources.{stands_named}
+use Rattle.owned_loans.proofs.Moves.{named_way, reached}
+use Rattle.viewed_soundness.specs.Holds.{PartsAreNamed, Holds, sees_only, IsOwners}
+use Rattle.viewed_soundness.proofs.Names.{Starts, starts_leads, plain_named, true_false, view_access, way_live, Opens, IsRaised, one_slot, owner_clean, view_clean, name_walked, name_lifted, both_no, plain_sees}
+use Rattle.viewed_soundness.proofs.Sources.{not_gone}
 use Rattle.viewed_soundness.proofs.Viewing.{view_leaf}
 use Rattle.typed_laws.specs.Needed.{IndexLaw}
 use Rattle.soundness.specs.Typed.{OwnsByShape}
@@ -34,18 +34,23 @@ use Rattle.null_places.proofs.Memories.{NoneGone, words_agree, cell_agree}
 use Rattle.null_places.proofs.Only.{OnlyOwners}
 use Rattle.null_places.proofs.Places.{IsWhole, spot_whole, plain_whole, access_whole, unmoved_whole}
 use Rattle.null_places.proofs.Walks.{SameNow, SameTo, walk_same}
+use Rattle.viewed_soundness.proofs.Walks.{owners_rooted}
+use Rattle.viewed_steps.proofs.Views.{all_owners, anonymous_is_view}
 
 module _ (h : Here) (settled : IsSettled h.typing.table) (hands : List Waiting) (leaks : List Leak) (m : Memory) (waits : List (List machine.Word))
     (other : Around (home h.typing h.frame)) (facts : List Fact) (v : Views) (kept : Kept h.typing m hands)
-    (viewed : Viewed (home h.typing h.frame) (is_observer h.typing) other v (seen h.typing m hands leaks) facts) (holds : Holds h.typing h.frame v m)
+    (viewed : Viewed (home h.typing h.frame) (sees_only h.typing) other v (seen h.typing m hands leaks) facts) (holds : Holds h.typing h.frame v m)
     (alone : (w : Way) → IsNear h.frame w → other.gone w → ⊥)
-    (live : (w : Way) (l : Loc) → IsRooted w → Reaches (seen h.typing m hands leaks) w l → (content h.typing m hands (trunk l)).owns ≡ true)
-    (only : OnlyOwners h.typing m) where
+    (live : (w : Way) (l : Loc) → IsOwners h.typing w → Reaches (seen h.typing m hands leaks) w l → (content h.typing m hands (trunk l)).owns ≡ true)
+    (only : OnlyOwners h.typing m) (no_formals : (x : ℕ) → is_view_formal h.typing x ≡ false) where
   abbrev s : Typing
   s = h.typing
 
   abbrev view_here : View
   view_here = seen h.typing m hands leaks
+
+  live_rooted : (w : Way) (l : Loc) → IsRooted w → Reaches (seen h.typing m hands leaks) w l → (content h.typing m hands (trunk l)).owns ≡ true
+  live_rooted w l rooted reaches = live w l (all_owners h.typing no_formals w rooted) reaches
 
   abbrev variable : ℕ → Way
   variable x = Object (OfVariable (home h.typing h.frame x) x)
@@ -65,11 +70,12 @@ module _ (h : Here) (settled : IsSettled h.typing.table) (hands : List Waiting) 
   owner_same : (x t : ℕ) (way : List run.Step) → is_anonymous (view_of s x) ≡ false → Starts s.table (object_at s x).of way t → IsOpen x (way_along way (variable x))
       → (n' : Now) → SameNow s here_now n' → SameWalk way (variable_place h x) n'
   owner_same x t way plain starts opens n' same =
-      walk_same s settled hands leaks m waits excused kept viewed.owned viewed.known live only way (variable_place h x)
+      walk_same s settled hands leaks m waits excused kept viewed.owned viewed.known live_rooted only way (variable_place h x)
       (OfRoot (OfVariable (home s h.frame x) x)) (variable x) t
       (record { base = refl; made = tt; at = refl; there = refl; of = inl refl }) tt refl
       (starts_leads s.table (object_at s x).of t way (plain_named s.table (object_at s x).of plain) starts)
-      (owner_clean h settled hands leaks m waits other facts v kept viewed holds alone live x way plain opens) n' same
+      (owner_clean h settled hands leaks m waits other facts v kept viewed holds alone live x way
+      (both_no (is_anonymous (view_of s x)) (is_view_formal s x) plain (no_formals x)) opens) n' same
 
   abbrev slot_of : ℕ → Slot
   slot_of x = get_or (variable_slots s (home s h.frame x) x m.variables) 0 no_slot
@@ -90,11 +96,11 @@ module _ (h : Here) (settled : IsSettled h.typing.table) (hands : List Waiting) 
   met x t rest d c n view is lead opens n' same (machine.Enumerated k) e = (refl, same)
   met x t rest d c n view is lead opens n' same machine.Null e = (refl, same)
   met x t rest d c n view is lead opens n' same (machine.Cell k) e =
-      let own = holds.held x k view e in
+      let own = holds.held x k (anonymous_is_view s no_formals x view) e in
       let w : Way = own.0 in
       let known_view = viewed.views x w own.1 in
-      let rooted : IsRooted w = named_rooted (home s h.frame) w (view_named (home s h.frame) (is_observer s) other v view_here facts viewed.views x w own.1) in
-      let reaches : Reaches view_here w (OfCell k) = subst (λ z. Reaches view_here w (OfCell z)) own.2 known_view.reaches in
+      let rooted : IsRooted w = owners_rooted s w (holds.owners x w own.1) in
+      let reaches : Reaches view_here w (OfCell k) = subst (λ z. Reaches view_here w (OfCell z)) own.2 (reached (home s h.frame) (sees_only s) other v view_here facts x w known_view) in
       let alive : (cell m k).freed ≡ false = way_live view_here w k viewed.owned rooted reaches in
       let points = kept.points (OfRoot (OfVariable (home s h.frame x) x)) [] d c n k refl is e in
       let spot : Spot s m hands (cell_place d k) (OfCell k) = record { base = refl; made = (points.0, points.1); at = refl; there = refl; of = points.2 } in
@@ -102,7 +108,7 @@ module _ (h : Here) (settled : IsSettled h.typing.table) (hands : List Waiting) 
       (followed_by (designated_place d (machine.Cell k ∷ []) n') (walked s rest))) (sym alive)
       (subst (λ b. SameTo s (walked s rest (cell_place d k) here_now) (followed_by (if b then Traps Touched n' else Done (cell_place d k) n') (walked s rest)))
       (sym alive ∙ (cell_agree m n'.memory same.0 k).1)
-      (walk_same s settled hands leaks m waits excused kept viewed.owned viewed.known live only rest (cell_place d k) (OfCell k) w t spot rooted reaches lead
+      (walk_same s settled hands leaks m waits excused kept viewed.owned viewed.known live_rooted only rest (cell_place d k) (OfCell k) w t spot rooted reaches lead
       (view_clean h settled hands leaks m waits other facts v kept viewed holds alone live x rest w own.1 opens) n' same))
 
   view_same : (x t : ℕ) (rest : List run.Step) (d : ℕ) (c n : Bool) → is_anonymous (view_of s x) ≡ true → shape_of s.table (object_at s x).of ≡ shape.Access d c n
@@ -173,33 +179,32 @@ module _ (h : Here) (settled : IsSettled h.typing.table) (hands : List Waiting) 
 
   -- No name leads to it that was moved, unless it is looked at through an observer.
   abbrev pub OpensWhole : ℕ → Way → Type 0
-  OpensWhole x u = is_observer h.typing x ≡ false → OpenWhole facts u
+  OpensWhole x u = sees_only h.typing x ≡ false → OpenWhole facts u
 
   module _ (index_law : IndexLaw) (own_law : OwnsByShape h.typing.table) (parts_named : PartsAreNamed h.typing.table) where
     -- what a name stands for isn't moved
-    unmoved : (x : ℕ) (u : Way) → Named (home s h.frame) u → number_of u ≡ x → (is_observer s x ≡ true → Lifted v u) → OpensWhole x u → excused (expand v u) → ⊥
+    unmoved : (x : ℕ) (u : Way) → Named (home s h.frame) u → number_of u ≡ x → (sees_only s x ≡ true → Lifted v u) → OpensWhole x u → excused (expand v u) → ⊥
     unmoved x u named root lifted opens (inr o) =
-        alone (expand v u) (named_near s h.frame (expand v u)
-        (stands_named h settled hands leaks m waits other facts v kept viewed holds alone live index_law own_law parts_named x u named root lifted)) o
-    unmoved x u named root lifted opens (inl moved) = by_kind (is_observer s x) refl
+        not_gone h settled hands leaks m waits other facts v kept viewed holds alone live index_law own_law parts_named x u named root lifted o
+    unmoved x u named root lifted opens (inl moved) = by_kind (sees_only s x) refl
       where
-        by_kind : (b : Bool) → is_observer s x ≡ b → ⊥
+        by_kind : (b : Bool) → sees_only s x ≡ b → ⊥
         by_kind false e =
-            itself_away (home s h.frame) (is_observer s) other v view_here facts viewed u (named, ap (is_observer s) root ∙ e) (opens e) moved
+            itself_away (home s h.frame) (sees_only s) other v view_here facts viewed u (named, ap (sees_only s) root ∙ e) (opens e) moved
         by_kind true e =
             let l = lifted e in
-            seen_away_below (home s h.frame) (is_observer s) other v view_here facts viewed u (expand v u) l named
-            (ap (is_observer s) (sym (lifted_root v u l) ∙ root) ∙ e) (under_itself (expand v u)) moved
+            seen_away_below (home s h.frame) (sees_only s) other v view_here facts viewed u (expand v u) l named
+            (ap (sees_only s) (sym (lifted_root v u l) ∙ root) ∙ e) (under_itself (expand v u)) moved
 
     -- an access value that an owner has
     access_there : (x t d : ℕ) (c : Bool) (way : List run.Step) → shape_of s.table t ≡ shape.Access d c true
-        → (is_observer s x ≡ true → Lifted v (way_along way (variable x))) → IsRooted (expand v (way_along way (variable x))) → OpensWhole x (way_along way (variable x))
+        → (sees_only s x ≡ true → Lifted v (way_along way (variable x))) → IsRooted (expand v (way_along way (variable x))) → OpensWhole x (way_along way (variable x))
         → (y : Evaluated Place) → WalkedTo (expand v (way_along way (variable x))) t y → Quiet here_now (λ k. WholePlace t k) y
     access_there x t d c way is lifted rooted opens y there =
         let u : Way = way_along way (variable x) in
         let named : Named (home s h.frame) u = named_along (home s h.frame) way (variable x) refl in
         found_whole (expand v u) t
-        (λ k l spot reaches of. access_whole s settled m hands leaks excused viewed.known (expand v u) l rooted reaches (live (expand v u) l rooted reaches) k d c spot
+        (λ k l spot reaches of. access_whole s settled m hands leaks excused viewed.known (expand v u) l rooted reaches (live_rooted (expand v u) l rooted reaches) k d c spot
         (ap (shape_of s.table) of ∙ is) (unmoved x u named (number_along way (variable x)) lifted opens)) y there
 
     pub access_found : (x t d : ℕ) (c : Bool) (way : List run.Step) → Starts s.table (object_at s x).of way t → shape_of s.table t ≡ shape.Access d c true
@@ -211,14 +216,17 @@ module _ (h : Here) (settled : IsSettled h.typing.table) (hands : List Waiting) 
         let there = name_walked h settled hands leaks m waits other facts v kept viewed holds alone live x t way starts opens in
         elim (name_lifted h settled hands leaks m waits other facts v kept viewed holds alone live x t way (λ e b q shape_is. named_is d e c b q (sym is ∙ shape_is)) starts) [
           | inl plain ↦ access_there x t d c way is
-              (λ e. absurd (true_false (is_observer s x) e (plain_observer s x plain)))
+              (λ e. absurd (true_false (sees_only s x) e (plain_sees s x plain)))
               (named_rooted (home s h.frame) (expand v u)
-              (named_way (home s h.frame) (is_observer s) other v view_here facts viewed.views (suc (number_of u)) u (omega arith)
-              (named, ap (is_observer s) (number_along way (variable x)) ∙ plain_observer s x plain))) whole
+              (named_way (home s h.frame) (sees_only s) other v view_here facts viewed.views (suc (number_of u)) u (omega arith)
+              (named, ap (sees_only s) (number_along way (variable x)) ∙ plain_sees s x plain))) whole
               (walked s way (variable_place h x) here_now) there
           | inr more ↦ elim more [
-            | inl lifted ↦ access_there x t d c way is (λ e. lifted.0) lifted.2 whole (walked s way (variable_place h x) here_now) there
-            | inr raises ↦ raised t (walked s way (variable_place h x) here_now) raises
+            | inl lifted ↦ access_there x t d c way is (λ e. lifted.0) (owners_rooted s (expand v u) lifted.2) whole (walked s way (variable_place h x) here_now) there
+            | inr last ↦ elim last [
+              | inl raises ↦ raised t (walked s way (variable_place h x) here_now) raises
+              | inr itself ↦ absurd (true_false (is_view_formal s x) itself.0 (no_formals x))
+            ]
           ]
         ]
       where
@@ -226,20 +234,20 @@ module _ (h : Here) (settled : IsSettled h.typing.table) (hands : List Waiting) 
         named_is d e c b q z = cc
 
     -- a place of which no part is moved or borrowed
-    pub owner_found : (x t : ℕ) (way : List run.Step) → Starts s.table (object_at s x).of way t → is_observer s x ≡ false
+    pub owner_found : (x t : ℕ) (way : List run.Step) → Starts s.table (object_at s x).of way t → sees_only s x ≡ false
         → IsOpen x (way_along way (variable x)) → Unborrowed facts (way_along way (variable x)) → Unmoved facts (way_along way (variable x))
         → Quiet (record { memory = m; waits = waits }) (λ k. WholePlace t k) (walked h.typing way (variable_place h x) (record { memory = m; waits = waits }))
     owner_found x t way starts plain opens unborrowed clean =
         let u : Way = way_along way (variable x) in
         let named : Named (home s h.frame) u = named_along (home s h.frame) way (variable x) refl in
-        let seen_not : is_observer s (number_of u) ≡ false = ap (is_observer s) (number_along way (variable x)) ∙ plain in
+        let seen_not : sees_only s (number_of u) ≡ false = ap (sees_only s) (number_along way (variable x)) ∙ plain in
         let stands : Named (home s h.frame) (expand v u) =
-        named_way (home s h.frame) (is_observer s) other v view_here facts viewed.views (suc (number_of u)) u (omega arith) (named, seen_not) in
+        named_way (home s h.frame) (sees_only s) other v view_here facts viewed.views (suc (number_of u)) u (omega arith) (named, seen_not) in
         let rooted : IsRooted (expand v u) = named_rooted (home s h.frame) (expand v u) stands in
         found_whole (expand v u) t
-        (λ k l spot reaches of. unmoved_whole s settled m hands leaks excused viewed.known (expand v u) l rooted reaches (live (expand v u) l rooted reaches)
+        (λ k l spot reaches of. unmoved_whole s settled m hands leaks excused viewed.known (expand v u) l rooted reaches (live_rooted (expand v u) l rooted reaches)
         (λ p moved. elim moved [
-          | inl said ↦ clean_away (home s h.frame) (is_observer s) other v view_here facts viewed u (along (expand v u) p) (named, seen_not) unborrowed clean
+          | inl said ↦ clean_away (home s h.frame) (sees_only s) other v view_here facts viewed u (along (expand v u) p) (named, seen_not) unborrowed clean
               (under_along (expand v u) (expand v u) p (under_itself (expand v u))) said
           | inr o ↦ alone (along (expand v u) p) (near_along h.frame (expand v u) p (named_near s h.frame (expand v u) stands)) o
         ]))

@@ -1,7 +1,8 @@
 -- Of what a call passes nothing is gone, nor of the formals that it copies back.
+use Rattle.viewed_soundness.specs.Holds.{sees_only}
 use Rattle.std.proofs.Common.{◌≡◌, refl, sym, ◌∙◌, subst, ◌⊎◌, inl, inr, ℕ, suc, false, List, [], ◌∷◌, ◌++◌, length}
 use Rattle.place_names.specs.declared.fact.Fact.{Fact}
-use Rattle.flow_paths.specs.Objects.{Typing, is_observer}
+use Rattle.flow_paths.specs.Objects.{Typing}
 use Rattle.machine.specs.Words as machine
 use Rattle.machine.specs.Memory.{Memory, Place, words_of, moved_out, stored, declared}
 use Rattle.machine.specs.Evaluate.{variable_place}
@@ -29,11 +30,12 @@ use Rattle.viewed_steps.proofs.Backed as backed
 use Rattle.viewed_steps.proofs.Backed.{AwayBy, ViewedAway}
 use Rattle.null_places.proofs.Places.{spot_whole, unmoved_whole, moved_only}
 use Rattle.null_places.proofs.Calls.{IsWholly, IsWhollyPassed, AreWhollyPassed, fixed_wholly, AreWhollyBack}
+use Rattle.viewed_steps.proofs.Views.{AreFar}
 
 -- Of a place in a variable nothing is gone, where nothing says so of its way and what goes on from it.
 pub inside_wholly : (s : Typing) (settled : IsSettled s.table) (no_formals : (x : ℕ) → is_view_formal s x ≡ false) (hands : List Waiting) (leaks : List Leak) (f depth : ℕ) (v : Views)
     (facts : List Fact) (other : Around (home s depth)) (k : Place) (to : Way) → IsInside s f k to → (m : Memory) → Kept s m hands
-    → Viewed (home s depth) (is_observer s) other v (seen s m hands leaks) facts → ((w : Way) → Under to w → ExcusedBy (home s depth) v other facts w → ⊥) → IsWholly s k m
+    → Viewed (home s depth) (sees_only s) other v (seen s m hands leaks) facts → ((w : Way) → Under to w → ExcusedBy (home s depth) v other facts w → ⊥) → IsWholly s k m
 inside_wholly s settled no_formals hands leaks f depth v facts other k to inside m typed viewed clean only =
     let at : Loc = inside_at s f k to inside in
     let spot : Spot s m hands k at = inside_spot s f k to inside m hands in (
@@ -47,7 +49,8 @@ inside_wholly s settled no_formals hands leaks f depth v facts other k to inside
 -- ---- what is passed
 
 module _ (s : Typing) (settled : IsSettled s.table) (own_law : OwnsByShape s.table) (no_formals : (x : ℕ) → is_view_formal s x ≡ false)
-    (hands : List Waiting) (leaks : List Leak) (depth : ℕ) (v : Views) (facts : List Fact) (scope : List ℕ) where
+    (hands : List Waiting) (leaks : List Leak) (depth : ℕ) (v : Views)
+    (far : AreFar (home s depth) v depth) (facts : List Fact) (scope : List ℕ) where
   plain_wholly : (a : Passed) → IsLaid s a → (m : Memory) → Kept s m hands → IsWhollyPassed s a m
   plain_wholly (Value ws) laid m typed = tt
   plain_wholly (From k) laid m typed = fixed_wholly s settled own_law hands k laid m typed
@@ -55,8 +58,8 @@ module _ (s : Typing) (settled : IsSettled s.table) (own_law : OwnsByShape s.tab
 
   -- one after the other, with the places that are taken gone
   pub passed_wholly : (other : Around (home s depth)) (formals : List ℕ) (passed : List Passed) (ways : List Way) (m : Memory)
-      → ArePassedOn s depth facts scope formals passed ways → IsOpen s settled own_law no_formals hands leaks depth v facts scope other ways → Kept s m hands
-      → Viewed (home s depth) (is_observer s) other v (seen s m hands leaks) facts → AreBlank s settled own_law no_formals hands leaks depth v facts scope m formals
+      → ArePassedOn s depth facts scope formals passed ways → IsOpen s settled own_law no_formals hands leaks depth v far facts scope other ways → Kept s m hands
+      → Viewed (home s depth) (sees_only s) other v (seen s m hands leaks) facts → AreBlank s settled own_law no_formals hands leaks depth v far facts scope m formals
       → AreWhollyPassed s (suc depth) formals passed m
   passed_wholly other [] passed ways m are open_there typed viewed blank = tt
   passed_wholly other (x ∷ formals) [] ways m are open_there typed viewed blank = tt
@@ -65,7 +68,7 @@ module _ (s : Typing) (settled : IsSettled s.table) (own_law : OwnsByShape s.tab
       let mid : Memory = with_formal s (suc depth) x a m in (
         plain_wholly a are.0.1 m typed,
         passed_wholly other formals passed [] mid are.1 open_there on.typed
-            (same_viewed (home s depth) (is_observer s) other v (seen s m hands leaks) (seen s mid hands leaks) facts on.same viewed)
+            (same_viewed (home s depth) (sees_only s) other v (seen s m hands leaks) (seen s mid hands leaks) facts on.same viewed)
             (λ y has p. on.hold (suc depth) y p ∙ blank y (inr has) p),
       )
   passed_wholly other (x ∷ formals) (a ∷ passed) (to ∷ ways) m (inl are) open_there typed viewed blank =
@@ -73,7 +76,7 @@ module _ (s : Typing) (settled : IsSettled s.table) (own_law : OwnsByShape s.tab
       let mid : Memory = with_formal s (suc depth) x a m in (
         plain_wholly a are.0.1 m typed,
         passed_wholly other formals passed (to ∷ ways) mid are.1 open_there on.typed
-            (same_viewed (home s depth) (is_observer s) other v (seen s m hands leaks) (seen s mid hands leaks) facts on.same viewed)
+            (same_viewed (home s depth) (sees_only s) other v (seen s m hands leaks) (seen s mid hands leaks) facts on.same viewed)
             (λ y has p. on.hold (suc depth) y p ∙ blank y (inr has) p),
       )
   passed_wholly other (x ∷ formals) (a ∷ passed) (to ∷ ways) m (inr (k, is, one, whole, apart, differ, more)) open_there typed viewed blank =
@@ -82,19 +85,20 @@ module _ (s : Typing) (settled : IsSettled s.table) (own_law : OwnsByShape s.tab
       let away : Around (home s depth) = gone_also (home s depth) other (λ w. other.gone w ⊎ ((p : List Step) × (w ≡ along to p))) in
       subst (λ z. AreWhollyPassed s (suc depth) (x ∷ formals) (z ∷ passed) m) (sym is) (
         inside_wholly s settled no_formals hands leaks depth depth v facts other k to one.inside m typed viewed
-            (entered.clean s settled own_law no_formals hands leaks depth v facts scope other x k to ways one whole apart open_there m typed viewed new),
+            (entered.clean s settled own_law no_formals hands leaks depth v far facts scope other x k to ways one whole apart open_there m typed viewed new),
         passed_wholly away formals passed ways next more
-            (entered.one_open s settled own_law no_formals hands leaks depth v facts scope other x k to ways one whole apart open_there m typed viewed new)
-            (entered.kept_next s settled own_law no_formals hands leaks depth v facts scope other x k to ways one whole apart open_there m typed viewed new)
-            (entered.viewed_next s settled own_law no_formals hands leaks depth v facts scope other x k to ways one whole apart open_there m typed viewed new)
-            (λ y has p. entered.one_blank s settled own_law no_formals hands leaks depth v facts scope other x k to ways one whole apart open_there m typed viewed new y (differ y has) p
+            (entered.one_open s settled own_law no_formals hands leaks depth v far facts scope other x k to ways one whole apart open_there m typed viewed new)
+            (entered.kept_next s settled own_law no_formals hands leaks depth v far facts scope other x k to ways one whole apart open_there m typed viewed new)
+            (entered.viewed_next s settled own_law no_formals hands leaks depth v far facts scope other x k to ways one whole apart open_there m typed viewed new)
+            (λ y has p. entered.one_blank s settled own_law no_formals hands leaks depth v far facts scope other x k to ways one whole apart open_there m typed viewed new y (differ y has) p
             (blank y (inr has) p)),
       )
 
 -- ---- what is copied back
 
 module _ (t : Turn) (settled : IsSettled (typing t).table) (own_law : OwnsByShape (typing t).table) (no_formals : (x : ℕ) → is_view_formal (typing t) x ≡ false)
-    (hands : List Waiting) (leaks : List Leak) (depth : ℕ) (deep : length t.outer ≡ suc depth) (v : Views) (facts : List Fact) (scope : List ℕ)
+    (hands : List Waiting) (leaks : List Leak) (depth : ℕ) (deep : length t.outer ≡ suc depth) (v : Views)
+    (far : AreFar (home (typing t) depth) v depth) (facts : List Fact) (scope : List ℕ)
     (other : Around (home (typing t) depth))
     (free : (h : ℕ) (w : Way) → Under (Object (OfHand h)) w → other.gone w → ⊥)
     (whole : (x : ℕ) (w : Way) → base_of w ≡ OfRoot (OfVariable (suc depth) x) → other.gone w → ⊥)
@@ -103,7 +107,7 @@ module _ (t : Turn) (settled : IsSettled (typing t).table) (own_law : OwnsByShap
   s = typing t
 
   abbrev ViewedNow : List Return → List Way → Memory → Type 0
-  ViewedNow returns ways m = ViewedAway t settled own_law no_formals hands leaks depth deep v facts scope other free whole none returns ways m
+  ViewedNow returns ways m = ViewedAway t settled own_law no_formals hands leaks depth deep v far facts scope other free whole none returns ways m
 
   -- a scalar one
   copied_wholly : (r : Return) (rest : List Return) (ways : List Way) (m : Memory) → IsCopied s r → Kept s m hands → ViewedNow (r ∷ rest) ways m
@@ -123,18 +127,19 @@ module _ (t : Turn) (settled : IsSettled (typing t).table) (own_law : OwnsByShap
         (to.frame, to.object, to.base),
         fixed_wholly s settled own_law hands formal fixed m typed,
         more next on.typed
-            (more_gone (home s depth) (is_observer s) v (backed.away t settled own_law no_formals hands leaks depth deep v facts scope other free whole none (r ∷ rest) ways)
-            (AwayBy t settled own_law no_formals hands leaks depth deep v facts scope other free whole none rest ways) (seen s next hands leaks) facts
+            (more_gone (home s depth) (sees_only s) v (backed.away t settled own_law no_formals hands leaks depth deep v far facts scope other free whole none (r ∷ rest) ways)
+            (AwayBy t settled own_law no_formals hands leaks depth deep v far facts scope other free whole none rest ways)
+            (backed.apart_by t settled own_law no_formals hands leaks depth deep v far facts scope other free whole none (r ∷ rest) rest ways m viewed) (seen s next hands leaks) facts
             (λ w o. elim o [
               | inl away_there ↦ inl away_there
               | inr later ↦ elim later [
                 | inl taken_there ↦ inr (inl taken_there)
-                | inr left ↦ inr (inr (backed.left_more t settled own_law no_formals hands leaks depth deep v facts scope other free whole none r rest w left))
+                | inr left ↦ inr (inr (backed.left_more t settled own_law no_formals hands leaks depth deep v far facts scope other free whole none r rest w left))
               ]
             ])
-            (same_viewed (home s depth) (is_observer s) (backed.away t settled own_law no_formals hands leaks depth deep v facts scope other free whole none (r ∷ rest) ways) v
+            (same_viewed (home s depth) (sees_only s) (backed.away t settled own_law no_formals hands leaks depth deep v far facts scope other free whole none (r ∷ rest) ways) v
             (seen s m hands leaks) (seen s next hands leaks) facts on.same viewed))
-            (backed.taken_on t settled own_law no_formals hands leaks depth deep v facts scope other free whole none m next rest ways
+            (backed.taken_on t settled own_law no_formals hands leaks depth deep v far facts scope other free whole none m next rest ways
             (λ k w has there bare p c held. bare p c (sym (on.hold depth there.object (p ++ there.steps)) ∙ held)) taken),
       )
 
@@ -145,17 +150,17 @@ module _ (t : Turn) (settled : IsSettled (typing t).table) (own_law : OwnsByShap
   back_wholly (r ∷ rest) (to ∷ ways) m (inl copied) typed viewed =
       copied_wholly r rest (to ∷ ways) m copied.0 typed viewed copied.1 (λ next kept there later. back_wholly rest (to ∷ ways) next later kept there)
   back_wholly (r ∷ rest) (to ∷ ways) m (inr (taken, apart, another, more)) typed viewed =
-      let begin = backed.taken_base t settled own_law no_formals hands leaks depth deep v facts scope other free whole none m rest ways more in
+      let begin = backed.taken_base t settled own_law no_formals hands leaks depth deep v far facts scope other free whole none m rest ways more in
       let next : Memory = stored s r.to (words_of s m (variable_place (here t) r.formal)) (moved_out s (variable_place (here t) r.formal) m) in (
         (depth, (taken.0).inside.object, (taken.0).inside.base),
         inside_wholly s settled no_formals hands leaks (suc depth) depth v facts
-            (backed.away t settled own_law no_formals hands leaks depth deep v facts scope other free whole none (r ∷ rest) (to ∷ ways))
+            (backed.away t settled own_law no_formals hands leaks depth deep v far facts scope other free whole none (r ∷ rest) (to ∷ ways))
             (variable_place (here t) r.formal) (Object (OfVariable (suc depth) r.formal))
-            (backed.formal_inside t settled own_law no_formals hands leaks depth deep v facts scope other free whole none r rest to ways m taken apart another begin typed viewed) m typed viewed
-            (backed.clean t settled own_law no_formals hands leaks depth deep v facts scope other free whole none r rest to ways m taken apart another begin typed viewed),
+            (backed.formal_inside t settled own_law no_formals hands leaks depth deep v far facts scope other free whole none r rest to ways m taken apart another begin typed viewed) m typed viewed
+            (backed.clean t settled own_law no_formals hands leaks depth deep v far facts scope other free whole none r rest to ways m taken apart another begin typed viewed),
         back_wholly rest ways next
-            (backed.taken_on t settled own_law no_formals hands leaks depth deep v facts scope other free whole none m next rest ways
-            (λ k w has there bare. backed.one_bare t settled own_law no_formals hands leaks depth deep v facts scope other free whole none r rest to ways m taken apart another begin typed viewed k w has there bare) more)
-            (backed.one_kept t settled own_law no_formals hands leaks depth deep v facts scope other free whole none r rest to ways m taken apart another begin typed viewed)
-            (backed.one_viewed t settled own_law no_formals hands leaks depth deep v facts scope other free whole none r rest to ways m taken apart another begin typed viewed),
+            (backed.taken_on t settled own_law no_formals hands leaks depth deep v far facts scope other free whole none m next rest ways
+            (λ k w has there bare. backed.one_bare t settled own_law no_formals hands leaks depth deep v far facts scope other free whole none r rest to ways m taken apart another begin typed viewed k w has there bare) more)
+            (backed.one_kept t settled own_law no_formals hands leaks depth deep v far facts scope other free whole none r rest to ways m taken apart another begin typed viewed)
+            (backed.one_viewed t settled own_law no_formals hands leaks depth deep v far facts scope other free whole none r rest to ways m taken apart another begin typed viewed),
       )

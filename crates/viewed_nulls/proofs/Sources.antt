@@ -32,7 +32,7 @@ use Rattle.soundness.proofs.Lasting.{keeps}
 use Rattle.soundness.proofs.Numbers.{index_law}
 use Rattle.owned_loans.specs.Views.{Around, Views}
 use Rattle.owned_loans.proofs.Allowed.{Cleared, cleared_open, cleared_whole, borrow_clears, observe_clears, reborrow_clears}
-use Rattle.viewed_soundness.specs.Holds.{PartsAreNamed}
+use Rattle.viewed_soundness.specs.Holds.{PartsAreNamed, IsOwners, sees_only}
 use Rattle.viewed_soundness.proofs.Stays.{Goes}
 use Rattle.viewed_soundness.proofs.Evaluated.{live_trunk}
 use Rattle.viewed_steps.proofs.Sources.{view_shape, observer_only}
@@ -93,15 +93,15 @@ module _ (t : Turn) (settled : IsSettled (typing t).table) (own_law : OwnsByShap
   law : Behaves h asks m hands facts
   law = viewed_behaves h settled t.state.leaks other alone no_formals index_law own_law v parts_named m hands facts so only
 
-  live : (w : Way) (l : Loc) → IsRooted w → Reaches (seen s m hands t.state.leaks) w l → (content s m hands (trunk l)).owns ≡ true
-  live = live_trunk h settled t.state.leaks [] other alone (keeps s settled own_law) no_formals index_law own_law v parts_named m hands so.viewed.owned
+  live : (w : Way) (l : Loc) → IsOwners s w → Reaches (seen s m hands t.state.leaks) w l → (content s m hands (trunk l)).owns ≡ true
+  live = live_trunk h settled t.state.leaks [] other alone (keeps s settled own_law) index_law own_law v parts_named m hands so.viewed.owned
 
   abbrev variable : ℕ → Way
   variable x = Object (OfVariable (home s h.frame x) x)
 
   -- what is looked at, unless through an observer, is neither moved nor borrowed
   abbrev Clears : ℕ → TypedTree → Type 0
-  Clears y path = (w : Way) → ways.name_of w ≡ name_of y path → is_observer s y ≡ false → Cleared facts w
+  Clears y path = (w : Way) → ways.name_of w ≡ name_of y path → sees_only s y ≡ false → Cleared facts w
 
   leads_to : (on : List (List machine.Word)) (y u d : ℕ) (c b : Bool) (path : TypedTree) (way : List run.Step) → Goes s.table (object_at s y).of u path way
       → shape_of s.table u ≡ shape.Access d c b → Clears y path → LeadsWhole h asks m hands facts on y u way
@@ -115,17 +115,17 @@ module _ (t : Turn) (settled : IsSettled (typing t).table) (own_law : OwnsByShap
 
       same : (n' : Now) → SameNow s (record { memory = m; waits = on }) n' → SameTo s (walked s way (variable_place h y) (record { memory = m; waits = on })) (walked s way (variable_place h y) n')
       same =
-          name_same h settled hands t.state.leaks m on other facts v so.kept so.viewed so.holds alone live only y u way goes.lead
+          name_same h settled hands t.state.leaks m on other facts v so.kept so.viewed so.holds alone live only no_formals y u way goes.lead
           (λ e. cleared_open facts w (clears w called e))
 
       by_kind : (b : Bool) → shape_of s.table u ≡ shape.Access d c b → LeadsWhole h asks m hands facts on y u way
       by_kind true is = (
-        access_found h settled hands t.state.leaks m on other facts v so.kept so.viewed so.holds alone live only index_law own_law parts_named y u d c way goes.lead is
+        access_found h settled hands t.state.leaks m on other facts v so.kept so.viewed so.holds alone live only no_formals index_law own_law parts_named y u d c way goes.lead is
             (λ e. cleared_open facts w (clears w called e)) (λ e. cleared_whole facts w (clears w called e)),
         same,
       )
       by_kind false is = (
-        view_whole h settled hands t.state.leaks m on other facts v so.kept so.viewed so.holds alone live only y u way goes.lead
+        view_whole h settled hands t.state.leaks m on other facts v so.kept so.viewed so.holds alone live only no_formals y u way goes.lead
             (ap (λ z. is_anonymous (view_of_shape z)) is ∙ anonymous_access c) (λ e. cleared_open facts w (clears w called e)),
         same,
       )
@@ -149,7 +149,7 @@ module _ (t : Turn) (settled : IsSettled (typing t).table) (own_law : OwnsByShap
   pub taken_same : (on : List (List machine.Word)) (x u' : ℕ) (p : Pos) (y u : ℕ) (path : TypedTree) (a : PlaceName → Act) → is_anonymous (full (typing t).table u') ≡ true
       → Source (typing t) u' (Name p y path u) → Takes (waits_in path) (start t).waits on → Compares (typing t) path
       → AllowsAll facts (acts (acts_in (typing t) path) ++ a (name_of y path) ∷ [])
-      → ((w : Way) → ways.name_of w ≡ name_of y path → is_observer (typing t) y ≡ false → Allows facts (a (name_of y path)) → Cleared facts w)
+      → ((w : Way) → ways.name_of w ≡ name_of y path → sees_only (typing t) y ≡ false → Allows facts (a (name_of y path)) → Cleared facts w)
       → SameTo (typing t) (taken_by t u' (Name p y path u) (record { memory = t.state.memory; waits = (start t).waits })) (taken_by t u' (Name p y path u) (start (twin t n)))
   taken_same on x u' p y u path a view source_there takes compares allowed clears =
       let from = source_of s u' p y u path view source_there in

@@ -15,7 +15,7 @@ use Rattle.typed_tree.specs.Trees.{TypedTree, Name, NoMore, More, Call as CallIn
 use Rattle.typed_tree.specs.Programs.{TypedProgram}
 use Rattle.flow_paths.specs.declared.report.Effects.{Effects}
 use Rattle.flow_paths.specs.Instructions.{Instruction, Declare, Assign, Call, Hold, EndScope, Finish}
-use Rattle.flow_paths.specs.Objects.{Typing, sub_at, passings, is_anonymous, is_observer, object_at}
+use Rattle.flow_paths.specs.Objects.{Typing, sub_at, passings, is_anonymous, object_at}
 use Rattle.flow_paths.specs.Names.{has_call, waiting as waits_in, name_of}
 use Rattle.flow_paths.specs.Acts as flow
 use Rattle.flow_paths.specs.Acts.{acts_in}
@@ -47,7 +47,7 @@ use Rattle.soundness.proofs.Eased.{eased}
 use Rattle.soundness.proofs.Stays.{Quiet}
 use Rattle.soundness.proofs.Taking.{Takes, takes_as, no_takes, nothing_more}
 use Rattle.owned_loans.specs.Views.{Around, known_gone, Views, Viewed}
-use Rattle.viewed_soundness.specs.Holds.{IsNamed, AllKeep}
+use Rattle.viewed_soundness.specs.Holds.{IsNamed, AllKeep, sees_only}
 use Rattle.viewed_soundness.proofs.Outcomes.{named_plain}
 use Rattle.viewed_steps.specs.Sound.{IsResting, HoldsAt, ArePlaced, NoneAbove, ViewStage, stages_of, GoneElsewhere, AreWaiting, IsRunning, IsSound}
 use Rattle.viewed_steps.specs.Ready.{IsReady}
@@ -69,6 +69,7 @@ use Rattle.viewed_nulls.proofs.Actuals.{all_same}
 use Rattle.viewed_nulls.proofs.Passed.{passed_wholly, back_wholly}
 use Rattle.viewed_nulls.proofs.Viewed.{viewed_premises, gives_both, IsReadyIn, viewed_values}
 use Rattle.viewed_nulls.proofs.Instructions as own_instructions
+use Rattle.viewed_steps.proofs.Views.{all_held}
 
 -- whether the scope of an object ends
 end_or : (i : Instruction) → ((x : ℕ) × (i ≡ EndScope x)) ⊎ ((x : ℕ) → i ≡ EndScope x → ⊥)
@@ -98,7 +99,7 @@ module _ (table : Table) (typed : TypedProgram) (effects : Effects) (input : Lis
       (running : (top.frame.sub ≡ 0) × IsPlain top × ((x : ℕ) → views.way x ≡ None) × (top.depth ≡ 0))
       (of_sub : IsNamedSub (flow_named table typed) top.frame.sub named) (at_point : IsAtPoint named.points top.frame.next p)
       (path : ControlPath (path_points program effects (sub_of program top.frame.sub)) top.before top.frame.next)
-      (viewed_before : Viewed (home s 0) (is_observer s) (known_gone (home s 0) (GoneElsewhere program effects [])) views (view_here s state) (facts_of program effects top))
+      (viewed_before : Viewed (home s 0) (sees_only s) (known_gone (home s 0) (GoneElsewhere program effects [])) views (view_here s state) (facts_of program effects top))
       (kept : Kept s state.memory (waiting_in state)) (holds : HoldsAt s 0 views state.memory p)
       (only : OnlyOwners s state.memory) (n : Memory) (agrees : Agrees state.memory n) where
     abbrev first_turn : Turn
@@ -121,9 +122,9 @@ module _ (table : Table) (typed : TypedProgram) (effects : Effects) (input : Lis
         subst (λ (z : FlowSub). Has z.points first_turn.point)
         (sym (standing.sub_is table typed effects input ready state top [] [] named p frames of_sub at_point) ∙ ap (sub_of program) running.0) in_first
 
-    viewed_first : Viewed (home s 0) (is_observer s) (known_gone (home s 0) (GoneElsewhere program effects [])) views (view_here s state) facts_first
+    viewed_first : Viewed (home s 0) (sees_only s) (known_gone (home s 0) (GoneElsewhere program effects [])) views (view_here s state) facts_first
     viewed_first =
-        subst (Viewed (home s 0) (is_observer s) (known_gone (home s 0) (GoneElsewhere program effects [])) views (view_here s state))
+        subst (Viewed (home s 0) (sees_only s) (known_gone (home s 0) (GoneElsewhere program effects [])) views (view_here s state))
         (standing.facts_are table typed effects input ready state top [] [] named p frames of_sub at_point path) viewed_before
 
     abbrev FirstGoal : Instruction → Type 0
@@ -139,7 +140,7 @@ module _ (table : Table) (typed : TypedProgram) (effects : Effects) (input : Lis
         (record {
           viewed = viewed_first;
           kept = kept;
-          holds = record { held = λ y k view at. holds.held y k (λ fading. no_end fading.0 fading.1) view at; only = holds.only };
+          holds = all_held s no_formals 0 views state.memory (λ y k view at. holds.held y k (λ fading. no_end fading.0 fading.1) view at) holds.only holds.named;
         }) only n agrees p.instr refl no_call
         (λ is. (let no : Declare x v ≡ Finish = sym e ∙ is in cc)) (λ w is. absurd (let no : Declare x v ≡ Hold w = sym e ∙ is in cc))
         (standing.fine table typed effects input ready state top [] [] named p frames of_sub at_point)
@@ -166,7 +167,7 @@ module _ (table : Table) (typed : TypedProgram) (effects : Effects) (input : Lis
       (awaiting : AreAwaited table typed None (top ∷ stages_of (below ∷ more_frames)))
       (of_sub : IsNamedSub (flow_named table typed) top.frame.sub named) (at_point : IsAtPoint named.points top.frame.next p)
       (path : ControlPath (path_points program effects (sub_of program top.frame.sub)) top.before top.frame.next) (views : Views)
-      (viewed_before : Viewed (home s (suc (length rest))) (is_observer s) (known_gone (home s (suc (length rest))) (GoneElsewhere program effects (below ∷ more_frames))) views
+      (viewed_before : Viewed (home s (suc (length rest))) (sees_only s) (known_gone (home s (suc (length rest))) (GoneElsewhere program effects (below ∷ more_frames))) views
       (view_here s state) (facts_of program effects top))
       (kept : Kept s state.memory (waiting_in state)) (scope : InScope s state.memory (suc (length rest)) (lasting_of s p.scope)) (holds : HoldsAt s (suc (length rest)) views state.memory p)
       (placed_before : ArePlaced program (facts_of program effects top) views p.scope) (above : NoneAbove s (suc (length rest)) state.memory)
@@ -215,7 +216,7 @@ module _ (table : Table) (typed : TypedProgram) (effects : Effects) (input : Lis
       so = record {
         viewed = innermost.viewed table typed effects input ready state top below more_frames rest named p frames deep stages running awaiting of_sub at_point path views viewed_before kept scope holds placed_before above;
         kept = kept;
-        holds = record { held = λ x k view at. holds.held x k (λ fading. going fading.0 fading.1) view at; only = holds.only };
+        holds = all_held s no_formals (suc (length rest)) views state.memory (λ x k view at. holds.held x k (λ fading. going fading.0 fading.1) view at) holds.only holds.named;
       }
 
       abbrev asks : Premises (steps.here main_turn)
@@ -239,7 +240,7 @@ module _ (table : Table) (typed : TypedProgram) (effects : Effects) (input : Lis
           (each.spares table typed effects input ready state top below more_frames rest named p frames deep stages running awaiting of_sub at_point path views viewed_before kept scope holds placed_before above going no_call end)
           (standing.allowed table typed effects input ready state top older outer named p frames of_sub at_point path no_call)
 
-      keeps_there : AllKeep (is_observer s) (acts_of_main p.instr)
+      keeps_there : AllKeep (sees_only s) (acts_of_main p.instr)
       keeps_there = standing.keeps_there table typed effects input ready state top older outer named p frames of_sub at_point
 
       -- ---- a return
@@ -261,7 +262,7 @@ module _ (table : Table) (typed : TypedProgram) (effects : Effects) (input : Lis
           same (λ ws i j now. ((refl, now.0), now.2)))
 
       value_same : Plain → (e : TypedTree) (of : ℕ) → p.instr ≡ Hold (More e NoMore) → named.sub.result ≡ Some of → Source s of e → TakesScalars s (Hold (More e NoMore))
-          → ComparesIn s (Hold (More e NoMore)) → AllowsAll facts_now (acts_of_main (Hold (More e NoMore))) → AllKeep (is_observer s) (acts_of_main (Hold (More e NoMore)))
+          → ComparesIn s (Hold (More e NoMore)) → AllowsAll facts_now (acts_of_main (Hold (More e NoMore))) → AllKeep (sees_only s) (acts_of_main (Hold (More e NoMore)))
           → SameTo s (steps.taken_by main_turn of e (start main_turn)) (steps.taken_by main_turn of e (start (twin main_turn n)))
       unfolding acts_in waits_in Compares
       value_same plain e of is result source takes_plainly compares_there allowed keep =
@@ -274,21 +275,21 @@ module _ (table : Table) (typed : TypedProgram) (effects : Effects) (input : Lis
           source_same main_turn ready.accepted.settled ready.owns asks ready_in laws facts_now so only n agrees [] of e owner own_type (given_there of e owner source)
           tt (gives_both s e NoMore takes_plainly).0
           (takes_as (taken (Hold (More e NoMore))) (waits_in e) (start main_turn).waits [] (nothing_more (waits_in e)) (takes_of plain (Hold (More e NoMore)) is))
-          compares_there.0 (subst (AllowsAll facts_now) same allowed) (subst (AllKeep (is_observer s)) same keep)
+          compares_there.0 (subst (AllowsAll facts_now) same allowed) (subst (AllKeep (sees_only s)) same keep)
         where
           given_there : (of : ℕ) (e : TypedTree) → is_anonymous (full s.table of) ≡ false → Source s of e → Gives s of e
           given_there of e owner (inl view) = absurd (let no : true ≡ false = sym view.0 ∙ owner in cc)
           given_there of e owner (inr gives) = gives
 
       returns : Plain → (v : TypedTree) (r : Option ℕ) → p.instr ≡ Hold v → named.sub.result ≡ r → Returns s r v → TakesScalars s (Hold v) → ComparesIn s (Hold v)
-          → AllowsAll facts_now (acts_of_main (Hold v)) → AllKeep (is_observer s) (acts_of_main (Hold v)) → Goal (Hold v)
+          → AllowsAll facts_now (acts_of_main (Hold v)) → AllKeep (sees_only s) (acts_of_main (Hold v)) → Goal (Hold v)
       returns plain v None is result none takes_plainly compares_there allowed keep =
           subst Goal (sym (ap Hold none)) (goes_same main_turn n agrees state.memory n 0 agrees only)
       returns plain v (Some of) is result (e, same, source) takes_plainly compares_there allowed keep =
           subst Goal (sym (ap Hold same))
           (holds_value e of result
           (value_same plain e of (is ∙ ap Hold same) result source (subst (λ z. TakesScalars s (Hold z)) same takes_plainly) (subst (λ z. ComparesIn s (Hold z)) same compares_there)
-          (subst (λ z. AllowsAll facts_now (acts_of_main (Hold z))) same allowed) (subst (λ z. AllKeep (is_observer s) (acts_of_main (Hold z))) same keep)))
+          (subst (λ z. AllowsAll facts_now (acts_of_main (Hold z))) same allowed) (subst (λ z. AllKeep (sees_only s) (acts_of_main (Hold z))) same keep)))
 
       goes_plainly : Plain × TakesScalars s p.instr → IsNoCall p.instr → (p.instr ≡ Finish → ⊥) → Goal p.instr
       goes_plainly (plain, takes_plainly) no_call end =
@@ -296,7 +297,7 @@ module _ (table : Table) (typed : TypedProgram) (effects : Effects) (input : Lis
           (innermost.orderly table typed effects input ready state top below more_frames rest named p frames deep stages running awaiting of_sub at_point path views viewed_before kept scope holds placed_before above) []
           so only n agrees p.instr refl no_call end
           (λ v is. returns plain v named.sub.result is refl (subst (IsFine s named.sub.result) is text) (subst (TakesScalars s) is takes_plainly) (subst (ComparesIn s) is compares)
-          (subst (λ i. AllowsAll facts_now (acts_of_main i)) is (allowed_now no_call end)) (subst (λ i. AllKeep (is_observer s) (acts_of_main i)) is keeps_there))
+          (subst (λ i. AllowsAll facts_now (acts_of_main i)) is (allowed_now no_call end)) (subst (λ i. AllKeep (sees_only s) (acts_of_main i)) is keeps_there))
           text takes_plainly (takes_of plain p.instr refl) compares (allowed_now no_call end) keeps_there
 
       -- ---- what a function gave, alone
@@ -443,6 +444,7 @@ module _ (table : Table) (typed : TypedProgram) (effects : Effects) (input : Lis
         whole_there : (passed : List Passed) → Given passed → AreWhollyPassed s (suc (suc (length rest))) formals passed state.memory
         whole_there passed given =
             passed_wholly s ready.accepted.settled ready.owns no_formals (waiting_in easy) state.leaks (suc (length rest)) views
+            (calling.far_views table typed effects input ready state top below more_frames rest named p frames deep stages running awaiting of_sub at_point path views viewed_before kept scope holds placed_before above k actuals result e passed given)
             (calling.facts_called table typed effects input ready state top below more_frames rest named p frames deep stages running awaiting of_sub at_point path views viewed_before kept scope holds placed_before above k actuals result e)
             (calling.next_there table typed effects input ready state top below more_frames rest named p frames deep stages running awaiting of_sub at_point path views viewed_before kept scope holds placed_before above k actuals result e)
             (calling.other_all table typed effects input ready state top below more_frames rest named p frames deep stages running awaiting of_sub at_point path views viewed_before kept scope holds placed_before above k actuals result e passed given)
@@ -470,7 +472,7 @@ module _ (table : Table) (typed : TypedProgram) (effects : Effects) (input : Lis
       where
         by_rest : (r : List Frame) (m : List ViewStage) → rest ≡ r → AreStages (stages_of (below ∷ m)) (below.stage.frame ∷ r)
             → AreWaiting table typed effects state top.frame.sub top.frame.returns (below ∷ m)
-            → Viewed (home s (suc (length rest))) (is_observer s) (known_gone (home s (suc (length rest))) (GoneElsewhere program effects (below ∷ m))) views (view_here s state)
+            → Viewed (home s (suc (length rest))) (sees_only s) (known_gone (home s (suc (length rest))) (GoneElsewhere program effects (below ∷ m))) views (view_here s state)
             (standing.facts table typed effects input ready state top older outer named p frames of_sub at_point path)
             → AreAwaited table typed (awaited (sub_of program top.frame.sub) top.before) (stages_of (below ∷ m))
             → AreWhollyBack main_turn top.frame.returns state.memory
@@ -482,7 +484,7 @@ module _ (table : Table) (typed : TypedProgram) (effects : Effects) (input : Lis
             subst (λ z. AreStages (stages_of (below ∷ (h ∷ m))) (below.stage.frame ∷ z)) (sym same) there in
             back_wholly main_turn ready.accepted.settled ready.owns no_formals (waiting_in state) state.leaks below.stage.depth
             (ends.deep_low table typed effects input ready state top below more_frames rest named p frames deep stages running awaiting of_sub at_point path views viewed_before kept scope holds placed_before above h m stages_there waiting well still is)
-            below.views (facts_of program effects below.stage) (lasting_of s waiting.0.point.scope)
+            below.views (ends.far_low table typed effects input ready state top below more_frames rest named p frames deep stages running awaiting of_sub at_point path views viewed_before kept scope holds placed_before above h m stages_there waiting well still is) (facts_of program effects below.stage) (lasting_of s waiting.0.point.scope)
             (ends.around_low table typed effects input ready state top below more_frames rest named p frames deep stages running awaiting of_sub at_point path views viewed_before kept scope holds placed_before above h m stages_there waiting well still is)
             (ends.free_low table typed effects input ready state top below more_frames rest named p frames deep stages running awaiting of_sub at_point path views viewed_before kept scope holds placed_before above h m stages_there waiting well still is)
             (ends.whole_low table typed effects input ready state top below more_frames rest named p frames deep stages running awaiting of_sub at_point path views viewed_before kept scope holds placed_before above h m stages_there waiting well still is)
@@ -513,18 +515,18 @@ module _ (table : Table) (typed : TypedProgram) (effects : Effects) (input : Lis
   by_stages : (state : State) (top : Stage) (views : Views) (older : List ViewStage) (fs : List Frame) → state.frames ≡ fs → AreStages (top ∷ stages_of older) fs
       → IsRunning table typed effects state (record { stage = top; views = views }) older → AreAwaited table typed None (top ∷ stages_of older)
       → ControlPath (path_points program effects (sub_of program top.frame.sub)) top.before top.frame.next
-      → Viewed (home s top.depth) (is_observer s) (known_gone (home s top.depth) (GoneElsewhere program effects older)) views (view_here s state) (facts_of program effects top)
+      → Viewed (home s top.depth) (sees_only s) (known_gone (home s top.depth) (GoneElsewhere program effects older)) views (view_here s state) (facts_of program effects top)
       → Kept s state.memory (waiting_in state)
       → (named : NamedSub) → IsNamedSub (flow_named table typed) top.frame.sub named → (p : NamedPoint) → IsAtPoint named.points top.frame.next p
       → InScope s state.memory top.depth (lasting_of s p.scope) → HoldsAt s top.depth views state.memory p → ArePlaced program (facts_of program effects top) views p.scope
       → NoneAbove s top.depth state.memory → OnlyOwners s state.memory → (n : Memory) → Agrees state.memory n → SameAt state n
   by_stages state top views [] (f ∷ []) is (frame, deep, none) running awaiting path seen_well kept named of_sub p at_point scope holds there above only n agrees =
       package_same state top named p (is ∙ ap (λ z. z ∷ []) (sym frame)) views running of_sub at_point path
-      (subst (λ d. Viewed (home s d) (is_observer s) (known_gone (home s d) (GoneElsewhere program effects [])) views (view_here s state) (facts_of program effects top)) deep seen_well) kept
+      (subst (λ d. Viewed (home s d) (sees_only s) (known_gone (home s d) (GoneElsewhere program effects [])) views (view_here s state) (facts_of program effects top)) deep seen_well) kept
       (subst (λ d. HoldsAt s d views state.memory p) deep holds) only n agrees
   by_stages state top views (below ∷ more) (f ∷ (g ∷ rest)) is (frame, deep, (around_frame, deeper, others)) running awaiting path seen_well kept named of_sub p at_point scope holds there above only n agrees =
       main_same state top below more rest named p (is ∙ (λ j. sym frame j ∷ (sym around_frame j ∷ rest))) deep (refl, deeper, others) running awaiting of_sub at_point path views
-      (subst (λ d. Viewed (home s d) (is_observer s) (known_gone (home s d) (GoneElsewhere program effects (below ∷ more))) views (view_here s state) (facts_of program effects top)) deep seen_well) kept
+      (subst (λ d. Viewed (home s d) (sees_only s) (known_gone (home s d) (GoneElsewhere program effects (below ∷ more))) views (view_here s state) (facts_of program effects top)) deep seen_well) kept
       (subst (λ d. InScope s state.memory d (lasting_of s p.scope)) deep scope) (subst (λ d. HoldsAt s d views state.memory p) deep holds) there
       (subst (λ d. NoneAbove s d state.memory) deep above) only n agrees
   by_stages state top views [] [] is stages running awaiting path seen_well kept named of_sub p at_point scope holds there above only n agrees = absurd stages

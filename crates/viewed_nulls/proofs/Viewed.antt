@@ -7,7 +7,7 @@ use Rattle.place_names.specs.Names.{Name as PlaceName}
 use Rattle.type_definitions.specs.declared.table.Shape.TheVariants as shape
 use Rattle.type_definitions.specs.Types.{Table, shape_of, view_of as view_of_shape, parts}
 use Rattle.typed_tree.specs.Trees.{TypedTree, Parens, Aggregate, Alike, New, More}
-use Rattle.flow_paths.specs.Objects.{Typing, object_at, is_anonymous, is_observer}
+use Rattle.flow_paths.specs.Objects.{Typing, object_at, is_anonymous}
 use Rattle.flow_paths.specs.Names.{name_of}
 use Rattle.flow_paths.specs.Acts.{acts_in}
 use Rattle.machine.specs.Words as machine
@@ -30,7 +30,7 @@ use Rattle.owned_loans.specs.Views.{Around, Views, expand, ExcusedBy}
 use Rattle.owned_loans.proofs.Safe.{Open, OpenWhole}
 use Rattle.owned_loans.proofs.Allowed.{read_open, look_open, look_whole, move_open, move_unlent, move_unmoved, write_open, free_open, free_whole}
 use Rattle.viewed_soundness.specs.Taken.{GivesPlainly}
-use Rattle.viewed_soundness.specs.Holds.{IsNamed, PartsAreNamed, AllKeep}
+use Rattle.viewed_soundness.specs.Holds.{IsNamed, PartsAreNamed, AllKeep, sees_only, IsOwners}
 use Rattle.viewed_soundness.proofs.Names.{Starts, name_walked}
 use Rattle.viewed_soundness.proofs.Stays.{Goes, taking, steps_taking}
 use Rattle.viewed_soundness.proofs.Evaluated.{keep_both, matches_named, part_named, Ready, GivenOn, live_trunk, evaluated_on}
@@ -39,6 +39,7 @@ use Rattle.null_places.proofs.Walks.{walk_same}
 use Rattle.null_places.proofs.Direct.{has_deref, past_deref, selectors_direct}
 use Rattle.null_places.proofs.Laws.{Premises, LeadsSame, LeadsWhole, Behaves, GivenBy, Values}
 use Rattle.viewed_nulls.proofs.Names.{name_same, found_at, view_whole, access_found, owner_found}
+use Rattle.viewed_steps.proofs.Views.{all_owners}
 
 -- the type of a view
 pub anonymous_access : (c : Bool) → is_anonymous (view_of_shape (shape.Access 0 c false)) ≡ true
@@ -78,8 +79,8 @@ viewed_premises h parts_named = record {
   alike = gives_alike h.typing;
   made = gives_made h.typing;
   both_give = gives_both h.typing;
-  keeps = AllKeep (is_observer h.typing);
-  both_keep = keep_both (is_observer h.typing);
+  keeps = AllKeep (sees_only h.typing);
+  both_keep = keep_both (sees_only h.typing);
   takes = IsNamed h.typing.table;
   part = λ t i made. part_named h.typing.table parts_named t i (shape_of h.typing.table t) refl made;
   element = parts_named.element;
@@ -98,12 +99,12 @@ module _ (h : Here) (settled : IsSettled h.typing.table) (leaks : List Leak) (ot
     (alone : (w : Way) → IsNear h.frame w → other.gone w → ⊥) (no_formals : (x : ℕ) → is_view_formal h.typing x ≡ false) (index_law : IndexLaw)
     (own_law : OwnsByShape h.typing.table) (v : Views) (parts_named : PartsAreNamed h.typing.table) where
   abbrev pub IsReadyIn : Memory → List Waiting → List Fact → Type 0
-  IsReadyIn m hands facts = Ready h settled leaks [] other alone (keeps h.typing settled own_law) no_formals index_law own_law v parts_named m hands facts
+  IsReadyIn m hands facts = Ready h settled leaks [] other alone (keeps h.typing settled own_law) index_law own_law v parts_named m hands facts
 
   -- ---- names and scalar expressions
 
   module _ (m : Memory) (hands : List Waiting) (facts : List Fact)
-      (ready : Ready h settled leaks [] other alone (keeps h.typing settled own_law) no_formals index_law own_law v parts_named m hands facts)
+      (ready : Ready h settled leaks [] other alone (keeps h.typing settled own_law) index_law own_law v parts_named m hands facts)
       (only : OnlyOwners h.typing m) where
     abbrev at : List (List machine.Word) → Now
     at ws = record { memory = m; waits = ws }
@@ -111,8 +112,11 @@ module _ (h : Here) (settled : IsSettled h.typing.table) (leaks : List Leak) (ot
     abbrev variable : ℕ → Way
     variable x = Object (OfVariable (home h.typing h.frame x) x)
 
-    live : (w : Way) (l : Loc) → IsRooted w → Reaches (seen h.typing m hands leaks) w l → (content h.typing m hands (trunk l)).owns ≡ true
-    live = live_trunk h settled leaks [] other alone (keeps h.typing settled own_law) no_formals index_law own_law v parts_named m hands ready.viewed.owned
+    live : (w : Way) (l : Loc) → IsOwners h.typing w → Reaches (seen h.typing m hands leaks) w l → (content h.typing m hands (trunk l)).owns ≡ true
+    live = live_trunk h settled leaks [] other alone (keeps h.typing settled own_law) index_law own_law v parts_named m hands ready.viewed.owned
+
+    live_rooted : (w : Way) (l : Loc) → IsRooted w → Reaches (seen h.typing m hands leaks) w l → (content h.typing m hands (trunk l)).owns ≡ true
+    live_rooted w l rooted reaches = live w l (all_owners h.typing no_formals w rooted) reaches
 
     abbrev Along : ℕ → ℕ → TypedTree → List run.Step → Type 0
     Along x t steps way = Goes h.typing.table (object_at h.typing x).of t steps way
@@ -134,19 +138,19 @@ module _ (h : Here) (settled : IsSettled h.typing.table) (leaks : List Leak) (ot
     leads : (on : List (List machine.Word)) (x t : ℕ) (steps : TypedTree) (way : List run.Step) → Along x t steps way → Open facts (way_along way (variable x))
         → Same on x t way
     leads on x t steps way goes opens = (
-      found_at h settled hands leaks m on other facts v ready.kept ready.viewed ready.holds alone live only (expand v (way_along way (variable x))) t
+      found_at h settled hands leaks m on other facts v ready.kept ready.viewed ready.holds alone live only no_formals (expand v (way_along way (variable x))) t
           (walked h.typing way (variable_place h x) (at on))
           (name_walked h settled hands leaks m on other facts v ready.kept ready.viewed ready.holds alone live x t way goes.lead (λ e. opens)),
-      name_same h settled hands leaks m on other facts v ready.kept ready.viewed ready.holds alone live only x t way goes.lead (λ e. opens),
+      name_same h settled hands leaks m on other facts v ready.kept ready.viewed ready.holds alone live only no_formals x t way goes.lead (λ e. opens),
     )
 
     -- an access value of a named type
     leads_access : (on : List (List machine.Word)) (x t : ℕ) (steps : TypedTree) (way : List run.Step) → Along x t steps way → (d : ℕ) (c : Bool)
         → shape_of h.typing.table t ≡ shape.Access d c true → Open facts (way_along way (variable x)) → OpenWhole facts (way_along way (variable x)) → Whole on x t way
     leads_access on x t steps way goes d c is opens whole = (
-      access_found h settled hands leaks m on other facts v ready.kept ready.viewed ready.holds alone live only index_law own_law parts_named x t d c way goes.lead is
+      access_found h settled hands leaks m on other facts v ready.kept ready.viewed ready.holds alone live only no_formals index_law own_law parts_named x t d c way goes.lead is
           (λ e. opens) (λ e. whole),
-      name_same h settled hands leaks m on other facts v ready.kept ready.viewed ready.holds alone live only x t way goes.lead (λ e. opens),
+      name_same h settled hands leaks m on other facts v ready.kept ready.viewed ready.holds alone live only no_formals x t way goes.lead (λ e. opens),
     )
 
     look_at : (on : List (List machine.Word)) (x t : ℕ) (steps : TypedTree) (way : List run.Step) → Along x t steps way → (d : ℕ) (c n : Bool)
@@ -156,9 +160,9 @@ module _ (h : Here) (settled : IsSettled h.typing.table) (leaks : List Leak) (ot
         leads_access on x t steps way goes d c is (look_open facts (way_along way (variable x)) mine) (look_whole facts (way_along way (variable x)) mine)
     look_at on x t steps way goes d c false is looks =
         let opens = look_open facts (way_along way (variable x)) (of_way x t steps way goes (λ z. Allows facts (act.Look z)) looks) in (
-          view_whole h settled hands leaks m on other facts v ready.kept ready.viewed ready.holds alone live only x t way goes.lead
+          view_whole h settled hands leaks m on other facts v ready.kept ready.viewed ready.holds alone live only no_formals x t way goes.lead
               (ap (λ z. is_anonymous (view_of_shape z)) is ∙ anonymous_access c) (λ e. opens),
-          name_same h settled hands leaks m on other facts v ready.kept ready.viewed ready.holds alone live only x t way goes.lead (λ e. opens),
+          name_same h settled hands leaks m on other facts v ready.kept ready.viewed ready.holds alone live only no_formals x t way goes.lead (λ e. opens),
         )
 
     free_at : (on : List (List machine.Word)) (x t : ℕ) (steps : TypedTree) (way : List run.Step) → Along x t steps way → (d : ℕ)
@@ -168,14 +172,14 @@ module _ (h : Here) (settled : IsSettled h.typing.table) (leaks : List Leak) (ot
         leads_access on x t steps way goes d false is (free_open facts (way_along way (variable x)) mine) (free_whole facts (way_along way (variable x)) mine)
 
     move_at : (on : List (List machine.Word)) (x t : ℕ) (steps : TypedTree) (way : List run.Step) → Along x t steps way
-        → Allows facts (act.Move (name_of x steps) (parts h.typing.table t)) → is_observer h.typing x ≡ false → Whole on x t way
+        → Allows facts (act.Move (name_of x steps) (parts h.typing.table t)) → sees_only h.typing x ≡ false → Whole on x t way
     move_at on x t steps way goes moves plain =
         let u : Way = way_along way (variable x) in
         let mine = of_way x t steps way goes (λ z. Allows facts (act.Move z (parts h.typing.table t))) moves in
         let opens = move_open facts u (parts h.typing.table t) mine in (
-          owner_found h settled hands leaks m on other facts v ready.kept ready.viewed ready.holds alone live only index_law own_law parts_named x t way goes.lead plain
+          owner_found h settled hands leaks m on other facts v ready.kept ready.viewed ready.holds alone live only no_formals index_law own_law parts_named x t way goes.lead plain
               (λ e. opens) (λ b n has over. move_unlent facts u (parts h.typing.table t) mine Borrowed b n has over) (move_unmoved facts u (parts h.typing.table t) mine),
-          name_same h settled hands leaks m on other facts v ready.kept ready.viewed ready.holds alone live only x t way goes.lead (λ e. opens),
+          name_same h settled hands leaks m on other facts v ready.kept ready.viewed ready.holds alone live only no_formals x t way goes.lead (λ e. opens),
         )
 
     -- one that goes through no access value
@@ -186,10 +190,10 @@ module _ (h : Here) (settled : IsSettled h.typing.table) (leaks : List Leak) (ot
         let spot : Spot h.typing m hands k l = record { base = refl; made = tt; at = refl; there = refl; of = inl refl } in
         let lead = direct_lead h.typing.table (object_at h.typing x).of t way (variable x) nothing_past goes.lead in
         let moved : Way → Type 0 = ExcusedBy (home h.typing h.frame) v other facts in (
-          found_at h settled hands leaks m on other facts v ready.kept ready.viewed ready.holds alone live only (way_along way (variable x)) t (walked h.typing way k (at on))
-              (walk h.typing settled hands leaks m on moved ready.kept ready.viewed.owned ready.viewed.known live way k l (variable x) t spot tt refl lead
+          found_at h settled hands leaks m on other facts v ready.kept ready.viewed ready.holds alone live only no_formals (way_along way (variable x)) t (walked h.typing way k (at on))
+              (walk h.typing settled hands leaks m on moved ready.kept ready.viewed.owned ready.viewed.known live_rooted way k l (variable x) t spot tt refl lead
               (λ z past gone. nothing_past z past)),
-          walk_same h.typing settled hands leaks m on moved ready.kept ready.viewed.owned ready.viewed.known live only way k l (variable x) t spot tt refl lead
+          walk_same h.typing settled hands leaks m on moved ready.kept ready.viewed.owned ready.viewed.known live_rooted only way k l (variable x) t spot tt refl lead
               (λ z past gone. nothing_past z past),
         )
       where
@@ -221,18 +225,18 @@ module _ (h : Here) (settled : IsSettled h.typing.table) (leaks : List Leak) (ot
   -- ---- values
 
   given_by : (on : List (List machine.Word)) (want : ℕ) (hands : List Waiting) (facts : List Fact) (y : Evaluated (List machine.Word))
-      → GivenOn h settled leaks [] other alone (keeps h.typing settled own_law) no_formals index_law own_law v parts_named on want hands facts y
+      → GivenOn h settled leaks [] other alone (keeps h.typing settled own_law) index_law own_law v parts_named on want hands facts y
       → GivenBy h IsReadyIn on want hands facts y
   given_by on want hands facts (Done ws n) given = given
   given_by on want hands facts (Raises e n) given = tt
   given_by on want hands facts (Traps e n) none = none
 
   pub viewed_values : Values h (viewed_premises h parts_named)
-      (λ m hands facts. Ready h settled leaks [] other alone (keeps h.typing settled own_law) no_formals index_law own_law v parts_named m hands facts)
+      (λ m hands facts. Ready h settled leaks [] other alone (keeps h.typing settled own_law) index_law own_law v parts_named m hands facts)
   viewed_values = record {
     behaves = λ m hands facts ready only. viewed_behaves m hands facts ready only;
     given = λ e want gives calls own_calls before on takes m hands facts ready allowed own keep.
         given_by on want hands (after (acts (acts_in h.typing e)) facts) (evaluate h AsValue e (record { memory = m; waits = before }))
-        (evaluated_on h settled leaks [] other alone (keeps h.typing settled own_law) no_formals index_law own_law v parts_named e want gives own_calls before on takes m hands facts
+        (evaluated_on h settled leaks [] other alone (keeps h.typing settled own_law) index_law own_law v parts_named e want gives own_calls before on takes m hands facts
         ready allowed own keep);
   }

@@ -24,7 +24,7 @@ use Rattle.machine.specs.States.{Waiting, State, Outcome}
 use Rattle.machine.specs.Step.{Turn, counted, typing, here, start, waiting, Stored, first_value, taken_by, declare, assign, goes, behind, led, successor, leaking_goes, target_pos}
 use Rattle.machine.specs.Step as steps
 use Rattle.machine.specs.Owners.{waiting_in}
-use Rattle.owned_ways.specs.Ways.{Loc, Way, All, Reaches, IsRooted, Named, Allows, after, AllowsAll, number_of, OfRoot}
+use Rattle.owned_ways.specs.Ways.{Loc, Way, All, Reaches, IsRooted, Named, Allows, after, AllowsAll, number_of, base_of, OfRoot}
 use Rattle.owned_ways.specs.Ways as ways
 use Rattle.part_offsets.specs.Parts.{IsSettled}
 use Rattle.soundness.specs.Seen.{IsNear, content, trunk, seen, home, is_view_formal}
@@ -32,7 +32,7 @@ use Rattle.soundness.specs.Changes.{leaks_at}
 use Rattle.soundness.specs.Typed.{Matches, IsCell, OwnsByShape, Kept}
 use Rattle.typed_laws.specs.Needed.{Leads as LeadsTo}
 use Rattle.soundness.proofs.Contents.{all_checks}
-use Rattle.owned_loans.proofs.Clear.{clear_same}
+use Rattle.owned_loans.proofs.Clear.{clear_same, clear_observe}
 use Rattle.spark_base.specs.Lists.{Has}
 use Rattle.spark_base.proofs.Lists.{Has-append_right}
 use Rattle.std.specs.Prelude.{filter}
@@ -46,11 +46,12 @@ use Rattle.soundness.proofs.Stays.{Quiet}
 use Rattle.soundness.proofs.Taking.{Takes}
 use Rattle.owned_loans.specs.Views.{Around, Views, expand, Viewed, Becomes, Unused, with_view}
 use Rattle.owned_loans.proofs.Allowed.{Cleared, borrow_clears, observe_clears, loan_kept, reborrow_clears}
-use Rattle.owned_loans.proofs.Ways.{Lifted, next_of, lifts, lifted_root, lifted_way, root_on}
+use Rattle.owned_ways.proofs.Dropped.{named_base}
+use Rattle.owned_loans.proofs.Ways.{Lifted, next_of, lifts, lifted_root, lifted_way, root_on, base_on}
 use Rattle.owned_loans.proofs.Taken.{becomes_with}
 use Rattle.owned_loans.proofs.Taken as lent
-use Rattle.viewed_soundness.specs.Holds.{PartsAreNamed, Holds}
-use Rattle.viewed_soundness.proofs.Names.{true_false}
+use Rattle.viewed_soundness.specs.Holds.{PartsAreNamed, is_view, sees_only, IsOwners, Holds}
+use Rattle.viewed_soundness.proofs.Names.{both_no, either_true, true_false}
 use Rattle.viewed_soundness.proofs.Stays.{steps_taking}
 use Rattle.viewed_soundness.proofs.Viewing.{IsDesignated, IsOfType, way_from, number_in, borrower_declared, observer_stored, observer_again, view_emptied, borrower_stored}
 use Rattle.viewed_soundness.proofs.Sources.{Shows, source_on}
@@ -70,7 +71,7 @@ matches_on table a b c (inr e) (inr g) = inr (e.1, g.1)
 -- ---- views
 
 module _ (t : Turn) (settled : IsSettled (typing t).table) (own_law : OwnsByShape (typing t).table) (other : Around (home (typing t) (length t.outer)))
-    (alone : (w : Way) → IsNear (length t.outer) w → other.gone w → ⊥) (no_formals : (x : ℕ) → is_view_formal (typing t) x ≡ false)
+    (alone : (w : Way) → IsNear (length t.outer) w → other.gone w → ⊥)
     (v : Views) (parts_named : PartsAreNamed (typing t).table) (may : ℕ → ℕ → Type 0)
     (frames : t.state.frames ≡ t.frame ∷ t.outer) (none : taken t.point.instr ≡ 0) where
   abbrev s : Typing
@@ -93,46 +94,47 @@ module _ (t : Turn) (settled : IsSettled (typing t).table) (own_law : OwnsByShap
   at ws = record { memory = m; waits = ws }
 
   abbrev Good : Views → List Fact → State → Type 0
-  Good views facts state = IsGood t settled own_law other alone no_formals v parts_named may frames none views facts state
+  Good views facts state = IsGood t settled own_law other alone v parts_named may frames none views facts state
 
   abbrev Turned_here : Views → List Fact → Type 0
-  Turned_here views facts = Turned t settled own_law other alone no_formals v parts_named may frames none views facts
+  Turned_here views facts = Turned t settled own_law other alone v parts_named may frames none views facts
 
   abbrev Comes_here : Views → List Fact → ℕ → ℕ → Way → Type 0
-  Comes_here views facts x y w = Comes t settled own_law other alone no_formals v parts_named may frames none views facts x y w
+  Comes_here views facts x y w = Comes t settled own_law other alone v parts_named may frames none views facts x y w
 
   abbrev Same_here : Views → ℕ → Type 0
-  Same_here views x = IsSame t settled own_law other alone no_formals v parts_named may frames none views x
+  Same_here views x = IsSame t settled own_law other alone v parts_named may frames none views x
 
   abbrev Leads_here : List Fact → Outcome → Type 0
-  Leads_here facts outcome = Leads_on t settled own_law other alone no_formals v parts_named may frames none facts outcome
+  Leads_here facts outcome = Leads_on t settled own_law other alone v parts_named may frames none facts outcome
 
-  abbrev alive : (facts : List Fact) (good : Good v facts t.state) → (w : Way) (l : Loc) → IsRooted w → Reaches (seen s m hands t.state.leaks) w l
+  abbrev alive : (facts : List Fact) (good : Good v facts t.state) → (w : Way) (l : Loc) → IsOwners s w → Reaches (seen s m hands t.state.leaks) w l
       → (content s m hands (trunk l)).owns ≡ true
-  alive = live t settled own_law other alone no_formals v parts_named may frames none
+  alive = live t settled own_law other alone v parts_named may frames none
 
   -- ---- what a view may get
 
   -- The state of the memory afterwards, with the variable of the view.
   abbrev Got : Views → ℕ → machine.Word → List Fact → Type 0
   Got views x z facts =
-      Viewed (home s depth) (is_observer s) other views (seen s (declared depth x (z ∷ []) m) hands t.state.leaks) facts
+      Viewed (home s depth) (sees_only s) other views (seen s (declared depth x (z ∷ []) m) hands t.state.leaks) facts
       × Kept s (declared depth x (z ∷ []) m) hands × Holds s depth views (declared depth x (z ∷ []) m) × Turned_here views facts
 
   -- the root of what a name stands for that is rooted in an object
   abbrev Has_root : ℕ → ℕ → Way → Type 0
-  Has_root x y w = ((number_of w ≡ y) × (y ≡ x → ⊥)) ⊎ ((k : Way) × (v.way y ≡ Some k) × (number_of w ≡ number_of k))
+  Has_root x y w =
+      ((base_of w ≡ OfRoot (ways.OfVariable (home s depth y) y)) × (y ≡ x → ⊥)) ⊎ ((k : Way) × (v.way y ≡ Some k) × (base_of w ≡ base_of k))
 
   lifted_from : (x y : ℕ) (u : Way) → number_of u ≡ y → Lifted v u → Has_root x y (expand v u)
   lifted_from x y u root l = inr (
     l.way,
     subst (λ z. v.way z ≡ Some l.way) (sym (lifted_root v u l) ∙ root) l.has,
-    ap number_of (lifted_way v u l) ∙ root_on l.way l.rest,
+    ap base_of (lifted_way v u l) ∙ base_on l.way l.rest,
   )
 
-  root_from : (x y : ℕ) (u : Way) → number_of u ≡ y → (y ≡ x → ⊥) → Has_root x y (expand v u)
-  root_from x y u root apart = elim (lifts v u) [
-    | inl e ↦ inl (ap number_of e ∙ root, apart)
+  root_from : (x y : ℕ) (u : Way) → Named (home s depth) u → number_of u ≡ y → (y ≡ x → ⊥) → Has_root x y (expand v u)
+  root_from x y u named root apart = elim (lifts v u) [
+    | inl e ↦ inl (ap base_of e ∙ named_base (home s depth) u named ∙ ap (λ z. OfRoot (ways.OfVariable (home s depth z) z)) root, apart)
     | inr l ↦ lifted_from x y u root l
   ]
 
@@ -161,18 +163,18 @@ module _ (t : Turn) (settled : IsSettled (typing t).table) (own_law : OwnsByShap
 
   -- it is taken from an object, or from what another view designates
   taken_from : (views : Views) (x y : ℕ) (z : machine.Word) (u loan : Way) (facts : List Fact)
-      → Becomes v views x (way_from z (expand v (All u))) loan (All u) (number_in z) → may x y → number_of u ≡ y → (y ≡ x → ⊥)
-      → (is_observer s x ≡ true → Has facts (Lent Observed x (ways.name_of loan))) → Turned_here views facts
-  taken_from views x y z u loan facts becomes mine root apart lent =
+      → Becomes v views x (way_from z (expand v (All u))) loan (All u) (number_in z) → may x y → Named (home s depth) u → number_of u ≡ y → (y ≡ x → ⊥)
+      → (sees_only s x ≡ true → Has facts (Lent Observed x (ways.name_of loan))) → Turned_here views facts
+  taken_from views x y z u loan facts becomes mine named root apart lent =
       turned_by views x y (way_from z (expand v (All u))) loan (All u) (number_in z) facts becomes mine (λ w e. record {
         up = inl (ap number_of becomes.up_is ∙ root);
-        root = subst (Has_root x y) (sym (way_of z (expand v (All u)) w e)) (root_from x y (All u) root apart);
+        root = subst (Has_root x y) (sym (way_of z (expand v (All u)) w e)) (root_from x y (All u) named root apart);
         loan = λ sees. inl (subst (λ q. Has facts (Lent Observed x (ways.name_of q))) (sym becomes.loan_is) (lent sees));
       })
 
   taken_again : (views : Views) (x y : ℕ) (z : machine.Word) (u : Way) (l : Lifted v (All u)) (facts : List Fact)
       → Becomes v views x (way_from z (expand v (All u))) (v.loan l.object) (next_of v (All u) l) (number_in z) → may x y → number_of u ≡ y
-      → (is_observer s x ≡ true → is_observer s y ≡ true) → Turned_here views facts
+      → (sees_only s x ≡ true → sees_only s y ≡ true) → Turned_here views facts
   taken_again views x y z u l facts becomes mine root sees =
       let object : l.object ≡ y = sym (lifted_root v (All u) l) ∙ root in
       let has : v.way y ≡ Some l.way = subst (λ q. v.way q ≡ Some l.way) object l.has in
@@ -207,7 +209,7 @@ module _ (t : Turn) (settled : IsSettled (typing t).table) (own_law : OwnsByShap
   Gets x y d name facts =
       (u : Way) (z : machine.Word) → Named (home s depth) u → ways.name_of u ≡ name → IsDesignated v (seen s m hands t.state.leaks) u z
       → ((k : ℕ) → z ≡ machine.Cell k → IsCell s m d k)
-      → (is_anonymous (view_of s y) ≡ true → (k : ℕ) → z ≡ machine.Cell k → (l : Lifted v (All u)) × (l.object ≡ y)) → (views : Views) × Got views x z facts
+      → (is_view s y ≡ true → (k : ℕ) → z ≡ machine.Cell k → (l : Lifted v (All u)) × (l.object ≡ y)) → (views : Views) × Got views x z facts
 
   -- An object of an anonymous access type whose source designates what it does.
   pub record Observes (x y u d : ℕ) (path : TypedTree) : Type 0 where
@@ -222,6 +224,14 @@ module _ (t : Turn) (settled : IsSettled (typing t).table) (own_law : OwnsByShap
     pub fits : Matches s.table d k
     pub anonymous : is_anonymous (view_of s x) ≡ true
     pub mine : home s depth x ≡ depth
+    pub own : is_view_formal s x ≡ false
+
+  -- what an object sees that is no formal
+  observes_only : (x : ℕ) → is_observer s x ≡ true → sees_only s x ≡ true
+  observes_only x e = ap (λ b. b || is_view_formal s x) e
+
+  borrows_only : (x : ℕ) → is_observer s x ≡ false → is_view_formal s x ≡ false → sees_only s x ≡ false
+  borrows_only x e own = both_no (is_observer s x) (is_view_formal s x) e own
 
   same_designated : (k d : ℕ) (e o c n : Bool) → shape.Access k e o ≡ shape.Access d c n → k ≡ d
   same_designated k d e o c n is = cc
@@ -235,35 +245,35 @@ module _ (t : Turn) (settled : IsSettled (typing t).table) (own_law : OwnsByShap
   one_word : (x y u d : ℕ) (path : TypedTree) → Observes x y u d path → words s.table (object_at s x).of ≡ 1
   one_word x y u d path observes = settled.word_law (object_at s x).of ∙ ap (shape_words (words s.table)) observes.view
 
-  borrow_gets : (x y u d : ℕ) (path : TypedTree) (facts : List Fact) → Observes x y u d path → Good v facts t.state → Unused other.lent v facts x
-      → is_observer s x ≡ false → is_observer s y ≡ false → y < x → may x y → Allows facts (act.Borrow x (name_of y path))
+  borrow_gets : (x y u d : ℕ) (path : TypedTree) (facts : List Fact) → Observes x y u d path → Good v facts t.state → Unused (home s depth) other.lent v facts x
+      → sees_only s x ≡ false → sees_only s y ≡ false → y < x → may x y → Allows facts (act.Borrow x (name_of y path))
       → Gets x y d (name_of y path) (effect (act.Borrow x (name_of y path)) facts)
   borrow_gets x y u d path facts observes good unused borrows plain older mine allowed w z named called is typed lifted =
       let views : Views = with_view v x (way_from z (expand v (All w))) w (All w) (number_in z) in
       let root : number_of w ≡ y = ap (λ (n : PlaceName). n.root) called in
       let got = borrower_declared s settled depth other v views m hands t.state.leaks facts good.viewed good.kept good.holds x z observes.mine observes.anonymous
       (one_word x y u d path observes) (of_type x y u d path observes z typed) w
-      (becomes_with v x (way_from z (expand v (All w))) w (All w) (number_in z)) unused borrows named (ap (is_observer s) root ∙ plain)
+      (becomes_with v x (way_from z (expand v (All w))) w (All w) (number_in z)) unused borrows named (ap (sees_only s) root ∙ plain)
       (subst (λ n. n < x) (sym root) older) is (subst (λ n. Allows facts (act.Borrow x n)) (sym called) allowed) in
       let turned : Turned_here views (effect (act.Borrow x (ways.name_of w)) facts) =
-      taken_from views x y z w w (effect (act.Borrow x (ways.name_of w)) facts) (becomes_with v x (way_from z (expand v (All w))) w (All w) (number_in z)) mine root
+      taken_from views x y z w w (effect (act.Borrow x (ways.name_of w)) facts) (becomes_with v x (way_from z (expand v (All w))) w (All w) (number_in z)) mine named root
       (λ same. absurd (omega (arith, older, same)))
-      (λ sees. absurd (true_false (is_observer s x) sees borrows)) in
+      (λ sees. absurd (true_false (sees_only s x) sees borrows)) in
       (views, subst (λ n. Got views x z (effect (act.Borrow x n) facts)) called (got.sound, got.words_kept, got.views_held, turned))
 
   observe_gets : (x y u d : ℕ) (path : TypedTree) (facts : List Fact) → Observes x y u d path → Good v facts t.state
-      → is_observer s x ≡ true → is_observer s y ≡ false → may x y → Allows facts (act.Observe x (name_of y path) false)
+      → sees_only s x ≡ true → sees_only s y ≡ false → may x y → Allows facts (act.Observe x (name_of y path) false)
       → Gets x y d (name_of y path) (effect (act.Observe x (name_of y path) false) facts)
   observe_gets x y u d path facts observes good sees plain mine allowed w z named called is typed lifted =
       let views : Views = with_view v x (way_from z (expand v (All w))) w (All w) (number_in z) in
       let root : number_of w ≡ y = ap (λ (n : PlaceName). n.root) called in
       let got = observer_stored s settled depth other v views m hands t.state.leaks facts good.viewed good.kept good.holds x z observes.mine observes.anonymous
       (one_word x y u d path observes) (of_type x y u d path observes z typed) w
-      (becomes_with v x (way_from z (expand v (All w))) w (All w) (number_in z)) sees named (ap (is_observer s) root ∙ plain)
+      (becomes_with v x (way_from z (expand v (All w))) w (All w) (number_in z)) sees named (ap (sees_only s) root ∙ plain)
       is (subst (λ n. Allows facts (act.Observe x n false)) (sym called) allowed) in
       let turned : Turned_here views (effect (act.Observe x (ways.name_of w) false) facts) =
-      taken_from views x y z w w (effect (act.Observe x (ways.name_of w) false) facts) (becomes_with v x (way_from z (expand v (All w))) w (All w) (number_in z)) mine root
-      (λ same. absurd (true_false (is_observer s x) sees (ap (is_observer s) (sym same) ∙ plain)))
+      taken_from views x y z w w (effect (act.Observe x (ways.name_of w) false) facts) (becomes_with v x (way_from z (expand v (All w))) w (All w) (number_in z)) mine named root
+      (λ same. absurd (true_false (sees_only s x) sees (ap (sees_only s) (sym same) ∙ plain)))
       (λ sees. fact_added (act.Observe x (ways.name_of w) false) facts (Lent Observed x (ways.name_of w)) (inl refl)) in
       (views, subst (λ n. Got views x z (effect (act.Observe x n false) facts)) called (got.sound, got.words_kept, got.views_held, turned))
 
@@ -278,8 +288,8 @@ module _ (t : Turn) (settled : IsSettled (typing t).table) (own_law : OwnsByShap
       let got = gets u shows.word named called shows.designated shows.typed shows.lifted in
       subst (λ (z : Now). Leads_here behind (goes t (declared depth x ws z.memory) 0)) (sym same)
       (subst (λ z. Leads_here behind (goes t (declared depth x z m) 0)) (sym shows.is)
-      (goes_to t settled own_law other alone no_formals v parts_named may frames none (declared depth x (shows.word ∷ []) m) 0 got.0 behind got.1.3 got.1.0 got.1.1 got.1.2))
-  then_got x y d name facts behind good gets (Raises e n) is = (λ trap. trap, raises t settled own_law other alone no_formals v parts_named may frames none facts good n.memory)
+      (goes_to t settled own_law other alone v parts_named may frames none (declared depth x (shows.word ∷ []) m) 0 got.0 behind got.1.3 got.1.0 got.1.1 got.1.2))
+  then_got x y d name facts behind good gets (Raises e n) is = (λ trap. trap, raises t settled own_law other alone v parts_named may frames none facts good n.memory)
   then_got x y d name facts behind good gets (Traps e n) never = absurd never
 
   -- the act of the source is allowed after those of its indexes, which change nothing
@@ -302,7 +312,7 @@ module _ (t : Turn) (settled : IsSettled (typing t).table) (own_law : OwnsByShap
   -- what the source has is shown
   shown_on : (ws : List (List machine.Word)) (x y u d : ℕ) (p : Pos) (path : TypedTree) → Observes x y u d path → Takes (waits_in path) ws []
       → (facts : List Fact) (good : Good v facts t.state) → AllowsAll facts (acts (acts_in s path))
-      → ((w : Way) → ways.name_of w ≡ name_of y path → is_observer s y ≡ false → Cleared facts w)
+      → ((w : Way) → ways.name_of w ≡ name_of y path → sees_only s y ≡ false → Cleared facts w)
       → Quiet now (Shown facts good y d (name_of y path)) (evaluate (here t) AsView (Name p y path u) (at ws))
   shown_on ws x y u d p path observes takes facts good allowed clears =
       source_on (here t) settled hands t.state.leaks m [] other facts v good.kept good.viewed good.holds alone (alive facts good)
@@ -315,7 +325,7 @@ module _ (t : Turn) (settled : IsSettled (typing t).table) (own_law : OwnsByShap
   -- the view gets what its source has, under the act of the source
   view_on : (ws : List (List machine.Word)) (x y u d : ℕ) (p : Pos) (path rest : TypedTree) (a : PlaceName → Act) → Observes x y u d path → Takes (waits_in path) ws []
       → (facts : List Fact) (good : Good v facts t.state) → AllowsAll facts (acts (source_acts s (Name p y path u) a))
-      → ((w : Way) → ways.name_of w ≡ name_of y path → is_observer s y ≡ false → Cleared facts w)
+      → ((w : Way) → ways.name_of w ≡ name_of y path → sees_only s y ≡ false → Cleared facts w)
       → (Allows facts (a (name_of y path)) → Gets x y d (name_of y path) (effect (a (name_of y path)) facts))
       → Leads_here (after (acts (source_acts s (Name p y path u) a)) facts) (Declares ws x (More (Name p y path u) rest))
   view_on ws x y u d p path rest a observes takes facts good allowed clears gets =
@@ -331,7 +341,7 @@ module _ (t : Turn) (settled : IsSettled (typing t).table) (own_law : OwnsByShap
 
   -- A borrower is declared. Its source is an older object, or is rooted in one.
   pub borrower_on : (ws : List (List machine.Word)) (x y u d : ℕ) (p : Pos) (path rest : TypedTree) → Observes x y u d path → is_borrower s x ≡ true → is_observer s x ≡ false
-      → is_observer s y ≡ false → y < x → may x y → Takes (waits_in path) ws [] → (facts : List Fact) (good : Good v facts t.state) → Unused other.lent v facts x
+      → sees_only s y ≡ false → y < x → may x y → Takes (waits_in path) ws [] → (facts : List Fact) (good : Good v facts t.state) → Unused (home s depth) other.lent v facts x
       → AllowsAll facts (acts (declared_acts s x (More (Name p y path u) rest)))
       → Leads_here (after (acts (declared_acts s x (More (Name p y path u) rest))) facts) (Declares ws x (More (Name p y path u) rest))
   borrower_on ws x y u d p path rest observes is borrows plain older from takes facts good unused allowed =
@@ -342,7 +352,66 @@ module _ (t : Turn) (settled : IsSettled (typing t).table) (own_law : OwnsByShap
       subst (λ z. Leads_here (after (acts z) facts) (Declares ws x (More e rest))) (sym same)
       (view_on ws x y u d p path rest (act.Borrow x) observes takes facts good goes_by
       (λ w called plain. borrow_clears facts x w (subst (λ n. Allows facts (act.Borrow x n)) (sym called) (last_allowed ws x y u d p path (act.Borrow x) observes takes facts good goes_by).0))
-      (λ mine. borrow_gets x y u d path facts observes good unused borrows plain older from mine))
+      (λ mine. borrow_gets x y u d path facts observes good unused (borrows_only x borrows observes.own) plain older from mine))
+
+  -- ---- an observer of what another observer or a formal sees
+
+  through_gets : (b : Bool) (x y u d : ℕ) (path : TypedTree) (facts : List Fact) → Observes x y u d path → Good v facts t.state
+      → sees_only s x ≡ true → sees_only s y ≡ true → may x y → Allows facts (act.Observe x (name_of y path) b)
+      → Gets x y d (name_of y path) (effect (act.Observe x (name_of y path) b) facts)
+  through_gets b x y u d path facts observes good looks from mine allowed w z named called is typed lifted = by_word z is typed lifted
+    where
+      anonymous : (a b c f : Bool) → (a && c) || f ≡ true → (b || c) || f ≡ true
+      anonymous true true c f e = refl
+      anonymous true false c f e = e
+      anonymous false true c f e = refl
+      anonymous false false true f e = refl
+      anonymous false false false f e = e
+
+      view_y : is_view s y ≡ true
+      view_y = anonymous (is_variable (object_at s y).kind) (is_borrowing (view_of s y)) (is_observing (view_of s y)) (is_view_formal s y) from
+
+      nothing : (z : machine.Word) → ((k : ℕ) → z ≡ machine.Cell k → ⊥) → IsDesignated v (seen s m hands t.state.leaks) w z
+          → ((k : ℕ) → z ≡ machine.Cell k → IsCell s m d k) → (views : Views) × Got views x z (effect (act.Observe x (name_of y path) b) facts)
+      nothing z null is typed =
+          let views : Views = with_view v x (way_from z w) w w (number_in z) in
+          let a : Act = act.Observe x (name_of y path) b in
+          let got = view_emptied s settled depth other v views m hands t.state.leaks facts good.viewed good.kept good.holds x z observes.mine observes.anonymous
+          (one_word x y u d path observes) (of_type x y u d path observes z typed) (effect a facts) w w w (becomes_with v x (way_from z w) w w (number_in z)) null
+          (lent.observer_unused (home s depth) (sees_only s) other v views (seen s m hands t.state.leaks) facts good.viewed x looks)
+          (λ n has. kept_fact a facts (Moved n) has refl) (loan_kept a facts (λ l h k. refl))
+          (clear_observe (sees_only s) facts good.viewed.clear x (name_of y path) b allowed) in
+          (views, (got.sound, got.words_kept, got.views_held, taken_none views x z w w w (effect a facts) (becomes_with v x (way_from z w) w w (number_in z)) null))
+
+      by_word : (z : machine.Word) → IsDesignated v (seen s m hands t.state.leaks) w z → ((k : ℕ) → z ≡ machine.Cell k → IsCell s m d k)
+          → (is_view s y ≡ true → (k : ℕ) → z ≡ machine.Cell k → (l : Lifted v (All w)) × (l.object ≡ y))
+          → (views : Views) × Got views x z (effect (act.Observe x (name_of y path) b) facts)
+      by_word (machine.Cell k) is typed lifted =
+          let z : machine.Word = machine.Cell k in
+          let l = lifted view_y k refl in
+          let views : Views = with_view v x (way_from z (expand v (All w))) (v.loan l.0.object) (next_of v (All w) l.0) (number_in z) in
+          let got = observer_again s settled depth other v views m hands t.state.leaks facts good.viewed good.kept good.holds x z observes.mine observes.anonymous
+          (one_word x y u d path observes) (of_type x y u d path observes z typed) w l.0 (ap (sees_only s) l.1 ∙ from)
+          (becomes_with v x (way_from z (expand v (All w))) (v.loan l.0.object) (next_of v (All w) l.0) (number_in z)) looks named is
+          b (subst (λ n. Allows facts (act.Observe x n b)) (sym called) allowed) in
+          let turned : Turned_here views (effect (act.Observe x (ways.name_of w) b) facts) =
+          taken_again views x y z w l.0 (effect (act.Observe x (ways.name_of w) b) facts)
+          (becomes_with v x (way_from z (expand v (All w))) (v.loan l.0.object) (next_of v (All w) l.0) (number_in z)) mine
+          (ap (λ (n : PlaceName). n.root) called) (λ observes. from) in
+          (views, subst (λ n. Got views x z (effect (act.Observe x n b) facts)) called (got.sound, got.words_kept, got.views_held, turned))
+      by_word (machine.Int k) is typed lifted = nothing (machine.Int k) (λ q e. cc) is typed
+      by_word (machine.Enumerated k) is typed lifted = nothing (machine.Enumerated k) (λ q e. cc) is typed
+      by_word machine.Null is typed lifted = nothing machine.Null (λ q e. cc) is typed
+
+  -- an observer of what isn't an observer: of an owner, a borrower or a formal
+  seen_gets : (x y u d : ℕ) (path : TypedTree) (facts : List Fact) → Observes x y u d path → Good v facts t.state
+      → is_observer s x ≡ true → is_observer s y ≡ false → may x y → Allows facts (act.Observe x (name_of y path) false)
+      → Gets x y d (name_of y path) (effect (act.Observe x (name_of y path) false) facts)
+  seen_gets x y u d path facts observes good sees plain mine allowed = by_kind (is_view_formal s y) refl
+    where
+      by_kind : (b : Bool) → is_view_formal s y ≡ b → Gets x y d (name_of y path) (effect (act.Observe x (name_of y path) false) facts)
+      by_kind false e = observe_gets x y u d path facts observes good (observes_only x sees) (borrows_only y plain e) mine allowed
+      by_kind true e = through_gets false x y u d path facts observes good (observes_only x sees) (either_true (is_observer s y) (is_view_formal s y) e) mine allowed
 
   -- An observer is declared, of what an owner has, or what a borrower leads to.
   pub observer_on : (ws : List (List machine.Word)) (x y u d : ℕ) (p : Pos) (path rest : TypedTree) → Observes x y u d path → is_borrower s x ≡ false → is_observer s x ≡ true
@@ -360,53 +429,7 @@ module _ (t : Turn) (settled : IsSettled (typing t).table) (own_law : OwnsByShap
       subst (λ z. Leads_here (after (acts z) facts) (Declares ws x (More e rest))) (sym same)
       (view_on ws x y u d p path rest a observes takes facts good goes_by
       (λ w called plain. observe_clears facts x false w (subst (λ n. Allows facts (act.Observe x n false)) (sym called) (last_allowed ws x y u d p path a observes takes facts good goes_by).0))
-      (λ mine. observe_gets x y u d path facts observes good sees plain from mine))
-
-  -- ---- an observer of what another observer sees
-
-  again_gets : (x y u d : ℕ) (path : TypedTree) (facts : List Fact) → Observes x y u d path → Good v facts t.state
-      → is_observer s x ≡ true → is_observer s y ≡ true → may x y
-      → Gets x y d (name_of y path) (effect (act.Observe x (name_of y path) true) facts)
-  again_gets x y u d path facts observes good sees from mine w z named called is typed lifted = by_word z is typed lifted
-    where
-      anonymous : (a b c : Bool) → a && c ≡ true → b || c ≡ true
-      anonymous true true c e = refl
-      anonymous true false c e = e
-      anonymous false b c e = cc
-
-      view_y : is_anonymous (view_of s y) ≡ true
-      view_y = anonymous (is_variable (object_at s y).kind) (is_borrowing (view_of s y)) (is_observing (view_of s y)) from
-
-      nothing : (z : machine.Word) → ((k : ℕ) → z ≡ machine.Cell k → ⊥) → IsDesignated v (seen s m hands t.state.leaks) w z
-          → ((k : ℕ) → z ≡ machine.Cell k → IsCell s m d k) → (views : Views) × Got views x z (effect (act.Observe x (name_of y path) true) facts)
-      nothing z null is typed =
-          let views : Views = with_view v x (way_from z w) w w (number_in z) in
-          let a : Act = act.Observe x (name_of y path) true in
-          let got = view_emptied s settled depth other v views m hands t.state.leaks facts good.viewed good.kept good.holds x z observes.mine observes.anonymous
-          (one_word x y u d path observes) (of_type x y u d path observes z typed) (effect a facts) w w w (becomes_with v x (way_from z w) w w (number_in z)) null
-          (lent.observer_unused (home s depth) (is_observer s) other v views (seen s m hands t.state.leaks) facts good.viewed x sees)
-          (λ n has. kept_fact a facts (Moved n) has refl) (loan_kept a facts (λ l h k. refl))
-          (clear_same (is_observer s) facts good.viewed.clear a refl) in
-          (views, (got.sound, got.words_kept, got.views_held, taken_none views x z w w w (effect a facts) (becomes_with v x (way_from z w) w w (number_in z)) null))
-
-      by_word : (z : machine.Word) → IsDesignated v (seen s m hands t.state.leaks) w z → ((k : ℕ) → z ≡ machine.Cell k → IsCell s m d k)
-          → (is_anonymous (view_of s y) ≡ true → (k : ℕ) → z ≡ machine.Cell k → (l : Lifted v (All w)) × (l.object ≡ y))
-          → (views : Views) × Got views x z (effect (act.Observe x (name_of y path) true) facts)
-      by_word (machine.Cell k) is typed lifted =
-          let z : machine.Word = machine.Cell k in
-          let l = lifted view_y k refl in
-          let views : Views = with_view v x (way_from z (expand v (All w))) (v.loan l.0.object) (next_of v (All w) l.0) (number_in z) in
-          let got = observer_again s settled depth other v views m hands t.state.leaks facts good.viewed good.kept good.holds x z observes.mine observes.anonymous
-          (one_word x y u d path observes) (of_type x y u d path observes z typed) w l.0 (ap (is_observer s) l.1 ∙ from)
-          (becomes_with v x (way_from z (expand v (All w))) (v.loan l.0.object) (next_of v (All w) l.0) (number_in z)) sees named is in
-          let turned : Turned_here views (effect (act.Observe x (ways.name_of w) true) facts) =
-          taken_again views x y z w l.0 (effect (act.Observe x (ways.name_of w) true) facts)
-          (becomes_with v x (way_from z (expand v (All w))) (v.loan l.0.object) (next_of v (All w) l.0) (number_in z)) mine
-          (ap (λ (n : PlaceName). n.root) called) (λ observes. from) in
-          (views, subst (λ n. Got views x z (effect (act.Observe x n true) facts)) called (got.sound, got.words_kept, got.views_held, turned))
-      by_word (machine.Int k) is typed lifted = nothing (machine.Int k) (λ q e. cc) is typed
-      by_word (machine.Enumerated k) is typed lifted = nothing (machine.Enumerated k) (λ q e. cc) is typed
-      by_word machine.Null is typed lifted = nothing machine.Null (λ q e. cc) is typed
+      (λ mine. seen_gets x y u d path facts observes good sees plain from mine))
 
   -- An observer is declared that sees what another one does.
   pub observer_again_on : (ws : List (List machine.Word)) (x y u d : ℕ) (p : Pos) (path rest : TypedTree) → Observes x y u d path → is_borrower s x ≡ false → is_observer s x ≡ true
@@ -423,8 +446,8 @@ module _ (t : Turn) (settled : IsSettled (typing t).table) (own_law : OwnsByShap
       let goes_by : AllowsAll facts (acts (source_acts s e a)) = subst (λ z. AllowsAll facts (acts z)) same allowed in
       subst (λ z. Leads_here (after (acts z) facts) (Declares ws x (More e rest))) (sym same)
       (view_on ws x y u d p path rest a observes takes facts good goes_by
-      (λ w called plain. absurd (true_false (is_observer s y) from plain))
-      (λ mine. again_gets x y u d path facts observes good sees from by))
+      (λ w called plain. absurd (true_false (sees_only s y) (observes_only y from) plain))
+      (λ mine. through_gets true x y u d path facts observes good (observes_only x sees) (observes_only y from) by mine))
 
   -- ---- assignments to borrowers and observers
 
@@ -473,17 +496,17 @@ module _ (t : Turn) (settled : IsSettled (typing t).table) (own_law : OwnsByShap
       (subst (λ (z : Now). Leads_here behind (leaking_goes (checks_at s pos z.memory k) (goes t (stored s k ws z.memory) 0))) (sym same)
       (subst (λ z. Leads_here behind (leaking_goes (checks_at s pos m k) (goes t (stored s k z m) 0))) (sym shows.is)
       (subst (λ z. Leads_here behind (leaking_goes (checks_at s pos m k) (goes t z 0))) (sym is)
-      (goes_on t settled own_law other alone no_formals v parts_named may frames none (declared depth x (shows.word ∷ []) m) (checks_at s pos m k) [] (all_checks s pos m k ∙ unchecked x y u d path observes pos) got.0 behind got.1.3
-      (subst (λ z. Viewed (home s depth) (is_observer s) other got.0 (seen s (declared depth x (shows.word ∷ []) m) hands z) behind) (sym (append-nil t.state.leaks)) got.1.0)
+      (goes_on t settled own_law other alone v parts_named may frames none (declared depth x (shows.word ∷ []) m) (checks_at s pos m k) [] (all_checks s pos m k ∙ unchecked x y u d path observes pos) got.0 behind got.1.3
+      (subst (λ z. Viewed (home s depth) (sees_only s) other got.0 (seen s (declared depth x (shows.word ∷ []) m) hands z) behind) (sym (append-nil t.state.leaks)) got.1.0)
       got.1.1 got.1.2))))
-  then_put pos q x y u w d path name facts behind good observes gets (Raises e n) is = (λ trap. trap, raises t settled own_law other alone no_formals v parts_named may frames none facts good n.memory)
+  then_put pos q x y u w d path name facts behind good observes gets (Raises e n) is = (λ trap. trap, raises t settled own_law other alone v parts_named may frames none facts good n.memory)
   then_put pos q x y u w d path name facts behind good observes gets (Traps e n) never = absurd never
 
   -- the view gets what its source has
   put_on : (ws : List (List machine.Word)) (pos q p r : Pos) (x y u d : ℕ) (path : TypedTree) (a : PlaceName → Act) → Observes x y u d path → Takes (waits_in path) ws []
       → (facts : List Fact) (good : Good v facts t.state)
       → AllowsAll facts (acts (acts_in s path ++ record { pos = r; act = a (name_of y path) } ∷ []))
-      → ((w : Way) → ways.name_of w ≡ name_of y path → is_observer s y ≡ false → Allows facts (a (name_of y path)) → Cleared facts w)
+      → ((w : Way) → ways.name_of w ≡ name_of y path → sees_only s y ≡ false → Allows facts (a (name_of y path)) → Cleared facts w)
       → (Allows facts (a (name_of y path)) → Gets x y d (name_of y path) (effect (a (name_of y path)) facts))
       → Leads_here (after (acts (acts_in s path ++ record { pos = r; act = a (name_of y path) } ∷ [])) facts)
       (Puts pos q x (object_at s x).of (taken_by t (object_at s x).of (Name p y path u) (at ws)))
@@ -498,7 +521,7 @@ module _ (t : Turn) (settled : IsSettled (typing t).table) (own_law : OwnsByShap
 
   -- A borrower goes on from where it is.
   reborrow_gets : (x u d : ℕ) (path : TypedTree) (facts : List Fact) → Observes x x u d path → Good v facts t.state
-      → is_observer s x ≡ false → may x x → Allows facts (act.Reborrow x (name_of x path))
+      → sees_only s x ≡ false → may x x → Allows facts (act.Reborrow x (name_of x path))
       → Gets x x d (name_of x path) (effect (act.Reborrow x (name_of x path)) facts)
   reborrow_gets x u d path facts observes good borrows mine allowed w z named called is typed lifted = by_word z is typed lifted
     where
@@ -509,17 +532,17 @@ module _ (t : Turn) (settled : IsSettled (typing t).table) (own_law : OwnsByShap
           let a : Act = act.Reborrow x (name_of x path) in
           let got = view_emptied s settled depth other v views m hands t.state.leaks facts good.viewed good.kept good.holds x z observes.mine observes.anonymous
           (one_word x x u d path observes) (of_type x x u d path observes z typed) (effect a facts) w w w (becomes_with v x (way_from z w) w w (number_in z)) null
-          (lent.reborrow_unused (home s depth) (is_observer s) other v views (seen s m hands t.state.leaks) facts good.viewed x (name_of x path) allowed)
+          (lent.reborrow_unused (home s depth) (sees_only s) other v views (seen s m hands t.state.leaks) facts good.viewed x (name_of x path) allowed)
           (λ n has. kept_fact a facts (Moved n) has refl) (loan_kept a facts (λ l h k. refl))
-          (clear_same (is_observer s) facts good.viewed.clear a refl) in
+          (clear_same (sees_only s) facts good.viewed.clear a refl) in
           (views, (got.sound, got.words_kept, got.views_held, taken_none views x z w w w (effect a facts) (becomes_with v x (way_from z w) w w (number_in z)) null))
 
       by_word : (z : machine.Word) → IsDesignated v (seen s m hands t.state.leaks) w z → ((k : ℕ) → z ≡ machine.Cell k → IsCell s m d k)
-          → (is_anonymous (view_of s x) ≡ true → (k : ℕ) → z ≡ machine.Cell k → (l : Lifted v (All w)) × (l.object ≡ x))
+          → (is_view s x ≡ true → (k : ℕ) → z ≡ machine.Cell k → (l : Lifted v (All w)) × (l.object ≡ x))
           → (views : Views) × Got views x z (effect (act.Reborrow x (name_of x path)) facts)
       by_word (machine.Cell k) is typed lifted =
           let z : machine.Word = machine.Cell k in
-          let l = lifted observes.anonymous k refl in
+          let l = lifted (ap (λ b. b || is_view_formal s x) observes.anonymous) k refl in
           let views : Views = with_view v x (way_from z (expand v (All w))) (v.loan l.0.object) (next_of v (All w) l.0) (number_in z) in
           let got = borrower_stored s settled depth other v views m hands t.state.leaks facts good.viewed good.kept good.holds x z observes.mine observes.anonymous
           (one_word x x u d path observes) (of_type x x u d path observes z typed) w l.0 l.1
@@ -548,7 +571,7 @@ module _ (t : Turn) (settled : IsSettled (typing t).table) (own_law : OwnsByShap
       subst (λ z. Leads_here (after (acts z) facts) (Puts (target_pos t target) q x (object_at s x).of (taken_by t (object_at s x).of e (at ws)))) (sym same)
       (put_on ws (target_pos t target) q p q x x u d path (act.Reborrow x) observes takes facts good (subst (λ z. AllowsAll facts (acts z)) same allowed)
       (λ w called plain mine. reborrow_clears facts x w (ap (λ (n : PlaceName). n.root) called) (subst (λ n. Allows facts (act.Reborrow x n)) (sym called) mine))
-      (λ mine. reborrow_gets x u d path facts observes good borrows from mine))
+      (λ mine. reborrow_gets x u d path facts observes good (borrows_only x borrows observes.own) from mine))
 
   -- An observer gets another value, of what an owner has, or what a borrower or an observer leads to.
   pub assign_observer_on : (ws : List (List machine.Word)) (pos q p : Pos) (x y u d : ℕ) (path : TypedTree) → Observes x y u d path → is_borrower s x ≡ false → is_observer s x ≡ true
@@ -577,5 +600,5 @@ module _ (t : Turn) (settled : IsSettled (typing t).table) (own_law : OwnsByShap
         where
           gets : (b : Bool) → is_observer s y ≡ b → Allows facts (act.Observe x (name_of y path) b)
               → Gets x y d (name_of y path) (effect (act.Observe x (name_of y path) b) facts)
-          gets true kind mine = again_gets x y u d path facts observes good sees kind from
-          gets false kind mine = observe_gets x y u d path facts observes good sees kind from mine
+          gets true kind mine = through_gets true x y u d path facts observes good (observes_only x sees) (observes_only y kind) from mine
+          gets false kind mine = seen_gets x y u d path facts observes good sees kind from mine

@@ -1,3 +1,4 @@
+pub mod Walks
 pub mod Names
 pub mod Stays
 pub mod Moments
@@ -7,3 +8,5 @@ pub mod Viewing
 pub mod Sources
 pub mod Outcomes
 pub mod Lends
+-- what formals see
+pub mod Given

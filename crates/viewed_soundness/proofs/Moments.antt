@@ -31,7 +31,7 @@ use Rattle.owned_loans.specs.Views.{Around, Views, expand, ExcusedBy, Viewed}
 use Rattle.owned_loans.proofs.Meeting.{IsPlain}
 use Rattle.owned_loans.proofs.Others.{clean_away}
 use Rattle.owned_loans.proofs.Allowed.{move_unlent, move_unmoved}
-use Rattle.owned_loans.proofs.Moves.{IsPlace, named_way, view_named, view_on, all_known, no_hand, taken, put}
+use Rattle.owned_loans.proofs.Moves.{IsPlace, named_way, view_rooted, reached, view_on, all_known, no_hand, taken, put}
 use Rattle.owned_loans.proofs.Ended.{Leaves, ended}
 
 -- ---- ways through words that stay
@@ -43,22 +43,6 @@ IsOld s (OfRoot (OfHand h)) = ⊥
 IsOld s (OfCell c) = c < s.made
 IsOld s (Inside l i) = IsOld s l
 
-old_reached : (home : ℕ → ℕ) (s : View) → Owned s → (w : Way) (l : Loc) → Named home w → Reaches s w l → IsOld s l
-old_reached home s owned (Object (OfVariable f x)) l n r = subst (IsOld s) (sym r) tt
-old_reached home s owned (Object (OfHand h)) l n r = absurd n
-old_reached home s owned (Lost c) l n r = absurd n
-old_reached home s owned (Into w i) l n (m, r, e) = subst (IsOld s) (sym e) (old_reached home s owned w m n r)
-old_reached home s owned (All w) l n (m, c, r, held, e) = subst (IsOld s) (sym e) (owned.within m c held)
-
-still_reaches : (home : ℕ → ℕ) (s t : View) → Owned s → ((l : Loc) → IsOld s l → t.word l ≡ s.word l) → (w : Way) (l : Loc) → Named home w
-    → Reaches s w l → Reaches t w l
-still_reaches home s t owned same (Object r) l n reach = reach
-still_reaches home s t owned same (Lost c) l n reach = absurd n
-still_reaches home s t owned same (Into w i) l n (m, reach, e) = (m, still_reaches home s t owned same w m n reach, e)
-still_reaches home s t owned same (All w) l n (m, c, reach, held, e) =
-    (m, c, still_reaches home s t owned same w m n reach, same m (old_reached home s owned w m n reach) ∙ held, e)
-
--- the same for a way from any variable
 far_old : (s : View) → Owned s → (w : Way) (l : Loc) (f x : ℕ) → base_of w ≡ OfRoot (OfVariable f x) → Reaches s w l → IsOld s l
 far_old s owned (Object (OfVariable g y)) l f x base r = subst (IsOld s) (sym r) tt
 far_old s owned (Object (OfHand h)) l f x base r = cc
@@ -85,8 +69,10 @@ module _ (home : ℕ → ℕ) (observer : ℕ → Bool) (other : Around home) (v
     clear = viewed.clear;
     lends = viewed.lends;
     views = λ x w has. (let view = viewed.views x w has in
+        let root = view_rooted home observer other v s facts viewed.views x w has in
         view_on home observer other v s t facts facts x w view (λ seen n loan. loan)
-        (still_reaches home s t viewed.owned same w (OfCell (v.cell x)) (view_named home observer other v s facts viewed.views x w has) view.reaches));
+        (far_reaches s t viewed.owned same w (OfCell (v.cell x)) root.0 root.1 root.2 (reached home observer other v s facts x w view)));
+    whole = viewed.whole;
     far = λ w n keeps. (let root = other.begins w n keeps in far_reaches s t viewed.owned same w (OfCell n) root.0 root.1 root.2 (viewed.far w n keeps));
   }
 

@@ -1,6 +1,6 @@
 -- Where a name leads that may be rooted in a borrower or observer, and that it touches no freed
 -- cell.
-use Rattle.std.proofs.Common.{◌≡◌, refl, sym, ap, ◌∙◌, subst, ◌⊎◌, inl, inr, ℕ, ◌<◌, suc, Bool, true, false, not, ◌&&◌, ◌||◌, List, [], ◌∷◌, map, take, drop, length, get_or, arith, Option, Some, None, if◌then◌else◌}
+use Rattle.std.proofs.Common.{◌≡◌, refl, sym, ap, ◌∙◌, subst, ◌⊎◌, inl, inr, ℕ, ◌<◌, Bool, true, false, not, ◌&&◌, ◌||◌, List, [], ◌∷◌, map, take, drop, length, get_or, arith, Option, Some, None, if◌then◌else◌}
 use Rattle.place_names.specs.declared.fact.Fact.{Fact}
 use Rattle.type_definitions.specs.declared.table.Shape.{Shape}
 use Rattle.type_definitions.specs.declared.table.Shape.TheVariants as shape
@@ -12,22 +12,23 @@ use Rattle.machine.specs.Memory.{Slot, Memory, Place, cell, no_slot, variable_sl
 use Rattle.machine.specs.Evaluate.{Here, Now, Evaluated, Done, Raises, Traps, followed_by, cell_place, designated_place, walked, variable_place, Touched}
 use Rattle.machine.specs.Evaluate as run
 use Rattle.machine.specs.States.{Waiting, Leak}
-use Rattle.owned_ways.specs.Ways.{Component, Element, Root, OfVariable, Loc, OfRoot, OfCell, Way, Object, Lost, Into, All, View, Reaches, IsRooted, Past, Owned, Named, number_of}
+use Rattle.owned_ways.specs.Ways.{Component, Element, Root, OfVariable, OfHand, Loc, OfRoot, OfCell, Way, Object, Lost, Into, All, View, Reaches, IsRooted, Past, Owned, Named, Under, number_of}
 use Rattle.part_offsets.specs.Parts.{IsSettled}
-use Rattle.owned_ways.proofs.Assigned.{named_rooted}
-use Rattle.soundness.specs.Seen.{IsNear, content, trunk, seen, home}
+use Rattle.owned_ways.proofs.Locations.{past_under, under_itself}
+use Rattle.soundness.specs.Seen.{IsNear, content, trunk, seen, home, is_view_formal}
 use Rattle.soundness.specs.Typed.{Kept, Spot}
 use Rattle.soundness.proofs.Near.{named_near, past_near}
-use Rattle.soundness.proofs.Walks.{way_step, way_along, Lead, Walked, walk}
+use Rattle.soundness.proofs.Walks.{way_step, way_along, Lead, Walked}
 use Rattle.soundness.proofs.Scalars.{number_along, named_along}
-use Rattle.owned_loans.specs.Views.{Around, Go, Part, Down, go, Views, way_at, expand_root, expand, IsObject, ExcusedBy, Viewed}
-use Rattle.owned_loans.proofs.Ways.{expand_go, Lifted, further, lifted_root, next_of}
-use Rattle.owned_loans.proofs.Meeting.{IsPlain, next}
+use Rattle.owned_loans.specs.Views.{Around, Go, Part, Down, go, on, Views, way_at, expand_root, expand, IsObject, ExcusedBy, Viewed}
+use Rattle.owned_loans.proofs.Ways.{beginnings, on_deep, expand_go, Lifted, lifts, further, lifted_root, lifted_way}
+use Rattle.owned_loans.proofs.Meeting.{IsPlain}
 use Rattle.owned_loans.proofs.Safe.{Open}
 use Rattle.owned_loans.proofs.Others.{open_away, seen_away}
-use Rattle.owned_loans.proofs.Moves.{IsPlace, named_way, view_named}
+use Rattle.owned_loans.proofs.Moves.{IsPlace, view_named, reached}
 use Rattle.owned_loans.proofs.Ended.{stands_itself}
-use Rattle.viewed_soundness.specs.Holds.{IsNamed, PartsAreNamed, Holds}
+use Rattle.viewed_soundness.specs.Holds.{IsNamed, PartsAreNamed, is_view, sees_only, IsOwners, Holds}
+use Rattle.viewed_soundness.proofs.Walks.{owners_rooted, walk}
 
 -- ---- steps from the variable of a view
 
@@ -43,6 +44,24 @@ starts_leads table t u [] named s = s
 starts_leads table t u (run.ToComponent i ∷ rest) named s = s
 starts_leads table t u (run.ToElement n ∷ rest) named s = s
 starts_leads table t u (run.ToDesignated ∷ rest) named (d, c, n, is, lead) = (d, c, is ∙ ap (λ z. shape.Access d c z) (named d c n is), lead)
+
+pub either : (a b : Bool) → a || b ≡ true → b ≡ false → a ≡ true
+either true b e f = refl
+either false b e f = absurd (true_false b e f)
+  where
+    true_false : (b : Bool) → b ≡ true → b ≡ false → ⊥
+    true_false b e f = cc
+
+pub neither : (a b : Bool) → a || b ≡ false → (a ≡ false) × (b ≡ false)
+neither true b e = cc
+neither false b e = (refl, e)
+
+pub either_true : (a b : Bool) → b ≡ true → a || b ≡ true
+either_true true b e = refl
+either_true false b e = e
+
+pub both_no : (a b : Bool) → a ≡ false → b ≡ false → a || b ≡ false
+both_no a b e f = ap (λ z. z || b) e ∙ f
 
 -- ---- names along steps
 
@@ -66,6 +85,18 @@ expand_steps v [] w d = refl
 expand_steps v (step ∷ rest) w d =
     expand_steps v rest (way_step step w) (not_object step w)
     ∙ ap (way_along rest) (ap (expand v) (step_go step w) ∙ expand_go v (go_of step) w d ∙ sym (step_go step (expand v w)))
+
+under_step : (t w : Way) (step : run.Step) → Under t w → Under t (way_step step w)
+under_step t w (run.ToComponent i) u = inr u
+under_step t w (run.ToElement n) u = inr u
+under_step t w run.ToDesignated u = inr u
+
+pub under_way_along : (rest : List run.Step) (w : Way) → Under w (way_along rest w)
+under_way_along rest w = further_on rest w (under_itself w)
+  where
+    further_on : (rest : List run.Step) (z : Way) → Under w z → Under w (way_along rest z)
+    further_on [] z u = u
+    further_on (step ∷ rest) z u = further_on rest (way_step step z) (under_step w z step u)
 
 lifted_step : (v : Views) (step : run.Step) (w : Way) → Lifted v w → Lifted v (way_step step w)
 lifted_step v (run.ToComponent i) w l = further v (Part (Component i)) w l
@@ -128,18 +159,23 @@ pub not_object_along : (rest : List run.Step) (step : run.Step) (w : Way) → Is
 not_object_along [] step w d = not_object step w d
 not_object_along (next ∷ rest) step w d = not_object_along rest next (way_step step w) d
 
--- a name of a named type isn't that of a view
+-- an access type has no components and no elements
+pub no_parts_in : (sh : Shape) → (d : ℕ) × (c : Bool) × (n : Bool) × (sh ≡ shape.Access d c n) → (length (components_of sh) ≡ 0) × (count_of sh ≡ 0)
+no_parts_in sh (d, c, n, is) = (ap (λ z. length (components_of z)) is, ap count_of is)
+
+-- a name of a named type isn't that of a view, if it isn't that of a formal
 pub is_place : (s : Typing) (v : Views) (f x t : ℕ) (way : List run.Step) → Starts s.table (object_at s x).of way t → IsNamed s.table t
-    → ((y : ℕ) (w : Way) → v.way y ≡ Some w → is_anonymous (view_of s y) ≡ true) → IsPlace v (way_along way (Object (OfVariable f x)))
-is_place s v f x t [] starts named only r e = ap (way_at v) (sym (root_is (OfVariable f x) r e)) ∙ no_way (v.way x) refl
+    → is_view_formal s x ≡ false
+    → ((y : ℕ) (w : Way) → v.way y ≡ Some w → is_view s y ≡ true) → IsPlace v (way_along way (Object (OfVariable f x)))
+is_place s v f x t [] starts named own only r e = ap (way_at v) (sym (root_is (OfVariable f x) r e)) ∙ no_way (v.way x) refl
   where
     root_is : (a b : Root) → Object a ≡ Object b → a ≡ b
     root_is a b e = cc
 
     no_way : (o : Option Way) → v.way x ≡ o → v.way x ≡ None
     no_way None e = e
-    no_way (Some w) e = absurd (not_view s.table (object_at s x).of (only x w e) (subst (IsNamed s.table) (sym starts) named))
-is_place s v f x t (step ∷ rest) starts named only r e =
+    no_way (Some w) e = absurd (not_view s.table (object_at s x).of (either (is_anonymous (view_of s x)) (is_view_formal s x) (only x w e) own) (subst (IsNamed s.table) (sym starts) named))
+is_place s v f x t (step ∷ rest) starts named own only r e =
     absurd (not_object_along rest step (Object (OfVariable f x)) (subst IsObject (sym e) tt))
 
 -- only a view itself has the type of a view
@@ -158,12 +194,43 @@ no_and : (b c : Bool) → c ≡ false → b && c ≡ false
 no_and true c e = e
 no_and false c e = refl
 
-neither : (a b : Bool) → a || b ≡ false → b ≡ false
-neither true b e = cc
-neither false b e = e
-
 pub plain_observer : (s : Typing) (x : ℕ) → is_anonymous (view_of s x) ≡ false → is_observer s x ≡ false
-plain_observer s x plain = no_and (is_variable (object_at s x).kind) (is_observing (view_of s x)) (neither _ (is_observing (view_of s x)) plain)
+plain_observer s x plain = no_and (is_variable (object_at s x).kind) (is_observing (view_of s x)) (neither _ (is_observing (view_of s x)) plain).1
+
+-- what isn't a view doesn't see another's cell
+pub plain_sees : (s : Typing) (x : ℕ) → is_view s x ≡ false → sees_only s x ≡ false
+plain_sees s x plain =
+    let none = neither (is_anonymous (view_of s x)) (is_view_formal s x) plain in
+    both_no (is_observer s x) (is_view_formal s x) (plain_observer s x none.0) none.1
+
+-- a name that a view leads to is that of a place
+pub lifted_place : (v : Views) (u : Way) → Lifted v u → IsPlace v u
+lifted_place v u l r e =
+    absurd (on_deep (All (Object (OfVariable l.frame l.object))) l.rest (λ d. d) (subst IsObject (sym e ∙ l.is) tt))
+
+owners_on : (s : Typing) (w : Way) (rest : List Go) → IsOwners s w → IsOwners s (on w rest)
+owners_on s w [] o = o
+owners_on s w (Part i ∷ rest) o = owners_on s w rest o
+owners_on s w (Down ∷ rest) o = owners_on s w rest o
+
+named_owners : (s : Typing) (frame : ℕ) (u : Way) → Named (home s frame) u → is_view_formal s (number_of u) ≡ false → IsOwners s u
+named_owners s frame (Object (OfVariable f x)) n o = o
+named_owners s frame (Object (OfHand k)) n o = absurd n
+named_owners s frame (Lost n) m o = absurd m
+named_owners s frame (Into w i) n o = named_owners s frame w n o
+named_owners s frame (All w) n o = named_owners s frame w n o
+
+lifted_owners : (s : Typing) (frame : ℕ) (v : Views) (m : Memory) (u : Way) → Holds s frame v m → Lifted v u → IsOwners s (expand v u)
+lifted_owners s frame v m u holds l = subst (IsOwners s) (sym (lifted_way v u l)) (owners_on s l.way l.rest (holds.owners l.object l.way l.has))
+
+-- what a name stands for begins at an owner, if the name doesn't stand for a formal itself
+pub stands_owners : (s : Typing) (frame : ℕ) (v : Views) (m : Memory) (u : Way) → Holds s frame v m → Named (home s frame) u
+    → (is_view_formal s (number_of u) ≡ false) ⊎ Lifted v u → IsOwners s (expand v u)
+stands_owners s frame v m u holds named (inr l) = lifted_owners s frame v m u holds l
+stands_owners s frame v m u holds named (inl own) = elim (lifts v u) [
+  | inl e ↦ subst (IsOwners s) (sym e) (named_owners s frame u named own)
+  | inr l ↦ lifted_owners s frame v m u holds l
+]
 
 only_one : (xs : List Slot) → length xs ≡ 1 → take 1 (drop 0 xs) ≡ get_or xs 0 no_slot ∷ []
 only_one [] e = absurd (omega (arith, e))
@@ -174,9 +241,9 @@ only_one (a ∷ b ∷ xs) e = absurd (omega (arith, e))
 
 module _ (h : Here) (settled : IsSettled h.typing.table) (hands : List Waiting) (leaks : List Leak) (m : Memory) (waits : List (List machine.Word))
     (other : Around (home h.typing h.frame)) (facts : List Fact) (v : Views) (kept : Kept h.typing m hands)
-    (viewed : Viewed (home h.typing h.frame) (is_observer h.typing) other v (seen h.typing m hands leaks) facts) (holds : Holds h.typing h.frame v m)
+    (viewed : Viewed (home h.typing h.frame) (sees_only h.typing) other v (seen h.typing m hands leaks) facts) (holds : Holds h.typing h.frame v m)
     (alone : (w : Way) → IsNear h.frame w → other.gone w → ⊥)
-    (live : (w : Way) (l : Loc) → IsRooted w → Reaches (seen h.typing m hands leaks) w l → (content h.typing m hands (trunk l)).owns ≡ true) where
+    (live : (w : Way) (l : Loc) → IsOwners h.typing w → Reaches (seen h.typing m hands leaks) w l → (content h.typing m hands (trunk l)).owns ≡ true) where
   abbrev s : Typing
   s = h.typing
 
@@ -189,57 +256,61 @@ module _ (h : Here) (settled : IsSettled h.typing.table) (hands : List Waiting) 
   abbrev here_now : Now
   here_now = record { memory = m; waits = waits }
 
-  abbrev excused : Way → Type 0
+  abbrev pub excused : Way → Type 0
   excused = ExcusedBy (home h.typing h.frame) v other facts
 
   -- The name is open, unless it is looked at through an observer.
   abbrev pub Opens : ℕ → Way → Type 0
-  Opens x u = is_observer h.typing x ≡ false → Open facts u
+  Opens x u = sees_only h.typing x ≡ false → Open facts u
 
   -- an object that isn't a view has no way
-  owner_way : (x : ℕ) → is_anonymous (view_of s x) ≡ false → v.way x ≡ None
+  owner_way : (x : ℕ) → is_view s x ≡ false → v.way x ≡ None
   owner_way x plain = no_way (v.way x) refl
     where
       no_way : (o : Option Way) → v.way x ≡ o → v.way x ≡ None
       no_way None e = e
-      no_way (Some w) e = absurd (true_false (is_anonymous (view_of s x)) (holds.only x w e) plain)
+      no_way (Some w) e = absurd (true_false (is_view s x) (holds.only x w e) plain)
 
   -- a name that isn't rooted in a view stands for itself
-  owner_itself : (x : ℕ) (way : List run.Step) → is_anonymous (view_of s x) ≡ false → expand v (way_along way (variable x)) ≡ way_along way (variable x)
+  owner_itself : (x : ℕ) (way : List run.Step) → is_view s x ≡ false → expand v (way_along way (variable x)) ≡ way_along way (variable x)
   owner_itself x way plain =
-      stands_itself (home s h.frame) (is_observer s) other v (way_along way (variable x)) (named_along (home s h.frame) way (variable x) refl)
+      stands_itself (home s h.frame) (sees_only s) other v (way_along way (variable x)) (named_along (home s h.frame) way (variable x) refl)
       (ap v.way (number_along way (variable x)) ∙ owner_way x plain)
 
   -- nothing was moved on its way
-  pub owner_clean : (x : ℕ) (way : List run.Step) → is_anonymous (view_of s x) ≡ false → Opens x (way_along way (variable x))
+  pub owner_clean : (x : ℕ) (way : List run.Step) → is_view s x ≡ false → Opens x (way_along way (variable x))
       → (w : Way) → Past w (way_along way (variable x)) → excused w → ⊥
   owner_clean x way plain opens w past moved =
       let u : Way = way_along way (variable x) in
       let named : Named (home s h.frame) u = named_along (home s h.frame) way (variable x) refl in
-      let seen_not = plain_observer s x plain in
-      let name : IsPlain (home s h.frame) (is_observer s) v view_here facts viewed.views u = (named, ap (is_observer s) (number_along way (variable x)) ∙ seen_not) in
+      let seen_not = plain_sees s x plain in
+      let name : IsPlain (home s h.frame) (sees_only s) v view_here facts viewed.views u = (named, ap (sees_only s) (number_along way (variable x)) ∙ seen_not) in
       elim moved [
         | inr o ↦ alone w (past_near h.frame w u past (named_near s h.frame u named)) o
-        | inl by ↦ open_away (home s h.frame) (is_observer s) other v view_here facts viewed u w name (opens seen_not)
+        | inl by ↦ open_away (home s h.frame) (sees_only s) other v view_here facts viewed u w name (opens seen_not)
             (subst (Past w) (sym (owner_itself x way plain)) past) by
       ]
 
-  owner_walked : (x t : ℕ) (way : List run.Step) → is_anonymous (view_of s x) ≡ false → Starts s.table (object_at s x).of way t
+  owner_walked : (x t : ℕ) (way : List run.Step) → is_view s x ≡ false → Starts s.table (object_at s x).of way t
       → Opens x (way_along way (variable x))
       → Walked s settled hands leaks m waits (expand v (way_along way (variable x))) t (walked s way (variable_place h x) here_now)
   owner_walked x t way plain starts opens =
+      let none = neither (is_anonymous (view_of s x)) (is_view_formal s x) plain in
       subst (λ z. Walked s settled hands leaks m waits z t (walked s way (variable_place h x) here_now)) (sym (owner_itself x way plain))
       (walk s settled hands leaks m waits excused kept viewed.owned viewed.known live way (variable_place h x)
       (OfRoot (OfVariable (home s h.frame x) x)) (variable x) t
-      (record { base = refl; made = tt; at = refl; there = refl; of = inl refl }) tt refl
-      (starts_leads s.table (object_at s x).of t way (plain_named s.table (object_at s x).of plain) starts) (owner_clean x way plain opens))
+      (record { base = refl; made = tt; at = refl; there = refl; of = inl refl }) none.1 refl
+      (starts_leads s.table (object_at s x).of t way (plain_named s.table (object_at s x).of none.0) starts) (owner_clean x way plain opens))
 
   -- nothing was moved on the way through a view
   pub view_clean : (x : ℕ) (rest : List run.Step) (w : Way) → v.way x ≡ Some w → Opens x (way_along rest (All (variable x)))
       → (z : Way) → Past z (way_along rest w) → excused z → ⊥
-  view_clean x rest w has opens z past (inr o) =
-      alone z (past_near h.frame z (way_along rest w) past (named_near s h.frame (way_along rest w)
-      (named_along (home s h.frame) rest w (view_named (home s h.frame) (is_observer s) other v view_here facts viewed.views x w has)))) o
+  view_clean x rest w has opens z past (inr o) = elim (viewed.views x w has) [
+    | inl own ↦ alone z (past_near h.frame z (way_along rest w) past (named_near s h.frame (way_along rest w)
+        (named_along (home s h.frame) rest w (view_named (home s h.frame) (sees_only s) other v view_here facts viewed.views x w own)))) o
+    | inr passed ↦ viewed.whole x w z has passed.foreign o
+        (beginnings z w (way_along rest w) (past_under z (way_along rest w) past) (under_way_along rest w))
+  ]
   view_clean x rest w has opens z past (inl moved) =
       let u : Way = way_along rest (All (variable x)) in
       let named : Named (home s h.frame) u = named_along (home s h.frame) rest (All (variable x)) refl in
@@ -247,18 +318,18 @@ module _ (h : Here) (settled : IsSettled h.typing.table) (hands : List Waiting) 
       let same : expand v u ≡ way_along rest w =
       expand_steps v rest (All (variable x)) (λ d. d) ∙ ap (way_along rest) (ap (λ o. expand_root o (OfVariable (home s h.frame x) x)) has) in
       let goes : Past z (expand v u) = subst (Past z) (sym same) past in
-      by_kind (is_observer s x) refl named root goes
+      by_kind (sees_only s x) refl named root goes
     where
-      by_kind : (b : Bool) → is_observer s x ≡ b → Named (home s h.frame) (way_along rest (All (variable x)))
+      by_kind : (b : Bool) → sees_only s x ≡ b → Named (home s h.frame) (way_along rest (All (variable x)))
           → number_of (way_along rest (All (variable x))) ≡ x → Past z (expand v (way_along rest (All (variable x)))) → ⊥
       by_kind false e named root goes =
-          open_away (home s h.frame) (is_observer s) other v view_here facts viewed (way_along rest (All (variable x))) z
-          (named, ap (is_observer s) root ∙ e) (opens e) goes moved
+          open_away (home s h.frame) (sees_only s) other v view_here facts viewed (way_along rest (All (variable x))) z
+          (named, ap (sees_only s) root ∙ e) (opens e) goes moved
       by_kind true e named root goes =
           let l : Lifted v (way_along rest (All (variable x))) = lifted_along v rest (All (variable x))
           (record { frame = home s h.frame x; object = x; rest = []; way = w; is = refl; has = has }) in
-          seen_away (home s h.frame) (is_observer s) other v view_here facts viewed (way_along rest (All (variable x))) z l named
-          (ap (is_observer s) (sym (lifted_root v (way_along rest (All (variable x))) l) ∙ root) ∙ e) goes moved
+          seen_away (home s h.frame) (sees_only s) other v view_here facts viewed (way_along rest (All (variable x))) z l named
+          (ap (sees_only s) (sym (lifted_root v (way_along rest (All (variable x))) l) ∙ root) ∙ e) goes moved
 
   abbrev slot_of : ℕ → Slot
   slot_of x = get_or (variable_slots s (home s h.frame x) x m.variables) 0 no_slot
@@ -272,7 +343,7 @@ module _ (h : Here) (settled : IsSettled h.typing.table) (hands : List Waiting) 
       ∙ ap (map (λ (z : Slot). z.word)) (only_one slots (kept.variables (home s h.frame x) x ∙ one))
 
   -- the first step goes to the cell that the view designates
-  met : (x t : ℕ) (rest : List run.Step) (d : ℕ) (c n : Bool) → is_anonymous (view_of s x) ≡ true → shape_of s.table (object_at s x).of ≡ shape.Access d c n
+  met : (x t : ℕ) (rest : List run.Step) (d : ℕ) (c n : Bool) → is_view s x ≡ true → shape_of s.table (object_at s x).of ≡ shape.Access d c n
       → Lead s.table d rest t → Opens x (way_along rest (All (variable x))) → (z : machine.Word) → (slot_of x).word ≡ z
       → Walked s settled hands leaks m waits (expand v (way_along rest (All (variable x)))) t (followed_by (designated_place d (z ∷ []) here_now) (walked s rest))
   met x t rest d c n view is lead opens (machine.Int k) e = refl
@@ -282,9 +353,10 @@ module _ (h : Here) (settled : IsSettled h.typing.table) (hands : List Waiting) 
       let own = holds.held x k view e in
       let w : Way = own.0 in
       let known_view = viewed.views x w own.1 in
-      let rooted : IsRooted w = named_rooted (home s h.frame) w (view_named (home s h.frame) (is_observer s) other v view_here facts viewed.views x w own.1) in
-      let reaches : Reaches view_here w (OfCell k) = subst (λ z. Reaches view_here w (OfCell z)) own.2 known_view.reaches in
-      let alive : (cell m k).freed ≡ false = way_live view_here w k viewed.owned rooted reaches in
+      let owns : IsOwners s w = holds.owners x w own.1 in
+      let reaches : Reaches view_here w (OfCell k) =
+      subst (λ z. Reaches view_here w (OfCell z)) own.2 (reached (home s h.frame) (sees_only s) other v view_here facts x w known_view) in
+      let alive : (cell m k).freed ≡ false = way_live view_here w k viewed.owned (owners_rooted s w owns) reaches in
       let points = kept.points (OfRoot (OfVariable (home s h.frame x) x)) [] d c n k refl is e in
       let spot : Spot s m hands (cell_place d k) (OfCell k) = record { base = refl; made = (points.0, points.1); at = refl; there = refl; of = points.2 } in
       let same : expand v (way_along rest (All (variable x))) ≡ way_along rest w =
@@ -292,10 +364,10 @@ module _ (h : Here) (settled : IsSettled h.typing.table) (hands : List Waiting) 
       subst (λ z. Walked s settled hands leaks m waits z t (followed_by (designated_place d (machine.Cell k ∷ []) here_now) (walked s rest))) (sym same)
       (subst (λ b. Walked s settled hands leaks m waits (way_along rest w) t (followed_by (if b then Traps Touched here_now else Done (cell_place d k) here_now) (walked s rest)))
       (sym alive)
-      (walk s settled hands leaks m waits excused kept viewed.owned viewed.known live rest (cell_place d k) (OfCell k) w t spot rooted reaches lead
+      (walk s settled hands leaks m waits excused kept viewed.owned viewed.known live rest (cell_place d k) (OfCell k) w t spot owns reaches lead
       (view_clean x rest w own.1 opens)))
 
-  view_walked : (x t : ℕ) (rest : List run.Step) (d : ℕ) (c n : Bool) → is_anonymous (view_of s x) ≡ true → shape_of s.table (object_at s x).of ≡ shape.Access d c n
+  view_walked : (x t : ℕ) (rest : List run.Step) (d : ℕ) (c n : Bool) → is_view s x ≡ true → shape_of s.table (object_at s x).of ≡ shape.Access d c n
       → Lead s.table d rest t → Opens x (way_along rest (All (variable x)))
       → Walked s settled hands leaks m waits (expand v (way_along rest (All (variable x)))) t (walked s (run.ToDesignated ∷ rest) (variable_place h x) here_now)
   view_walked x t rest d c n view is lead opens =
@@ -308,18 +380,18 @@ module _ (h : Here) (settled : IsSettled h.typing.table) (hands : List Waiting) 
 
   pub name_walked : (x t : ℕ) (way : List run.Step) → Starts s.table (object_at s x).of way t → Opens x (way_along way (variable x))
       → Walked s settled hands leaks m waits (expand v (way_along way (variable x))) t (walked s way (variable_place h x) here_now)
-  name_walked x t way starts opens = by_type (is_anonymous (view_of s x)) refl way starts opens
+  name_walked x t way starts opens = by_type (is_view s x) refl way starts opens
     where
-      by_type : (b : Bool) → is_anonymous (view_of s x) ≡ b → (way : List run.Step) → Starts s.table (object_at s x).of way t
+      by_type : (b : Bool) → is_view s x ≡ b → (way : List run.Step) → Starts s.table (object_at s x).of way t
           → Opens x (way_along way (variable x))
           → Walked s settled hands leaks m waits (expand v (way_along way (variable x))) t (walked s way (variable_place h x) here_now)
       by_type false plain way starts opens = owner_walked x t way plain starts opens
       by_type true view [] starts opens =
           (OfRoot (OfVariable (home s h.frame x) x), refl, record { base = refl; made = tt; at = refl; there = refl; of = inl refl }, refl, starts)
       by_type true view (run.ToComponent i ∷ rest) (less, lead) opens =
-          let none = ap length (view_access (shape_of s.table (object_at s x).of) view).0 in absurd (omega (arith, none, less))
+          let none = no_parts_in (shape_of s.table (object_at s x).of) (holds.access x view) in absurd (omega (arith, none.0, less))
       by_type true view (run.ToElement n ∷ rest) (less, lead) opens =
-          let none = (view_access (shape_of s.table (object_at s x).of) view).1 in absurd (omega (arith, none, less))
+          let none = no_parts_in (shape_of s.table (object_at s x).of) (holds.access x view) in absurd (omega (arith, none.1, less))
       by_type true view (run.ToDesignated ∷ rest) (d, c, n, is, lead) opens = view_walked x t rest d c n view is lead opens
 
   -- An exception, with the memory as it was.
@@ -329,29 +401,29 @@ module _ (h : Here) (settled : IsSettled h.typing.table) (hands : List Waiting) 
 
   -- A name that is rooted in a view with a value.
   abbrev pub IsLifted : ℕ → Way → Type 0
-  IsLifted x u = (l : Lifted v u) × (l.object ≡ x) × IsRooted (expand v u)
+  IsLifted x u = (l : Lifted v u) × (l.object ≡ x) × IsOwners s (expand v u)
 
-  -- a name of a named type isn't rooted in a view, or it is rooted in one with a value, or it raises
+  -- A name is a formal.
+  abbrev pub IsFormalItself : ℕ → List run.Step → Type 0
+  IsFormalItself x way = (is_view_formal s x ≡ true) × (way ≡ [])
+
+  -- a name of a named type isn't rooted in a view, or it is rooted in one with a value, or it raises,
+  -- or it is a formal itself
   pub name_lifted : (x t : ℕ) (way : List run.Step) → IsNamed s.table t → Starts s.table (object_at s x).of way t
-      → (is_anonymous (view_of s x) ≡ false) ⊎ ((IsLifted x (way_along way (variable x)))
-      ⊎ IsRaised m (walked s way (variable_place h x) here_now))
-  name_lifted x t way named starts = by_kind (is_anonymous (view_of s x)) refl
+      → (is_view s x ≡ false) ⊎ ((IsLifted x (way_along way (variable x)))
+      ⊎ (IsRaised m (walked s way (variable_place h x) here_now) ⊎ IsFormalItself x way))
+  name_lifted x t way named starts = by_kind (is_view s x) refl
     where
-      lift : (rest : List run.Step) (k : ℕ) → is_anonymous (view_of s x) ≡ true → (slot_of x).word ≡ machine.Cell k
+      lift : (rest : List run.Step) (k : ℕ) → is_view s x ≡ true → (slot_of x).word ≡ machine.Cell k
           → IsLifted x (way_along rest (All (variable x)))
       lift rest k view e =
           let own = holds.held x k view e in
           let u : Way = way_along rest (All (variable x)) in
           let l : Lifted v u = lifted_along v rest (All (variable x)) (record { frame = home s h.frame x; object = x; rest = []; way = own.0; is = refl; has = own.1 }) in
-          let on = next (home s h.frame) (is_observer s) v view_here facts viewed.views u l (named_along (home s h.frame) rest (All (variable x)) refl) in (
-            l,
-            sym (lifted_root v u l) ∙ number_along rest (All (variable x)),
-            subst IsRooted on.same
-                (named_rooted (home s h.frame) (expand v (next_of v u l))
-                (named_way (home s h.frame) (is_observer s) other v view_here facts viewed.views (suc (number_of (next_of v u l))) (next_of v u l) (omega arith) on.plain)),
-          )
+          let named = named_along (home s h.frame) rest (All (variable x)) refl in
+          (l, sym (lifted_root v u l) ∙ number_along rest (All (variable x)), stands_owners s h.frame v m u holds named (inr l))
 
-      by_word : (rest : List run.Step) (d : ℕ) → is_anonymous (view_of s x) ≡ true → (z : machine.Word) → (slot_of x).word ≡ z
+      by_word : (rest : List run.Step) (d : ℕ) → is_view s x ≡ true → (z : machine.Word) → (slot_of x).word ≡ z
           → (IsLifted x (way_along rest (All (variable x))))
           ⊎ IsRaised m (followed_by (designated_place d (z ∷ []) here_now) (walked s rest))
       by_word rest d view (machine.Int k) e = inr refl
@@ -359,24 +431,36 @@ module _ (h : Here) (settled : IsSettled h.typing.table) (hands : List Waiting) 
       by_word rest d view machine.Null e = inr refl
       by_word rest d view (machine.Cell k) e = inl (lift rest k view e)
 
-      by_steps : (way : List run.Step) → is_anonymous (view_of s x) ≡ true → Starts s.table (object_at s x).of way t
+      formal_true : (a b : Bool) → a || b ≡ true → (a ≡ true → ⊥) → b ≡ true
+      formal_true true b e none = absurd (none refl)
+      formal_true false b e none = e
+
+      raised_or : {A B C : Type 0} → A ⊎ B → A ⊎ (B ⊎ C)
+      raised_or (inl a) = inl a
+      raised_or (inr b) = inr (inl b)
+
+      by_steps : (way : List run.Step) → is_view s x ≡ true → Starts s.table (object_at s x).of way t
           → (IsLifted x (way_along way (variable x)))
-          ⊎ IsRaised m (walked s way (variable_place h x) here_now)
-      by_steps [] view starts = absurd (not_view s.table (object_at s x).of view (subst (IsNamed s.table) (sym starts) named))
+          ⊎ (IsRaised m (walked s way (variable_place h x) here_now) ⊎ IsFormalItself x way)
+      by_steps [] view starts = inr (inr (
+        formal_true (is_anonymous (view_of s x)) (is_view_formal s x) view
+            (λ e. not_view s.table (object_at s x).of e (subst (IsNamed s.table) (sym starts) named)),
+        refl,
+      ))
       by_steps (run.ToComponent i ∷ rest) view (less, lead) =
-          let none = ap length (view_access (shape_of s.table (object_at s x).of) view).0 in absurd (omega (arith, none, less))
+          let none = no_parts_in (shape_of s.table (object_at s x).of) (holds.access x view) in absurd (omega (arith, none.0, less))
       by_steps (run.ToElement n ∷ rest) view (less, lead) =
-          let none = (view_access (shape_of s.table (object_at s x).of) view).1 in absurd (omega (arith, none, less))
+          let none = no_parts_in (shape_of s.table (object_at s x).of) (holds.access x view) in absurd (omega (arith, none.1, less))
       by_steps (run.ToDesignated ∷ rest) view (d, c, n, is, lead) =
           let type : designated s.table (object_at s x).of ≡ d = ap (λ z. designated_of (object_at s x).of (view_of_shape z)) is in
-          subst (λ z. (IsLifted x (way_along rest (All (variable x))))
+          raised_or (subst (λ z. (IsLifted x (way_along rest (All (variable x))))
           ⊎ IsRaised m (followed_by (designated_place (designated s.table (object_at s x).of) z here_now) (walked s rest))) (sym (one_slot x d c n is))
           (subst (λ z. (IsLifted x (way_along rest (All (variable x))))
           ⊎ IsRaised m (followed_by (designated_place z ((slot_of x).word ∷ []) here_now) (walked s rest))) (sym type)
-          (by_word rest d view (slot_of x).word refl))
+          (by_word rest d view (slot_of x).word refl)))
 
-      by_kind : (b : Bool) → is_anonymous (view_of s x) ≡ b
-          → (is_anonymous (view_of s x) ≡ false) ⊎ ((IsLifted x (way_along way (variable x)))
-          ⊎ IsRaised m (walked s way (variable_place h x) here_now))
+      by_kind : (b : Bool) → is_view s x ≡ b
+          → (is_view s x ≡ false) ⊎ ((IsLifted x (way_along way (variable x)))
+          ⊎ (IsRaised m (walked s way (variable_place h x) here_now) ⊎ IsFormalItself x way))
       by_kind false e = inl e
       by_kind true e = inr (by_steps way e starts)

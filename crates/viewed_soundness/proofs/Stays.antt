@@ -13,7 +13,7 @@ use Rattle.type_definitions.specs.declared.table.Static.{Static}
 use Rattle.type_definitions.specs.Types.{Table, shape_of, span, words, full, is_owning, is_scalar, parts}
 use Rattle.typed_tree.specs.Trees.{TypedTree, Number, Literal, Text, Name, Component as IntoComponent, Designated, Element, Call, EndOfFile, Parens, Image, Unary, Binary, Short, IsNull, Aggregate, Alike, New, NoMore, More}
 use Rattle.typed_tree.specs.Trees as typed
-use Rattle.flow_paths.specs.Objects.{object_at, is_observer}
+use Rattle.flow_paths.specs.Objects.{object_at}
 use Rattle.flow_paths.specs.Names.{has_call, selectors, name_of}
 use Rattle.flow_paths.specs.Names as flow_names
 use Rattle.flow_paths.specs.Acts.{used, acts_in}
@@ -37,7 +37,7 @@ use Rattle.soundness.proofs.Taking.{Takes, takes_as, takes_both, takes_zero, no_
 use Rattle.owned_loans.specs.Views.{Around, Views, expand, Viewed}
 use Rattle.owned_loans.proofs.Safe.{Open}
 use Rattle.owned_loans.proofs.Allowed.{read_open, look_open}
-use Rattle.viewed_soundness.specs.Holds.{PartsAreNamed, Holds}
+use Rattle.viewed_soundness.specs.Holds.{PartsAreNamed, sees_only, IsOwners, Holds}
 use Rattle.viewed_soundness.proofs.Names.{Starts, starts_leads, name_walked}
 use Rattle.std.proofs.lemmas.List.{length-map}
 use Rattle.soundness.proofs.Steps.{plain_shape, room, taken_slots}
@@ -78,10 +78,10 @@ decided_quiet before now P same false x y p q = q
 module _ (h : Here) (settled : IsSettled h.typing.table) (hands : List Waiting) (leaks : List Leak) (m : Memory) (waits : List (List machine.Word))
     (other : Around (home h.typing h.frame)) (facts : List Fact) (v : Views)
     (kept : Kept h.typing m hands)
-    (viewed : Viewed (home h.typing h.frame) (is_observer h.typing) other v (seen h.typing m hands leaks) facts)
+    (viewed : Viewed (home h.typing h.frame) (sees_only h.typing) other v (seen h.typing m hands leaks) facts)
     (holds : Holds h.typing h.frame v m)
     (alone : (w : Way) → IsNear h.frame w → other.gone w → ⊥)
-    (live : (w : Way) (l : Loc) → IsRooted w → Reaches (seen h.typing m hands leaks) w l → (content h.typing m hands (trunk l)).owns ≡ true)
+    (live : (w : Way) (l : Loc) → IsOwners h.typing w → Reaches (seen h.typing m hands leaks) w l → (content h.typing m hands (trunk l)).owns ≡ true)
     (index_law : IndexLaw)
     (own_law : OwnsByShape h.typing.table)
     (parts_named : PartsAreNamed h.typing.table) where

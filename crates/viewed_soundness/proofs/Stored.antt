@@ -1,6 +1,6 @@
 -- An assignment to a target that isn't a view, but may be named through a borrower: the source is
 -- evaluated, the place of the target found, the leak checks made, and the value stored.
-use Rattle.std.proofs.Common.{◌≡◌, refl, sym, ap, ◌∙◌, subst, inl, ℕ, suc, ◌+◌, true, false, List, [], ◌∷◌, ◌++◌, take, drop, length, get_or, append_assoc, arith}
+use Rattle.std.proofs.Common.{◌≡◌, refl, sym, ap, ◌∙◌, subst, inl, ℕ, ◌+◌, true, false, Bool, not, List, [], ◌∷◌, ◌++◌, take, drop, length, get_or, append_assoc}
 use Rattle.spark_base.specs.declared.position.Pos.{Pos}
 use Rattle.place_names.specs.declared.act.Act.{Act}
 use Rattle.place_names.specs.declared.act.Act.TheVariants as act
@@ -18,9 +18,8 @@ use Rattle.machine.specs.Evaluate.{Here, Now, AsValue, Evaluated, Done, Raises, 
 use Rattle.machine.specs.Evaluate as run
 use Rattle.machine.specs.Step.{Stored}
 use Rattle.machine.specs.States.{Waiting, Leak}
-use Rattle.owned_ways.specs.Ways.{Root, OfVariable, OfHand, Loc, OfRoot, Way, Object, Named, Allows, after, AllowsAll, number_of}
+use Rattle.owned_ways.specs.Ways.{Root, OfVariable, OfHand, Loc, OfRoot, Way, Object, Reaches, Named, Allows, after, AllowsAll, number_of}
 use Rattle.owned_ways.specs.Ways as ways
-use Rattle.owned_ways.proofs.Assigned.{named_rooted}
 use Rattle.part_offsets.specs.Parts.{type_in, has_part, IsSettled}
 use Rattle.soundness.specs.Seen.{IsNear, content, trunk, steps_in, seen, home, is_view_formal}
 use Rattle.soundness.specs.Changes.{leaks_at}
@@ -37,9 +36,8 @@ use Rattle.soundness.proofs.Memories.{put_other}
 use Rattle.soundness.proofs.Steps.{plain_end}
 use Rattle.owned_loans.specs.Views.{Around, Views, expand, Viewed}
 use Rattle.owned_loans.proofs.Allowed.{write_open}
-use Rattle.owned_loans.proofs.Moves.{named_way}
-use Rattle.viewed_soundness.specs.Holds.{IsNamed, PartsAreNamed, Holds, AllKeep}
-use Rattle.viewed_soundness.proofs.Names.{view_access, not_view, is_place}
+use Rattle.viewed_soundness.specs.Holds.{IsNamed, PartsAreNamed, is_view, sees_only, Holds, AllKeep}
+use Rattle.viewed_soundness.proofs.Names.{either, neither, stands_owners, view_access, not_view, is_place}
 use Rattle.viewed_soundness.proofs.Stays.{Goes, steps_taking, name_on}
 use Rattle.viewed_soundness.proofs.Moments.{stored_viewed}
 use Rattle.viewed_soundness.specs.Taken.{GivesPlainly}
@@ -50,24 +48,40 @@ other_base f x g y e = (let a : f ≡ g = cc in let b : x ≡ y = cc in cc)
 
 module _ (h : Here) (settled : IsSettled h.typing.table) (leaks : List Leak) (waits : List (List machine.Word)) (other : Around (home h.typing h.frame))
     (alone : (w : Way) → IsNear h.frame w → other.gone w → ⊥) (keeps : Keeps h.typing)
-    (no_formals : (x : ℕ) → is_view_formal h.typing x ≡ false) (index_law : IndexLaw) (own_law : OwnsByShape h.typing.table)
+    (index_law : IndexLaw) (own_law : OwnsByShape h.typing.table)
     (v : Views) (parts_named : PartsAreNamed h.typing.table) where
   -- What it comes to: a state that is sound and typed once the value is stored after its leak
   -- checks, or an exception.
   abbrev pub Assigns : List Waiting → List Fact → Evaluated Stored → Type 0
   Assigns hands facts (Done st n) =
-      ((pos : Pos) → Viewed (home h.typing h.frame) (is_observer h.typing) other v
+      ((pos : Pos) → Viewed (home h.typing h.frame) (sees_only h.typing) other v
       (seen h.typing (stored h.typing st.place st.words n.memory) hands (leaks ++ leaks_at h.typing pos n.memory st.place)) facts)
       × Kept h.typing (stored h.typing st.place st.words n.memory) hands
       × Holds h.typing h.frame v (stored h.typing st.place st.words n.memory)
   Assigns hands facts (Raises e n) = Unit {0}
   Assigns hands facts (Traps t n) = ⊥
 
+  -- where a name leads that is rooted in no formal that owns nothing
+  pub place_owns : (m : Memory) (hands : List Waiting) (facts : List Fact) (x : ℕ) (way : List run.Step)
+      → Ready h settled leaks waits other alone keeps index_law own_law v parts_named m hands facts → sees_only h.typing x ≡ false → (l : Loc)
+      → Reaches (seen h.typing m hands leaks) (expand v (way_along way (Object (OfVariable (home h.typing h.frame x) x)))) l
+      → (content h.typing m hands (trunk l)).owns ≡ true
+  place_owns m hands facts x way ready plain l reaches =
+      let w : Way = way_along way (Object (OfVariable (home h.typing h.frame x) x)) in
+      live_trunk h settled leaks waits other alone keeps index_law own_law v parts_named m hands ready.viewed.owned (expand v w) l
+      (stands_owners h.typing h.frame v m w ready.holds (named_along (home h.typing h.frame) way (Object (OfVariable (home h.typing h.frame x) x)) refl)
+      (inl (ap (is_view_formal h.typing) (number_along way (Object (OfVariable (home h.typing h.frame x) x)))
+      ∙ (neither (is_observer h.typing x) (is_view_formal h.typing x) plain).1))) reaches
+
   -- no place of a named type is in the variable of a view
   pub no_view_place : (m : Memory) (hands : List Waiting) (t : ℕ) (k : Place) (l : Loc) → IsNamed h.typing.table t → k.of ≡ t → Spot h.typing m hands k l
-      → (y : ℕ) → is_anonymous (view_of h.typing y) ≡ true → k.base ≡ memory.OfVariable (home h.typing h.frame y) y → ⊥
-  no_view_place m hands t k l named of spot y view base =
+      → (content h.typing m hands (trunk l)).owns ≡ true
+      → (y : ℕ) → is_view h.typing y ≡ true → k.base ≡ memory.OfVariable (home h.typing h.frame y) y → ⊥
+  no_view_place m hands t k l named of spot owns y sees base =
       let root : trunk l ≡ OfRoot (OfVariable (home h.typing h.frame y) y) = spot.base ∙ ap loc_of base in
+      let own : is_view_formal h.typing y ≡ false =
+      not_true (is_view_formal h.typing y) (sym (ap (λ z. (content h.typing m hands z).owns) root) ∙ owns) in
+      let view : is_anonymous (view_of h.typing y) ≡ true = either (is_anonymous (view_of h.typing y)) (is_view_formal h.typing y) sees own in
       let plain = view_access (shape_of h.typing.table (object_at h.typing y).of) view in
       let there : has_part h.typing.table (object_at h.typing y).of (steps_in l) ≡ true =
       subst (λ z. has_part h.typing.table (content h.typing m hands z).of (steps_in l) ≡ true) root spot.there in
@@ -76,17 +90,23 @@ module _ (h : Here) (settled : IsSettled h.typing.table) (leaks : List Leak) (wa
       subst (λ p. Matches h.typing.table k.of (type_in h.typing.table (object_at h.typing y).of p)) none
       (subst (λ z. Matches h.typing.table k.of (type_in h.typing.table (content h.typing m hands z).of (steps_in l))) root spot.of) in
       not_view h.typing.table (object_at h.typing y).of view (matches_named h.typing.table k.of (object_at h.typing y).of fits (subst (IsNamed h.typing.table) (sym of) named))
+    where
+      not_true : (b : Bool) → not b ≡ true → b ≡ false
+      not_true true e = cc
+      not_true false e = refl
 
   -- a store elsewhere leaves what the variables of views have
   pub holds_stored : (m : Memory) (k : Place) (ws : List machine.Word)
-      → ((y : ℕ) → is_anonymous (view_of h.typing y) ≡ true → k.base ≡ memory.OfVariable (home h.typing h.frame y) y → ⊥)
+      → ((y : ℕ) → is_view h.typing y ≡ true → k.base ≡ memory.OfVariable (home h.typing h.frame y) y → ⊥)
       → Holds h.typing h.frame v m → Holds h.typing h.frame v (stored h.typing k ws m)
   holds_stored m k ws off holds = record {
     held = λ y n view e. holds.held y n view (sym (ap (λ z. (get_or z 0 no_slot).word) (same y view k.base (off y view))) ∙ e);
     only = holds.only;
+    owners = holds.owners;
+    access = holds.access;
   }
     where
-      same : (y : ℕ) → is_anonymous (view_of h.typing y) ≡ true → (b : Base) → (b ≡ memory.OfVariable (home h.typing h.frame y) y → ⊥)
+      same : (y : ℕ) → is_view h.typing y ≡ true → (b : Base) → (b ≡ memory.OfVariable (home h.typing h.frame y) y → ⊥)
           → variable_slots h.typing (home h.typing h.frame y) y (memory.put b (take k.at (slots_at h.typing m k.base) ++ fresh ws ++ drop (k.at + length (fresh ws)) (slots_at h.typing m k.base)) m).variables
           ≡ variable_slots h.typing (home h.typing h.frame y) y m.variables
       same y view (memory.OfCell n) ne = refl
@@ -96,8 +116,8 @@ module _ (h : Here) (settled : IsSettled h.typing.table) (leaks : List Leak) (wa
 
   -- the place is found, with the value in hand
   found : (on : List (List machine.Word)) (m : Memory) (hands : List Waiting) (facts : List Fact) (x t : ℕ) (steps : TypedTree) (ws : List machine.Word)
-      → Ready h settled leaks waits other alone keeps no_formals index_law own_law v parts_named m (record { of = t; words = ws } ∷ hands) facts
-      → length ws ≡ words h.typing.table t → IsNamed h.typing.table t → is_observer h.typing x ≡ false
+      → Ready h settled leaks waits other alone keeps index_law own_law v parts_named m (record { of = t; words = ws } ∷ hands) facts
+      → length ws ≡ words h.typing.table t → IsNamed h.typing.table t → sees_only h.typing x ≡ false
       → (way : List run.Step) → Goes h.typing.table (object_at h.typing x).of t steps way → Allows facts (act.Write (name_of x steps))
       → (y : Evaluated Place) → Walked h.typing settled (record { of = t; words = ws } ∷ hands) leaks m on (expand v (way_along way (Object (OfVariable (home h.typing h.frame x) x)))) t y
       → Assigns hands (effect (act.Write (name_of x steps)) facts) (followed_by y (λ k now. Done (record { words = ws; place = k }) now))
@@ -109,23 +129,21 @@ module _ (h : Here) (settled : IsSettled h.typing.table) (leaks : List Leak) (wa
           root = number_along way (Object (OfVariable (home h.typing h.frame x) x)) j;
           sels = goes.sels (Object (OfVariable (home h.typing h.frame x) x)) j;
         }) in
-        subst (λ z. Viewed (home h.typing h.frame) (is_observer h.typing) other v (seen h.typing (stored h.typing k ws z.memory) hands (leaks ++ leaks_at h.typing pos z.memory k)) (effect (act.Write (name_of x steps)) facts))
+        subst (λ z. Viewed (home h.typing h.frame) (sees_only h.typing) other v (seen h.typing (stored h.typing k ws z.memory) hands (leaks ++ leaks_at h.typing pos z.memory k)) (effect (act.Write (name_of x steps)) facts))
         (sym same)
-        (subst (λ z. Viewed (home h.typing h.frame) (is_observer h.typing) other v (seen h.typing (stored h.typing k ws m) hands (leaks ++ leaks_at h.typing pos m k)) (effect (act.Write z) facts)) called
-        (stored_viewed h.typing settled (home h.typing h.frame) (is_observer h.typing) other v m (record { of = t; words = ws }) hands leaks facts k l w pos ready.viewed (λ z b u o. alone b (near_under h.frame (Object (OfHand z)) b u tt) o)
-        ready.kept spot named (ap (is_observer h.typing) (number_along way (Object (OfVariable (home h.typing h.frame x) x))) ∙ plain)
-        (is_place h.typing v (home h.typing h.frame x) x t way goes.lead own ready.holds.only) reaches
-        (live_trunk h settled leaks waits other alone keeps no_formals index_law own_law v parts_named m (record { of = t; words = ws } ∷ hands) ready.viewed.owned (expand v w) l
-        (named_rooted (home h.typing h.frame) (expand v w) (named_way (home h.typing h.frame) (is_observer h.typing) other v
-        (seen h.typing m (record { of = t; words = ws } ∷ hands) leaks) facts ready.viewed.views (suc (number_of w)) w (omega arith)
-        (named, ap (is_observer h.typing) (number_along way (Object (OfVariable (home h.typing h.frame x) x))) ∙ plain))) reaches)
+        (subst (λ z. Viewed (home h.typing h.frame) (sees_only h.typing) other v (seen h.typing (stored h.typing k ws m) hands (leaks ++ leaks_at h.typing pos m k)) (effect (act.Write z) facts)) called
+        (stored_viewed h.typing settled (home h.typing h.frame) (sees_only h.typing) other v m (record { of = t; words = ws }) hands leaks facts k l w pos ready.viewed (λ z b u o. alone b (near_under h.frame (Object (OfHand z)) b u tt) o)
+        ready.kept spot named (ap (sees_only h.typing) (number_along way (Object (OfVariable (home h.typing h.frame x) x))) ∙ plain)
+        (is_place h.typing v (home h.typing h.frame x) x t way goes.lead own (neither (is_observer h.typing x) (is_view_formal h.typing x) plain).1 ready.holds.only) reaches
+        (place_owns m (record { of = t; words = ws } ∷ hands) facts x way ready plain l reaches)
         (subst (λ z. Allows facts (act.Write z)) (sym called) allowed)
         (long ∙ ap (words h.typing.table) (sym of)) (inl (ap (shape_of h.typing.table) (sym of)))))),
     subst (λ z. Kept h.typing (stored h.typing k ws z.memory) hands) (sym same)
         (put_away h.typing settled m (record { of = t; words = ws }) hands k l ready.kept spot (long ∙ ap (words h.typing.table) (sym of))
         (inl (ap (shape_of h.typing.table) (sym of)))),
     subst (λ z. Holds h.typing h.frame v (stored h.typing k ws z.memory)) (sym same)
-        (holds_stored m k ws (no_view_place m (record { of = t; words = ws } ∷ hands) t k l own of spot) ready.holds),
+        (holds_stored m k ws (no_view_place m (record { of = t; words = ws } ∷ hands) t k l own of spot
+        (place_owns m (record { of = t; words = ws } ∷ hands) facts x way ready plain l reaches)) ready.holds),
   )
   found on m hands facts x t steps ws ready long own plain way goes allowed (Raises e n) is = tt
   found on m hands facts x t steps ws ready long own plain way goes allowed (Traps e n) none = none
@@ -138,16 +156,16 @@ module _ (h : Here) (settled : IsSettled h.typing.table) (leaks : List Leak) (wa
 
   -- the value is there
   pub then_placed : (mid on : List (List machine.Word)) (p : Pos) (x t : ℕ) (steps : TypedTree) (hands : List Waiting) (facts : List Fact) → IsNamed h.typing.table t
-      → is_observer h.typing x ≡ false → Leads h.typing (object_at h.typing x).of steps t
+      → sees_only h.typing x ≡ false → Leads h.typing (object_at h.typing x).of steps t
       → Takes (waiting steps) mid on → AllowsAll facts (acts (acts_in h.typing steps) ++ act.Write (name_of x steps) ∷ []) → (y : Evaluated (List machine.Word))
-      → GivenOn h settled leaks waits other alone keeps no_formals index_law own_law v parts_named mid t hands facts y
+      → GivenOn h settled leaks waits other alone keeps index_law own_law v parts_named mid t hands facts y
       → Assigns hands (effect (act.Write (name_of x steps)) (after (acts (acts_in h.typing steps)) facts))
       (followed_by y (λ ws now. followed_by (place_of h (Name p x steps t) now) (λ k now. Done (record { words = ws; place = k }) now)))
   then_placed mid on p x t steps hands facts own plain lead takes allowed (Done ws n) (ready, long, same) =
       let now : Now = record { memory = n.memory; waits = mid } in
       let got : Waiting = record { of = t; words = ws } in
       let each = allows_both facts (acts (acts_in h.typing steps)) (act.Write (name_of x steps) ∷ []) allowed in
-      let live = live_trunk h settled leaks waits other alone keeps no_formals index_law own_law v parts_named n.memory (got ∷ hands) ready.viewed.owned in
+      let live = live_trunk h settled leaks waits other alone keeps index_law own_law v parts_named n.memory (got ∷ hands) ready.viewed.owned in
       let inner = steps_taking h settled (got ∷ hands) leaks n.memory waits other facts v ready.kept ready.viewed ready.holds alone live index_law own_law parts_named
       (object_at h.typing x).of t steps lead mid on takes each.0 in
       let writes : Allows facts (act.Write (name_of x steps)) = subst (λ z. Allows z (act.Write (name_of x steps))) inner.1 each.1.0 in
@@ -169,8 +187,8 @@ module _ (h : Here) (settled : IsSettled h.typing.table) (leaks : List Leak) (wa
   pub assigned_on : (before mid on : List (List machine.Word)) (p : Pos) (x t : ℕ) (steps e : TypedTree) → IsNamed h.typing.table t → Gives h.typing t e
       → Leads h.typing (object_at h.typing x).of steps t
       → GivesPlainly h.typing e → Takes (waiting e) before mid → Takes (waiting steps) mid on → (m : Memory) (hands : List Waiting) (facts : List Fact)
-      → Ready h settled leaks waits other alone keeps no_formals index_law own_law v parts_named m hands facts
-      → AllowsAll facts (acts (stored_acts h.typing (Name p x steps t) e)) → AllKeep (is_observer h.typing) (acts (stored_acts h.typing (Name p x steps t) e))
+      → Ready h settled leaks waits other alone keeps index_law own_law v parts_named m hands facts
+      → AllowsAll facts (acts (stored_acts h.typing (Name p x steps t) e)) → AllKeep (sees_only h.typing) (acts (stored_acts h.typing (Name p x steps t) e))
       → Assigns hands (after (acts (stored_acts h.typing (Name p x steps t) e)) facts)
       (followed_by (followed_by (evaluate h AsValue e (record { memory = m; waits = before })) (checked h t))
       (λ ws now. followed_by (place_of h (Name p x steps t) now) (λ k now. Done (record { words = ws; place = k }) now)))
@@ -182,11 +200,11 @@ module _ (h : Here) (settled : IsSettled h.typing.table) (leaks : List Leak) (wa
       ∙ ap (λ z. z ++ (act.Write (name_of x steps) ∷ [])) (acts_append (acts_in h.typing e) (acts_in h.typing steps))
       ∙ append_assoc a b (act.Write (name_of x steps) ∷ []) in
       let each = allows_both facts a (b ++ act.Write (name_of x steps) ∷ []) (subst (AllowsAll facts) whole allowed) in
-      let names = keep_both (is_observer h.typing) a (b ++ act.Write (name_of x steps) ∷ []) (subst (AllKeep (is_observer h.typing)) whole keep) in
-      let last = keep_both (is_observer h.typing) b (act.Write (name_of x steps) ∷ []) names.1 in
-      let given = checked_on h settled leaks waits other alone keeps no_formals index_law own_law v parts_named mid t t hands (after a facts)
+      let names = keep_both (sees_only h.typing) a (b ++ act.Write (name_of x steps) ∷ []) (subst (AllKeep (sees_only h.typing)) whole keep) in
+      let last = keep_both (sees_only h.typing) b (act.Write (name_of x steps) ∷ []) names.1 in
+      let given = checked_on h settled leaks waits other alone keeps index_law own_law v parts_named mid t t hands (after a facts)
       (evaluate h AsValue e (record { memory = m; waits = before }))
-      (evaluated_on h settled leaks waits other alone keeps no_formals index_law own_law v parts_named e t gives calls before mid takes m hands facts ready each.0 own names.0) in
+      (evaluated_on h settled leaks waits other alone keeps index_law own_law v parts_named e t gives calls before mid takes m hands facts ready each.0 own names.0) in
       let behind : after (acts (stored_acts h.typing (Name p x steps t) e)) facts ≡ effect (act.Write (name_of x steps)) (after b (after a facts)) =
       ap (λ z. after z facts) whole ∙ after_append a (b ++ act.Write (name_of x steps) ∷ []) facts
       ∙ after_append b (act.Write (name_of x steps) ∷ []) (after a facts) in
@@ -196,8 +214,8 @@ module _ (h : Here) (settled : IsSettled h.typing.table) (leaks : List Leak) (wa
 
   pub assigned : (p : Pos) (x t : ℕ) (steps e : TypedTree) → IsNamed h.typing.table t → Gives h.typing t e → Leads h.typing (object_at h.typing x).of steps t
       → has_call e ≡ false → has_call steps ≡ false → (m : Memory) (hands : List Waiting) (facts : List Fact)
-      → Ready h settled leaks waits other alone keeps no_formals index_law own_law v parts_named m hands facts
-      → AllowsAll facts (acts (stored_acts h.typing (Name p x steps t) e)) → AllKeep (is_observer h.typing) (acts (stored_acts h.typing (Name p x steps t) e))
+      → Ready h settled leaks waits other alone keeps index_law own_law v parts_named m hands facts
+      → AllowsAll facts (acts (stored_acts h.typing (Name p x steps t) e)) → AllKeep (sees_only h.typing) (acts (stored_acts h.typing (Name p x steps t) e))
       → Assigns hands (after (acts (stored_acts h.typing (Name p x steps t) e)) facts)
       (followed_by (followed_by (evaluate h AsValue e (record { memory = m; waits = waits })) (checked h t))
       (λ ws now. followed_by (place_of h (Name p x steps t) now) (λ k now. Done (record { words = ws; place = k }) now)))

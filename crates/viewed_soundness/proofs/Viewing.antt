@@ -1,6 +1,6 @@
 -- What a name has that is borrowed or observed, and that its value is stored in the variable of a
 -- view.
-use Rattle.std.proofs.Common.{◌≡◌, refl, sym, ap, ◌∙◌, subst, inl, inr, ℕ, ◌<◌, ◌==◌, eqb-true, eq-eqb, Bool, true, false, ◌&&◌, List, [], ◌∷◌, length, get_or, Option, Some, None}
+use Rattle.std.proofs.Common.{◌≡◌, refl, sym, ap, ◌∙◌, subst, inl, inr, ℕ, ◌<◌, ◌==◌, eqb-true, eq-eqb, Bool, true, false, ◌&&◌, ◌||◌, ◌⊎◌, List, [], ◌∷◌, length, get_or, Option, Some, None}
 use Rattle.place_names.specs.declared.act.Act.TheVariants.{Borrow, Observe, Reborrow}
 use Rattle.spark_base.specs.Lists.{Has}
 use Rattle.place_names.specs.Names.{Name as PlaceName}
@@ -16,11 +16,10 @@ use Rattle.machine.specs.Words as machine
 use Rattle.machine.specs.Memory.{Slot, Memory, Place, fresh, no_slot, slots_at, variable_slots, declared}
 use Rattle.machine.specs.Evaluate.{Here}
 use Rattle.machine.specs.States.{Waiting, Leak}
-use Rattle.owned_ways.specs.Ways.{Step, OfVariable, OfHand, Loc, OfRoot, OfCell, Inside, Way, Object, Lost, Into, All, View, Reaches, IsRooted, Named, IsSame, Allows, name_of, number_of}
+use Rattle.owned_ways.specs.Ways.{Step, OfVariable, OfHand, Loc, OfRoot, OfCell, Inside, Way, Object, Lost, Into, All, View, Reaches, Named, IsSame, Allows, name_of, number_of}
 use Rattle.part_offsets.specs.Parts.{has_part, is_leaf, owns_one, type_in, offset_in, IsSettled}
-use Rattle.soundness.specs.Seen.{content, word_in, trunk, steps_in, seen, home}
+use Rattle.soundness.specs.Seen.{content, word_in, trunk, steps_in, seen, home, is_view_formal}
 use Rattle.soundness.specs.Typed.{IsCell, Points, Kept, Spot}
-use Rattle.soundness.proofs.Walks.{held_there}
 use Rattle.soundness.proofs.Contents.{word_no}
 use Rattle.soundness.proofs.Joined.{trunk_trunk, not_inside}
 use Rattle.soundness.proofs.Memories.{put_same, put_other}
@@ -30,9 +29,10 @@ use Rattle.owned_loans.proofs.Ways.{Lifted, next_of}
 use Rattle.owned_loans.proofs.Allowed.{LoansStay}
 use Rattle.owned_loans.proofs.Taken.{rebound, borrowed, observed, observed_again, reborrowed}
 use Rattle.owned_ways.proofs.Locations.{same_loc}
-use Rattle.owned_loans.proofs.Moves.{IsPlace, same_viewed}
-use Rattle.viewed_soundness.specs.Holds.{Holds}
-use Rattle.viewed_soundness.proofs.Names.{view_access}
+use Rattle.owned_loans.proofs.Moves.{IsPlace, reached, same_viewed}
+use Rattle.viewed_soundness.specs.Holds.{is_view, sees_only, IsOwners, Holds}
+use Rattle.viewed_soundness.proofs.Walks.{held_there}
+use Rattle.viewed_soundness.proofs.Names.{neither, stands_owners, view_access}
 
 -- ---- the way of what a name designates
 
@@ -70,13 +70,13 @@ designates v s u machine.Null is w e = cc
 
 module _ (h : Here) (settled : IsSettled h.typing.table) (hands : List Waiting) (leaks : List Leak) (m : Memory) (waits : List (List machine.Word))
     (other : Around (home h.typing h.frame)) (facts : List Fact) (v : Views) (kept : Kept h.typing m hands)
-    (viewed : Viewed (home h.typing h.frame) (is_observer h.typing) other v (seen h.typing m hands leaks) facts) (holds : Holds h.typing h.frame v m)
-    (live : (w : Way) (l : Loc) → IsRooted w → Reaches (seen h.typing m hands leaks) w l → (content h.typing m hands (trunk l)).owns ≡ true) where
+    (viewed : Viewed (home h.typing h.frame) (sees_only h.typing) other v (seen h.typing m hands leaks) facts) (holds : Holds h.typing h.frame v m)
+    (live : (w : Way) (l : Loc) → IsOwners h.typing w → Reaches (seen h.typing m hands leaks) w l → (content h.typing m hands (trunk l)).owns ≡ true) where
   abbrev view_here : View
   view_here = seen h.typing m hands leaks
 
   -- a name of a named access type that wasn't moved
-  pub owner_designates : (u : Way) (k : Place) (l : Loc) (d : ℕ) (c : Bool) → Spot h.typing m hands k l → IsRooted (expand v u)
+  pub owner_designates : (u : Way) (k : Place) (l : Loc) (d : ℕ) (c : Bool) → Spot h.typing m hands k l → IsOwners h.typing (expand v u)
       → Reaches view_here (expand v u) l → IsPlace v u → shape_of h.typing.table k.of ≡ shape.Access d c true
       → (ExcusedBy (home h.typing h.frame) v other facts (expand v u) → ⊥)
       → IsDesignated v view_here u (get_or (slots_at h.typing m k.base) k.at no_slot).word
@@ -91,13 +91,13 @@ module _ (h : Here) (settled : IsSettled h.typing.table) (hands : List Waiting) 
       )
 
   -- a view itself
-  pub view_designates : (x : ℕ) → is_anonymous (view_of h.typing x) ≡ true
+  pub view_designates : (x : ℕ) → is_view h.typing x ≡ true
       → IsDesignated v view_here (Object (OfVariable (home h.typing h.frame x) x)) (get_or (variable_slots h.typing (home h.typing h.frame x) x m.variables) 0 no_slot).word
   view_designates x view n e =
       let own = holds.held x n view e in
       let is : expand v (All (Object (OfVariable (home h.typing h.frame x) x))) ≡ own.0 = ap (λ o. expand_root o (OfVariable (home h.typing h.frame x) x)) own.1 in
       subst (λ z. Reaches view_here z (OfCell n)) (sym is)
-      (subst (λ z. Reaches view_here own.0 (OfCell z)) own.2 (viewed.views x own.0 own.1).reaches)
+      (subst (λ z. Reaches view_here own.0 (OfCell z)) own.2 (reached (home h.typing h.frame) (sees_only h.typing) other v view_here facts x own.0 (viewed.views x own.0 own.1)))
 
 -- ---- the variable of a view
 
@@ -154,11 +154,13 @@ module _ (s : Typing) (settled : IsSettled s.table) where
 
   -- the variables of views, where one of them gets a word
   pub holds_declared : (frame : ℕ) (v t : Views) (m : Memory) (x : ℕ) (z : machine.Word) (w loan up : Way) → home s frame x ≡ frame
-      → is_anonymous (view_of s x) ≡ true → Becomes v t x (way_from z w) loan up (number_in z) → Holds s frame v m
+      → is_view s x ≡ true → Becomes v t x (way_from z w) loan up (number_in z) → ((q : Way) → way_from z w ≡ Some q → IsOwners s q) → Holds s frame v m
       → Holds s frame t (declared frame x (z ∷ []) m)
-  holds_declared frame v t m x z w loan up mine view becomes holds = record {
+  holds_declared frame v t m x z w loan up mine view becomes owned holds = record {
     held = λ y n is e. by_object y n is e (y == x) refl;
     only = λ y way e. only y way e (y == x) refl;
+    owners = λ y way e. owners y way e (y == x) refl;
+    access = holds.access;
   }
     where
       got : (z : machine.Word) (n : ℕ) → z ≡ machine.Cell n → (way_from z w ≡ Some w) × (number_in z ≡ n)
@@ -180,7 +182,7 @@ module _ (s : Typing) (settled : IsSettled s.table) where
       off : (y : ℕ) → (y == x) ≡ false → y ≡ x → ⊥
       off y e same = (let no = eq-eqb y x same in cc)
 
-      by_object : (y n : ℕ) → is_anonymous (view_of s y) ≡ true
+      by_object : (y n : ℕ) → is_view s y ≡ true
           → (get_or (variable_slots s (home s frame y) y (declared frame x (z ∷ []) m).variables) 0 no_slot).word ≡ machine.Cell n
           → (b : Bool) → (y == x) ≡ b → (k : Way) × (t.way y ≡ Some k) × (t.cell y ≡ n)
       by_object y n is e true b =
@@ -193,9 +195,13 @@ module _ (s : Typing) (settled : IsSettled s.table) where
           (put_other s frame x (home s frame y) y (λ same. off y b (other_object frame x (home s frame y) y same)) (fresh (z ∷ [])) m.variables)) ∙ e) in
           (old.0, becomes.ways y (off y b) ∙ old.1, becomes.cells y (off y b) ∙ old.2)
 
-      only : (y : ℕ) (way : Way) → t.way y ≡ Some way → (b : Bool) → (y == x) ≡ b → is_anonymous (view_of s y) ≡ true
-      only y way e true b = ap (λ q. is_anonymous (view_of s q)) (eqb-true y x b) ∙ view
+      only : (y : ℕ) (way : Way) → t.way y ≡ Some way → (b : Bool) → (y == x) ≡ b → is_view s y ≡ true
+      only y way e true b = ap (is_view s) (eqb-true y x b) ∙ view
       only y way e false b = holds.only y way (sym (becomes.ways y (off y b)) ∙ e)
+
+      owners : (y : ℕ) (way : Way) → t.way y ≡ Some way → (b : Bool) → (y == x) ≡ b → IsOwners s way
+      owners y way e true b = owned way (sym becomes.way_is ∙ ap t.way (sym (eqb-true y x b)) ∙ e)
+      owners y way e false b = holds.owners y way (sym (becomes.ways y (off y b)) ∙ e)
 
   -- ---- words stay typed
 
@@ -244,63 +250,79 @@ module _ (s : Typing) (settled : IsSettled s.table) where
 -- ---- a borrower or observer is declared, or an observer gets another value
 
 module _ (s : Typing) (settled : IsSettled s.table) (frame : ℕ) (other : Around (home s frame)) (v t : Views) (m : Memory) (hands : List Waiting) (leaks : List Leak)
-    (facts : List Fact) (viewed : Viewed (home s frame) (is_observer s) other v (seen s m hands leaks) facts) (kept : Kept s m hands)
+    (facts : List Fact) (viewed : Viewed (home s frame) (sees_only s) other v (seen s m hands leaks) facts) (kept : Kept s m hands)
     (holds : Holds s frame v m) (x : ℕ) (z : machine.Word) (mine : home s frame x ≡ frame) (view : is_anonymous (view_of s x) ≡ true)
     (one : words s.table (object_at s x).of ≡ 1) (typed : IsOfType s settled m x z) where
   -- The state afterwards, with the variable of the view.
   pub record Became (facts' : List Fact) : Type 0 where
-    pub sound : Viewed (home s frame) (is_observer s) other t (seen s (declared frame x (z ∷ []) m) hands leaks) facts'
+    pub sound : Viewed (home s frame) (sees_only s) other t (seen s (declared frame x (z ∷ []) m) hands leaks) facts'
     pub words_kept : Kept s (declared frame x (z ∷ []) m) hands
     pub views_held : Holds s frame t (declared frame x (z ∷ []) m)
 
   became : (facts' : List Fact) (w loan up : Way) → Becomes v t x (way_from z w) loan up (number_in z)
-      → Viewed (home s frame) (is_observer s) other t (seen s m hands leaks) facts' → Became facts'
-  became facts' w loan up becomes sound = record {
-    sound = same_viewed (home s frame) (is_observer s) other t (seen s m hands leaks) (seen s (declared frame x (z ∷ []) m) hands leaks) facts'
+      → ((q : Way) → way_from z w ≡ Some q → IsOwners s q) → Viewed (home s frame) (sees_only s) other t (seen s m hands leaks) facts' → Became facts'
+  became facts' w loan up becomes owned sound = record {
+    sound = same_viewed (home s frame) (sees_only s) other t (seen s m hands leaks) (seen s (declared frame x (z ∷ []) m) hands leaks) facts'
         (view_unseen s settled m hands leaks frame x (z ∷ []) view) sound;
     words_kept = view_kept s settled m hands frame x z view one typed kept;
-    views_held = holds_declared s settled frame v t m x z w loan up mine view becomes holds;
+    views_held = holds_declared s settled frame v t m x z w loan up mine (ap (λ b. b || is_view_formal s x) view) becomes owned holds;
   }
 
-  pub borrower_declared : (u : Way) → Becomes v t x (way_from z (expand v (All u))) u (All u) (number_in z) → Unused other.lent v facts x → is_observer s x ≡ false
-      → Named (home s frame) u → is_observer s (number_of u) ≡ false → number_of u < x → IsDesignated v (seen s m hands leaks) u z
+  -- the way that a view gets begins at an owner
+  owned_way : (u : Way) → Named (home s frame) u → (is_view_formal s (number_of u) ≡ false) ⊎ Lifted v (All u)
+      → (q : Way) → way_from z (expand v (All u)) ≡ Some q → IsOwners s q
+  owned_way u named plain q e = subst (IsOwners s) (of_word z (expand v (All u)) q e) (stands_owners s frame v m (All u) holds named plain)
+    where
+      of_word : (z : machine.Word) (w q : Way) → way_from z w ≡ Some q → w ≡ q
+      of_word (machine.Cell n) w q e = cc
+      of_word (machine.Int k) w q e = cc
+      of_word (machine.Enumerated k) w q e = cc
+      of_word machine.Null w q e = cc
+
+  owned_plain : (u : Way) → Named (home s frame) u → sees_only s (number_of u) ≡ false
+      → (q : Way) → way_from z (expand v (All u)) ≡ Some q → IsOwners s q
+  owned_plain u named plain = owned_way u named (inl (neither (is_observer s (number_of u)) (is_view_formal s (number_of u)) plain).1)
+
+  pub borrower_declared : (u : Way) → Becomes v t x (way_from z (expand v (All u))) u (All u) (number_in z) → Unused (home s frame) other.lent v facts x → sees_only s x ≡ false
+      → Named (home s frame) u → sees_only s (number_of u) ≡ false → number_of u < x → IsDesignated v (seen s m hands leaks) u z
       → Allows facts (Borrow x (name_of u)) → Became (effect (Borrow x (name_of u)) facts)
   borrower_declared u becomes unused borrows named plain older is allowed =
-      became (effect (Borrow x (name_of u)) facts) (expand v (All u)) u (All u) becomes
-      (borrowed (home s frame) (is_observer s) other v t (seen s m hands leaks) facts viewed x (way_from z (expand v (All u))) u (number_in z) becomes unused borrows
+      became (effect (Borrow x (name_of u)) facts) (expand v (All u)) u (All u) becomes (owned_plain u named plain)
+      (borrowed (home s frame) (sees_only s) other v t (seen s m hands leaks) facts viewed x (way_from z (expand v (All u))) u (number_in z) becomes unused borrows
       named plain older (designates v (seen s m hands leaks) u z is) allowed)
 
-  pub observer_stored : (u : Way) → Becomes v t x (way_from z (expand v (All u))) u (All u) (number_in z) → is_observer s x ≡ true
-      → Named (home s frame) u → is_observer s (number_of u) ≡ false → IsDesignated v (seen s m hands leaks) u z
+  pub observer_stored : (u : Way) → Becomes v t x (way_from z (expand v (All u))) u (All u) (number_in z) → sees_only s x ≡ true
+      → Named (home s frame) u → sees_only s (number_of u) ≡ false → IsDesignated v (seen s m hands leaks) u z
       → Allows facts (Observe x (name_of u) false) → Became (effect (Observe x (name_of u) false) facts)
   observer_stored u becomes observes named plain is allowed =
-      became (effect (Observe x (name_of u) false) facts) (expand v (All u)) u (All u) becomes
-      (observed (home s frame) (is_observer s) other v t (seen s m hands leaks) facts viewed x (way_from z (expand v (All u))) u (number_in z) becomes observes
+      became (effect (Observe x (name_of u) false) facts) (expand v (All u)) u (All u) becomes (owned_plain u named plain)
+      (observed (home s frame) (sees_only s) other v t (seen s m hands leaks) facts viewed x (way_from z (expand v (All u))) u (number_in z) becomes observes
       named plain (designates v (seen s m hands leaks) u z is) allowed)
 
-  pub observer_again : (u : Way) (l : Lifted v (All u)) → is_observer s l.object ≡ true
-      → Becomes v t x (way_from z (expand v (All u))) (v.loan l.object) (next_of v (All u) l) (number_in z) → is_observer s x ≡ true
-      → Named (home s frame) u → IsDesignated v (seen s m hands leaks) u z → Became (effect (Observe x (name_of u) true) facts)
-  observer_again u l sees becomes observes named is =
-      became (effect (Observe x (name_of u) true) facts) (expand v (All u)) (v.loan l.object) (next_of v (All u) l) becomes
-      (observed_again (home s frame) (is_observer s) other v t (seen s m hands leaks) facts viewed x (way_from z (expand v (All u))) u (number_in z) l sees becomes observes
-      named (designates v (seen s m hands leaks) u z is))
+  pub observer_again : (u : Way) (l : Lifted v (All u)) → sees_only s l.object ≡ true
+      → Becomes v t x (way_from z (expand v (All u))) (v.loan l.object) (next_of v (All u) l) (number_in z) → sees_only s x ≡ true
+      → Named (home s frame) u → IsDesignated v (seen s m hands leaks) u z → (b : Bool) → Allows facts (Observe x (name_of u) b)
+      → Became (effect (Observe x (name_of u) b) facts)
+  observer_again u l sees becomes observes named is b allowed =
+      became (effect (Observe x (name_of u) b) facts) (expand v (All u)) (v.loan l.object) (next_of v (All u) l) becomes (owned_way u named (inr l))
+      (observed_again (home s frame) (sees_only s) other v t (seen s m hands leaks) facts viewed x (way_from z (expand v (All u))) u (number_in z) l sees becomes observes
+      named (designates v (seen s m hands leaks) u z is) b allowed)
 
   pub borrower_stored : (u : Way) (l : Lifted v (All u)) → l.object ≡ x
-      → Becomes v t x (way_from z (expand v (All u))) (v.loan l.object) (next_of v (All u) l) (number_in z) → is_observer s x ≡ false
+      → Becomes v t x (way_from z (expand v (All u))) (v.loan l.object) (next_of v (All u) l) (number_in z) → sees_only s x ≡ false
       → Named (home s frame) u → IsDesignated v (seen s m hands leaks) u z → Allows facts (Reborrow x (name_of u)) → Became (effect (Reborrow x (name_of u)) facts)
   borrower_stored u l same becomes borrows named is allowed =
-      became (effect (Reborrow x (name_of u)) facts) (expand v (All u)) (v.loan l.object) (next_of v (All u) l) becomes
-      (reborrowed (home s frame) (is_observer s) other v t (seen s m hands leaks) facts viewed x (way_from z (expand v (All u))) u (number_in z) l same becomes borrows
+      became (effect (Reborrow x (name_of u)) facts) (expand v (All u)) (v.loan l.object) (next_of v (All u) l) becomes (owned_way u named (inr l))
+      (reborrowed (home s frame) (sees_only s) other v t (seen s m hands leaks) facts viewed x (way_from z (expand v (All u))) u (number_in z) l same becomes borrows
       named (designates v (seen s m hands leaks) u z is) allowed)
 
   -- a view that becomes null
   pub view_emptied : (facts' : List Fact) (w loan up : Way) → Becomes v t x (way_from z w) loan up (number_in z) → ((k : ℕ) → z ≡ machine.Cell k → ⊥)
-      → Unused other.lent v facts x → ((n : PlaceName) → Has facts (Moved n) → Has facts' (Moved n))
-      → LoansStay facts facts' → AreClear (is_observer s) facts' → Became facts'
+      → Unused (home s frame) other.lent v facts x → ((n : PlaceName) → Has facts (Moved n) → Has facts' (Moved n))
+      → LoansStay facts facts' → AreClear (sees_only s) facts' → Became facts'
   view_emptied facts' w loan up becomes null unused stays loans clear =
-      became facts' w loan up becomes
-      (rebound (home s frame) (is_observer s) other v t x (way_from z w) loan up (number_in z) becomes (seen s m hands leaks) facts facts' viewed unused stays loans clear
+      became facts' w loan up becomes (λ q e. absurd (no_way z q e null))
+      (rebound (home s frame) (sees_only s) other v t x (way_from z w) loan up (number_in z) becomes (seen s m hands leaks) facts facts' viewed unused stays loans clear
       (λ y e. absurd (no_way z y e null)))
     where
       no_way : (z : machine.Word) (y : Way) → way_from z w ≡ Some y → ((k : ℕ) → z ≡ machine.Cell k → ⊥) → ⊥

@@ -1,15 +1,16 @@
--- What the variables of borrowers and observers have, and which types may be those of views.
-use Rattle.std.specs.Prelude.{◌≡◌, ℕ, Bool, true, false, List, [], ◌∷◌, Some, get_or}
+-- What the variables of borrowers, observers and formals that own nothing have, and which types may
+-- be those of views.
+use Rattle.std.specs.Prelude.{◌≡◌, ℕ, Bool, true, false, ◌||◌, List, [], ◌∷◌, Some, get_or}
 use Rattle.place_names.specs.declared.act.Act.{Act}
 use Rattle.place_names.specs.declared.act.Act.TheVariants.{Move, Write, Free}
 use Rattle.type_definitions.specs.declared.table.Shape.TheVariants as shape
 use Rattle.type_definitions.specs.Types.{Table, shape_of}
-use Rattle.flow_paths.specs.Objects.{Typing, is_anonymous, view_of}
+use Rattle.flow_paths.specs.Objects.{Typing, object_at, is_anonymous, is_observer, view_of}
 use Rattle.machine.specs.Words.{Cell, component_type, element_type}
 use Rattle.machine.specs.Memory.{Memory, variable_slots, no_slot}
-use Rattle.owned_ways.specs.Ways.{Way}
+use Rattle.owned_ways.specs.Ways.{OfVariable, OfHand, Way, Object, Lost, Into, All}
 use Rattle.owned_loans.specs.Views.{Views}
-use Rattle.soundness.specs.Seen.{home}
+use Rattle.soundness.specs.Seen.{home, is_view_formal}
 
 -- No anonymous access type.
 abbrev pub IsNamed : Table → ℕ → Type 0
@@ -22,13 +23,35 @@ pub record PartsAreNamed (table : Table) : Type 0 where
   pub element : (t : ℕ) → IsNamed table (element_type table t)
   pub designated : (t d : ℕ) (c n : Bool) → shape_of table t ≡ shape.Access d c n → IsNamed table d
 
--- An object of an anonymous access type whose word is the number of a cell is a view with a value,
--- and its way is that to the cell; no other objects are views.
+-- What sees a cell that it doesn't own: an object of an anonymous access type, and a formal that
+-- owns nothing though its type does.
+abbrev pub is_view : Typing → ℕ → Bool
+is_view s x = is_anonymous (view_of s x) || is_view_formal s x
+
+-- Nothing is changed through observers and such formals.
+abbrev pub sees_only : Typing → ℕ → Bool
+sees_only s x = is_observer s x || is_view_formal s x
+
+-- A way begins at what owns: at a variable that is no such formal, or at a hand.
+abbrev pub IsOwners : Typing → Way → Type 0
+IsOwners s (Object (OfVariable f x)) = is_view_formal s x ≡ false
+IsOwners s (Object (OfHand h)) = Unit {0}
+IsOwners s (Lost n) = ⊥
+IsOwners s (Into w i) = IsOwners s w
+IsOwners s (All w) = IsOwners s w
+
+abbrev pub IsAccess : Typing → ℕ → Type 0
+IsAccess s x = (d : ℕ) × (c : Bool) × (n : Bool) × (shape_of s.table (object_at s x).of ≡ shape.Access d c n)
+
+-- A view is of an access type. One whose word is the number of a cell has a value, and its way is
+-- one of owners to the cell; no other objects are views.
 pub record Holds (s : Typing) (frame : ℕ) (v : Views) (m : Memory) : Type 0 where
-  pub held : (x n : ℕ) → is_anonymous (view_of s x) ≡ true
+  pub held : (x n : ℕ) → is_view s x ≡ true
       → (get_or (variable_slots s (home s frame x) x m.variables) 0 no_slot).word ≡ Cell n
       → (w : Way) × (v.way x ≡ Some w) × (v.cell x ≡ n)
-  pub only : (x : ℕ) (w : Way) → v.way x ≡ Some w → is_anonymous (view_of s x) ≡ true
+  pub only : (x : ℕ) (w : Way) → v.way x ≡ Some w → is_view s x ≡ true
+  pub owners : (x : ℕ) (w : Way) → v.way x ≡ Some w → IsOwners s w
+  pub access : (x : ℕ) → is_view s x ≡ true → IsAccess s x
 
 -- What is moved, written or freed isn't named through an observer.
 abbrev pub KeepsObserved : (ℕ → Bool) → Act → Type 0

@@ -51,7 +51,7 @@ use Rattle.soundness.proofs.Waited.{FillsNone}
 use Rattle.soundness.proofs.Eased.{eased, goes_same}
 use Rattle.soundness.proofs.Successors.{below_one}
 use Rattle.owned_loans.specs.Views.{Around, known_gone, Views, Viewed}
-use Rattle.viewed_soundness.specs.Holds.{IsNamed, AllKeep}
+use Rattle.viewed_soundness.specs.Holds.{IsNamed, AllKeep, sees_only}
 use Rattle.viewed_soundness.proofs.Outcomes.{named_plain, Leads_on, stored_goes, not_views, assigned_acts}
 use Rattle.viewed_steps.specs.Awaited.{AreFor, AreValues, temporaries_of, lasting_of, AreAwaited, TakesAlone}
 use Rattle.viewed_steps.proofs.Waited.{temporary_first, Shares, others_only}
@@ -79,6 +79,7 @@ use Rattle.soundness.proofs.Lasting.{keeps}
 use Rattle.viewed_soundness.proofs.Evaluated.{Given, Ready, checked_given, call_given, keep_both}
 use Rattle.viewed_steps.proofs.Declared.{declared_goes, first_fades}
 use Rattle.viewed_steps.proofs.EachInstruction as each
+use Rattle.viewed_steps.proofs.Views.{all_held}
 
 module _ (table : Table) (typed : TypedProgram) (effects : Effects) (input : List ℕ) (ready : IsReady table typed effects) where
   abbrev program : FlowProgram
@@ -106,7 +107,7 @@ module _ (table : Table) (typed : TypedProgram) (effects : Effects) (input : Lis
       (awaiting : AreAwaited table typed None (top ∷ stages_of (below ∷ more_frames)))
       (of_sub : IsNamedSub (flow_named table typed) top.frame.sub named) (at_point : IsAtPoint named.points top.frame.next p)
       (path : ControlPath (path_points program effects (sub_of program top.frame.sub)) top.before top.frame.next) (views : Views)
-      (viewed_before : Viewed (home s (suc (length rest))) (is_observer s) (known_gone (home s (suc (length rest))) (GoneElsewhere program effects (below ∷ more_frames))) views
+      (viewed_before : Viewed (home s (suc (length rest))) (sees_only s) (known_gone (home s (suc (length rest))) (GoneElsewhere program effects (below ∷ more_frames))) views
       (view_here s state) (facts_of program effects top))
       (kept : Kept s state.memory (waiting_in state)) (scope : InScope s state.memory (suc (length rest)) (lasting_of s p.scope)) (holds : HoldsAt s (suc (length rest)) views state.memory p)
       (placed_before : ArePlaced program (facts_of program effects top) views p.scope) (above : NoneAbove s (suc (length rest)) state.memory) where
@@ -147,7 +148,7 @@ module _ (table : Table) (typed : TypedProgram) (effects : Effects) (input : Lis
         → AllowsAll facts_now (acts_of_main p.instr)
     allowed_now = innermost.allowed_now table typed effects input ready state top below more_frames rest named p frames deep stages running awaiting of_sub at_point path views viewed_before kept scope holds placed_before above
 
-    abbrev viewed : Viewed (home s depth) (is_observer s) other views (view_here s state) facts_now
+    abbrev viewed : Viewed (home s depth) (sees_only s) other views (view_here s state) facts_now
     viewed = innermost.viewed table typed effects input ready state top below more_frames rest named p frames deep stages running awaiting of_sub at_point path views viewed_before kept scope holds placed_before above
 
     abbrev left_scope : List ℕ
@@ -187,7 +188,7 @@ module _ (table : Table) (typed : TypedProgram) (effects : Effects) (input : Lis
     may x y = MayBe program (scope_behind p) x y × IsStoredAt p.instr x
 
     abbrev LeadsFrom : Instruction → Outcome → Type 0
-    LeadsFrom i outcome = Leads_on easy ready.accepted.settled ready.owns other alone no_in_formals views ready.class.parts_named may refl refl (after (acts_of_main i) facts_now) outcome
+    LeadsFrom i outcome = Leads_on easy ready.accepted.settled ready.owns other alone views ready.class.parts_named may refl refl (after (acts_of_main i) facts_now) outcome
 
     abbrev orderly : AreOrderly program p (λ q. (n : ℕ) × Has (map (number_in named.points) p.next) n × IsAtPoint named.points n q)
     orderly = innermost.orderly table typed effects input ready state top below more_frames rest named p frames deep stages running awaiting of_sub at_point path views viewed_before kept scope holds placed_before above
@@ -257,19 +258,16 @@ module _ (table : Table) (typed : TypedProgram) (effects : Effects) (input : Lis
                 ),
               )
 
-      ready_value : Ready (steps.here main_turn) ready.accepted.settled state.leaks [] other alone (keeps s ready.accepted.settled ready.owns) no_in_formals index_law ready.owns views
+      ready_value : Ready (steps.here main_turn) ready.accepted.settled state.leaks [] other alone (keeps s ready.accepted.settled ready.owns) index_law ready.owns views
           ready.class.parts_named state.memory (first_value.0 ∷ waiting_in easy.state) facts_now
       ready_value = record {
-        viewed = subst (λ z. Viewed (home s depth) (is_observer s) other views (seen s state.memory z state.leaks) facts_now) first_value.1.2 viewed;
+        viewed = subst (λ z. Viewed (home s depth) (sees_only s) other views (seen s state.memory z state.leaks) facts_now) first_value.1.2 viewed;
         kept = subst (Kept s state.memory) first_value.1.2 kept;
-        holds = record {
-          held = λ y n view e. holds.held y n (λ fading. going fading.0 fading.1) view e;
-          only = holds.only;
-        };
+        holds = all_held s no_in_formals depth views state.memory (λ y n view e. holds.held y n (λ fading. going fading.0 fading.1) view e) holds.only holds.named;
       }
 
       pub source_alone : (u : ℕ) → IsNamed s.table u → Source s u call
-          → Given (steps.here main_turn) ready.accepted.settled state.leaks [] other alone (keeps s ready.accepted.settled ready.owns) no_in_formals index_law ready.owns views
+          → Given (steps.here main_turn) ready.accepted.settled state.leaks [] other alone (keeps s ready.accepted.settled ready.owns) index_law ready.owns views
           ready.class.parts_named u (waiting_in easy.state) (after (acts (acts_in s call)) facts_now) (steps.taken_by main_turn u call (start main_turn))
       unfolding acts_in Gives
       source_alone u named_type (inl (view, is)) = absurd (true_false (is_anonymous (full s.table u)) view (named_plain s.table u named_type))
@@ -278,15 +276,15 @@ module _ (table : Table) (typed : TypedProgram) (effects : Effects) (input : Lis
           let types : Some t ≡ Some (object_at s x).of = sym result ∙ alone_taken.6 in
           let type : v.of ≡ t = first_value.1.0 ∙ sym (some_is types) in
           let now : List (List machine.Word) → Now = (λ ws. record { memory = state.memory; waits = ws }) in
-          subst (λ b. Given (steps.here main_turn) ready.accepted.settled state.leaks [] other alone (keeps s ready.accepted.settled ready.owns) no_in_formals index_law ready.owns views
+          subst (λ b. Given (steps.here main_turn) ready.accepted.settled state.leaks [] other alone (keeps s ready.accepted.settled ready.owns) index_law ready.owns views
           ready.class.parts_named u (waiting_in easy.state) facts_now
           (if b then run.viewed (steps.here main_turn) call (start main_turn) else followed_by (value (steps.here main_turn) call (start main_turn)) (checked (steps.here main_turn) u)))
           (sym (named_plain s.table u named_type))
-          (checked_given (steps.here main_turn) ready.accepted.settled state.leaks [] other alone (keeps s ready.accepted.settled ready.owns) no_in_formals index_law ready.owns views
+          (checked_given (steps.here main_turn) ready.accepted.settled state.leaks [] other alone (keeps s ready.accepted.settled ready.owns) index_law ready.owns views
           ready.class.parts_named u u (waiting_in easy.state) facts_now (value (steps.here main_turn) call (start main_turn))
-          (subst (λ ws. Given (steps.here main_turn) ready.accepted.settled state.leaks [] other alone (keeps s ready.accepted.settled ready.owns) no_in_formals index_law ready.owns views
+          (subst (λ ws. Given (steps.here main_turn) ready.accepted.settled state.leaks [] other alone (keeps s ready.accepted.settled ready.owns) index_law ready.owns views
           ready.class.parts_named u (waiting_in easy.state) facts_now (value (steps.here main_turn) call (now ws))) (sym first_value.1.3)
-          (call_given (steps.here main_turn) ready.accepted.settled state.leaks [] other alone (keeps s ready.accepted.settled ready.owns) no_in_formals index_law ready.owns views
+          (call_given (steps.here main_turn) ready.accepted.settled state.leaks [] other alone (keeps s ready.accepted.settled ready.owns) index_law ready.owns views
           ready.class.parts_named [] state.memory (waiting_in easy.state) facts_now alone_taken.3 alone_taken.4 alone_taken.5 v.of u v.words
           (subst (λ z. Matches s.table z u) (sym type) fits) first_value.1.1 ready_value)))
         where
@@ -304,7 +302,7 @@ module _ (table : Table) (typed : TypedProgram) (effects : Effects) (input : Lis
           allowed_now (each.spares table typed effects input ready state top below more_frames rest named p frames deep stages running awaiting of_sub at_point path views viewed_before kept scope holds placed_before above going no_calls end)
           (standing.allowed table typed effects input ready state top older outer named p frames of_sub at_point path no_calls)
 
-      keeps_there : AllKeep (is_observer s) (acts_of_main p.instr)
+      keeps_there : AllKeep (sees_only s) (acts_of_main p.instr)
       keeps_there = standing.keeps_there table typed effects input ready state top older outer named p frames of_sub at_point
 
       no_name : (r : Pos) (y : ℕ) (steps : TypedTree) (w : ℕ) → ◌≡◌ {A = TypedTree} (More held_call NoMore) (More (Name r y steps w) NoMore) → ⊥
@@ -340,7 +338,7 @@ module _ (table : Table) (typed : TypedProgram) (effects : Effects) (input : Lis
         facts_same = ap (λ z. after z facts_now) (sym acts_same)
 
         declared_value : (z : Evaluated (List machine.Word))
-            → Given (steps.here main_turn) ready.accepted.settled state.leaks [] other alone (keeps s ready.accepted.settled ready.owns) no_in_formals index_law ready.owns views
+            → Given (steps.here main_turn) ready.accepted.settled state.leaks [] other alone (keeps s ready.accepted.settled ready.owns) index_law ready.owns views
             ready.class.parts_named (object_at s y).of (waiting_in easy.state) (after (acts_of_main (Declare y v)) facts_now) z
             → FadesTo (steps.here main_turn) state.memory z
             → LeadsFrom (Declare y v) (steps.evaluated main_turn z (λ vs m. steps.goes main_turn (declared depth y vs m) 0))
@@ -362,7 +360,7 @@ module _ (table : Table) (typed : TypedProgram) (effects : Effects) (input : Lis
         unfolding initial
         declares_alone =
             declared_value (steps.first_value main_turn (object_at s y).of v (start main_turn))
-            (subst (λ z. Given (steps.here main_turn) ready.accepted.settled state.leaks [] other alone (keeps s ready.accepted.settled ready.owns) no_in_formals index_law ready.owns views
+            (subst (λ z. Given (steps.here main_turn) ready.accepted.settled state.leaks [] other alone (keeps s ready.accepted.settled ready.owns) index_law ready.owns views
             ready.class.parts_named (object_at s y).of (waiting_in easy.state) z (steps.taken_by main_turn (object_at s y).of held_call (start main_turn))) facts_same
             (source_alone going alone_taken (object_at s y).of named_object source_here))
             (first_fades easy ready.accepted.settled ready.owns other alone no_in_formals views ready.class.parts_named may refl refl given_words (object_at s y).of v (refl, source_here))
@@ -410,10 +408,10 @@ module _ (table : Table) (typed : TypedProgram) (effects : Effects) (input : Lis
         pub allowed_steps : AllowsAll facts_now (acts (acts_in s path_there) ++ act.Write (name_of y path_there) ∷ [])
         allowed_steps = subst (AllowsAll facts_now) acts_there (subst (λ i. AllowsAll facts_now (acts_of_main i)) is (allowed_there end))
 
-        pub plain_root : is_observer s y ≡ false
+        pub plain_root : sees_only s y ≡ false
         plain_root =
-            (keep_both (is_observer s) (acts (acts_in s path_there)) (act.Write (name_of y path_there) ∷ [])
-            (subst (AllKeep (is_observer s)) acts_there (subst (λ i. AllKeep (is_observer s) (acts_of_main i)) is keeps_there))).1.0
+            (keep_both (sees_only s) (acts (acts_in s path_there)) (act.Write (name_of y path_there) ∷ [])
+            (subst (AllKeep (sees_only s)) acts_there (subst (λ i. AllKeep (sees_only s) (acts_of_main i)) is keeps_there))).1.0
 
         abbrev facts_then : List Fact
         facts_then = effect (act.Write (name_of y path_there)) (after (acts (acts_in s path_there)) facts_now)
@@ -423,14 +421,14 @@ module _ (table : Table) (typed : TypedProgram) (effects : Effects) (input : Lis
             sym (after_append (acts (acts_in s path_there)) (act.Write (name_of y path_there) ∷ []) facts_now) ∙ ap (λ z. after z facts_now) (sym acts_there)
 
         stored_value : (z : Evaluated steps.Stored)
-            → Assigns (steps.here main_turn) ready.accepted.settled state.leaks [] other alone (keeps s ready.accepted.settled ready.owns) no_in_formals index_law ready.owns views
+            → Assigns (steps.here main_turn) ready.accepted.settled state.leaks [] other alone (keeps s ready.accepted.settled ready.owns) index_law ready.owns views
             ready.class.parts_named (waiting_in easy.state) (after (acts_of_main (Assign target held_call)) facts_now) z
             → LeadsFrom (Assign target held_call) (steps.evaluated main_turn z (λ (st : steps.Stored) m. steps.leaking_goes (checks_at s (steps.target_pos main_turn target) m st.place)
             (steps.goes main_turn (stored s st.place st.words m) 0)))
         stored_value (Done st n) given =
             subst (λ z. LeadsFrom (Assign target held_call) (steps.leaking_goes (checks_at s (steps.target_pos main_turn target) n.memory st.place) z))
             (goes_same main_turn (stored s st.place st.words n.memory) 0)
-            (stored_goes easy ready.accepted.settled ready.owns other alone no_in_formals views ready.class.parts_named may refl refl
+            (stored_goes easy ready.accepted.settled ready.owns other alone views ready.class.parts_named may refl refl
             (after (acts_of_main (Assign target held_call)) facts_now) (steps.target_pos main_turn target) st n given)
         stored_value (Raises how n) given =
             each.ends_so table typed effects input ready state top below more_frames rest named p frames deep stages running awaiting of_sub at_point path views viewed_before kept scope holds placed_before above going no_calls (Assign target held_call) how n.memory
@@ -441,10 +439,10 @@ module _ (table : Table) (typed : TypedProgram) (effects : Effects) (input : Lis
         assigns_alone =
             stored_value (followed_by (steps.taken_by main_turn u held_call (start main_turn))
             (λ ws now. followed_by (place_of (steps.here main_turn) target now) (λ k now. Done (record { words = ws; place = k }) now)))
-            (subst (λ z. Assigns (steps.here main_turn) ready.accepted.settled state.leaks [] other alone (keeps s ready.accepted.settled ready.owns) no_in_formals index_law ready.owns views
+            (subst (λ z. Assigns (steps.here main_turn) ready.accepted.settled state.leaks [] other alone (keeps s ready.accepted.settled ready.owns) index_law ready.owns views
             ready.class.parts_named (waiting_in easy.state) z (followed_by (steps.taken_by main_turn u held_call (start main_turn))
             (λ ws now. followed_by (place_of (steps.here main_turn) target now) (λ k now. Done (record { words = ws; place = k }) now)))) facts_there
-            (then_placed (steps.here main_turn) ready.accepted.settled state.leaks [] other alone (keeps s ready.accepted.settled ready.owns) no_in_formals index_law ready.owns views
+            (then_placed (steps.here main_turn) ready.accepted.settled state.leaks [] other alone (keeps s ready.accepted.settled ready.owns) index_law ready.owns views
             ready.class.parts_named [] [] r y u path_there (waiting_in easy.state) facts_now named_target plain_root leads_there (no_takes path_there calls [])
             allowed_steps (steps.taken_by main_turn u held_call (start main_turn))
             (source_alone going alone_taken u named_target source_there)))

@@ -2,12 +2,13 @@
 --
 -- All of it is seen from the frame of the caller: what is gone in the variables of the frame that ends is
 -- known as such.
-use Rattle.std.proofs.Common.{◌≡◌, refl, sym, ap, ◌∙◌, subst, ◌⊎◌, inl, inr, ℕ, suc, ◌<◌, ◌+◌, Bool, true, false, not, List, [], ◌∷◌, ◌++◌, take, drop, length, get_or, arith, append-nil, if◌then◌else◌}
+use Rattle.viewed_soundness.specs.Holds.{sees_only}
+use Rattle.std.proofs.Common.{◌≡◌, refl, sym, ap, ◌∙◌, subst, ◌⊎◌, inl, inr, ℕ, suc, ◌<◌, ◌+◌, Bool, true, false, not, List, [], ◌∷◌, ◌++◌, take, drop, length, get_or, arith, append-nil, if◌then◌else◌, Some}
 use Rattle.std.proofs.lemmas.List.{length-map}
 use Rattle.spark_base.specs.Lists.{Has}
 use Rattle.place_names.specs.declared.fact.Fact.{Fact}
 use Rattle.type_definitions.specs.Types.{words, full, is_scalar, is_owning}
-use Rattle.flow_paths.specs.Objects.{Typing, object_at, is_anonymous, is_observer, is_package_object, view_of}
+use Rattle.flow_paths.specs.Objects.{Typing, object_at, is_anonymous, is_package_object, view_of}
 use Rattle.flow_paths.specs.Scopes.{is_within}
 use Rattle.machine.specs.Words.{access_offsets, fits_type}
 use Rattle.machine.specs.Words as machine
@@ -30,7 +31,7 @@ use Rattle.soundness.proofs.Steps.{matches_words, no_leaf, taken_slots, room}
 use Rattle.soundness.proofs.Lasting.{keeps, put_away}
 use Rattle.soundness.proofs.Fixed.{fixed_one}
 use Rattle.soundness.proofs.Returning.{Backs, copied_is, formal_fixed}
-use Rattle.owned_loans.specs.Views.{Around, Views, ExcusedBy, Viewed}
+use Rattle.owned_loans.specs.Views.{Around, Views, ExcusedBy, Viewed, IsForeign}
 use Rattle.owned_loans.proofs.Safe.{off_view}
 use Rattle.owned_loans.proofs.Moves.{named_way, same_viewed}
 use Rattle.viewed_soundness.proofs.Names.{true_false}
@@ -42,6 +43,7 @@ use Rattle.viewed_steps.proofs.Carried.{trunk_is, carried_gone, carried_cells, c
 use Rattle.viewed_steps.proofs.Beside.{put_beside}
 use Rattle.viewed_steps.proofs.Alike.{Enters, moved_there, stored_there, one_then, if_back, backs_on}
 use Rattle.viewed_steps.proofs.Entered.{matches_back, not_observing, inside_plain, inside_named, inside_number, inside_itself}
+use Rattle.viewed_steps.proofs.Views.{observes_not, AreFar, apart_by_base}
 
 same_names : {f x g y : ℕ} → memory.OfVariable f x ≡ memory.OfVariable g y → (f ≡ g) × (x ≡ y)
 same_names e = (cc, cc)
@@ -53,7 +55,8 @@ pub given_is : (t : Turn) (r : Return) (rest : List Return) (begun : Now) (f x :
 given_is t r rest begun f x base = rw base refl
 
 module _ (t : Turn) (settled : IsSettled (typing t).table) (own_law : OwnsByShape (typing t).table) (no_formals : (x : ℕ) → is_view_formal (typing t) x ≡ false)
-    (hands : List Waiting) (leaks : List Leak) (depth : ℕ) (deep : length t.outer ≡ suc depth) (v : Views) (facts : List Fact) (scope : List ℕ)
+    (hands : List Waiting) (leaks : List Leak) (depth : ℕ) (deep : length t.outer ≡ suc depth) (v : Views)
+    (far : AreFar (home (typing t) depth) v depth) (facts : List Fact) (scope : List ℕ)
     (other : Around (home (typing t) depth))
     (free : (h : ℕ) (w : Way) → Under (Object (OfHand h)) w → other.gone w → ⊥)
     (whole : (x : ℕ) (w : Way) → base_of w ≡ OfRoot (OfVariable (suc depth) x) → other.gone w → ⊥)
@@ -73,7 +76,7 @@ module _ (t : Turn) (settled : IsSettled (typing t).table) (own_law : OwnsByShap
   away returns ways = gone_also (home (typing t) depth) other (AwayBy returns ways)
 
   abbrev pub ViewedAway : List Return → List Way → Memory → Type 0
-  ViewedAway returns ways m = Viewed (home (typing t) depth) (is_observer (typing t)) (away returns ways) v (seen (typing t) m hands leaks) facts
+  ViewedAway returns ways m = Viewed (home (typing t) depth) (sees_only (typing t)) (away returns ways) v (seen (typing t) m hands leaks) facts
 
   -- All is given back: words are typed; a variable that has a number had it before, or is one of the caller in
   -- scope; the formals have none; views keep their words; and what was gone stays so, but in the places.
@@ -100,6 +103,17 @@ module _ (t : Turn) (settled : IsSettled (typing t).table) (own_law : OwnsByShap
       by_package : (b : Bool) → (if b then 0 else depth) ≡ suc depth → ⊥
       by_package true e = omega (arith, e)
       by_package false e = omega (arith, e)
+
+  -- nothing of that meets what views see that belongs to other frames
+  left_apart : (returns : List Return) (y : ℕ) (w z : Way) → v.way y ≡ Some w → IsForeign (home s depth) w → IsLeft returns z → Under z w ⊎ Under w z → ⊥
+  left_apart returns y w z has foreign (x, base, none) meets =
+      apart_by_base w z foreign.0 foreign.1 (suc depth) x foreign.2 base (λ same. (let low = far y w has foreign in omega (arith, low, same))) meets
+
+  pub apart_by : (returns more : List Return) (ways : List Way) (m : Memory) → ViewedAway returns ways m
+      → (y : ℕ) (w z : Way) → v.way y ≡ Some w → IsForeign (home s depth) w → AwayBy more ways z → Under z w ⊎ Under w z → ⊥
+  apart_by returns more ways m viewed y w z has foreign (inl gone) meets = viewed.whole y w z has foreign (inl gone) meets
+  apart_by returns more ways m viewed y w z has foreign (inr (inl taken)) meets = viewed.whole y w z has foreign (inr (inl taken)) meets
+  apart_by returns more ways m viewed y w z has foreign (inr (inr left)) meets = left_apart more y w z has foreign left meets
 
   -- ---- one that is given back
 
@@ -128,7 +142,7 @@ module _ (t : Turn) (settled : IsSettled (typing t).table) (own_law : OwnsByShap
     next = stored s r.to (words_of s m formal) (moved_out s formal m)
 
     abbrev observer : ℕ → Bool
-    observer = is_observer s
+    observer = sees_only s
 
     pub formal_inside : IsInside s (suc depth) formal root
     formal_inside = record {
@@ -149,6 +163,14 @@ module _ (t : Turn) (settled : IsSettled (typing t).table) (own_law : OwnsByShap
 
     owns : (content s m hands (OfRoot (OfVariable (suc depth) r.formal))).owns ≡ true
     owns = ap not (no_formals r.formal)
+
+    first_apart : (y : ℕ) (w z : Way) → v.way y ≡ Some w → IsForeign (home s depth) w → AwayBy rest (to ∷ ways) z → Under z w ⊎ Under w z → ⊥
+    first_apart = apart_by (r ∷ rest) rest (to ∷ ways) m viewed
+
+    second_apart : (y : ℕ) (w z : Way) → v.way y ≡ Some w → IsForeign (home s depth) w → AwayBy rest ways z → Under z w ⊎ Under w z → ⊥
+    second_apart y w z has foreign (inl gone) meets = first_apart y w z has foreign (inl gone) meets
+    second_apart y w z has foreign (inr (inl taken_there)) meets = first_apart y w z has foreign (inr (inl (taken_more to ways z taken_there))) meets
+    second_apart y w z has foreign (inr (inr left)) meets = first_apart y w z has foreign (inr (inr left)) meets
 
     abbrev first : Around (home s depth)
     first = away (r ∷ rest) (to ∷ ways)
@@ -179,9 +201,10 @@ module _ (t : Turn) (settled : IsSettled (typing t).table) (own_law : OwnsByShap
 
     viewed_mid : Viewed (home s depth) observer second v (seen s mid (got ∷ hands) leaks) facts
     viewed_mid =
-        carried_off s settled (home s depth) observer v first (AwayBy rest (to ∷ ways)) m hands leaks facts formal
+        carried_off s settled (home s depth) observer v first (AwayBy rest (to ∷ ways)) first_apart m hands leaks facts formal
         (OfRoot (OfVariable (suc depth) r.formal)) root viewed typed spot tt refl owns clean (suc depth) r.formal refl
-        (variable_clear (home s depth) observer v first (AwayBy rest (to ∷ ways)) (seen s m hands leaks) facts viewed (suc depth) r.formal not_above
+        (variable_clear (home s depth) observer v first (AwayBy rest (to ∷ ways)) first_apart (seen s m hands leaks) facts viewed (suc depth) r.formal not_above
+        (λ y w has foreign. (let low = far y w has foreign in omega (arith, low)))
         (λ w n keeps_it base. none w n keeps_it))
         (λ w o. elim o [
           | inl away_there ↦ inl away_there
@@ -195,12 +218,12 @@ module _ (t : Turn) (settled : IsSettled (typing t).table) (own_law : OwnsByShap
     held_mid : (g y : ℕ) (p : List Step) (c : ℕ) → word_in s.table (content s mid [] (OfRoot (OfVariable g y))) p ≡ Held c
         → word_in s.table (content s m [] (OfRoot (OfVariable g y))) p ≡ Held c
     held_mid g y p c held =
-        carried_held s settled (home s depth) observer v first (AwayBy rest (to ∷ ways)) m hands leaks facts formal
+        carried_held s settled (home s depth) observer v first (AwayBy rest (to ∷ ways)) first_apart m hands leaks facts formal
         (OfRoot (OfVariable (suc depth) r.formal)) root viewed typed spot tt refl owns clean g y p c held
 
     empty_mid : (p : List Step) (c : ℕ) → word_in s.table (content s mid [] (OfRoot (OfVariable (suc depth) r.formal))) p ≡ Held c → ⊥
     empty_mid p c held =
-        carried_bare s settled (home s depth) observer v first (AwayBy rest (to ∷ ways)) m hands leaks facts formal
+        carried_bare s settled (home s depth) observer v first (AwayBy rest (to ∷ ways)) first_apart m hands leaks facts formal
         (OfRoot (OfVariable (suc depth) r.formal)) root viewed typed spot tt refl owns clean p c
         (ap (λ z. word_in s.table (content s mid (got ∷ hands) (OfRoot (OfVariable (suc depth) r.formal))) z) (append-nil p) ∙ held)
 
@@ -231,9 +254,9 @@ module _ (t : Turn) (settled : IsSettled (typing t).table) (own_law : OwnsByShap
     bare p c held = taken.1 p c (held_mid depth inside.object (p ++ inside.steps) c (sym (inside_word s depth r.to to inside mid (got ∷ hands) p) ∙ held))
 
     plain_name : observer (number_of to) ≡ false
-    plain_name = ap observer (inside_number s settled depth r.to to inside) ∙ not_observing s inside.object (inside_plain s settled depth r.to to inside)
+    plain_name = ap observer (inside_number s settled depth r.to to inside) ∙ observes_not s no_formals inside.object (not_observing s inside.object (inside_plain s settled depth r.to to inside))
 
-    clear_to : IsClearOf (home s depth) observer v second (AwayBy rest ways) to
+    clear_to : IsClearOf (home s depth) observer v second (AwayBy rest ways) second_apart to
     clear_to = record {
       own = λ y w has past.
           off_view (home s depth) observer v (seen s mid (got ∷ hands) leaks) facts viewed_mid.views viewed_mid.clear to y w
@@ -261,7 +284,7 @@ module _ (t : Turn) (settled : IsSettled (typing t).table) (own_law : OwnsByShap
 
     pub one_viewed : ViewedAway rest ways next
     one_viewed =
-        carried_to s settled (home s depth) observer v second (AwayBy rest ways) mid got hands leaks facts r.to at to viewed_mid kept_mid spot_to reached owns_to
+        carried_to s settled (home s depth) observer v second (AwayBy rest ways) second_apart mid got hands leaks facts r.to at to viewed_mid kept_mid spot_to reached owns_to
         long fits bare depth inside.object (inside_base s depth r.to to inside) free_hands clear_to
         (λ w o off. elim o [
           | inl away_there ↦ inl away_there
@@ -274,7 +297,7 @@ module _ (t : Turn) (settled : IsSettled (typing t).table) (own_law : OwnsByShap
     holds_next : (g y : ℕ) (p : List Step) (c : ℕ) → word_in s.table (content s next [] (OfRoot (OfVariable g y))) p ≡ Held c
         → (word_in s.table (content s mid [] (OfRoot (OfVariable g y))) p ≡ Held c) ⊎ ((q : List Step) × (part (OfRoot (OfVariable g y)) p ≡ part at q))
     holds_next g y p c held =
-        carried_holds s settled (home s depth) observer v second (AwayBy rest ways) mid got hands leaks facts r.to at to viewed_mid kept_mid spot_to reached owns_to
+        carried_holds s settled (home s depth) observer v second (AwayBy rest ways) second_apart mid got hands leaks facts r.to at to viewed_mid kept_mid spot_to reached owns_to
         long fits bare g y p c held
 
     in_place : (g y : ℕ) (p q : List Step) → part (OfRoot (OfVariable g y)) p ≡ part at q → (g ≡ depth) × (y ≡ inside.object)
@@ -298,14 +321,14 @@ module _ (t : Turn) (settled : IsSettled (typing t).table) (own_law : OwnsByShap
         | inr (q, is) ↦ absurd (off (to, inl refl, q, in_place_way g y p q is))
       ];
       gone = λ g y p other_frame off gone.
-          carried_gone_to s settled (home s depth) observer v second (AwayBy rest ways) mid got hands leaks facts r.to at to viewed_mid kept_mid spot_to reached owns_to
+          carried_gone_to s settled (home s depth) observer v second (AwayBy rest ways) second_apart mid got hands leaks facts r.to at to viewed_mid kept_mid spot_to reached owns_to
           long fits bare g y p (λ there. off (to, inl refl, there.0, in_place_way g y p there.0 there.1))
-          (carried_gone s settled (home s depth) observer v first (AwayBy rest (to ∷ ways)) m hands leaks facts formal
+          (carried_gone s settled (home s depth) observer v first (AwayBy rest (to ∷ ways)) first_apart m hands leaks facts formal
           (OfRoot (OfVariable (suc depth) r.formal)) root viewed typed spot tt refl owns clean g y p gone);
       cells = λ c p.
-          carried_cells_to s settled (home s depth) observer v second (AwayBy rest ways) mid got hands leaks facts r.to at to viewed_mid kept_mid spot_to reached owns_to
+          carried_cells_to s settled (home s depth) observer v second (AwayBy rest ways) second_apart mid got hands leaks facts r.to at to viewed_mid kept_mid spot_to reached owns_to
           long fits bare depth inside.object (trunk_is s depth r.to to inside) c p
-          ∙ carried_cells s settled (home s depth) observer v first (AwayBy rest (to ∷ ways)) m hands leaks facts formal
+          ∙ carried_cells s settled (home s depth) observer v first (AwayBy rest (to ∷ ways)) first_apart m hands leaks facts formal
           (OfRoot (OfVariable (suc depth) r.formal)) root viewed typed spot tt refl owns clean (suc depth) r.formal refl c p;
     }
 
@@ -353,9 +376,9 @@ module _ (t : Turn) (settled : IsSettled (typing t).table) (own_law : OwnsByShap
     pub one_low : (w : Way) (g y : ℕ) → base_of w ≡ OfRoot (OfVariable g y) → g < depth → (c : ℕ)
         → Reaches (seen s m hands leaks) w (OfCell c) → Reaches (seen s next hands leaks) w (OfCell c)
     one_low w g y base less c reach =
-        carried_to_low s settled (home s depth) observer v second (AwayBy rest ways) mid got hands leaks facts r.to at to viewed_mid kept_mid spot_to reached owns_to
+        carried_to_low s settled (home s depth) observer v second (AwayBy rest ways) second_apart mid got hands leaks facts r.to at to viewed_mid kept_mid spot_to reached owns_to
         long fits bare depth inside.object (inside_base s depth r.to to inside) w g y base (λ e. omega (arith, less, e)) c
-        (carried_off_low s settled (home s depth) observer v first (AwayBy rest (to ∷ ways)) m hands leaks facts formal
+        (carried_off_low s settled (home s depth) observer v first (AwayBy rest (to ∷ ways)) first_apart m hands leaks facts formal
         (OfRoot (OfVariable (suc depth) r.formal)) root viewed typed spot tt refl owns clean (suc depth) r.formal refl w g y base (λ e. omega (arith, less, e)) c reach)
 
     pub one_views : (g y : ℕ) → is_anonymous (view_of s y) ≡ true
@@ -442,12 +465,12 @@ module _ (t : Turn) (settled : IsSettled (typing t).table) (own_law : OwnsByShap
       (backs_on (λ n. IsBack rest ways next n) (λ n. IsBack (r ∷ rest) ways begun.memory n) (λ n back. copied_then r rest ways begun.memory next copied on n back)
       (copied_back t rest (record begun { memory = next }))
       (more next on.typed
-      (more_gone (home s depth) (is_observer s) v (away (r ∷ rest) ways) (AwayBy rest ways) (seen s next hands leaks) facts
+      (more_gone (home s depth) (sees_only s) v (away (r ∷ rest) ways) (AwayBy rest ways) (apart_by (r ∷ rest) rest ways begun.memory viewed) (seen s next hands leaks) facts
       (λ w o. elim o [
         | inl away_there ↦ inl away_there
         | inr later ↦ elim later [ inl taken_there ↦ inr (inl taken_there) | inr left ↦ inr (inr (left_more r rest w left)) ]
       ])
-      (same_viewed (home s depth) (is_observer s) (away (r ∷ rest) ways) v (seen s begun.memory hands leaks) (seen s next hands leaks) facts on.same viewed))
+      (same_viewed (home s depth) (sees_only s) (away (r ∷ rest) ways) v (seen s begun.memory hands leaks) (seen s next hands leaks) facts on.same viewed))
       (taken_on begun.memory next rest ways (λ k w has there none p c held. none p c (sym (on.hold depth there.object (p ++ there.steps)) ∙ held)) taken))))
 
   taken_first : (r : Return) (rest : List Return) (to : Way) (ways : List Way) (begun : Now) → (taken : IsTaken s begun.memory depth facts scope r to)

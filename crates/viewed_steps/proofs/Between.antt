@@ -7,9 +7,9 @@ use Rattle.owned_ways.proofs.Locations.{under_along, under_itself}
 use Rattle.owned_ways.proofs.Named.{longer}
 use Rattle.owned_ways.proofs.Moving.{Given, keeps, owned_after, covered_after, known_after}
 use Rattle.owned_ways.proofs.Dropped.{named_base}
-use Rattle.owned_loans.specs.Views.{Around, Views, ExcusedBy, Viewed}
+use Rattle.owned_loans.specs.Views.{Around, Views, ExcusedBy, Viewed, IsForeign}
 use Rattle.owned_loans.proofs.Ways.{beginnings}
-use Rattle.owned_loans.proofs.Moves.{view_on}
+use Rattle.owned_loans.proofs.Moves.{view_on, reached}
 use Rattle.flow_paths.specs.Objects.{Typing}
 use Rattle.machine.specs.Memory.{Memory}
 use Rattle.machine.specs.States.{Return}
@@ -36,7 +36,8 @@ gone_also home other gone = record {
   begins = other.begins;
 }
 
-module _ (home : ℕ → ℕ) (observer : ℕ → Bool) (v : Views) (other : Around home) (gone : Way → Type 0) where
+module _ (home : ℕ → ℕ) (observer : ℕ → Bool) (v : Views) (other : Around home) (gone : Way → Type 0)
+    (apart : (x : ℕ) (w z : Way) → v.way x ≡ Some w → IsForeign home w → gone z → Under z w ⊎ Under w z → ⊥) where
   -- more may be gone
   pub more_gone : (s : View) (facts : List Fact) → ((w : Way) → other.gone w → gone w) → Viewed home observer other v s facts
       → Viewed home observer (gone_also home other gone) v s facts
@@ -45,7 +46,9 @@ module _ (home : ℕ → ℕ) (observer : ℕ → Bool) (v : Views) (other : Aro
     covered = viewed.covered;
     known = λ w l rooted r is. elim (viewed.known w l rooted r is) [ inl m ↦ inl m | inr o ↦ inr (more w o) ];
     clear = viewed.clear;
-    views = λ x w has. view_on home observer other v s s facts facts x w (viewed.views x w has) (λ seen n loan. loan) (viewed.views x w has).reaches;
+    views = λ x w has. view_on home observer other v s s facts facts x w (viewed.views x w has) (λ seen n loan. loan)
+        (reached home observer other v s facts x w (viewed.views x w has));
+    whole = apart;
     lends = viewed.lends;
     far = viewed.far;
   }
@@ -69,7 +72,8 @@ module _ (home : ℕ → ℕ) (observer : ℕ → Bool) (v : Views) (other : Aro
     clear = viewed.clear;
     views = λ x w has. (let view = viewed.views x w has in
         view_on home observer other v s t facts facts x w view (λ seen n loan. loan)
-        (keeps s t f k from to given w (OfCell (v.cell x)) view.reaches (λ p. off.own x w has p) (λ p. away.own x w has p)));
+        (keeps s t f k from to given w (OfCell (v.cell x)) (reached home observer other v s facts x w view) (λ p. off.own x w has p) (λ p. away.own x w has p)));
+    whole = apart;
     lends = viewed.lends;
     far = λ w n held. keeps s t f k from to given w (OfCell n) (viewed.far w n held) (λ p. off.far w n held p) (λ p. away.far w n held p);
   }

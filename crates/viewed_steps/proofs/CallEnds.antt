@@ -13,7 +13,7 @@ use Rattle.typed_tree.specs.declared.object.ObjectKind.TheVariants as object_kin
 use Rattle.typed_tree.specs.Programs.{TypedProgram}
 use Rattle.flow_paths.specs.declared.report.Effects.{Effects}
 use Rattle.flow_paths.specs.Instructions.{Instruction, Call, Finish}
-use Rattle.flow_paths.specs.Objects.{Typing, object_at, is_anonymous, is_package_object, is_observer, is_formal_kind, view_of, Signature, sub_at, is_formal}
+use Rattle.flow_paths.specs.Objects.{Typing, object_at, is_anonymous, is_package_object, is_formal_kind, view_of, Signature, sub_at, is_formal}
 use Rattle.flow_paths.specs.Points.{NamedPoint}
 use Rattle.flow_paths.specs.Laid.{FlowProgram, NamedSub, typing_of, flow_typing, flow_program, flow_named, FlowSub}
 use Rattle.flow_paths.specs.Paths.{ControlPath}
@@ -38,7 +38,7 @@ use Rattle.soundness.proofs.Typings.{package_same, formal_same}
 use Rattle.soundness.proofs.Around.{same_or_not}
 use Rattle.soundness.proofs.Returning.{returned_kept, left_same, left_held, returns_lead, ends_lead, left_waits, ended_owned, Backs}
 use Rattle.owned_loans.specs.Views.{known_gone, Views, IsMovedBy, Viewed, ExcusedBy, Around, IsAway}
-use Rattle.owned_loans.proofs.Moves.{view_on}
+use Rattle.owned_loans.proofs.Moves.{view_on, reached}
 use Rattle.owned_loans.proofs.Ended.{stands_itself}
 use Rattle.viewed_soundness.proofs.Names.{true_false}
 use Rattle.viewed_soundness.proofs.Outcomes.{named_plain}
@@ -55,11 +55,12 @@ use Rattle.viewed_steps.proofs.Packages as packages
 use Rattle.viewed_steps.proofs.Innermost as innermost
 use Rattle.soundness.proofs.Passing.{signature_is}
 use Rattle.owned_ways.proofs.Dropped.{named_base}
-use Rattle.viewed_soundness.specs.Holds.{IsNamed}
+use Rattle.viewed_soundness.specs.Holds.{IsNamed, sees_only}
 use Rattle.viewed_steps.specs.Taken.{TakenBy, AreCarried}
 use Rattle.viewed_steps.proofs.Between.{base_under, same_variable}
 use Rattle.viewed_steps.proofs.Backed.{AwayBy, ViewedAway, IsBack, all_given_back}
 use Rattle.viewed_steps.proofs.Whole.{leaves_whole}
+use Rattle.viewed_steps.proofs.Views.{not_elsewhere, AreFar}
 
 smaller : (f b low : ℕ) → f < suc b → (f ≡ low → ⊥) → low ≡ b → f < low
 smaller f b low less ne is =
@@ -97,7 +98,7 @@ module _ (table : Table) (typed : TypedProgram) (effects : Effects) (input : Lis
       (awaiting : AreAwaited table typed None (top ∷ stages_of (below ∷ more_frames)))
       (of_sub : IsNamedSub (flow_named table typed) top.frame.sub named) (at_point : IsAtPoint named.points top.frame.next p)
       (path : ControlPath (path_points program effects (sub_of program top.frame.sub)) top.before top.frame.next) (views : Views)
-      (viewed_before : Viewed (home s (suc (length rest))) (is_observer s) (known_gone (home s (suc (length rest))) (GoneElsewhere program effects (below ∷ more_frames))) views
+      (viewed_before : Viewed (home s (suc (length rest))) (sees_only s) (known_gone (home s (suc (length rest))) (GoneElsewhere program effects (below ∷ more_frames))) views
       (view_here s state) (facts_of program effects top))
       (kept : Kept s state.memory (waiting_in state)) (scope : InScope s state.memory (suc (length rest)) (lasting_of s p.scope)) (holds : HoldsAt s (suc (length rest)) views state.memory p)
       (placed_before : ArePlaced program (facts_of program effects top) views p.scope) (above : NoneAbove s (suc (length rest)) state.memory) where
@@ -134,7 +135,7 @@ module _ (table : Table) (typed : TypedProgram) (effects : Effects) (input : Lis
     abbrev acts_of_main : Instruction → List Act
     acts_of_main i = standing.acts_here table typed effects input ready state top older outer named p frames of_sub at_point i
 
-    abbrev viewed_own : Viewed (home s depth) (is_observer s) (known_gone (home s depth) (GoneElsewhere program effects older)) views (view_here s state) own_facts
+    abbrev viewed_own : Viewed (home s depth) (sees_only s) (known_gone (home s depth) (GoneElsewhere program effects older)) views (view_here s state) own_facts
     viewed_own = innermost.viewed_own table typed effects input ready state top below more_frames rest named p frames deep stages running awaiting of_sub at_point path views viewed_before kept scope holds placed_before above
 
     abbrev placed : ArePlaced program facts_now views p.scope
@@ -237,7 +238,7 @@ module _ (table : Table) (typed : TypedProgram) (effects : Effects) (input : Lis
 
     module _ (h : ViewStage) (others : List ViewStage) (stages_there : AreStages (stages_of (below ∷ (h ∷ others))) (below.stage.frame ∷ rest))
         (waiting : AreWaiting table typed effects state top.frame.sub top.frame.returns (below ∷ (h ∷ others)))
-        (well : Viewed (home s depth) (is_observer s) (known_gone (home s depth) (GoneElsewhere program effects (below ∷ (h ∷ others)))) views (view_here s state) own_facts)
+        (well : Viewed (home s depth) (sees_only s) (known_gone (home s depth) (GoneElsewhere program effects (below ∷ (h ∷ others)))) views (view_here s state) own_facts)
         (still_awaited : AreAwaited table typed (awaited (sub_of program top.frame.sub) top.before) (stages_of (below ∷ (h ∷ others))))
         (is : p.instr ≡ Finish) where
       abbrev pub low : ℕ
@@ -281,15 +282,18 @@ module _ (table : Table) (typed : TypedProgram) (effects : Effects) (input : Lis
       pub deep_low : length (below.stage.frame ∷ rest) ≡ suc below.stage.depth
       deep_low = ap suc (sym low_is)
 
+      pub far_low : AreFar (home s below.stage.depth) below.views below.stage.depth
+      far_low x w has foreign = absurd (not_elsewhere (home s below.stage.depth) w (waits.holds.named x w has) foreign)
+
       -- the state as the frame below sees it
       abbrev ViewedLow : List Return → List Way → Memory → Type 0
       ViewedLow returns ways_left m =
-          ViewedAway main_turn ready.accepted.settled ready.owns no_in_formals (waiting_in state) state.leaks below.stage.depth deep_low below.views their_facts
+          ViewedAway main_turn ready.accepted.settled ready.owns no_in_formals (waiting_in state) state.leaks below.stage.depth deep_low below.views far_low their_facts
           (lasting_of s waits.point.scope) around_low free_low whole_low none_kept returns ways_left m
 
       abbrev Away : Way → Type 0
       Away w =
-          AwayBy main_turn ready.accepted.settled ready.owns no_in_formals (waiting_in state) state.leaks below.stage.depth deep_low below.views their_facts
+          AwayBy main_turn ready.accepted.settled ready.owns no_in_formals (waiting_in state) state.leaks below.stage.depth deep_low below.views far_low their_facts
           (lasting_of s waits.point.scope) around_low free_low whole_low none_kept top.frame.returns below.stage.returns w
 
       known_low : (w : Way) (l : ways.Loc) → ways.IsRooted w → ways.Reaches (view_here s state) w l → (view_here s state).word l ≡ ways.Gone
@@ -301,7 +305,7 @@ module _ (table : Table) (typed : TypedProgram) (effects : Effects) (input : Lis
         | inr (g, inr has, what) ↦ inr (inl (g, has, what))
         | inl (inl (u, moved, leads)) ↦ (
             let same_way : u ≡ w =
-            sym (stands_itself (home s depth) (is_observer s) (known_gone (home s depth) (λ z. ⊥)) views u moved.0 (no_view_left is (number_of u))) ∙ leads in
+            sym (stands_itself (home s depth) (sees_only s) (known_gone (home s depth) (λ z. ⊥)) views u moved.0 (no_view_left is (number_of u))) ∙ leads in
             elim (bool_cases (is_formal s (number_of u) || is_package_object s (number_of u))) [
               | inl shared ↦ absurd (whole_roots is (ways.name_of u) moved.1 shared)
               | inr neither ↦ inr (inr (inr (
@@ -335,18 +339,19 @@ module _ (table : Table) (typed : TypedProgram) (effects : Effects) (input : Lis
         known = known_low;
         clear = waits.clear;
         views = waits.views;
+        whole = λ x w z has foreign gone meets. not_elsewhere (home s below.stage.depth) w (waits.holds.named x w has) foreign;
         lends = λ l n none. absurd none;
         far = λ w n none. absurd none;
       }
 
       abbrev Backed : Memory → Type 0
       Backed m =
-          IsBack main_turn ready.accepted.settled ready.owns no_in_formals (waiting_in state) state.leaks below.stage.depth deep_low below.views their_facts
+          IsBack main_turn ready.accepted.settled ready.owns no_in_formals (waiting_in state) state.leaks below.stage.depth deep_low below.views far_low their_facts
           (lasting_of s waits.point.scope) around_low free_low whole_low none_kept top.frame.returns below.stage.returns state.memory m
 
       given_back : Backs Backed (steps.copied_back main_turn top.frame.returns (steps.start main_turn))
       given_back =
-          all_given_back main_turn ready.accepted.settled ready.owns no_in_formals (waiting_in state) state.leaks below.stage.depth deep_low below.views their_facts
+          all_given_back main_turn ready.accepted.settled ready.owns no_in_formals (waiting_in state) state.leaks below.stage.depth deep_low below.views far_low their_facts
           (lasting_of s waits.point.scope) around_low free_low whole_low none_kept top.frame.returns below.stage.returns (steps.start main_turn) waits.taken kept viewed_low
 
       module _ (mid : Memory) (on : Backed mid) where
@@ -424,7 +429,7 @@ module _ (table : Table) (typed : TypedProgram) (effects : Effects) (input : Lis
                   whole_there s mid depth (waiting_in state) state.leaks nothing_mid w l x (base ∙ ap (λ f. OfRoot (OfVariable f x)) depths) r gone)
             ]
 
-        viewed_left : Viewed (home s low) (is_observer s) (known_gone (home s low) (GoneElsewhere program effects (h ∷ others))) below.views left_view
+        viewed_left : Viewed (home s low) (sees_only s) (known_gone (home s low) (GoneElsewhere program effects (h ∷ others))) below.views left_view
             (facts_of program effects below.stage)
         viewed_left = record {
           owned = owned_left s mid depth (waiting_in state) state.leaks nothing_mid on.viewed.owned;
@@ -432,9 +437,11 @@ module _ (table : Table) (typed : TypedProgram) (effects : Effects) (input : Lis
           known = known_left;
           clear = waits.clear;
           views = λ x w has.
-              view_on (home s low) (is_observer s) (known_gone (home s low) (λ z. ⊥)) below.views mid_view left_view
+              view_on (home s low) (sees_only s) (known_gone (home s low) (λ z. ⊥)) below.views mid_view left_view
               (facts_of program effects below.stage) (facts_of program effects below.stage) x w (on.viewed.views x w has) (λ b n loan. loan)
-              (reach_left s mid depth (waiting_in state) state.leaks nothing_mid w (ways.OfCell (below.views.cell x)) (on.viewed.views x w has).reaches);
+              (reach_left s mid depth (waiting_in state) state.leaks nothing_mid w (ways.OfCell (below.views.cell x))
+              (reached (home s low) (sees_only s) (known_gone (home s low) (λ z. ⊥)) below.views mid_view (facts_of program effects below.stage) x w (on.viewed.views x w has)));
+          whole = λ x w z has foreign gone meets. not_elsewhere (home s low) w (waits.holds.named x w has) foreign;
           lends = λ l n none. absurd none;
           far = λ w n none. absurd none;
         }
@@ -444,6 +451,7 @@ module _ (table : Table) (typed : TypedProgram) (effects : Effects) (input : Lis
           held = λ x n lasts view e. waits.holds.held x n lasts view (word_there x n view e);
           within = λ x n view e. waits.holds.within x n view (word_there x n view e);
           only = waits.holds.only;
+          named = waits.holds.named;
         }
           where
             word_there : (x n : ℕ) → is_anonymous (view_of s x) ≡ true
@@ -497,7 +505,7 @@ module _ (table : Table) (typed : TypedProgram) (effects : Effects) (input : Lis
             running = (waits.runs, waits.plain, others_left);
             awaited = subst (λ n. AreAwaited table typed n (stages_of (below ∷ (h ∷ others)))) (returned_then is) still_awaited;
             path = waits.path;
-            viewed = subst (λ z. Viewed (home s low) (is_observer s) (known_gone (home s low) (GoneElsewhere program effects (h ∷ others))) below.views z
+            viewed = subst (λ z. Viewed (home s low) (sees_only s) (known_gone (home s low) (GoneElsewhere program effects (h ∷ others))) below.views z
                 (facts_of program effects below.stage)) view_left viewed_left;
             kept = subst (Kept s left_memory) (sym hands_left)
                 (returned_kept s mid depth (waiting_in state) state.leaks nothing_mid on.typed);
@@ -518,7 +526,7 @@ module _ (table : Table) (typed : TypedProgram) (effects : Effects) (input : Lis
       where
         by_rest : (r : List Frame) (m : List ViewStage) → rest ≡ r → more_frames ≡ m → AreStages (stages_of (below ∷ m)) (below.stage.frame ∷ r)
             → AreWaiting table typed effects state top.frame.sub top.frame.returns (below ∷ m)
-            → Viewed (home s depth) (is_observer s) (known_gone (home s depth) (GoneElsewhere program effects (below ∷ m))) views (view_here s state) own_facts
+            → Viewed (home s depth) (sees_only s) (known_gone (home s depth) (GoneElsewhere program effects (below ∷ m))) views (view_here s state) own_facts
             → AreAwaited table typed (awaited (sub_of program top.frame.sub) top.before) (stages_of (below ∷ m)) → Along (turn main_turn Finish)
         by_rest [] [] same_rest same_more stages_there waiting well still =
             ends_lead main_turn Along (λ m. m ≡ state.memory)

@@ -32,7 +32,7 @@ use Rattle.machine.specs.Owners.{is_in}
 use Rattle.owned_ways.specs.Ways.{Step, Root, Component, OfVariable, Loc, OfRoot, Way, Object, Into, Empty, Named, Past, IsRooted, Reaches, IsSame, AllowsAll, after, part, along}
 use Rattle.owned_ways.specs.Ways as ways
 use Rattle.part_offsets.specs.Parts.{type_in, offset_in, has_part, IsSettled}
-use Rattle.soundness.specs.Seen.{IsNear, Content, content, trunk, steps_in, seen, home}
+use Rattle.soundness.specs.Seen.{IsNear, Content, content, trunk, steps_in, seen, home, is_view_formal}
 use Rattle.soundness.specs.Typed.{Matches, OwnsByShape, Kept, Spot, IsFixed, loc_of}
 use Rattle.soundness.specs.Sound.{goes_through_none, AreCopied}
 use Rattle.typed_laws.specs.Needed.{Stays, Leads, IndexLaw, IsPlace as IsPlaceOf}
@@ -43,11 +43,12 @@ use Rattle.soundness.proofs.Fixed.{matches_scalar}
 use Rattle.soundness.proofs.Scalars.{acts, acts_append, after_append, allows_both, read_effect, number_along, named_along}
 use Rattle.soundness.proofs.Stays.{One, Quiet, quiet_then, quiet_from}
 use Rattle.soundness.proofs.Taking.{Takes}
-use Rattle.soundness.proofs.Walks.{Lead, way_along, Walked, walk}
+use Rattle.soundness.proofs.Walks.{Lead, way_along, Walked}
+use Rattle.viewed_soundness.proofs.Walks.{walk}
 use Rattle.soundness.proofs.Passing.{IsRead, AreReads, AddNone, IsValue, TakesAll, plain_type, reads_keep, read_adds_none, signature_is}
 use Rattle.owned_loans.specs.Views.{Around, Views, expand, ExcusedBy, Viewed}
 use Rattle.owned_loans.proofs.Moves.{IsPlace}
-use Rattle.viewed_soundness.specs.Holds.{IsNamed, PartsAreNamed, Holds}
+use Rattle.viewed_soundness.specs.Holds.{IsNamed, PartsAreNamed, Holds, sees_only, IsOwners}
 use Rattle.viewed_soundness.proofs.Names.{Starts, true_false, is_place}
 use Rattle.viewed_soundness.proofs.Stays.{Goes as GoesAlong, taking, steps_taking}
 use Rattle.viewed_soundness.proofs.Evaluated.{matches_named}
@@ -354,10 +355,11 @@ AreLaidOut s depth formals actuals passed = passed ≡ []
 module _ (h : Here) (settled : IsSettled h.typing.table) (hands : List Waiting) (leaks : List Leak) (m : Memory) (waits : List (List machine.Word))
     (other : Around (home h.typing h.frame)) (facts : List Fact) (v : Views)
     (kept : Kept h.typing m hands)
-    (well : Viewed (home h.typing h.frame) (is_observer h.typing) other v (seen h.typing m hands leaks) facts)
+    (well : Viewed (home h.typing h.frame) (sees_only h.typing) other v (seen h.typing m hands leaks) facts)
     (holds : Holds h.typing h.frame v m)
     (alone : (w : Way) → IsNear h.frame w → other.gone w → ⊥)
-    (live : (w : Way) (l : Loc) → IsRooted w → Reaches (seen h.typing m hands leaks) w l → (content h.typing m hands (trunk l)).owns ≡ true)
+    (live : (w : Way) (l : Loc) → IsOwners h.typing w → Reaches (seen h.typing m hands leaks) w l → (content h.typing m hands (trunk l)).owns ≡ true)
+    (no_formals : (x : ℕ) → is_view_formal h.typing x ≡ false)
     (index_law : IndexLaw)
     (own_law : OwnsByShape h.typing.table)
     (parts_named : PartsAreNamed h.typing.table) (procedure : Bool) where
@@ -437,12 +439,12 @@ module _ (h : Here) (settled : IsSettled h.typing.table) (hands : List Waiting) 
       let named : Named (home h.typing h.frame) (way_along way root) = named_along (home h.typing h.frame) way root refl in
       from_walked on p x u path (way_along way root) plain named
       (λ j. record { root = number_along way root j; sels = goes.sels root j })
-      (is_place h.typing v (home h.typing h.frame x) x u way goes.lead (scalar_named h.typing.table u plain) holds.only)
+      (is_place h.typing v (home h.typing h.frame x) x u way goes.lead (scalar_named h.typing.table u plain) (no_formals x) holds.only)
       (direct_itself v way direct root refl)
       (walked h.typing way (variable_place h x) (at on))
       (walk h.typing settled hands leaks m on (ExcusedBy (home h.typing h.frame) v other facts) kept well.owned well.known live way (variable_place h x)
       (OfRoot (OfVariable (home h.typing h.frame x) x)) root u
-      (record { base = refl; made = tt; at = refl; there = refl; of = inl refl }) tt refl (direct_leads h.typing.table (object_at h.typing x).of u way direct goes.lead)
+      (record { base = refl; made = tt; at = refl; there = refl; of = inl refl }) (no_formals x) refl (direct_leads h.typing.table (object_at h.typing x).of u way direct goes.lead)
       (λ z past moved. past_none way direct root (λ y never. never) z past))
       (walked_in h.typing way direct (variable_place h x) (at on))
 
@@ -500,7 +502,7 @@ module _ (h : Here) (settled : IsSettled h.typing.table) (hands : List Waiting) 
       (walked h.typing way (variable_place h y) (at on))
       (walk h.typing settled hands leaks m on (ExcusedBy (home h.typing h.frame) v other facts) kept well.owned well.known live way (variable_place h y)
       (OfRoot (OfVariable (home h.typing h.frame y) y)) root u
-      (record { base = refl; made = tt; at = refl; there = refl; of = inl refl }) tt refl (direct_leads h.typing.table (object_at h.typing y).of u way direct goes.lead)
+      (record { base = refl; made = tt; at = refl; there = refl; of = inl refl }) (no_formals y) refl (direct_leads h.typing.table (object_at h.typing y).of u way direct goes.lead)
       (λ z past moved. past_none way direct root (λ y never. never) z past))
       (walked_in h.typing way direct (variable_place h y) (at on))
 
@@ -638,7 +640,7 @@ module _ (h : Here) (settled : IsSettled h.typing.table) (hands : List Waiting) 
   -- ---- what the facts say then
 
   abbrev ViewedWith : List Fact → Type 0
-  ViewedWith known = Viewed (home h.typing h.frame) (is_observer h.typing) other v (seen h.typing m hands leaks) known
+  ViewedWith known = Viewed (home h.typing h.frame) (sees_only h.typing) other v (seen h.typing m hands leaks) known
 
   plain_there : (k : Place) (l : Loc) → Spot h.typing m hands k l → is_scalar (full h.typing.table k.of) ≡ true → (p : List Step)
       → (seen h.typing m hands leaks).word (part l p) ≡ Empty
@@ -660,7 +662,7 @@ module _ (h : Here) (settled : IsSettled h.typing.table) (hands : List Waiting) 
   head_acted mode.InOut owning access x e a known fits is there = subst ViewedWith (sym (naming_keeps (written e) owning access known)) there
   head_acted mode.Out owning access x (Name p y path u) (To k) known fits (fixed, (w, l, named, called, place, reaches, spot)) there =
       subst (λ z. ViewedWith (effect (act.Write z) known)) called
-      (nothing_written (home h.typing h.frame) (is_observer h.typing) other v (seen h.typing m hands leaks) known there w l named place reaches
+      (nothing_written (home h.typing h.frame) (sees_only h.typing) other v (seen h.typing m hands leaks) known there w l named place reaches
       (plain_there k l spot fixed.scalar))
   head_acted mode.Out owning access x e (To k) known fits is there = absurd is.1
   head_acted mode.Out owning access x e (Value ws) known fits is there = absurd is

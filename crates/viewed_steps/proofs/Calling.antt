@@ -20,7 +20,7 @@ use Rattle.typed_tree.specs.Trees.{TypedTree, Name, NoMore, More}
 use Rattle.typed_tree.specs.Programs.{TypedProgram}
 use Rattle.flow_paths.specs.declared.report.Effects.{Effects}
 use Rattle.flow_paths.specs.Instructions.{Instruction, Call, EndScope, Declare, Assign, Hold}
-use Rattle.flow_paths.specs.Objects.{Typing, object_at, sub_at, is_anonymous, is_package_object, is_observer, view_of, traverses, passings, Passing, Signature, passing, is_formal_kind}
+use Rattle.flow_paths.specs.Objects.{Typing, object_at, sub_at, is_anonymous, is_package_object, view_of, traverses, passings, Passing, Signature, passing, is_formal_kind}
 use Rattle.place_names.specs.Facts.{adds}
 use Rattle.place_names.specs.Reports.{Report}
 use Rattle.flow_paths.specs.Aliases.{overlap_reports, passed_reports, call_reports}
@@ -65,7 +65,7 @@ use Rattle.soundness.proofs.Successors.{below_one, successor_there}
 use Rattle.owned_loans.specs.Views.{Around, known_gone, Views, IsMovedBy, AreClear, AreViews, Viewed}
 use Rattle.owned_loans.proofs.Moves.{named_way}
 use Rattle.viewed_soundness.proofs.Names.{true_false}
-use Rattle.viewed_soundness.specs.Holds.{Holds}
+use Rattle.viewed_soundness.specs.Holds.{Holds, sees_only, IsOwners}
 use Rattle.viewed_soundness.proofs.Evaluated.{live_trunk}
 use Rattle.soundness.specs.Ready.{IsSupplied, Fills}
 use Rattle.viewed_steps.specs.Awaited.{AreFor, AreValuesBut, temporaries_of, lasting_of, awaited, WaitsAt, AreAwaited, AreScalar, FillsTyped, TakesScalars, IsTakenBy}
@@ -86,6 +86,7 @@ use Rattle.viewed_steps.proofs.Uses.{called_writes, lent_spared}
 use Rattle.viewed_steps.proofs.Standing as standing
 use Rattle.viewed_steps.proofs.Packages as packages
 use Rattle.viewed_steps.proofs.Innermost as innermost
+use Rattle.viewed_steps.proofs.Views.{all_held, anonymous_is_view, AreFar, not_elsewhere}
 
 module _ (table : Table) (typed : TypedProgram) (effects : Effects) (input : List ℕ) (ready : IsReady table typed effects) where
   abbrev program : FlowProgram
@@ -120,7 +121,7 @@ module _ (table : Table) (typed : TypedProgram) (effects : Effects) (input : Lis
       (awaiting : AreAwaited table typed None (top ∷ stages_of (below ∷ more_frames)))
       (of_sub : IsNamedSub (flow_named table typed) top.frame.sub named) (at_point : IsAtPoint named.points top.frame.next p)
       (path : ControlPath (path_points program effects (sub_of program top.frame.sub)) top.before top.frame.next) (views : Views)
-      (viewed_before : Viewed (home s (suc (length rest))) (is_observer s) (known_gone (home s (suc (length rest))) (GoneElsewhere program effects (below ∷ more_frames))) views
+      (viewed_before : Viewed (home s (suc (length rest))) (sees_only s) (known_gone (home s (suc (length rest))) (GoneElsewhere program effects (below ∷ more_frames))) views
       (view_here s state) (facts_of program effects top))
       (kept : Kept s state.memory (waiting_in state)) (scope : InScope s state.memory (suc (length rest)) (lasting_of s p.scope)) (holds : HoldsAt s (suc (length rest)) views state.memory p)
       (placed_before : ArePlaced program (facts_of program effects top) views p.scope) (above : NoneAbove s (suc (length rest)) state.memory) where
@@ -167,12 +168,13 @@ module _ (table : Table) (typed : TypedProgram) (effects : Effects) (input : Lis
         → AllowsAll facts_now (acts_of_main p.instr)
     allowed_now = innermost.allowed_now table typed effects input ready state top below more_frames rest named p frames deep stages running awaiting of_sub at_point path views viewed_before kept scope holds placed_before above
 
-    abbrev viewed : Viewed (home s depth) (is_observer s) other views (view_here s state) facts_now
+    abbrev viewed : Viewed (home s depth) (sees_only s) other views (view_here s state) facts_now
     viewed = innermost.viewed table typed effects input ready state top below more_frames rest named p frames deep stages running awaiting of_sub at_point path views viewed_before kept scope holds placed_before above
 
     abbrev apart_from_them : (done : List Act) (v : Views) (view : ways.View) → ((x : ℕ) (w : Way) → v.way x ≡ Some w → is_anonymous (view_of s x) ≡ true)
-        → Viewed (home s depth) (is_observer s) other v view (after done facts_now)
-        → Viewed (home s depth) (is_observer s) (known_gone (home s depth) (GoneElsewhere program effects older)) v view (after done own_facts)
+        → ((x : ℕ) (w : Way) → v.way x ≡ Some w → ways.Named (home s depth) w)
+        → Viewed (home s depth) (sees_only s) other v view (after done facts_now)
+        → Viewed (home s depth) (sees_only s) (known_gone (home s depth) (GoneElsewhere program effects older)) v view (after done own_facts)
     apart_from_them = innermost.apart_from_them table typed effects input ready state top below more_frames rest named p frames deep stages running awaiting of_sub at_point path views viewed_before kept scope holds placed_before above
 
     abbrev placed_own : ArePlaced program own_facts views p.scope
@@ -208,7 +210,7 @@ module _ (table : Table) (typed : TypedProgram) (effects : Effects) (input : Lis
     abbrev easy : Turn
     easy = eased main_turn
 
-    abbrev viewed_easy : Plain → Viewed (home s depth) (is_observer s) other views (view_here s easy.state) facts_now × Kept s state.memory (waiting_in easy.state)
+    abbrev viewed_easy : Plain → Viewed (home s depth) (sees_only s) other views (view_here s easy.state) facts_now × Kept s state.memory (waiting_in easy.state)
     viewed_easy = innermost.viewed_easy table typed effects input ready state top below more_frames rest named p frames deep stages running awaiting of_sub at_point path views viewed_before kept scope holds placed_before above
 
     abbrev placed_left : (facts : List Fact) → ArePlaced program facts views p.scope → ArePlaced program facts views left_scope
@@ -334,20 +336,17 @@ module _ (table : Table) (typed : TypedProgram) (effects : Effects) (input : Lis
       not_end x is = (let no : Call n actuals result ≡ EndScope x = sym e ∙ is in cc)
 
       pub holds_now : Holds s depth views state.memory
-      holds_now = record {
-        held = λ x k view at. holds.held x k (λ fading. not_end fading.0 fading.1) view at;
-        only = holds.only;
-      }
+      holds_now = all_held s no_in_formals depth views state.memory (λ x k view at. holds.held x k (λ fading. not_end fading.0 fading.1) view at) holds.only holds.named
 
-      pub live_now : (w : Way) (l : ways.Loc) → ways.IsRooted w → ways.Reaches (seen s state.memory (waiting_in easy.state) state.leaks) w l
+      pub live_now : (w : Way) (l : ways.Loc) → IsOwners s w → ways.Reaches (seen s state.memory (waiting_in easy.state) state.leaks) w l
           → (content s state.memory (waiting_in easy.state) (trunk l)).owns ≡ true
       live_now =
-          live_trunk (steps.here main_turn) ready.accepted.settled state.leaks [] other alone (keeps s ready.accepted.settled ready.owns) no_in_formals index_law
+          live_trunk (steps.here main_turn) ready.accepted.settled state.leaks [] other alone (keeps s ready.accepted.settled ready.owns) index_law
           ready.owns views ready.class.parts_named state.memory (waiting_in easy.state) ((viewed_easy plain_there.0).0).owned
 
       abbrev pub Given : List Passed → Type 0
       Given passed =
-          AreGiven (steps.here main_turn) ready.accepted.settled (waiting_in easy.state) state.leaks state.memory [] other facts_now views (viewed_easy plain_there.0).1 (viewed_easy plain_there.0).0 holds_now alone live_now
+          AreGiven (steps.here main_turn) ready.accepted.settled (waiting_in easy.state) state.leaks state.memory [] other facts_now views (viewed_easy plain_there.0).1 (viewed_easy plain_there.0).0 holds_now alone live_now no_in_formals
           index_law ready.owns ready.class.parts_named procedure formals actuals passed
 
       -- the values that the actuals take
@@ -359,21 +358,21 @@ module _ (table : Table) (typed : TypedProgram) (effects : Effects) (input : Lis
 
       pub passed_quiet : Quiet then_now Given (all_passed (steps.here main_turn) ways_there formals actuals (start main_turn))
       passed_quiet =
-          all_given (steps.here main_turn) ready.accepted.settled (waiting_in easy.state) state.leaks state.memory [] other facts_now views (viewed_easy plain_there.0).1 (viewed_easy plain_there.0).0 holds_now alone live_now
+          all_given (steps.here main_turn) ready.accepted.settled (waiting_in easy.state) state.leaks state.memory [] other facts_now views (viewed_easy plain_there.0).1 (viewed_easy plain_there.0).0 holds_now alone live_now no_in_formals
           index_law ready.owns ready.class.parts_named procedure given_words taken_there.0 formals actuals kinds called.actuals_stay copied_there taken_there.1 values_allowed
 
       given_laid : (passed : List Passed) → Given passed → AreLaidOut s depth formals actuals passed
       given_laid passed given =
-          all_laid_out (steps.here main_turn) ready.accepted.settled (waiting_in easy.state) state.leaks state.memory [] other facts_now views (viewed_easy plain_there.0).1 (viewed_easy plain_there.0).0 holds_now alone live_now
+          all_laid_out (steps.here main_turn) ready.accepted.settled (waiting_in easy.state) state.leaks state.memory [] other facts_now views (viewed_easy plain_there.0).1 (viewed_easy plain_there.0).0 holds_now alone live_now no_in_formals
           index_law ready.owns ready.class.parts_named procedure formals actuals passed given
 
       -- the state is sound with views under the facts after the acts
-      acted_now : (passed : List Passed) → Given passed → Viewed (home s depth) (is_observer s) other views (view_here s easy.state) called_beside
+      acted_now : (passed : List Passed) → Given passed → Viewed (home s depth) (sees_only s) other views (view_here s easy.state) called_beside
       acted_now passed given =
-          subst (Viewed (home s depth) (is_observer s) other views (view_here s easy.state))
+          subst (Viewed (home s depth) (sees_only s) other views (view_here s easy.state))
           (sym (ap (λ z. after z facts_now) (acts_append values copies) ∙ after_append (acts values) (acts copies) facts_now
           ∙ ap (after (acts copies)) (reads_keep values reads_there facts_now)))
-          (all_acted (steps.here main_turn) ready.accepted.settled (waiting_in easy.state) state.leaks state.memory [] other facts_now views (viewed_easy plain_there.0).1 (viewed_easy plain_there.0).0 holds_now alone live_now
+          (all_acted (steps.here main_turn) ready.accepted.settled (waiting_in easy.state) state.leaks state.memory [] other facts_now views (viewed_easy plain_there.0).1 (viewed_easy plain_there.0).0 holds_now alone live_now no_in_formals
           index_law ready.owns ready.class.parts_named procedure formals actuals passed facts_now kinds given (viewed_easy plain_there.0).0)
 
       -- loans stay
@@ -492,8 +491,11 @@ module _ (table : Table) (typed : TypedProgram) (effects : Effects) (input : Lis
         abbrev pub other_all : Around (home s depth)
         other_all = known_gone (home s depth) (GoneElsewhere program effects older)
 
-        pub well_all : Viewed (home s depth) (is_observer s) other_all views (view_here s easy.state) facts_called
-        well_all = apart_from_them (acts (values ++ copies)) views (view_here s easy.state) holds.only (acted_now passed given)
+        pub far_views : AreFar (home s depth) views depth
+        far_views x w has foreign = absurd (not_elsewhere (home s depth) w (holds.named x w has) foreign)
+
+        pub well_all : Viewed (home s depth) (sees_only s) other_all views (view_here s easy.state) facts_called
+        well_all = apart_from_them (acts (values ++ copies)) views (view_here s easy.state) holds.only holds.named (acted_now passed given)
 
         -- what is taken
         no_overlap : ((r : Report) → Has (overlap_reports s (alias.passed formals actuals)) r → ⊥) ⊎ ((x : ℕ) → Has formals x → IsScalarObject s x)
@@ -544,7 +546,7 @@ module _ (table : Table) (typed : TypedProgram) (effects : Effects) (input : Lis
         abbrev pub ways_taken : List Way
         ways_taken = all_passed_ways.0
 
-        pub open_there : IsOpen s ready.accepted.settled ready.owns no_in_formals (waiting_in easy.state) state.leaks depth views facts_called next_there other_all ways_taken
+        pub open_there : IsOpen s ready.accepted.settled ready.owns no_in_formals (waiting_in easy.state) state.leaks depth views far_views facts_called next_there other_all ways_taken
         open_there = record {
           free = λ k w under gone. (let root = gone_low table typed effects unmoved_stage local state depth older between w gone in
               hand_base (sym (base_under (ways.Object (ways.OfHand k)) w under) ∙ root.2));
@@ -560,7 +562,7 @@ module _ (table : Table) (typed : TypedProgram) (effects : Effects) (input : Lis
             hand_base is = cc
 
         -- the formals have nothing yet
-        pub blank_formals : AreBlank s ready.accepted.settled ready.owns no_in_formals (waiting_in easy.state) state.leaks depth views facts_called next_there state.memory formals
+        pub blank_formals : AreBlank s ready.accepted.settled ready.owns no_in_formals (waiting_in easy.state) state.leaks depth views far_views facts_called next_there state.memory formals
         blank_formals x has q = by_word (word_in s.table (content s state.memory [] (ways.OfRoot (ways.OfVariable (suc depth) x))) q) refl
           where
             by_word : (w : ways.Word) → word_in s.table (content s state.memory [] (ways.OfRoot (ways.OfVariable (suc depth) x))) q ≡ w
@@ -582,22 +584,22 @@ module _ (table : Table) (typed : TypedProgram) (effects : Effects) (input : Lis
                       let less = there.3 in omega (arith, frames_same, less))
                   | inl (inr none) ↦ absurd none
                   | inl (inl (u, moved, leads)) ↦ not_named (home s depth) (suc depth) x
-                      (not_above s ready.accepted.settled ready.owns no_in_formals (waiting_in easy.state) state.leaks depth views facts_called next_there) w
+                      (not_above s ready.accepted.settled ready.owns no_in_formals (waiting_in easy.state) state.leaks depth views far_views facts_called next_there) w
                       (subst (ways.Named (home s depth)) leads
-                      (named_way (home s depth) (is_observer s) other_all views (view_here s easy.state) facts_called well_all.views (suc (ways.number_of u)) u (omega arith)
+                      (named_way (home s depth) (sees_only s) other_all views (view_here s easy.state) facts_called well_all.views (suc (ways.number_of u)) u (omega arith)
                       (moved.0, well_all.clear.owned (ways.name_of u) moved.1))) (base_along (ways.Object root) q)
                 ])
 
         abbrev with_all : Memory
         with_all = with_formals s (suc depth) formals passed state.memory
 
-        enters : Enter s ready.accepted.settled ready.owns no_in_formals (waiting_in easy.state) state.leaks depth views facts_called next_there other_all formals passed ways_taken
+        enters : Enter s ready.accepted.settled ready.owns no_in_formals (waiting_in easy.state) state.leaks depth views far_views facts_called next_there other_all formals passed ways_taken
             state.memory with_all
         enters =
-            all_declared s ready.accepted.settled ready.owns no_in_formals (waiting_in easy.state) state.leaks depth views facts_called next_there other_all formals passed ways_taken
+            all_declared s ready.accepted.settled ready.owns no_in_formals (waiting_in easy.state) state.leaks depth views far_views facts_called next_there other_all formals passed ways_taken
             state.memory all_passed_ways.1 open_there (viewed_easy plain_there.0).1 well_all blank_formals
 
-        abbrev declared_there : AreDeclared s ready.accepted.settled ready.owns no_in_formals (waiting_in easy.state) state.leaks depth views facts_called next_there formals
+        abbrev declared_there : AreDeclared s ready.accepted.settled ready.owns no_in_formals (waiting_in easy.state) state.leaks depth views far_views facts_called next_there formals
             state.memory with_all
         declared_there = enters.0
 
@@ -629,8 +631,8 @@ module _ (table : Table) (typed : TypedProgram) (effects : Effects) (input : Lis
         abbrev around_taken : Around (home s depth)
         around_taken = gone_also (home s depth) other_all (λ w. GoneElsewhere program effects older w ⊎ TakenBy all_passed_ways.0 w)
 
-        well_called : Viewed (home s depth) (is_observer s) around_taken views (view_here s after_call) facts_called
-        well_called = subst (λ z. Viewed (home s depth) (is_observer s) around_taken views z facts_called) view_called enters.1
+        well_called : Viewed (home s depth) (sees_only s) around_taken views (view_here s after_call) facts_called
+        well_called = subst (λ z. Viewed (home s depth) (sees_only s) around_taken views z facts_called) view_called enters.1
 
         held_called : (f x : ℕ) (q : List Step) (k : ℕ) → (f ≡ suc depth → ⊥) → word_in s.table (content s with_all [] (ways.OfRoot (ways.OfVariable f x))) q ≡ ways.Held k
             → word_in s.table (content s state.memory [] (ways.OfRoot (ways.OfVariable f x))) q ≡ ways.Held k
@@ -658,15 +660,14 @@ module _ (table : Table) (typed : TypedProgram) (effects : Effects) (input : Lis
               main_turn.point (standing.in_sub table typed effects input ready state top older outer named p frames of_sub at_point) actuals result e x uses;
           writes = λ x written. called_writes program effects ready.accepted.effects_are top.frame.sub (flow_sub own named) sub_at_all sub_less n callee_less
               main_turn.point (standing.in_sub table typed effects input ready state top older outer named p frames of_sub at_point) actuals result e x written;
-          clear = subst (AreClear (is_observer s)) (sym facts_there) well_called.clear;
-          views = subst (λ z. AreViews (home s top.depth) (is_observer s) views (view_here s after_call) z) (sym facts_there)
-              (subst (λ d. AreViews (home s d) (is_observer s) views (view_here s after_call) facts_called) (sym deep) well_called.views);
+          clear = subst (AreClear (sees_only s)) (sym facts_there) well_called.clear;
+          views = subst (λ z. AreViews (home s top.depth) (sees_only s) views (view_here s after_call) z) (sym facts_there)
+              (subst (λ d. AreViews (home s d) (sees_only s) views (view_here s after_call) facts_called) (sym deep) well_called.views);
           holds = subst (λ d. HoldsAt s d views with_all at_successor.0) (sym deep) (record {
-            held = λ x k lasts view at. holds_now.held x k view (sym (declared_there.views (home s depth x) x view) ∙ at);
-            within = λ x k view at. (
-                let own_way = holds_now.held x k view (sym (declared_there.views (home s depth x) x view) ∙ at) in
-                (next_placed x own_way.0 own_way.1).within);
+            held = λ x k lasts view at. holds_now.held x k (anonymous_is_view s no_in_formals x view) (sym (declared_there.views (home s depth x) x view) ∙ at);
+            within = λ x k view at. (let own_way = holds_now.held x k (anonymous_is_view s no_in_formals x view) (sym (declared_there.views (home s depth x) x view) ∙ at) in (next_placed x own_way.0 own_way.1).within);
             only = holds.only;
+            named = holds.named;
           });
           placed = subst (λ z. ArePlaced program z views (at_successor.0).scope) (sym facts_there) next_placed;
           taken = subst (λ z. AreTaken s with_all top.depth z next_there (returns_of formals passed) all_passed_ways.0) (sym facts_there)
@@ -704,7 +705,7 @@ module _ (table : Table) (typed : TypedProgram) (effects : Effects) (input : Lis
           λ x has. all_returned s ready.accepted.settled depth formals actuals passed (given_laid passed given) called.actuals_stay kinds x
               (subst (λ z. Has z x) (ap (λ (z : Signature). z.formals) (signature_is program n)) has),
           λ r has. called.formals r.formal
-              (formals_of_returns s ready.accepted.settled ready.owns no_in_formals (waiting_in easy.state) state.leaks depth views facts_called next_there formals passed r has),
+              (formals_of_returns s ready.accepted.settled ready.owns no_in_formals (waiting_in easy.state) state.leaks depth views far_views facts_called next_there formals passed r has),
         )
 
         entered_sound : Along (Goes after_call)
@@ -732,6 +733,7 @@ module _ (table : Table) (typed : TypedProgram) (effects : Effects) (input : Lis
                 owned = λ k has. absurd has;
               };
               views = λ x w has. absurd (none_some w has);
+              whole = λ x w z has. absurd (none_some w has);
               lends = λ l k none. absurd none;
               far = λ w k none. absurd none;
             };
@@ -755,6 +757,7 @@ module _ (table : Table) (typed : TypedProgram) (effects : Effects) (input : Lis
               held = λ x k lasts view at. absurd (no_view x k view at);
               within = λ x k view at. absurd (no_view x k view at);
               only = λ x w has. absurd (none_some w has);
+              named = λ x w has. absurd (none_some w has);
             };
             placed = λ x w has. absurd (none_some w has);
             none_above = λ f x k less view at. above f x k (omega (arith, less)) view (sym (declared_there.views f x view) ∙ at);

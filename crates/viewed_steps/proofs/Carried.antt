@@ -1,6 +1,6 @@
 -- What a place has is taken by a call, or by its end, and given to a place that has no number: the
 -- state stays sound with views.
-use Rattle.std.proofs.Common.{◌≡◌, refl, sym, ap, ◌∙◌, subst, ◌⊎◌, inl, inr, ℕ, ◌+◌, Bool, true, false, not, List, [], ◌∷◌, ◌++◌, take, drop, length, get_or, append-nil}
+use Rattle.std.proofs.Common.{◌≡◌, refl, sym, ap, ◌∙◌, subst, ◌⊎◌, inl, inr, ℕ, ◌+◌, Bool, true, false, not, List, [], ◌∷◌, ◌++◌, take, drop, length, get_or, append-nil, Some, arith}
 use Rattle.place_names.specs.declared.fact.Fact.{Fact}
 use Rattle.type_definitions.specs.Types.{words}
 use Rattle.flow_paths.specs.Objects.{Typing, object_at}
@@ -12,7 +12,6 @@ use Rattle.owned_ways.specs.Ways.{Step, OfVariable, OfHand, Loc, OfRoot, OfCell,
 use Rattle.owned_ways.proofs.Locations.{below, past_under, reaches_along, under_along, under_itself, named_along}
 use Rattle.owned_ways.proofs.Assigned.{given_apart}
 use Rattle.owned_ways.proofs.Moving.{Given, keeps, owner_before}
-use Rattle.owned_ways.proofs.Dropped.{named_base}
 use Rattle.part_offsets.specs.Parts.{type_in, offset_in, has_part, is_leaf, IsSettled}
 use Rattle.soundness.specs.Seen.{Content, content, trunk, steps_in, word_in, owner_at, seen_of, seen, is_view_formal}
 use Rattle.soundness.specs.Changes.{hand, Checks, Stores}
@@ -20,10 +19,11 @@ use Rattle.soundness.specs.Typed.{Matches, Kept, Spot, IsMade, loc_of}
 use Rattle.soundness.proofs.Joined.{trunk_part, steps_part}
 use Rattle.soundness.proofs.Contents.{bool_cases, word_yes, word_part, word_root, stored_step, stored_whole, taken_step}
 use Rattle.soundness.proofs.Steps.{put_count, put_freed, stores, takes}
-use Rattle.owned_loans.specs.Views.{Around, Views, ExcusedBy, Viewed}
-use Rattle.owned_loans.proofs.Moves.{view_named, no_hand}
+use Rattle.owned_loans.specs.Views.{Around, Views, ExcusedBy, Viewed, IsForeign}
+use Rattle.owned_loans.proofs.Moves.{no_hand, view_named, view_rooted}
 use Rattle.viewed_steps.specs.Taken.{IsInside}
 use Rattle.viewed_steps.proofs.Between.{gone_also, IsClearOf, moved_between, base_under, base_along, same_variable, not_named}
+use Rattle.viewed_steps.proofs.Views.{AreFar}
 
 -- ---- places in variables
 
@@ -87,28 +87,39 @@ cell_off c p l r base (q, is) = other_trunk (sym (trunk_part (OfCell c) p) ∙ a
 hand_differs : {a : Loc} {f x h : ℕ} → a ≡ OfRoot (OfVariable f x) → a ≡ OfRoot (OfHand h) → ⊥
 hand_differs p q = cc
 
-module _ (home : ℕ → ℕ) (observer : ℕ → Bool) (v : Views) (other : Around home) (gone : Way → Type 0) (s : View) (facts : List Fact)
+frame_of : (f y e x : ℕ) → OfRoot (OfVariable f y) ≡ OfRoot (OfVariable e x) → f ≡ e
+frame_of f y e x is = cc
+
+module _ (home : ℕ → ℕ) (observer : ℕ → Bool) (v : Views) (other : Around home) (gone : Way → Type 0)
+    (met_apart : (x : ℕ) (w z : Way) → v.way x ≡ Some w → IsForeign home w → gone z → Under z w ⊎ Under w z → ⊥) (s : View) (facts : List Fact)
     (viewed : Viewed home observer other v s facts) where
-  pub hand_clear : (h : ℕ) → IsClearOf home observer v other gone (Object (OfHand h))
+  pub hand_clear : (h : ℕ) → IsClearOf home observer v other gone met_apart (Object (OfHand h))
   hand_clear h = record {
-    own = λ x w has past. hand_differs (named_base home w (view_named home observer other v s facts viewed.views x w has))
+    own = λ x w has past. hand_differs (view_rooted home observer other v s facts viewed.views x w has).2
         (base_under (Object (OfHand h)) w (past_under (Object (OfHand h)) w past));
     far = λ w n keeps past. (let root = other.begins w n keeps in
         hand_differs root.2 (base_under (Object (OfHand h)) w (past_under (Object (OfHand h)) w past)));
   }
 
   -- a variable that the frame doesn't name, and where no way of others begins
-  pub variable_clear : (e x : ℕ) → ((y : ℕ) → home y ≡ e → ⊥) → ((w : Way) (n : ℕ) → other.kept w n → base_of w ≡ OfRoot (OfVariable e x) → ⊥)
-      → IsClearOf home observer v other gone (Object (OfVariable e x))
-  variable_clear e x elsewhere apart = record {
-    own = λ y w has past. not_named home e x elsewhere w (view_named home observer other v s facts viewed.views y w has)
-        (base_under (Object (OfVariable e x)) w (past_under (Object (OfVariable e x)) w past));
+  pub variable_clear : (e x : ℕ) → ((y : ℕ) → home y ≡ e → ⊥) → AreFar home v e → ((w : Way) (n : ℕ) → other.kept w n → base_of w ≡ OfRoot (OfVariable e x) → ⊥)
+      → IsClearOf home observer v other gone met_apart (Object (OfVariable e x))
+  variable_clear e x elsewhere far apart = record {
+    own = λ y w has past. (
+        let base = base_under (Object (OfVariable e x)) w (past_under (Object (OfVariable e x)) w past) in
+        elim (viewed.views y w has) [
+          | inl own ↦ not_named home e x elsewhere w (view_named home observer other v s facts viewed.views y w own) base
+          | inr passed ↦ (
+              let low = far y w has passed.foreign in
+              let same = frame_of passed.foreign.0 passed.foreign.1 e x (sym passed.foreign.2 ∙ base) in omega (arith, low, same))
+        ]);
     far = λ w n keeps past. apart w n keeps (base_under (Object (OfVariable e x)) w (past_under (Object (OfVariable e x)) w past));
   }
 
 -- ---- what goes
 
-module _ (s : Typing) (settled : IsSettled s.table) (home : ℕ → ℕ) (observer : ℕ → Bool) (v : Views) (other : Around home) (gone : Way → Type 0) where
+module _ (s : Typing) (settled : IsSettled s.table) (home : ℕ → ℕ) (observer : ℕ → Bool) (v : Views) (other : Around home) (gone : Way → Type 0)
+    (met_apart : (x : ℕ) (w z : Way) → v.way x ≡ Some w → IsForeign home w → gone z → Under z w ⊎ Under w z → ⊥) where
   abbrev whole_slots : Memory → Place → List Slot → List Slot
   whole_slots m k slots = take k.at (slots_at s m k.base) ++ slots ++ drop (k.at + length slots) (slots_at s m k.base)
 
@@ -197,13 +208,13 @@ module _ (s : Typing) (settled : IsSettled s.table) (home : ℕ → ℕ) (observ
 
     -- What is gone then is known elsewhere.
     pub carried_off : (f x : ℕ) → base_of u ≡ OfRoot (OfVariable f x)
-        → IsClearOf home observer v other gone u → ((w : Way) → other.gone w → gone w) → ((p : List Step) → gone (along u p))
+        → IsClearOf home observer v other gone met_apart u → ((w : Way) → other.gone w → gone w) → ((p : List Step) → gone (along u p))
         → Viewed home observer (gone_also home other gone) v (seen s (moved_out s k m) (got ∷ rest) leaks) facts
     carried_off f x base clear more adds =
         subst (λ z. Viewed home observer (gone_also home other gone) v z facts) after_is
-        (moved_between home observer v other gone (seen s m rest leaks) after u (Object (OfHand (length rest))) l (hand (length rest)) facts
+        (moved_between home observer v other gone met_apart (seen s m rest leaks) after u (Object (OfHand (length rest))) l (hand (length rest)) facts
         (goes_off f x base) viewed rooted clean (λ w o off. more w o) (λ p is. adds p) clear
-        (hand_clear home observer v other gone (seen s m rest leaks) facts viewed (length rest)))
+        (hand_clear home observer v other gone met_apart (seen s m rest leaks) facts viewed (length rest)))
 
     -- a way from another variable reaches what it reached
     pub carried_off_low : (f x : ℕ) → base_of u ≡ OfRoot (OfVariable f x) → (w : Way) (g y : ℕ) → base_of w ≡ OfRoot (OfVariable g y) → (g ≡ f → ⊥) → (n : ℕ)
@@ -277,18 +288,18 @@ module _ (s : Typing) (settled : IsSettled s.table) (home : ℕ → ℕ) (observ
     -- What was gone there isn't any more.
     pub carried_to : (f x : ℕ) → base_of u ≡ OfRoot (OfVariable f x)
         → ((w : Way) → Under (Object (OfHand (length rest))) w → other.gone w → ⊥)
-        → IsClearOf home observer v other gone u → ((w : Way) → other.gone w → (Under u w → ⊥) → gone w)
+        → IsClearOf home observer v other gone met_apart u → ((w : Way) → other.gone w → (Under u w → ⊥) → gone w)
         → Viewed home observer (gone_also home other gone) v (seen s (stored s k got.words m) rest leaks) facts
     carried_to f x base hands clear stays =
         subst (λ z. Viewed home observer (gone_also home other gone) v z facts) then_is
-        (moved_between home observer v other gone (seen s m (got ∷ rest) leaks) then_seen (Object (OfHand (length rest))) u (hand (length rest)) l facts
+        (moved_between home observer v other gone met_apart (seen s m (got ∷ rest) leaks) then_seen (Object (OfHand (length rest))) u (hand (length rest)) l facts
         (goes_to f x base) viewed tt
         (λ w under known. elim known [
           | inl moved ↦ no_hand home observer other v (seen s m (got ∷ rest) leaks) facts viewed (Object (OfHand (length rest))) w tt under moved
           | inr o ↦ hands w under o
         ]) stays
         (λ p is. absurd (stored_whole s.table settled full given (length rest) got l (length m.cells) (λ n. (cell m n).freed) leaks change p is))
-        (hand_clear home observer v other gone (seen s m (got ∷ rest) leaks) facts viewed (length rest)) clear)
+        (hand_clear home observer v other gone met_apart (seen s m (got ∷ rest) leaks) facts viewed (length rest)) clear)
 
     -- a way from another variable reaches what it reached
     pub carried_to_low : (f x : ℕ) → base_of u ≡ OfRoot (OfVariable f x) → (w : Way) (g y : ℕ) → base_of w ≡ OfRoot (OfVariable g y) → (g ≡ f → ⊥) → (n : ℕ)

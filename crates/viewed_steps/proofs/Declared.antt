@@ -44,15 +44,16 @@ use Rattle.soundness.proofs.Lasting.{keeps, lengths, declared_kept}
 use Rattle.soundness.proofs.Numbers.{index_law}
 use Rattle.soundness.proofs.Scalars.{acts}
 use Rattle.soundness.proofs.Taking.{Takes, takes_as, takes_zero, no_takes, nothing_more}
-use Rattle.owned_loans.specs.Views.{Around, Views, expand, ExcusedBy, Viewed}
+use Rattle.owned_loans.specs.Views.{Around, Views, expand, ExcusedBy, Viewed, IsForeign, IsView, IsPassed}
 use Rattle.owned_loans.proofs.Ways.{lifts, lifted_way, root_on}
-use Rattle.owned_loans.proofs.Moves.{as_sound, all_known, view_named, view_on, named_way}
+use Rattle.owned_loans.proofs.Moves.{as_sound, all_known, view_on, named_way, view_named}
 use Rattle.viewed_soundness.specs.Taken.{GivesPlainly}
-use Rattle.viewed_soundness.specs.Holds.{IsNamed, PartsAreNamed, Holds, AllKeep}
+use Rattle.viewed_soundness.specs.Holds.{IsNamed, PartsAreNamed, Holds, AllKeep, sees_only, is_view}
 use Rattle.viewed_soundness.proofs.Names.{true_false}
 use Rattle.viewed_soundness.proofs.Moments.{hands_spared}
 use Rattle.viewed_soundness.proofs.Evaluated.{gives_plainly, Given, blank_ready, checked_given, evaluated_on}
 use Rattle.viewed_soundness.proofs.Outcomes.{named_plain, not_views, IsGood, Leads_on, raises, start_is, unturned, goes_to}
+use Rattle.viewed_steps.proofs.Views.{is_anonymous_view}
 
 -- ---- a variable that had nothing gets a value
 
@@ -136,9 +137,9 @@ module _ (s : Typing) (settled : IsSettled s.table) (home : ℕ → ℕ) (observ
       → Viewed home observer other v (seen s m (got ∷ rest) leaks) facts → ((h : ℕ) (w : Way) → Under (Object (OfHand h)) w → other.gone w → ⊥) → Kept s m (got ∷ rest)
       → ((p : List Step) → word_in s.table (content s m (got ∷ rest) (OfRoot (OfVariable f x))) p ≡ Empty)
       → is_view_formal s x ≡ false → length got.words ≡ words s.table (object_at s x).of → Alike s.table got.of (object_at s x).of
-      → ((y : ℕ) (w : Way) → v.way y ≡ Some w → IsElsewhere home f x w) → IsApart home other f x
-      → Viewed home observer other v (seen s (declared f x got.words m) rest leaks) facts
-  declared_viewed m got rest leaks facts f x viewed alone kept blank own long like free apart =
+      → ((y : ℕ) (w : Way) → v.way y ≡ Some w → (foreign : IsForeign home w) → foreign.0 ≡ f → ⊥)
+      → ((y : ℕ) (w : Way) → v.way y ≡ Some w → IsElsewhere home f x w) → IsApart home other f x → Viewed home observer other v (seen s (declared f x got.words m) rest leaks) facts
+  declared_viewed m got rest leaks facts f x viewed alone kept blank own long like far free apart =
       let a : View = seen s m (got ∷ rest) leaks in
       let b : View = seen s (declared f x got.words m) rest leaks in
       let sound = declared_sound s settled home (ExcusedBy home v other facts) m got rest leaks [] f x (as_sound home observer other v a facts viewed)
@@ -151,12 +152,27 @@ module _ (s : Typing) (settled : IsSettled s.table) (home : ℕ → ℕ) (observ
         lends = viewed.lends;
         views = λ y w has. (let view = viewed.views y w has in
             view_on home observer other v a b facts facts y w view (λ seen n loan. loan)
-            (reaches_off home a b f x (λ l off. word_off s m (got ∷ rest) rest leaks f x got.words l off) w (OfCell (v.cell y))
-            (view_named home observer other v a facts viewed.views y w has) (free y w has) view.reaches));
+            (stays y w has view));
+        whole = viewed.whole;
         far = λ w n keeps. (let root = other.begins w n keeps in
             far_off a b f x root.0 root.1 (λ l off. word_off s m (got ∷ rest) rest leaks f x got.words l off) w (OfCell n) root.2
             (λ e. apart w n keeps (root.2 ∙ ap OfRoot (sym e))) (viewed.far w n keeps));
       }
+    where
+      frame_of : (f x g y : ℕ) → OfVariable f x ≡ OfVariable g y → g ≡ f
+      frame_of f x g y e = cc
+
+      stays : (y : ℕ) (w : Way) → v.way y ≡ Some w
+          → IsView home observer v (seen s m (got ∷ rest) leaks) facts y w ⊎ IsPassed home observer v (seen s m (got ∷ rest) leaks) y w
+          → Reaches (seen s (declared f x got.words m) rest leaks) w (OfCell (v.cell y))
+      stays y w has (inl own) =
+          reaches_off home (seen s m (got ∷ rest) leaks) (seen s (declared f x got.words m) rest leaks) f x
+          (λ l off. word_off s m (got ∷ rest) rest leaks f x got.words l off) w (OfCell (v.cell y))
+          (view_named home observer other v (seen s m (got ∷ rest) leaks) facts viewed.views y w own) (free y w has) own.reaches
+      stays y w has (inr passed) =
+          far_off (seen s m (got ∷ rest) leaks) (seen s (declared f x got.words m) rest leaks) f x passed.foreign.0 passed.foreign.1
+          (λ l off. word_off s m (got ∷ rest) rest leaks f x got.words l off) w (OfCell (v.cell y)) passed.foreign.2
+          (λ e. far y w has passed.foreign (frame_of f x passed.foreign.0 passed.foreign.1 e)) passed.reaches
 
 -- the root of what a name stands for
 pub stands_root : (v : Views) (u : Way) → (number_of (expand v u) ≡ number_of u) ⊎ ((y : ℕ) × (k : Way) × (v.way y ≡ Some k) × (number_of (expand v u) ≡ number_of k))
@@ -208,13 +224,13 @@ module _ (t : Turn) (settled : IsSettled (typing t).table) (own_law : OwnsByShap
   at ws = record { memory = m; waits = ws }
 
   abbrev Good : List Fact → Type 0
-  Good facts = IsGood t settled own_law other alone no_formals v parts_named may frames none v facts t.state
+  Good facts = IsGood t settled own_law other alone v parts_named may frames none v facts t.state
 
   abbrev LeadsHere : List Fact → Outcome → Type 0
-  LeadsHere facts outcome = Leads_on t settled own_law other alone no_formals v parts_named may frames none facts outcome
+  LeadsHere facts outcome = Leads_on t settled own_law other alone v parts_named may frames none facts outcome
 
   abbrev Given_here : ℕ → List Fact → Evaluated (List machine.Word) → Type 0
-  Given_here u facts x = Given (here t) settled t.state.leaks [] other alone (keeps s settled own_law) no_formals index_law own_law v parts_named u hands facts x
+  Given_here u facts x = Given (here t) settled t.state.leaks [] other alone (keeps s settled own_law) index_law own_law v parts_named u hands facts x
 
   -- the object has nothing before
   abbrev pub IsBlank : ℕ → Memory → Type 0
@@ -227,11 +243,12 @@ module _ (t : Turn) (settled : IsSettled (typing t).table) (own_law : OwnsByShap
   -- no view has a way from it, and no part of it is lent to others
   abbrev pub IsFree : ℕ → Type 0
   IsFree x =
-      ((y : ℕ) (w : Way) → v.way y ≡ Some w → IsElsewhere (home s depth) depth x w)
+      ((y : ℕ) (w : Way) → v.way y ≡ Some w
+      → ((foreign : IsForeign (home s depth) w) → foreign.0 ≡ depth → ⊥) × IsElsewhere (home s depth) depth x w)
       × ((l : Loan) (name : PlaceName) → other.lent l name → name.root ≡ x → depth ≡ home s depth x → ⊥)
 
   -- a part of it that is gone would be known as moved
-  pub not_gone : (x : ℕ) (facts : List Fact) (z : View) → Viewed (home s depth) (is_observer s) other v z facts → IsUnmoved x facts → IsFree x
+  pub not_gone : (x : ℕ) (facts : List Fact) (z : View) → Viewed (home s depth) (sees_only s) other v z facts → IsUnmoved x facts → IsFree x
       → (p : List Step) → ExcusedBy (home s depth) v other facts (along (Object (OfVariable depth x)) p) → ⊥
   not_gone x facts z viewed unmoved free p (inr o) = alone (along (Object (OfVariable depth x)) p) (near_along depth (Object (OfVariable depth x)) p (inr refl)) o
   not_gone x facts z viewed unmoved free p (inl (inr away)) =
@@ -243,11 +260,11 @@ module _ (t : Turn) (settled : IsSettled (typing t).table) (own_law : OwnsByShap
   not_gone x facts z viewed unmoved free p (inl (inl (u, moved, leads))) =
       let root : number_of (expand v u) ≡ x = ap number_of leads ∙ number_part (Object (OfVariable depth x)) p in
       let named : Named (home s depth) (along (Object (OfVariable depth x)) p) = subst (Named (home s depth)) leads
-      (named_way (home s depth) (is_observer s) other v z facts viewed.views (suc (number_of u)) u (omega arith)
+      (named_way (home s depth) (sees_only s) other v z facts viewed.views (suc (number_of u)) u (omega arith)
       (moved.0, viewed.clear.owned (ways.name_of u) moved.1)) in
       elim (stands_root v u) [
         | inl e ↦ unmoved (ways.name_of u) moved.1 (sym e ∙ root) (in_home (home s depth) depth x p named)
-        | inr (y, k, has, e) ↦ free.0 y k has (sym (in_home (home s depth) depth x p named)) (sym e ∙ root)
+        | inr (y, k, has, e) ↦ (free.0 y k has).1 (sym (in_home (home s depth) depth x p named)) (sym e ∙ root)
       ]
 
   blank_after : (x : ℕ) (facts : List Fact) (ws : List machine.Word) (n : Now) → Given_here (object_at s x).of facts (Done ws n)
@@ -284,18 +301,18 @@ module _ (t : Turn) (settled : IsSettled (typing t).table) (own_law : OwnsByShap
   first_fades ws u e gives = absurd gives
 
   pub source_given : (ws : List (List machine.Word)) (u : ℕ) (e : TypedTree) → IsNamed s.table u → Source s u e → GivesPlainly s e → Takes (waits_in e) ws [] → (facts : List Fact) → Good facts
-      → AllowsAll facts (acts (acts_in s e)) → AllKeep (is_observer s) (acts (acts_in s e)) → Given_here u (after (acts (acts_in s e)) facts) (taken_by t u e (at ws))
+      → AllowsAll facts (acts (acts_in s e)) → AllKeep (sees_only s) (acts (acts_in s e)) → Given_here u (after (acts (acts_in s e)) facts) (taken_by t u e (at ws))
   source_given ws u e named (inl (view, is)) calls takes facts good allowed keep = absurd (true_false (is_anonymous (full s.table u)) view (named_plain s.table u named))
   source_given ws u e named (inr gives) calls takes facts good allowed keep =
       subst (λ b. Given_here u (after (acts (acts_in s e)) facts) (if b then viewed (here t) e (at ws) else followed_by (value (here t) e (at ws)) (checked (here t) u)))
       (sym (named_plain s.table u named))
-      (checked_given (here t) settled t.state.leaks [] other alone (keeps s settled own_law) no_formals index_law own_law v parts_named u u hands
+      (checked_given (here t) settled t.state.leaks [] other alone (keeps s settled own_law) index_law own_law v parts_named u u hands
       (after (acts (acts_in s e)) facts) (evaluate (here t) AsValue e (at ws))
-      (evaluated_on (here t) settled t.state.leaks [] other alone (keeps s settled own_law) no_formals index_law own_law v parts_named e u gives calls ws [] takes
+      (evaluated_on (here t) settled t.state.leaks [] other alone (keeps s settled own_law) index_law own_law v parts_named e u gives calls ws [] takes
       m hands facts (record { viewed = good.viewed; kept = good.kept; holds = good.holds }) allowed named keep))
 
   pub first_given : (ws : List (List machine.Word)) (u : ℕ) (e : TypedTree) → IsNamed s.table u → FirstSource s u e → GivesPlainly s e → Takes (waits_in e) ws [] → (facts : List Fact) → Good facts
-      → AllowsAll facts (acts (acts_in s e)) → AllKeep (is_observer s) (acts (acts_in s e)) → Given_here u (after (acts (acts_in s e)) facts) (first_value t u e (at ws))
+      → AllowsAll facts (acts (acts_in s e)) → AllKeep (sees_only s) (acts (acts_in s e)) → Given_here u (after (acts (acts_in s e)) facts) (first_value t u e (at ws))
   unfolding acts_in GivesPlainly initial waits_in
   first_given ws u (More e rest) named (last, gives) calls takes facts good allowed keep =
       let same : acts_in s e ++ acts_in s rest ≡ acts_in s e = ap (λ z. acts_in s e ++ acts_in s z) last ∙ append-nil (acts_in s e) in
@@ -303,9 +320,9 @@ module _ (t : Turn) (settled : IsSettled (typing t).table) (own_law : OwnsByShap
       subst (λ z. Given_here u (after (acts z) facts) (taken_by t u e (at ws))) (sym same)
       (source_given ws u e named gives calls.0
       (takes_as (waits_in e + waits_in rest) (waits_in e) ws [] alone_there takes) facts good (subst (λ z. AllowsAll facts (acts z)) same allowed)
-      (subst (λ z. AllKeep (is_observer s) (acts z)) same keep))
+      (subst (λ z. AllKeep (sees_only s) (acts z)) same keep))
   first_given ws u NoMore named gives calls takes facts good allowed keep = (
-    blank_ready (here t) settled t.state.leaks [] other alone (keeps s settled own_law) no_formals index_law own_law v parts_named
+    blank_ready (here t) settled t.state.leaks [] other alone (keeps s settled own_law) index_law own_law v parts_named
         m hands facts u (default s.table u) (none_default s.table u) (record { viewed = good.viewed; kept = good.kept; holds = good.holds }),
     lengths s.table u,
     takes_zero ws [] takes,
@@ -318,23 +335,27 @@ module _ (t : Turn) (settled : IsSettled (typing t).table) (own_law : OwnsByShap
     held = λ y k view e. holds.held y k view
         (sym (ap (λ z. (get_or z 0 no_slot).word) (put_other s depth x (home s depth y) y (off y view) (fresh ws) n.variables)) ∙ e);
     only = holds.only;
+    owners = holds.owners;
+    access = holds.access;
   }
     where
-      off : (y : ℕ) → is_anonymous (view_of s y) ≡ true → OfVariable depth x ≡ OfVariable (home s depth y) y → ⊥
+      off : (y : ℕ) → is_view s y ≡ true → OfVariable depth x ≡ OfVariable (home s depth y) y → ⊥
       off y view e =
           let same = same_root depth x (home s depth y) y e in
-          true_false (is_anonymous (view_of s y)) view (ap (λ z. is_anonymous (view_of s z)) (sym same.1) ∙ named_plain s.table (object_at s x).of named)
+          true_false (is_anonymous (view_of s y)) (is_anonymous_view s no_formals y view)
+          (ap (λ z. is_anonymous (view_of s z)) (sym same.1) ∙ named_plain s.table (object_at s x).of named)
 
   -- with this value
   pub declared_goes : (x : ℕ) (facts : List Fact) → IsNamed s.table (object_at s x).of → (ws : List machine.Word) (n : Now)
       → Given_here (object_at s x).of facts (Done ws n) → FadesTo (here t) {A = List machine.Word} m (Done ws n) → IsBlank x m → IsUnmoved x facts → IsFree x
       → IsApart (home s depth) other depth x → LeadsHere facts (goes t (declared depth x ws n.memory) 0)
   declared_goes x facts named ws n (ready, long, same) faint new unmoved free apart =
-      goes_to t settled own_law other alone no_formals v parts_named may frames none (declared depth x ws n.memory) 0 v facts
-      (unturned t settled own_law other alone no_formals v parts_named may frames none facts)
-      (declared_viewed s settled (home s depth) (is_observer s) other v n.memory (record { of = (object_at s x).of; words = ws }) hands t.state.leaks facts depth x
+      goes_to t settled own_law other alone v parts_named may frames none (declared depth x ws n.memory) 0 v facts
+      (unturned t settled own_law other alone v parts_named may frames none facts)
+      (declared_viewed s settled (home s depth) (sees_only s) other v n.memory (record { of = (object_at s x).of; words = ws }) hands t.state.leaks facts depth x
       ready.viewed (λ h w under o. alone w (near_under depth (Object (OfHand h)) w under tt) o) ready.kept (blank_after x facts ws n (ready, long, same) faint new unmoved free) (no_formals x) long
-      (alike s.table settled (object_at s x).of (object_at s x).of (inl refl)) free.0 apart)
+      (alike s.table settled (object_at s x).of (object_at s x).of (inl refl))
+      (λ y w has. (free.0 y w has).0) (λ y w has. (free.0 y w has).1) apart)
       (declared_kept s settled n.memory depth x (record { of = (object_at s x).of; words = ws }) hands ready.kept long (inl refl))
       (holds_beside n.memory x ws named ready.holds)
 
@@ -349,7 +370,7 @@ module _ (t : Turn) (settled : IsSettled (typing t).table) (own_law : OwnsByShap
   -- An object is declared. It has nothing yet, and no fact after the evaluation names it.
   pub declare_on : (ws : List (List machine.Word)) (x : ℕ) (e : TypedTree) → IsNamed s.table (object_at s x).of → FirstSource s (object_at s x).of e
       → GivesPlainly s e → Takes (waits_in e) ws [] → (facts : List Fact)
-      → Good facts → AllowsAll facts (acts (declared_acts s x e)) → AllKeep (is_observer s) (acts (declared_acts s x e))
+      → Good facts → AllowsAll facts (acts (declared_acts s x e)) → AllKeep (sees_only s) (acts (declared_acts s x e))
       → IsBlank x m → IsUnmoved x (after (acts (declared_acts s x e)) facts) → IsFree x → IsApart (home s depth) other depth x
       → LeadsHere (after (acts (declared_acts s x e)) facts) (steps.evaluated t (first_value t (object_at s x).of e (at ws)) (λ ws n. goes t (declared depth x ws n) 0))
   declare_on ws x e named gives calls takes facts good allowed keep new unmoved free apart =
@@ -359,18 +380,18 @@ module _ (t : Turn) (settled : IsSettled (typing t).table) (own_law : OwnsByShap
       (if is_observer s x then source_acts s (first e) (observe s x) else acts_in s e)) kinds.0
       ∙ ap (λ b. if b then source_acts s (first e) (observe s x) else acts_in s e) kinds.1 in
       subst (λ z. LeadsHere (after (acts z) facts) (steps.evaluated t (first_value t (object_at s x).of e (at ws)) (λ ws n. goes t (declared depth x ws n) 0))) (sym same)
-      (then_declared (raises t settled own_law other alone no_formals v parts_named may frames none facts good) x (after (acts (acts_in s e)) facts) named
+      (then_declared (raises t settled own_law other alone v parts_named may frames none facts good) x (after (acts (acts_in s e)) facts) named
       (first_value t (object_at s x).of e (at ws))
-      (first_given ws (object_at s x).of e named gives calls takes facts good (subst (λ z. AllowsAll facts (acts z)) same allowed) (subst (λ z. AllKeep (is_observer s) (acts z)) same keep))
+      (first_given ws (object_at s x).of e named gives calls takes facts good (subst (λ z. AllowsAll facts (acts z)) same allowed) (subst (λ z. AllKeep (sees_only s) (acts z)) same keep))
       (first_fades ws (object_at s x).of e gives) new (subst (λ z. IsUnmoved x (after (acts z) facts)) same unmoved) free apart)
 
   pub declare_leads : (x : ℕ) (e : TypedTree) → IsNamed s.table (object_at s x).of → FirstSource s (object_at s x).of e → has_call e ≡ false → (facts : List Fact)
-      → Good facts → AllowsAll facts (acts (declared_acts s x e)) → AllKeep (is_observer s) (acts (declared_acts s x e))
+      → Good facts → AllowsAll facts (acts (declared_acts s x e)) → AllKeep (sees_only s) (acts (declared_acts s x e))
       → IsBlank x m → IsUnmoved x (after (acts (declared_acts s x e)) facts) → IsFree x → IsApart (home s depth) other depth x
       → LeadsHere (after (acts (declared_acts s x e)) facts) (declare t x e)
   declare_leads x e named gives calls facts good allowed keep new unmoved free apart =
       subst (λ z. LeadsHere (after (acts (declared_acts s x e)) facts) (steps.evaluated t (first_value t (object_at s x).of e z) (λ ws n. goes t (declared depth x ws n) 0)))
-      (sym (start_is t settled own_law other alone no_formals v parts_named may frames none))
+      (sym (start_is t settled own_law other alone v parts_named may frames none))
       (declare_on [] x e named gives (gives_plainly s e (inl calls)) (no_takes e calls []) facts good allowed keep new unmoved free apart)
 
   -- ---- variables of other objects

@@ -39,7 +39,7 @@ use Rattle.machine.specs.Step.{Turn, turn, start, successor}
 use Rattle.machine.specs.Step as steps
 use Rattle.machine.specs.Typed.{successors}
 use Rattle.machine.specs.Owners.{WellOwned, waiting_in}
-use Rattle.owned_ways.specs.Ways.{Step, OfVariable, OfRoot, Way, Held, after, AllowsAll, along, number_of}
+use Rattle.owned_ways.specs.Ways.{Step, OfVariable, OfRoot, Way, Held, after, AllowsAll, along, number_of, Named}
 use Rattle.owned_ways.specs.Ways as ways
 use Rattle.owned_ways.proofs.Locations.{reaches_along, named_along as rooted_along}
 use Rattle.soundness.specs.Seen.{IsNear, is_view_formal, content, word_in, home}
@@ -60,8 +60,8 @@ use Rattle.soundness.proofs.Waited.{FillsNone}
 use Rattle.soundness.proofs.Eased.{eased, waits_same, goes_same, from_eased}
 use Rattle.soundness.proofs.Continued.{got_with, released_with, started_with, input_eased, release_eased, start_eased}
 use Rattle.soundness.proofs.Successors.{not_true, below_one, below_two, successor_there}
-use Rattle.owned_loans.specs.Views.{Around, known_gone, Views, Viewed, Unused}
-use Rattle.viewed_soundness.specs.Holds.{AllKeep}
+use Rattle.owned_loans.specs.Views.{Around, known_gone, Views, Viewed, Unused, IsForeign}
+use Rattle.viewed_soundness.specs.Holds.{AllKeep, sees_only}
 use Rattle.viewed_soundness.proofs.Names.{plain_named, true_false}
 use Rattle.viewed_soundness.proofs.Evaluated.{keep_both}
 use Rattle.viewed_soundness.proofs.Outcomes.{named_plain, IsGood, Leads_on, decides_on, choose_on, assign_on, Turned}
@@ -74,7 +74,7 @@ use Rattle.viewed_steps.proofs.Released.{released_on}
 use Rattle.viewed_steps.proofs.Read.{got_on, scalar_named}
 use Rattle.viewed_steps.proofs.Rounds.{skip_leads, line_leads, next_leads, output_on, started_on}
 use Rattle.viewed_steps.proofs.Lent.{Spare, loans_stay, spare_acts}
-use Rattle.viewed_steps.proofs.Placed.{brought_more, lasts_more, scope_on, view_ends, placed_on, MayBe, turned_placed}
+use Rattle.viewed_steps.proofs.Placed.{brought_more, lasts_more, scope_on, view_ends, placed_on, MayBe, turned_placed, turned_named}
 use Rattle.viewed_steps.proofs.Sources.{leads_or, view_declared, view_assigned}
 use Rattle.viewed_steps.proofs.Beside.{IsOther, OthersKept, others_keep}
 use Rattle.viewed_steps.proofs.Waiting.{StandsBetween, KeptElsewhere, beside_them, handed, apart_elsewhere}
@@ -82,6 +82,7 @@ use Rattle.viewed_steps.proofs.Standing.{or_right}
 use Rattle.viewed_steps.proofs.Standing as standing
 use Rattle.viewed_steps.proofs.Packages as packages
 use Rattle.viewed_steps.proofs.Innermost as innermost
+use Rattle.viewed_steps.proofs.Views.{all_held, anonymous_is_view, is_anonymous_view, observes_not, not_elsewhere}
 
 last_within : (x : ℕ) (scope : List ℕ) → is_last x scope ≡ true → is_within x scope ≡ true
 last_within x [] last = cc
@@ -110,7 +111,7 @@ module _ (table : Table) (typed : TypedProgram) (effects : Effects) (input : Lis
       (awaiting : AreAwaited table typed None (top ∷ stages_of (below ∷ more_frames)))
       (of_sub : IsNamedSub (flow_named table typed) top.frame.sub named) (at_point : IsAtPoint named.points top.frame.next p)
       (path : ControlPath (path_points program effects (sub_of program top.frame.sub)) top.before top.frame.next) (views : Views)
-      (viewed_before : Viewed (home s (suc (length rest))) (is_observer s) (known_gone (home s (suc (length rest))) (GoneElsewhere program effects (below ∷ more_frames))) views
+      (viewed_before : Viewed (home s (suc (length rest))) (sees_only s) (known_gone (home s (suc (length rest))) (GoneElsewhere program effects (below ∷ more_frames))) views
       (view_here s state) (facts_of program effects top))
       (kept : Kept s state.memory (waiting_in state)) (scope : InScope s state.memory (suc (length rest)) (lasting_of s p.scope)) (holds : HoldsAt s (suc (length rest)) views state.memory p)
       (placed_before : ArePlaced program (facts_of program effects top) views p.scope) (above : NoneAbove s (suc (length rest)) state.memory) where
@@ -150,7 +151,7 @@ module _ (table : Table) (typed : TypedProgram) (effects : Effects) (input : Lis
     abbrev acts_of_main : Instruction → List Act
     acts_of_main i = standing.acts_here table typed effects input ready state top older outer named p frames of_sub at_point i
 
-    abbrev viewed : Viewed (home s depth) (is_observer s) other views (view_here s state) facts_now
+    abbrev viewed : Viewed (home s depth) (sees_only s) other views (view_here s state) facts_now
     viewed = innermost.viewed table typed effects input ready state top below more_frames rest named p frames deep stages running awaiting of_sub at_point path views viewed_before kept scope holds placed_before above
 
     abbrev placed : ArePlaced program facts_now views p.scope
@@ -180,7 +181,7 @@ module _ (table : Table) (typed : TypedProgram) (effects : Effects) (input : Lis
     abbrev easy : Turn
     easy = eased main_turn
 
-    abbrev viewed_easy : Plain → Viewed (home s depth) (is_observer s) other views (view_here s easy.state) facts_now × Kept s state.memory (waiting_in easy.state)
+    abbrev viewed_easy : Plain → Viewed (home s depth) (sees_only s) other views (view_here s easy.state) facts_now × Kept s state.memory (waiting_in easy.state)
     viewed_easy = innermost.viewed_easy table typed effects input ready state top below more_frames rest named p frames deep stages running awaiting of_sub at_point path views viewed_before kept scope holds placed_before above
 
     abbrev placed_left : (facts : List Fact) → ArePlaced program facts views p.scope → ArePlaced program facts views left_scope
@@ -276,10 +277,10 @@ module _ (table : Table) (typed : TypedProgram) (effects : Effects) (input : Lis
       lasts_behind r z lasts = lasts_more program left_scope (scope_behind p) r z more ((innermost.lasts_left table typed effects input ready state top below more_frames rest named p frames deep stages running awaiting of_sub at_point path views viewed_before kept scope holds placed_before above) r z lasts)
 
       abbrev pub Good : List Fact → State → Type 0
-      Good fs st = IsGood easy ready.accepted.settled ready.owns other alone no_in_formals views ready.class.parts_named may refl refl views fs st
+      Good fs st = IsGood easy ready.accepted.settled ready.owns other alone views ready.class.parts_named may refl refl views fs st
 
       abbrev pub LeadsFrom : Instruction → Outcome → Type 0
-      LeadsFrom i outcome = Leads_on easy ready.accepted.settled ready.owns other alone no_in_formals views ready.class.parts_named may refl refl (after (acts_of_main i) facts_now) outcome
+      LeadsFrom i outcome = Leads_on easy ready.accepted.settled ready.owns other alone views ready.class.parts_named may refl refl (after (acts_of_main i) facts_now) outcome
 
       abbrev pub GoesFrom : Left (steps.waiting main_turn) → Instruction → Outcome → Type 0
       GoesFrom left i outcome = Each (GoesOn main_turn Left left IsOld (lasting_of s left_scope) (lasting_of s (brought i left_scope)) inside_left) outcome
@@ -291,10 +292,7 @@ module _ (table : Table) (typed : TypedProgram) (effects : Effects) (input : Lis
       good plain = record {
         viewed = (viewed_easy plain).0;
         kept = (viewed_easy plain).1;
-        holds = record {
-          held = λ x n view e. holds.held x n (λ fading. going fading.0 fading.1) view e;
-          only = holds.only;
-        };
+        holds = all_held s no_in_formals depth views state.memory (λ x n view e. holds.held x n (λ fading. going fading.0 fading.1) view e) holds.only holds.named;
       }
 
       pub ends_so : (i : Instruction) (how : Exception) (m : Memory) → LeadsFrom i (steps.raised main_turn how m)
@@ -310,19 +308,16 @@ module _ (table : Table) (typed : TypedProgram) (effects : Effects) (input : Lis
       -- where nothing is taken, the step is like it is
       module _ (nothing : taken main_turn.point.instr ≡ 0) where
         abbrev Leads_main : List Fact → Outcome → Type 0
-        Leads_main fs outcome = Leads_on main_turn ready.accepted.settled ready.owns other alone no_in_formals views ready.class.parts_named may frames nothing fs outcome
+        Leads_main fs outcome = Leads_on main_turn ready.accepted.settled ready.owns other alone views ready.class.parts_named may frames nothing fs outcome
 
-        good_main : IsGood main_turn ready.accepted.settled ready.owns other alone no_in_formals views ready.class.parts_named may frames nothing views facts_now state
+        good_main : IsGood main_turn ready.accepted.settled ready.owns other alone views ready.class.parts_named may frames nothing views facts_now state
         good_main = record {
           viewed = viewed;
           kept = kept;
-          holds = record {
-            held = λ x n view e. holds.held x n (λ fading. going fading.0 fading.1) view e;
-            only = holds.only;
-          };
+          holds = all_held s no_in_formals depth views state.memory (λ x n view e. holds.held x n (λ fading. going fading.0 fading.1) view e) holds.only holds.named;
         }
 
-        to_easy : (fs : List Fact) (outcome : Outcome) → Leads_main fs outcome → Leads_on easy ready.accepted.settled ready.owns other alone no_in_formals views ready.class.parts_named may refl refl fs outcome
+        to_easy : (fs : List Fact) (outcome : Outcome) → Leads_main fs outcome → Leads_on easy ready.accepted.settled ready.owns other alone views ready.class.parts_named may refl refl fs outcome
         to_easy fs (Goes st) (turned_views, turned, well) = (
           turned_views,
           λ x w e. elim (turned x w e) [
@@ -333,7 +328,7 @@ module _ (table : Table) (typed : TypedProgram) (effects : Effects) (input : Lis
         )
         to_easy fs (Ends how st) leads = leads
 
-        skips_so : Leads_on easy ready.accepted.settled ready.owns other alone no_in_formals views ready.class.parts_named may refl refl facts_now (turn main_turn Skip)
+        skips_so : Leads_on easy ready.accepted.settled ready.owns other alone views ready.class.parts_named may refl refl facts_now (turn main_turn Skip)
         skips_so =
             to_easy facts_now (turn main_turn Skip)
             (skip_leads main_turn ready.accepted.settled ready.owns other alone no_in_formals views ready.class.parts_named may frames nothing facts_now good_main)
@@ -358,18 +353,19 @@ module _ (table : Table) (typed : TypedProgram) (effects : Effects) (input : Lis
           by_package false mine = unrooted x v e (number_of w) y mine (placed y w has).root root
 
       pub free : (x : ℕ) (v : TypedTree) → p.instr ≡ Declare x v
-          → ((y : ℕ) (w : Way) → views.way y ≡ Some w → IsElsewhere (home s depth) depth x w)
+          → ((y : ℕ) (w : Way) → views.way y ≡ Some w
+          → ((foreign : IsForeign (home s depth) w) → foreign.0 ≡ depth → ⊥) × IsElsewhere (home s depth) depth x w)
           × ((l : Loan) (name : PlaceName) → other.lent l name → name.root ≡ x → depth ≡ home s depth x → ⊥)
-      free x v e = (λ y w has. free_views x v e y w has, (innermost.not_lent_home table typed effects input ready state top below more_frames rest named p frames deep stages running awaiting of_sub at_point path views viewed_before kept scope holds placed_before above) x)
+      free x v e = (λ y w has. ((λ foreign same. not_elsewhere (home s depth) w (holds.named y w has) foreign), free_views x v e y w has), (innermost.not_lent_home table typed effects input ready state top below more_frames rest named p frames deep stages running awaiting of_sub at_point path views viewed_before kept scope holds placed_before above) x)
 
-      unused : (x : ℕ) (v : TypedTree) → p.instr ≡ Declare x v → is_package_object s x ≡ false → Unused other.lent views facts_now x
+      unused : (x : ℕ) (v : TypedTree) → p.instr ≡ Declare x v → is_package_object s x ≡ false → Unused (home s depth) other.lent views facts_now x
       unused x v e mine = record {
         unmoved = λ name has root. elim (from_both (Moved name) has) [
           | inl mine_fact ↦ packages.new_before table typed effects input ready state top older outer named p frames of_sub at_point path x v e name mine_fact root
           | inr there ↦ (innermost.not_handed table typed effects input ready state top below more_frames rest named p frames deep stages running awaiting of_sub at_point path views viewed_before kept scope holds placed_before above) name there (ap (is_package_object s) root ∙ mine)
         ];
         unlent = (innermost.not_lent table typed effects input ready state top below more_frames rest named p frames deep stages running awaiting of_sub at_point path views viewed_before kept scope holds placed_before above) x mine;
-        untaken = λ z w has off root. unrooted x v e (number_of (views.up z)) z mine (placed z w has).up root;
+        untaken = λ z w has named_there off root. unrooted x v e (number_of (views.up z)) z mine (placed z w has).up root;
       }
 
       pub unmoved_now : (x : ℕ) (v : TypedTree) → p.instr ≡ Declare x v → (name : PlaceName) → Has facts_now (Moved name) → name.root ≡ x → depth ≡ home s depth x → ⊥
@@ -415,7 +411,7 @@ module _ (table : Table) (typed : TypedProgram) (effects : Effects) (input : Lis
       ]
 
       declares : Plainly → (x : ℕ) (v : TypedTree) (e : p.instr ≡ Declare x v) → FirstSource s (object_at s x).of v
-          → AllowsAll facts_now (acts_of_main (Declare x v)) → AllKeep (is_observer s) (acts_of_main (Declare x v)) → LeadsFrom (Declare x v) (turn main_turn (Declare x v))
+          → AllowsAll facts_now (acts_of_main (Declare x v)) → AllKeep (sees_only s) (acts_of_main (Declare x v)) → LeadsFrom (Declare x v) (turn main_turn (Declare x v))
       unfolding waits_in
       declares plain x v e text allowed_there keep = by_view (is_anonymous (view_of s x)) refl
         where
@@ -430,7 +426,7 @@ module _ (table : Table) (typed : TypedProgram) (effects : Effects) (input : Lis
               takes_as (taken (Declare x (More (Name q y source u) NoMore))) (waits_in source) given_words [] (nothing_more (waits_in source))
               (subst (λ z. Takes (taken (Declare x z)) given_words []) here_is (takes_of plain.0 (Declare x v) e)) in
               declared_main (Declare x v) x v (subst (λ z. LeadsFrom (Declare x v) (Declared x z easy)) (sym here_is)
-              (subst (λ z. Leads_on easy ready.accepted.settled ready.owns other alone no_in_formals views ready.class.parts_named may refl refl (after (acts_of_main (Declare x z)) facts_now) (Declared x (More (Name q y source u) NoMore) easy)) (sym here_is)
+              (subst (λ z. Leads_on easy ready.accepted.settled ready.owns other alone views ready.class.parts_named may refl refl (after (acts_of_main (Declare x z)) facts_now) (Declared x (More (Name q y source u) NoMore) easy)) (sym here_is)
               (view_declared easy ready.accepted.settled ready.owns other alone no_in_formals views ready.class.parts_named may refl refl given_words
               q x y u source view (ready.orderly.local x view).0 (home_frame x (local x view)) text_there.1 takes
               older_there (record { lasts = lasts_behind y x lasts; within = in_behind; view = view; plain = view_stays x view }, inl (v, e)) facts_now (good plain.0) (unused x v e (local x view))
@@ -467,7 +463,7 @@ module _ (table : Table) (typed : TypedProgram) (effects : Effects) (input : Lis
           (goes_same main_turn (stored s st.place st.words m) 0) on) leads
 
       assigns : Plainly → (left : Left (steps.waiting main_turn)) (target e : TypedTree) (is : p.instr ≡ Assign target e) → IsFine s None (Assign target e)
-          → AllowsAll facts_now (acts_of_main (Assign target e)) → AllKeep (is_observer s) (acts_of_main (Assign target e)) → Both left (Assign target e)
+          → AllowsAll facts_now (acts_of_main (Assign target e)) → AllKeep (sees_only s) (acts_of_main (Assign target e)) → Both left (Assign target e)
       unfolding has_call waits_in
       assigns plain left (Name q x steps u) e is (v, (leads, type), source) allowed_there keep =
           let source_there : Source s u e = subst (λ z. Source s z e) (sym type) source in (
@@ -523,7 +519,7 @@ module _ (table : Table) (typed : TypedProgram) (effects : Effects) (input : Lis
             | inr gives ↦ (
                 let two = takes_both (waits_in e) (waits_in steps) given_words [] (takes_of plain.0 (Assign (Name q x steps u) e) is) in
                 assigned_main (Assign (Name q x steps u) e) (Name q x steps u) u e
-                (assign_on easy ready.accepted.settled ready.owns other alone no_in_formals views ready.class.parts_named may refl refl given_words two.0
+                (assign_on easy ready.accepted.settled ready.owns other alone views ready.class.parts_named may refl refl given_words two.0
                 p.pos q x u steps e (plain_named s.table u owner) gives leads
                 (subst (TakesScalars s) is plain.1) two.1 two.2
                 facts_now (good plain.0) allowed_there keep))
@@ -570,14 +566,14 @@ module _ (table : Table) (typed : TypedProgram) (effects : Effects) (input : Lis
               at_number = λ k m v end next fits. rw (next, fits) refl;
               at_outside = λ k m v end next out. rw (next, out) refl;
             }) (subst (λ z. is_scalar (full s.table z) ≡ true) (sym type) scalar) leads (takes_of plain.0 (Input (Name q x path u)) is)
-            (orderly.read q x u path is) facts_now (good plain.0) allowed_there),
+            (observes_not s no_in_formals x (orderly.read q x u path is)) facts_now (good plain.0) allowed_there),
         input_follows main_turn Left left IsOld (lasting_of s left_scope) (lasting_of s left_scope) inside_left same_scope q x u path
             (stored_there (Input (Name q x path u)) is x (inl refl)) (with_successors (Input (Name q x path u)) 0 is below_one),
       )
       reads plain left target is (v, never, scalar) allowed_there = absurd never
 
       releases : Plainly → (left : Left (steps.waiting main_turn)) (target : TypedTree) (is : p.instr ≡ Release target) → IsFine s None (Release target)
-          → AllowsAll facts_now (acts_of_main (Release target)) → AllKeep (is_observer s) (acts_of_main (Release target)) → Both left (Release target)
+          → AllowsAll facts_now (acts_of_main (Release target)) → AllKeep (sees_only s) (acts_of_main (Release target)) → Both left (Release target)
       unfolding waits_in
       releases plain left (Name q x path u) is (v, d, (leads, type), access) allowed_there keep = (
         release_eased main_turn (LeadsFrom (Release (Name q x path u))) (ends_so (Release (Name q x path u))) (λ trap m on. on.0 tt)
@@ -594,10 +590,10 @@ module _ (table : Table) (typed : TypedProgram) (effects : Effects) (input : Lis
             (stored_there (Release (Name q x path u)) is x (inl refl)) (with_successors (Release (Name q x path u)) 0 is below_one),
       )
         where
-          last_kept : (before : List Placed) → AllKeep (is_observer s) (acts (before ++ record { pos = q; act = act.Free (name_of x path) } ∷ [])) → is_observer s x ≡ false
+          last_kept : (before : List Placed) → AllKeep (sees_only s) (acts (before ++ record { pos = q; act = act.Free (name_of x path) } ∷ [])) → sees_only s x ≡ false
           last_kept before keep =
-              (keep_both (is_observer s) (acts before) (act.Free (name_of x path) ∷ [])
-              (subst (AllKeep (is_observer s)) (acts_append before (record { pos = q; act = act.Free (name_of x path) } ∷ [])) keep)).1.0
+              (keep_both (sees_only s) (acts before) (act.Free (name_of x path) ∷ [])
+              (subst (AllKeep (sees_only s)) (acts_append before (record { pos = q; act = act.Free (name_of x path) } ∷ [])) keep)).1.0
       releases plain left target is (v, d, never, access) allowed_there keep = absurd never
 
       decides : Plainly → (i : Instruction) (is : p.instr ≡ i) (e : TypedTree) → taken i ≡ waits_in e → acts_of_main i ≡ acts (acts_in s e) → Stays s e
@@ -606,9 +602,9 @@ module _ (table : Table) (typed : TypedProgram) (effects : Effects) (input : Lis
       decides plain i is e takes same_acts stays allowed_there k =
           from_easy i (value (steps.here main_turn) e (start main_turn)) (λ ws m. steps.goes easy m (k ws)) (λ ws m. steps.goes main_turn m (k ws))
           (λ ws m on. goes_too i m (k ws) on)
-          (subst (λ z. Leads_on easy ready.accepted.settled ready.owns other alone no_in_formals views ready.class.parts_named may refl refl (after z facts_now)
+          (subst (λ z. Leads_on easy ready.accepted.settled ready.owns other alone views ready.class.parts_named may refl refl (after z facts_now)
           (steps.evaluated easy (value (steps.here easy) e (record { memory = state.memory; waits = given_words })) (λ ws m. steps.goes easy m (k ws)))) (sym same_acts)
-          (decides_on easy ready.accepted.settled ready.owns other alone no_in_formals views ready.class.parts_named may refl refl given_words
+          (decides_on easy ready.accepted.settled ready.owns other alone views ready.class.parts_named may refl refl given_words
           e stays (takes_as (taken i) (waits_in e) given_words [] takes (takes_of plain.0 i is)) facts_now (good plain.0) (subst (AllowsAll facts_now) same_acts allowed_there) k))
 
       chooses : Plainly → (left : Left (steps.waiting main_turn)) (e : TypedTree) (choices : List TypedCode) (is : p.instr ≡ Choose e choices) → Stays s e
@@ -617,7 +613,7 @@ module _ (table : Table) (typed : TypedProgram) (effects : Effects) (input : Lis
         from_easy (Choose e choices) (value (steps.here main_turn) e (start main_turn))
             (λ ws m. steps.chosen easy (length choices) (steps.choice choices ws) m) (λ ws m. steps.chosen main_turn (length choices) (steps.choice choices ws) m)
             (λ ws m on. chosen_too (nat_lt (steps.choice choices ws) (length choices)) (steps.choice choices ws) m on)
-            (choose_on easy ready.accepted.settled ready.owns other alone no_in_formals views ready.class.parts_named may refl refl given_words
+            (choose_on easy ready.accepted.settled ready.owns other alone views ready.class.parts_named may refl refl given_words
             e choices stays (takes_of plain.0 (Choose e choices) is) facts_now (good plain.0) allowed_there),
         choose_follows main_turn Left left IsOld (lasting_of s left_scope) (lasting_of s left_scope) inside_left same_scope e choices (ap successors (sym is)),
       )
@@ -684,7 +680,7 @@ module _ (table : Table) (typed : TypedProgram) (effects : Effects) (input : Lis
           → Returns s r v → Both left (Hold v)
       unfolding acts_in waits_in
       holds_nothing left v is other_one None no_result none = subst (Both left) (ap Hold (sym none)) (
-        subst (λ z. Leads_on easy ready.accepted.settled ready.owns other alone no_in_formals views ready.class.parts_named may refl refl z (turn main_turn (Hold NoMore)))
+        subst (λ z. Leads_on easy ready.accepted.settled ready.owns other alone views ready.class.parts_named may refl refl z (turn main_turn (Hold NoMore)))
             (sym (ap (λ r. after (acts (flow.returned_acts s r NoMore)) facts_now) no_result))
             (skips_so (none_takes (Hold NoMore) (is ∙ ap Hold none) refl)),
         stays_follows main_turn Left left IsOld (lasting_of s left_scope) (lasting_of s left_scope) inside_left same_scope (with_successors (Hold NoMore) 0 (is ∙ ap Hold none) below_one),
@@ -692,7 +688,7 @@ module _ (table : Table) (typed : TypedProgram) (effects : Effects) (input : Lis
       holds_nothing left v is other_one (Some of) result (value_of, same, source) = absurd (subst (λ z. IsOther (Hold z)) same other_one)
 
       each_instruction : Plainly → (left : Left (steps.waiting main_turn)) (i : Instruction) → p.instr ≡ i → IsOther i → IsFine s named.sub.result i → AllowsAll facts_now (acts_of_main i)
-          → AllKeep (is_observer s) (acts_of_main i) → Both left i
+          → AllKeep (sees_only s) (acts_of_main i) → Both left i
       each_instruction plain left Skip is other_one text allowed_there keep = (
         skips_so (none_takes Skip is refl),
         stays_follows main_turn Left left IsOld (lasting_of s left_scope) (lasting_of s left_scope) inside_left same_scope (with_successors Skip 0 is below_one),
@@ -737,7 +733,7 @@ module _ (table : Table) (typed : TypedProgram) (effects : Effects) (input : Lis
 
       -- which views turned
       turned_so : (turned_views : Views) → {facts : List Fact}
-          → Turned easy ready.accepted.settled ready.owns other alone no_in_formals views ready.class.parts_named may refl refl turned_views facts
+          → Turned easy ready.accepted.settled ready.owns other alone views ready.class.parts_named may refl refl turned_views facts
           → AreTurned p.instr views turned_views
       turned_so turned_views turned x w has = elim (turned x w has) [
         | inl old ↦ inl (sym old.way ∙ has)
@@ -745,8 +741,8 @@ module _ (table : Table) (typed : TypedProgram) (effects : Effects) (input : Lis
       ]
 
       only_may : (turned_views : Views) (facts : List Fact)
-          → Turned easy ready.accepted.settled ready.owns other alone no_in_formals views ready.class.parts_named may refl refl turned_views facts
-          → Turned easy ready.accepted.settled ready.owns other alone no_in_formals views ready.class.parts_named (λ x y. MayBe program (scope_behind p) x y) refl refl
+          → Turned easy ready.accepted.settled ready.owns other alone views ready.class.parts_named may refl refl turned_views facts
+          → Turned easy ready.accepted.settled ready.owns other alone views ready.class.parts_named (λ x y. MayBe program (scope_behind p) x y) refl refl
           turned_views facts
       only_may turned_views facts turned x w has = elim (turned x w has) [
         | inl old ↦ inl (record { way = old.way; loan = old.loan; up = old.up })
@@ -761,18 +757,25 @@ module _ (table : Table) (typed : TypedProgram) (effects : Effects) (input : Lis
           let next = successor_there main_turn k (subst (λ z. k < z) (sym successors_there) less) in
           let q = standing.next_at table typed effects input ready state top older outer named p frames of_sub at_point path next.0 next.2 in
           let there = turned_placed easy ready.accepted.settled ready.owns other alone no_in_formals views ready.class.parts_named left_scope (scope_behind p) refl refl
-          ready.orderly.transitive ready.orderly.itself local holds.only more turned_views facts_now (after (acts_of_main p.instr) facts_now) (lent_on spare)
+          ready.orderly.transitive ready.orderly.itself local holds.only holds.named more turned_views facts_now (after (acts_of_main p.instr) facts_now) (lent_on spare)
           (placed_left facts_now placed) (only_may turned_views (after (acts_of_main p.instr) facts_now) turned) in
-          let placed_next = placed_on program (after (acts_of_main p.instr) facts_now) turned_views (scope_behind p) (q.0).scope well.holds.only q.2 there in
+          let only_then : (x : ℕ) (w : Way) → turned_views.way x ≡ Some w → is_anonymous (view_of s x) ≡ true =
+          (λ x w has. is_anonymous_view s no_in_formals x (well.holds.only x w has)) in
+          let named_then = turned_named easy ready.accepted.settled ready.owns other alone no_in_formals views ready.class.parts_named left_scope (scope_behind p) refl refl
+          ready.orderly.transitive ready.orderly.itself local holds.only holds.named more turned_views (after (acts_of_main p.instr) facts_now)
+          (only_may turned_views (after (acts_of_main p.instr) facts_now) turned) in
+          let placed_next = placed_on program (after (acts_of_main p.instr) facts_now) turned_views (scope_behind p) (q.0).scope only_then q.2 there in
           standing.goes_to_next table typed effects input ready state top older outer named p frames of_sub at_point path no_calls after_step waits loops next.0 next.2 q.0 q.1 (frames_then next.0 next.1) deep stages turned_views
           (running.0, running.1, wait_still after_step (lasting_of s (scope_behind p)) inside_then stay well.viewed.far)
           (standing.waits_next table typed effects input ready state top older outer named p frames of_sub at_point path waits loops next.0 next.2 are, others_await none)
-          ((innermost.apart_from_them table typed effects input ready state top below more_frames rest named p frames deep stages running awaiting of_sub at_point path views viewed_before kept scope holds placed_before above) (acts_of_main p.instr) turned_views (view_here s after_step) well.holds.only well.viewed) well.kept
+          ((innermost.apart_from_them table typed effects input ready state top below more_frames rest named p frames deep stages running awaiting of_sub at_point path views viewed_before kept scope holds placed_before above) (acts_of_main p.instr) turned_views (view_here s after_step) only_then named_then well.viewed) well.kept
           (scope_on s ready.owns after_step.memory depth (scope_behind p) (q.0).scope (in_scope after_step.memory (lasting_of s (scope_behind p)) inside_then) q.2)
           (record {
-            held = λ x n lasts view e. well.holds.held x n view e;
-            within = λ x n view e. (let own_way = well.holds.held x n view e in (placed_next x own_way.0 own_way.1).within);
-            only = well.holds.only;
+            held = λ x n lasts view e. well.holds.held x n (anonymous_is_view s no_in_formals x view) e;
+            within = λ x n view e. (
+                let own_way = well.holds.held x n (anonymous_is_view s no_in_formals x view) e in (placed_next x own_way.0 own_way.1).within);
+            only = only_then;
+            named = named_then;
           })
           ((innermost.placed_by table typed effects input ready state top below more_frames rest named p frames deep stages running awaiting of_sub at_point path views viewed_before kept scope holds placed_before above) (after (acts_of_main p.instr) facts_now) (after (acts_of_main p.instr) own_facts) turned_views (q.0).scope ((innermost.own_loans table typed effects input ready state top below more_frames rest named p frames deep stages running awaiting of_sub at_point path views viewed_before kept scope holds placed_before above) (acts_of_main p.instr)) placed_next)
           (still_above after_step.memory stay) views

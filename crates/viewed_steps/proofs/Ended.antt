@@ -27,15 +27,17 @@ use Rattle.soundness.specs.Sound as sound
 use Rattle.soundness.proofs.Defaults.{none_default}
 use Rattle.soundness.proofs.Keeping.{cell_has}
 use Rattle.soundness.proofs.Memories.{removed_same, removed_other}
-use Rattle.owned_loans.specs.Views.{Around, Views, Viewed, Unused, with_view}
+use Rattle.owned_loans.specs.Views.{Around, Views, Viewed, Unused, with_view, IsView}
 use Rattle.owned_loans.proofs.Safe.{root_before}
 use Rattle.owned_loans.proofs.Taken.{becomes_with, given_up}
-use Rattle.viewed_soundness.specs.Holds.{PartsAreNamed}
+use Rattle.viewed_soundness.specs.Holds.{PartsAreNamed, sees_only}
 use Rattle.viewed_soundness.proofs.Names.{true_false}
 use Rattle.viewed_soundness.proofs.Outcomes.{LeavesOthers, Is_left, scope_left, borrower_unmoved}
 use Rattle.viewed_steps.specs.Sound.{Lasts, IsFading, HoldsAt, ArePlaced}
 use Rattle.viewed_steps.proofs.Faded.{without, had_way, has_way, no_way, faded}
 use Rattle.viewed_steps.proofs.Placed.{lasts_on, within_on, view_ends}
+use Rattle.owned_loans.proofs.Meeting.{named_view}
+use Rattle.viewed_steps.proofs.Views.{observes, observes_not}
 
 -- an object that isn't a borrower or observer has no anonymous type, if those that have one are
 -- variables
@@ -90,7 +92,7 @@ module _ (t : Turn) (settled : IsSettled (typing t).table) (own_law : OwnsByShap
     → (z : ℕ) × (q.instr ≡ EndScope z) × (scope_of (typing t) x ≡ scope_of (typing t) z))
     (leads : Leads (typing t) (drop 1 p.scope) q.scope)
     (facts : List Fact) (allowed : Allows facts (act.EndScope y (is_borrower (typing t) y)))
-    (viewed : Viewed (home (typing t) (length t.outer)) (is_observer (typing t)) other v (sound.view_of (typing t) t.state) facts)
+    (viewed : Viewed (home (typing t) (length t.outer)) (sees_only (typing t)) other v (sound.view_of (typing t) t.state) facts)
     (kept : Kept (typing t) t.state.memory (waiting_in t.state))
     (holds : HoldsAt (typing t) (length t.outer) v t.state.memory p) (placed : ArePlaced t.program facts v p.scope)
     (unlent : (l : Loan) (n : PlaceName) → other.lent l n → n.root ≡ y → ⊥) where
@@ -113,8 +115,16 @@ module _ (t : Turn) (settled : IsSettled (typing t).table) (own_law : OwnsByShap
   abbrev left : Views
   left = without v fades
 
-  left_viewed : Viewed (home s depth) (is_observer s) other left (sound.view_of s t.state) facts
-  left_viewed = faded (home s depth) (is_observer s) other v fades (λ x e. (both_parts (is_observer s x) (scope_of s x == scope_of s y) e).0) (sound.view_of s t.state) facts viewed
+  left_viewed : Viewed (home s depth) (sees_only s) other left (sound.view_of s t.state) facts
+  left_viewed = faded (home s depth) (sees_only s) other v fades
+      (λ x e. ap (λ b. b || is_view_formal s x) (both_parts (is_observer s x) (scope_of s x == scope_of s y) e).0) (sound.view_of s t.state) facts viewed
+
+  -- the view is one of the frame
+  own_of : (x : ℕ) (w : Way) → v.way x ≡ Some w → IsView (home s depth) (sees_only s) v (sound.view_of s t.state) facts x w
+  own_of x w has = named_view (home s depth) (sees_only s) v (sound.view_of s t.state) facts viewed.views x w has (holds.named x w has)
+
+  older_of : (x : ℕ) (w : Way) → v.way x ≡ Some w → is_observer s x ≡ false → number_of (v.up x) < x
+  older_of x w has e = (own_of x w has).older (observes_not s no_formals x e)
 
   -- nothing that another view goes by is the object
   other_root : (x : ℕ) → is_within x p.scope ≡ true → (x ≡ y → ⊥) → fades x ≡ false → (r : ℕ) → Lasts t.program p.scope r x
@@ -135,7 +145,7 @@ module _ (t : Turn) (settled : IsSettled (typing t).table) (own_law : OwnsByShap
 
   -- The views afterwards.
   pub record Leaves_views (views : Views) : Type 0 where
-    pub sound_still : Viewed (home s depth) (is_observer s) other views (sound.view_of s t.state) facts
+    pub sound_still : Viewed (home s depth) (sees_only s) other views (sound.view_of s t.state) facts
     pub no_value : views.way y ≡ None
     pub was : (x : ℕ) (w : Way) → views.way x ≡ Some w → (x ≡ y → ⊥) × (fades x ≡ false) × (v.way x ≡ Some w)
     pub still : (x : ℕ) (w : Way) → (x ≡ y → ⊥) → fades x ≡ false → v.way x ≡ Some w → views.way x ≡ Some w
@@ -162,16 +172,16 @@ module _ (t : Turn) (settled : IsSettled (typing t).table) (own_law : OwnsByShap
   without_borrower borrows sees_not =
       let views : Views = with_view left y None (left.loan y) (left.up y) 0 in
       let becomes = becomes_with left y None (left.loan y) (left.up y) 0 in
-      let unused : Unused other.lent left facts y = record {
+      let unused : Unused (home s depth) other.lent left facts y = record {
         unlent = unlent;
         unmoved = borrower_unmoved facts y (subst (λ b. Allows facts (act.EndScope y b)) borrows allowed);
-        untaken = λ x w has off root. (
+        untaken = λ x w has named off root. (
             let old = had_way v fades x w has in
             let place = placed x w old.1 in
-            other_root x place.within off old.0 (number_of (v.up x)) place.up (viewed.views x w old.1).older root);
+            other_root x place.within off old.0 (number_of (v.up x)) place.up (older_of x w old.1) root);
       } in
       record {
-        sound_still = given_up (home s depth) (is_observer s) other left views (sound.view_of s t.state) facts left_viewed y (left.loan y) (left.up y) 0 becomes unused;
+        sound_still = given_up (home s depth) (sees_only s) other left views (sound.view_of s t.state) facts left_viewed y (left.loan y) (left.up y) 0 becomes unused;
         no_value = becomes.way_is;
         was = λ x w has. (
             let off : x ≡ y → ⊥ = λ same. none_some w (sym becomes.way_is ∙ ap views.way (sym same) ∙ has) in
@@ -212,7 +222,7 @@ module _ (t : Turn) (settled : IsSettled (typing t).table) (own_law : OwnsByShap
       let old = leaves.1.was x w has in
       let place = placed x w old.2 in
       other_root x place.within old.0 old.1 (number_of w) place.root
-      (root_before (home s depth) (is_observer s) v (sound.view_of s t.state) facts viewed.views viewed.clear x w old.2)
+      (λ e. root_before (home s depth) (sees_only s) v (sound.view_of s t.state) facts viewed.views viewed.clear x w old.2 (observes_not s no_formals x e))
 
   holder_left : (x : ℕ) (w : Way) → views_left.way x ≡ Some w → is_observer s x ≡ true
       → (h : ℕ) × Has after_end (Lent Observed h (name_of (views_left.loan x))) × Lasts t.program p.scope h x × (h ≡ y → ⊥)
@@ -231,16 +241,17 @@ module _ (t : Turn) (settled : IsSettled (typing t).table) (own_law : OwnsByShap
         h.3,
       )
 
-  pub leaves_others : LeavesOthers t settled own_law other alone no_formals v parts_named may frames none views_left y after_end
+  pub leaves_others : LeavesOthers t settled own_law other alone v parts_named may frames none views_left y after_end
   leaves_others = record {
     no_value = leaves.1.no_value;
-    roots = root_left;
-    loans = λ x w has sees. (let h = holder_left x w has sees in (h.0, h.1, h.4));
+    roots = λ x w has named. root_left x w has;
+    loans = λ x w has named sees. (
+        let h = holder_left x w has (observes s no_formals x sees) in (h.0, h.1, ap (λ b. b || is_view_formal s h.0) h.4));
     unlent = unlent;
   }
 
-  pub ends_well : Is_left t settled own_law other alone no_formals v parts_named may frames none views_left y after_end (steps.end_scope t y)
-  ends_well = scope_left t settled own_law other alone no_formals v parts_named may frames none views_left y (is_borrower s y) mine facts leaves.1.sound_still kept leaves_others
+  pub ends_well : Is_left t settled own_law other alone v parts_named may frames none views_left y after_end (steps.end_scope t y)
+  ends_well = scope_left t settled own_law other alone v parts_named may frames none views_left y (is_borrower s y) mine (no_formals y) facts leaves.1.sound_still kept leaves_others
 
   -- ---- at the next point
 
@@ -255,7 +266,7 @@ module _ (t : Turn) (settled : IsSettled (typing t).table) (own_law : OwnsByShap
       record {
         within = within_on s (drop 1 p.scope) q.scope x leads (view_ends s x (holds.only x w old.2)) (rest_within x y p.scope last place.within old.0);
         up = subst (λ z. Lasts t.program q.scope (number_of z) x) (sym (leaves.1.ups x old.0))
-            (lasts_left (number_of (v.up x)) x (other_root x place.within old.0 old.1 (number_of (v.up x)) place.up (viewed.views x w old.2).older) place.up);
+            (lasts_left (number_of (v.up x)) x (other_root x place.within old.0 old.1 (number_of (v.up x)) place.up (older_of x w old.2)) place.up);
         root = lasts_left (number_of w) x (root_left x w has) place.root;
         holder = λ sees. (let h = holder_left x w has sees in (h.0, h.1, lasts_left h.0 x h.3 h.2, h.4));
       }
@@ -282,6 +293,7 @@ module _ (t : Turn) (settled : IsSettled (typing t).table) (own_law : OwnsByShap
     held = held;
     within = λ x n view e. (let old = word_before x n e in within x view old.0 (holds.within x n view old.1));
     only = λ x w has. (let old = leaves.1.was x w has in holds.only x w old.2);
+    named = λ x w has. (let old = leaves.1.was x w has in holds.named x w old.2);
   }
     where
       within : (x : ℕ) → is_anonymous (view_of s x) ≡ true → (x ≡ y → ⊥) → is_within x p.scope ≡ true → is_within x q.scope ≡ true

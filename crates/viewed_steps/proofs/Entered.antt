@@ -1,6 +1,7 @@
 -- The formals of a call are declared. Those that are copied back have what their actuals had; the
 -- places of the actuals are gone meanwhile, and have no number.
-use Rattle.std.proofs.Common.{◌≡◌, refl, sym, ap, ◌∙◌, subst, ◌⊎◌, inl, inr, ℕ, suc, ◌<◌, ◌+◌, Bool, true, false, not, ◌&&◌, ◌||◌, List, [], ◌∷◌, ◌++◌, take, drop, length, get_or, arith, if◌then◌else◌}
+use Rattle.viewed_soundness.specs.Holds.{sees_only}
+use Rattle.std.proofs.Common.{◌≡◌, refl, sym, ap, ◌∙◌, subst, ◌⊎◌, inl, inr, ℕ, suc, ◌<◌, ◌+◌, Bool, true, false, not, ◌&&◌, ◌||◌, List, [], ◌∷◌, ◌++◌, take, drop, length, get_or, arith, if◌then◌else◌, Some}
 use Rattle.std.proofs.lemmas.List.{length-map}
 use Rattle.spark_base.specs.Lists.{Has}
 use Rattle.place_names.specs.declared.fact.Fact.{Fact}
@@ -24,7 +25,7 @@ use Rattle.soundness.proofs.Moments.{number_part}
 use Rattle.soundness.proofs.Steps.{matches_words, plain_end, alike, taken_slots, room}
 use Rattle.soundness.proofs.Lasting.{keeps, declared_kept}
 use Rattle.soundness.proofs.Passing.{IsLaid}
-use Rattle.owned_loans.specs.Views.{Around, Views, expand, ExcusedBy, Viewed}
+use Rattle.owned_loans.specs.Views.{Around, Views, expand, ExcusedBy, Viewed, IsForeign}
 use Rattle.owned_loans.proofs.Ways.{beginnings}
 use Rattle.owned_loans.proofs.Safe.{off_view}
 use Rattle.owned_loans.proofs.Others.{clean_away}
@@ -38,6 +39,7 @@ use Rattle.viewed_steps.proofs.Carried.{trunk_is, carried_gone, carried_cells, i
 use Rattle.viewed_steps.proofs.Alike.{Enters, with_one}
 use Rattle.viewed_steps.proofs.Beside.{put_beside}
 use Rattle.viewed_steps.proofs.Declared.{declared_viewed, declared_low}
+use Rattle.viewed_steps.proofs.Views.{observes_not, AreFar, apart_by_base}
 
 named_part : (home : ℕ → ℕ) (w : Way) (p : List Step) → Named home w → Named home (along w p)
 named_part home w [] n = n
@@ -122,7 +124,7 @@ passed_base s depth facts scope (x ∷ formals) (a ∷ passed) (to ∷ ways) (in
 -- ---- what the formals have then
 
 module _ (s : Typing) (settled : IsSettled s.table) (own_law : OwnsByShape s.table) (no_formals : (x : ℕ) → is_view_formal s x ≡ false)
-    (hands : List Waiting) (leaks : List Leak) (depth : ℕ) (v : Views) (facts : List Fact) (scope : List ℕ) where
+    (hands : List Waiting) (leaks : List Leak) (depth : ℕ) (v : Views) (far : AreFar (home s depth) v depth) (facts : List Fact) (scope : List ℕ) where
   abbrev Home : ℕ → ℕ
   Home = home s depth
 
@@ -143,7 +145,7 @@ module _ (s : Typing) (settled : IsSettled s.table) (own_law : OwnsByShape s.tab
     pub none : (w : Way) (n : ℕ) → other.kept w n → ⊥
 
   abbrev ViewedIn : Around (home s depth) → Memory → Type 0
-  ViewedIn other m = Viewed (home s depth) (is_observer s) other v (seen s m hands leaks) facts
+  ViewedIn other m = Viewed (home s depth) (sees_only s) other v (seen s m hands leaks) facts
 
   abbrev taken_also : Around (home s depth) → List Way → Around (home s depth)
   taken_also other ways = gone_also (home s depth) other (λ w. other.gone w ⊎ TakenBy ways w)
@@ -194,11 +196,18 @@ module _ (s : Typing) (settled : IsSettled s.table) (own_law : OwnsByShape s.tab
     abbrev with_it : Around (home s depth)
     with_it = gone_also (home s depth) other (λ w. other.gone w ⊎ ((p : List Step) × (w ≡ along to p)))
 
+    with_apart : (y : ℕ) (w z : Way) → v.way y ≡ Some w → IsForeign (home s depth) w → with_it.gone z → Under z w ⊎ Under w z → ⊥
+    with_apart y w z has foreign (inl gone) meets = viewed.whole y w z has foreign gone meets
+    with_apart y w z has foreign (inr (p, is)) meets =
+        apart_by_base w z foreign.0 foreign.1 depth (passed.inside).object foreign.2
+        (ap base_of is ∙ base_along to p ∙ inside_base s depth k to passed.inside)
+        (λ same. (let low = far y w has foreign in omega (arith, low, same))) meets
+
     spot : Spot s m hands k at
     spot = inside_spot s depth k to passed.inside m hands
 
-    plain_name : is_observer s (number_of to) ≡ false
-    plain_name = ap (is_observer s) (inside_number s settled depth k to passed.inside) ∙ not_observing s (passed.inside).object (inside_plain s settled depth k to passed.inside)
+    plain_name : sees_only s (number_of to) ≡ false
+    plain_name = ap (sees_only s) (inside_number s settled depth k to passed.inside) ∙ observes_not s no_formals (passed.inside).object (not_observing s (passed.inside).object (inside_plain s settled depth k to passed.inside))
 
     itself : expand v to ≡ to
     itself = inside_itself s settled depth k to passed.inside v
@@ -208,21 +217,21 @@ module _ (s : Typing) (settled : IsSettled s.table) (own_law : OwnsByShape s.tab
 
     pub clean : (w : Way) → Under to w → ExcusedBy (home s depth) v other facts w → ⊥
     clean w under (inl moved) =
-        clean_away (home s depth) (is_observer s) other v (seen s m hands leaks) facts viewed to w (named_to, plain_name)
+        clean_away (home s depth) (sees_only s) other v (seen s m hands leaks) facts viewed to w (named_to, plain_name)
         (λ h n has over. passed.unlent Borrowed h n has over) whole (subst (λ z. Under z w) (sym itself) under) moved
     clean w under (inr o) = open_there.whole to (inl refl) w under o
 
-    clear_to : IsClearOf (home s depth) (is_observer s) v other with_it.gone to
+    clear_to : IsClearOf (home s depth) (sees_only s) v other with_it.gone with_apart to
     clear_to = record {
       own = λ y w has past.
-          off_view (home s depth) (is_observer s) v (seen s m hands leaks) facts viewed.views viewed.clear to y w (named_to, plain_name) passed.unlent has
+          off_view (home s depth) (sees_only s) v (seen s m hands leaks) facts viewed.views viewed.clear to y w (named_to, plain_name) passed.unlent has
           (subst (λ z. Past z w) (sym itself) past);
       far = λ w n keeps_it past. open_there.none w n keeps_it;
     }
 
-    viewed_mid : Viewed (home s depth) (is_observer s) with_it v (seen s mid (got ∷ hands) leaks) facts
+    viewed_mid : Viewed (home s depth) (sees_only s) with_it v (seen s mid (got ∷ hands) leaks) facts
     viewed_mid =
-        carried_off s settled (home s depth) (is_observer s) v other with_it.gone m hands leaks facts k at to viewed typed spot
+        carried_off s settled (home s depth) (sees_only s) v other with_it.gone with_apart m hands leaks facts k at to viewed typed spot
         (inside_rooted s depth k to passed.inside) (inside_reached s depth k to passed.inside (seen s m hands leaks))
         (inside_owns s depth k to passed.inside m hands (no_formals (passed.inside).object)) clean
         depth (passed.inside).object (inside_base s depth k to passed.inside) clear_to (λ w o. inl o) (λ p. inr (p, refl))
@@ -255,14 +264,14 @@ module _ (s : Typing) (settled : IsSettled s.table) (own_law : OwnsByShape s.tab
         ap (λ z. word_in s.table (record { of = (object_at s x).of; slots = z; owns = not (is_view_formal s x) }) p)
         (other_base (suc depth) x (frames_differ depth (passed.inside).object (suc depth) x (λ e. omega (arith, e)))) ∙ blank p
 
-    pub viewed_next : Viewed (home s depth) (is_observer s) with_it v (seen s next hands leaks) facts
+    pub viewed_next : Viewed (home s depth) (sees_only s) with_it v (seen s next hands leaks) facts
     viewed_next =
-        declared_viewed s settled (home s depth) (is_observer s) with_it v mid got hands leaks facts (suc depth) x viewed_mid
+        declared_viewed s settled (home s depth) (sees_only s) with_it v mid got hands leaks facts (suc depth) x viewed_mid
         (λ h w under o. elim o [
           | inl away ↦ open_there.free h w under away
           | inr (p, is) ↦ hand_base (sym (base_under (Object (OfHand h)) w under) ∙ ap base_of is ∙ base_along to p ∙ inside_base s depth k to passed.inside)
         ]) kept_mid blank_mid (no_formals x) long (alike s.table settled k.of (object_at s x).of passed.fits)
-        (λ y w has at_home root. not_above x at_home) (λ w n keeps_it base. open_there.none w n keeps_it)
+        (λ y w has foreign same. (let low = far y w has foreign in omega (arith, low, same))) (λ y w has at_home root. not_above x at_home) (λ w n keeps_it base. open_there.none w n keeps_it)
       where
         hand_base : {h f x : ℕ} → OfRoot (OfHand h) ≡ OfRoot (OfVariable f x) → ⊥
         hand_base e = cc
@@ -272,7 +281,7 @@ module _ (s : Typing) (settled : IsSettled s.table) (own_law : OwnsByShape s.tab
 
     bare_mid : (p : List Step) (c : ℕ) → word_in s.table (content s mid [] (OfRoot (OfVariable depth (passed.inside).object))) (p ++ (passed.inside).steps) ≡ Held c → ⊥
     bare_mid p c held =
-        carried_bare s settled (home s depth) (is_observer s) v other with_it.gone m hands leaks facts k at to viewed typed spot
+        carried_bare s settled (home s depth) (sees_only s) v other with_it.gone with_apart m hands leaks facts k at to viewed typed spot
         (inside_rooted s depth k to passed.inside) (inside_reached s depth k to passed.inside (seen s m hands leaks))
         (inside_owns s depth k to passed.inside m hands (no_formals (passed.inside).object)) clean p c
         (inside_word s depth k to passed.inside mid (got ∷ hands) p ∙ held)
@@ -289,7 +298,7 @@ module _ (s : Typing) (settled : IsSettled s.table) (own_law : OwnsByShape s.tab
     held_before : (g y : ℕ) (p : List Step) (c : ℕ) → word_in s.table (content s mid [] (OfRoot (OfVariable g y))) p ≡ Held c
         → word_in s.table (content s m [] (OfRoot (OfVariable g y))) p ≡ Held c
     held_before g y p c held =
-        carried_held s settled (home s depth) (is_observer s) v other with_it.gone m hands leaks facts k at to viewed typed spot
+        carried_held s settled (home s depth) (sees_only s) v other with_it.gone with_apart m hands leaks facts k at to viewed typed spot
         (inside_rooted s depth k to passed.inside) (inside_reached s depth k to passed.inside (seen s m hands leaks))
         (inside_owns s depth k to passed.inside m hands (no_formals (passed.inside).object)) clean g y p c held
 
@@ -309,11 +318,11 @@ module _ (s : Typing) (settled : IsSettled s.table) (own_law : OwnsByShape s.tab
       held = λ g y p c other_frame off held. elim (one_held g y p c held) [ inl before ↦ before | inr mine ↦ absurd (other_frame mine.0) ];
       gone = λ g y p other_frame off gone.
           new_word g y (frames_differ (suc depth) x g y (λ e. other_frame (sym e))) p
-          ∙ carried_gone s settled (home s depth) (is_observer s) v other with_it.gone m hands leaks facts k at to viewed typed spot
+          ∙ carried_gone s settled (home s depth) (sees_only s) v other with_it.gone with_apart m hands leaks facts k at to viewed typed spot
           (inside_rooted s depth k to passed.inside) (inside_reached s depth k to passed.inside (seen s m hands leaks))
           (inside_owns s depth k to passed.inside m hands (no_formals (passed.inside).object)) clean g y p gone;
       cells = λ c p.
-          carried_cells s settled (home s depth) (is_observer s) v other with_it.gone m hands leaks facts k at to viewed typed spot
+          carried_cells s settled (home s depth) (sees_only s) v other with_it.gone with_apart m hands leaks facts k at to viewed typed spot
           (inside_rooted s depth k to passed.inside) (inside_reached s depth k to passed.inside (seen s m hands leaks))
           (inside_owns s depth k to passed.inside m hands (no_formals (passed.inside).object)) clean
           depth (passed.inside).object (trunk_is s depth k to passed.inside) c p;
@@ -336,7 +345,7 @@ module _ (s : Typing) (settled : IsSettled s.table) (own_law : OwnsByShape s.tab
         → Reaches (seen s m hands leaks) w (OfCell c) → Reaches (seen s next hands leaks) w (OfCell c)
     one_low w g y base less c reach =
         declared_low s mid got hands leaks (suc depth) x w g y base (frames_differ (suc depth) x g y (λ e. omega (arith, less, e))) c
-        (carried_off_low s settled (home s depth) (is_observer s) v other with_it.gone m hands leaks facts k at to viewed typed spot
+        (carried_off_low s settled (home s depth) (sees_only s) v other with_it.gone with_apart m hands leaks facts k at to viewed typed spot
         (inside_rooted s depth k to passed.inside) (inside_reached s depth k to passed.inside (seen s m hands leaks))
         (inside_owns s depth k to passed.inside m hands (no_formals (passed.inside).object)) clean
         depth (passed.inside).object (inside_base s depth k to passed.inside) w g y base (λ e. omega (arith, less, e)) c reach)
@@ -395,7 +404,11 @@ module _ (s : Typing) (settled : IsSettled s.table) (own_law : OwnsByShape s.tab
       → returns_of formals passed ≡ [] → ways ≡ [] → Kept s m hands → ViewedIn other m → Enter other formals passed ways m m
   nothing_entered other formals passed ways m none no_ways typed viewed = (
     nothing_declared formals m typed,
-    more_gone (home s depth) (is_observer s) v other (λ w. other.gone w ⊎ TakenBy ways w) (seen s m hands leaks) facts (λ w o. inl o) viewed,
+    more_gone (home s depth) (sees_only s) v other (λ w. other.gone w ⊎ TakenBy ways w)
+        (λ y w z has foreign o meets. elim o [
+          | inl gone ↦ viewed.whole y w z has foreign gone meets
+          | inr taken ↦ absurd (subst (λ ks. Has ks taken.0) no_ways taken.1)
+        ]) (seen s m hands leaks) facts (λ w o. inl o) viewed,
     subst (λ z. AreTaken s m depth facts scope z ways) (sym none) no_ways,
   )
 
@@ -440,9 +453,13 @@ module _ (s : Typing) (settled : IsSettled s.table) (own_law : OwnsByShape s.tab
       carried = carried_then s (λ g. g ≡ suc depth → ⊥) [] [] [] m next n (λ w taken. taken) (λ w taken. taken) carried later.0.carried;
       low = λ w g y base less c reach. later.0.low w g y base less c (low w g y base less c reach);
     },
-    more_gone (home s depth) (is_observer s) v
+    more_gone (home s depth) (sees_only s) v
         (taken_also (gone_also (home s depth) other (λ w. other.gone w ⊎ ((p : List Step) × (w ≡ along to p)))) ways)
-        (λ w. other.gone w ⊎ TakenBy (to ∷ ways) w) (seen s n hands leaks) facts
+        (λ w. other.gone w ⊎ TakenBy (to ∷ ways) w)
+        (λ y w z has foreign o meets. later.1.whole y w z has foreign (elim o [
+          | inl gone ↦ inl (inl gone)
+          | inr (k, has_k, p, is) ↦ elim has_k [ inl same ↦ inl (inr (p, is ∙ ap (λ q. along q p) (sym same))) | inr rest ↦ inr (k, rest, p, is) ]
+        ]) meets) (seen s n hands leaks) facts
         (λ w o. elim o [
           | inr taken ↦ inr (taken_more to ways w taken)
           | inl before ↦ elim before [ inl away ↦ inl away | inr (p, is) ↦ inr (to, inl refl, p, is) ]
@@ -471,14 +488,14 @@ module _ (s : Typing) (settled : IsSettled s.table) (own_law : OwnsByShape s.tab
       let mid : Memory = with_formal s (suc depth) x a m in
       plain_then other x a formals passed [] m mid (with_formals s (suc depth) formals passed mid) are.0 on
       (all_declared other formals passed [] mid are.1 open_there on.typed
-      (same_viewed (home s depth) (is_observer s) other v (seen s m hands leaks) (seen s mid hands leaks) facts on.same viewed)
+      (same_viewed (home s depth) (sees_only s) other v (seen s m hands leaks) (seen s mid hands leaks) facts on.same viewed)
       (λ y has p. on.hold (suc depth) y p ∙ blank y (inr has) p))
   all_declared other (x ∷ formals) (a ∷ passed) (to ∷ ways) m (inl are) open_there typed viewed blank =
       let on = with_one s settled own_law hands leaks (suc depth) x a m are.0.0 are.0.1 typed in
       let mid : Memory = with_formal s (suc depth) x a m in
       plain_then other x a formals passed (to ∷ ways) m mid (with_formals s (suc depth) formals passed mid) are.0 on
       (all_declared other formals passed (to ∷ ways) mid are.1 open_there on.typed
-      (same_viewed (home s depth) (is_observer s) other v (seen s m hands leaks) (seen s mid hands leaks) facts on.same viewed)
+      (same_viewed (home s depth) (sees_only s) other v (seen s m hands leaks) (seen s mid hands leaks) facts on.same viewed)
       (λ y has p. on.hold (suc depth) y p ∙ blank y (inr has) p))
   all_declared other (x ∷ formals) (a ∷ passed) (to ∷ ways) m (inr (k, is, one, whole, apart, differ, more)) open_there typed viewed blank =
       let new = blank x (inl refl) in

@@ -61,17 +61,20 @@ module _ (home : ℕ → ℕ) (observer : ℕ → Bool) (other : Around home) (v
     clear = viewed.clear;
     views = λ x w has. (
         let old = had_way v fades x w has in
-        let view = viewed.views x w old.1 in
-        record {
-          named = view.named;
-          leads = expand_left (v.up x) view.plain ∙ view.leads;
-          begins = view.begins;
-          deep = view.deep;
-          plain = view.plain;
-          older = view.older;
-          lent = view.lent;
-          reaches = view.reaches;
-        });
+        elim (viewed.views x w old.1) [
+          | inl view ↦ inl (record {
+            named = view.named;
+            leads = expand_left (v.up x) view.plain ∙ view.leads;
+            begins = view.begins;
+            deep = view.deep;
+            plain = view.plain;
+            older = view.older;
+            lent = view.lent;
+            reaches = view.reaches;
+          })
+          | inr passed ↦ inr (record { sees = passed.sees; foreign = passed.foreign; reaches = passed.reaches })
+        ]);
+    whole = λ x w z has foreign gone meets. viewed.whole x w z (had_way v fades x w has).1 foreign gone meets;
     lends = λ l n lent. (let old = viewed.lends l n lent in record {
       has = old.has;
       none = has_way v fades n.root (stays n.root old.plain) ∙ old.none;

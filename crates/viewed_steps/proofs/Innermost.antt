@@ -1,5 +1,6 @@
 -- The innermost frame of a run, beside those that wait: which acts its facts and theirs allow, where
 -- its variables own, and that the others wait still.
+use Rattle.viewed_soundness.specs.Holds.{sees_only}
 use Rattle.soundness.proofs.Lasting.{ownerless}
 use Rattle.typed_tree.specs.declared.object.ObjectKind.{ObjectKind}
 use Rattle.typed_tree.specs.declared.object.ObjectKind.TheVariants as object_kind
@@ -69,6 +70,7 @@ use Rattle.viewed_steps.proofs.Placed.{view_ends}
 use Rattle.viewed_steps.proofs.Standing.{or_right}
 use Rattle.viewed_steps.proofs.Standing as standing
 use Rattle.viewed_steps.proofs.Packages as packages
+use Rattle.viewed_steps.proofs.Views.{observes_not}
 
 unless : (b : Bool) → (b ≡ true → ⊥) → b ≡ false
 unless true e = absurd (e refl)
@@ -116,7 +118,7 @@ module _ (table : Table) (typed : TypedProgram) (effects : Effects) (input : Lis
       (awaiting : AreAwaited table typed None (top ∷ stages_of (below ∷ more_frames)))
       (of_sub : IsNamedSub (flow_named table typed) top.frame.sub named) (at_point : IsAtPoint named.points top.frame.next p)
       (path : ControlPath (path_points program effects (sub_of program top.frame.sub)) top.before top.frame.next) (views : Views)
-      (viewed_before : Viewed (home s (suc (length rest))) (is_observer s) (known_gone (home s (suc (length rest))) (GoneElsewhere program effects (below ∷ more_frames))) views
+      (viewed_before : Viewed (home s (suc (length rest))) (sees_only s) (known_gone (home s (suc (length rest))) (GoneElsewhere program effects (below ∷ more_frames))) views
       (view_here s state) (facts_of program effects top))
       (kept : Kept s state.memory (waiting_in state)) (scope : InScope s state.memory (suc (length rest)) (lasting_of s p.scope)) (holds : HoldsAt s (suc (length rest)) views state.memory p)
       (placed_before : ArePlaced program (facts_of program effects top) views p.scope) (above : NoneAbove s (suc (length rest)) state.memory) where
@@ -157,8 +159,8 @@ module _ (table : Table) (typed : TypedProgram) (effects : Effects) (input : Lis
     abbrev pub acts_of_main : Instruction → List Act
     acts_of_main i = standing.acts_here table typed effects input ready state top older outer named p frames of_sub at_point i
 
-    pub viewed_own : Viewed (home s depth) (is_observer s) (known_gone (home s depth) (GoneElsewhere program effects older)) views (view_here s state) own_facts
-    viewed_own = subst (Viewed (home s depth) (is_observer s) (known_gone (home s depth) (GoneElsewhere program effects older)) views (view_here s state)) (standing.facts_are table typed effects input ready state top older outer named p frames of_sub at_point path) viewed_before
+    pub viewed_own : Viewed (home s depth) (sees_only s) (known_gone (home s depth) (GoneElsewhere program effects older)) views (view_here s state) own_facts
+    viewed_own = subst (Viewed (home s depth) (sees_only s) (known_gone (home s depth) (GoneElsewhere program effects older)) views (view_here s state)) (standing.facts_are table typed effects input ready state top older outer named p frames of_sub at_point path) viewed_before
 
     -- ---- which package objects it uses
 
@@ -283,6 +285,9 @@ module _ (table : Table) (typed : TypedProgram) (effects : Effects) (input : Lis
     pub package_plain : (x : ℕ) → is_package_object s x ≡ true → is_observer s x ≡ false
     package_plain x shared = unless (is_observer s x) (λ sees. true_false (is_package_object s x) shared (local x (observer_anonymous s x sees)))
 
+    pub package_owns : (x : ℕ) → is_package_object s x ≡ true → sees_only s x ≡ false
+    package_owns x shared = observes_not s (standing.no_in_formals table typed effects input ready) x (package_plain x shared)
+
     -- what is lent around is no part of an object of the frame
     pub not_lent : (x : ℕ) → is_package_object s x ≡ false → (l : Loan) (name : PlaceName) → other.lent l name → name.root ≡ x → ⊥
     not_lent x own_object l name lent root = true_false (is_package_object s x) (ap (is_package_object s) (sym root) ∙ lent.5) own_object
@@ -293,17 +298,18 @@ module _ (table : Table) (typed : TypedProgram) (effects : Effects) (input : Lis
         let none : depth ≡ 0 = at_home ∙ ap (λ b. if b then 0 else depth) shared in omega (arith, none)
 
     -- with the views of those that wait, and their facts on package objects
-    pub viewed : Viewed (home s depth) (is_observer s) other views (view_here s state) facts_now
-    viewed = with_them table typed effects unmoved_stage local state depth older between views (view_here s state) own_facts own_views package_plain apart
+    pub viewed : Viewed (home s depth) (sees_only s) other views (view_here s state) facts_now
+    viewed = with_them table typed effects unmoved_stage local state depth older between views (view_here s state) own_facts own_views package_owns apart
         (λ w n keeps. far table typed effects unmoved_stage local state depth older between w n keeps) viewed_own
 
     -- and without them
     pub apart_from_them : (done : List Act) (v : Views) (view : ways.View) → ((x : ℕ) (w : Way) → v.way x ≡ Some w → is_anonymous (view_of s x) ≡ true)
-        → Viewed (home s depth) (is_observer s) other v view (after done facts_now)
-        → Viewed (home s depth) (is_observer s) (known_gone (home s depth) (GoneElsewhere program effects older)) v view (after done own_facts)
-    apart_from_them done v view only well =
+        → ((x : ℕ) (w : Way) → v.way x ≡ Some w → ways.Named (home s depth) w)
+        → Viewed (home s depth) (sees_only s) other v view (after done facts_now)
+        → Viewed (home s depth) (sees_only s) (known_gone (home s depth) (GoneElsewhere program effects older)) v view (after done own_facts)
+    apart_from_them done v view only ways_named well =
         without_them table typed effects unmoved_stage local state depth older between v view (after done facts_now) (after done own_facts)
-        (λ x w has. local x (only x w has)) package_plain (after_more done own_facts facts_now (λ f has. Has-append_left own_facts handed_on f has))
+        (λ x w has. local x (only x w has)) ways_named package_owns (after_more done own_facts facts_now (λ f has. Has-append_left own_facts handed_on f has))
         (after_splits done facts_now own_facts handed_on from_both) well
 
     pub placed_own : ArePlaced program own_facts views p.scope
@@ -429,8 +435,8 @@ module _ (table : Table) (typed : TypedProgram) (effects : Effects) (input : Lis
     abbrev pub easy : Turn
     easy = eased main_turn
 
-    pub viewed_easy : Plain → Viewed (home s depth) (is_observer s) other views (view_here s easy.state) facts_now × Kept s state.memory (waiting_in easy.state)
-    viewed_easy plain = eased_viewed main_turn ready.accepted.settled (home s depth) (is_observer s) other views facts_now frames (plain_values plain) viewed kept
+    pub viewed_easy : Plain → Viewed (home s depth) (sees_only s) other views (view_here s easy.state) facts_now × Kept s state.memory (waiting_in easy.state)
+    viewed_easy plain = eased_viewed main_turn ready.accepted.settled (home s depth) (sees_only s) other views facts_now frames (plain_values plain) viewed kept
 
     pub taken_there : IsTaken s p
     taken_there = ready.valued.takes named named_there p point_there_now

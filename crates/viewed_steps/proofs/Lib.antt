@@ -1,3 +1,4 @@
+pub mod Views
 pub mod Faded
 pub mod Declared
 pub mod Released

@@ -1,12 +1,13 @@
 -- The state before the first step is sound, and so each moment of the run is well owned, and none is
 -- a trap.
+use Rattle.viewed_soundness.specs.Holds.{sees_only}
 use Rattle.viewed_steps.specs.Awaited.{lasting_of}
 use Rattle.std.proofs.Common.{◌≡◌, refl, sym, ap, subst, ℕ, zero, suc, Bool, true, false, nat_le, List, [], ◌∷◌, ◌++◌, get_or, inl, inr, Some, None, if◌then◌else◌}
 use Rattle.spark_base.specs.Lists.{Has}
 use Rattle.type_definitions.specs.Types.{Table}
 use Rattle.typed_tree.specs.Programs.{TypedProgram}
 use Rattle.flow_paths.specs.declared.report.Effects.{Effects}
-use Rattle.flow_paths.specs.Objects.{Typing, object_at, is_observer}
+use Rattle.flow_paths.specs.Objects.{Typing, object_at}
 use Rattle.flow_paths.specs.Points.{NamedPoint, FlowPoint}
 use Rattle.flow_paths.specs.Laid.{FlowSub, FlowProgram, flow_sub, typing_of, flow_typing, flow_program}
 use Rattle.flow_paths.specs.Paths.{begins}
@@ -41,7 +42,7 @@ none_some : (w : Way) → None ≡ Some w → ⊥
 none_some w e = cc
 
 module _ (s : Typing) where
-  empty_viewed : (at_home : ℕ → ℕ) (other : Way → Type 0) → Viewed at_home (is_observer s) (known_gone at_home other) no_views (seen s empty_memory [] []) []
+  empty_viewed : (at_home : ℕ → ℕ) (other : Way → Type 0) → Viewed at_home (sees_only s) (known_gone at_home other) no_views (seen s empty_memory [] []) []
   empty_viewed at_home other =
       let sound = empty_sound s at_home other [] in
       record {
@@ -55,6 +56,7 @@ module _ (s : Typing) where
           owned = λ n has. absurd has;
         };
         views = λ x w has. absurd (none_some w has);
+        whole = λ x w z has. absurd (none_some w has);
         lends = λ l n lent. absurd lent;
         far = λ w n none. absurd none;
       }
@@ -103,6 +105,7 @@ module _ (table : Table) (typed : TypedProgram) (effects : Effects) (input : Lis
         held = λ x n lasts view e. absurd (empty_word s (home s 0 x) x n e);
         within = λ x n view e. absurd (empty_word s (home s 0 x) x n e);
         only = λ x w has. absurd (none_some w has);
+        named = λ x w has. absurd (none_some w has);
       };
       placed = λ x w has. absurd (none_some w has);
       none_above = λ f x n less view e. empty_word s f x n e;
@@ -141,6 +144,7 @@ module _ (table : Table) (typed : TypedProgram) (effects : Effects) (input : Lis
         held = λ x n lasts view e. absurd (empty_word s (home s 1 x) x n e);
         within = λ x n view e. absurd (empty_word s (home s 1 x) x n e);
         only = λ x w has. absurd (none_some w has);
+        named = λ x w has. absurd (none_some w has);
       };
       placed = λ x w has. absurd (none_some w has);
       none_above = λ f x n less view e. empty_word s f x n e;

@@ -18,7 +18,7 @@ use Rattle.typed_tree.specs.Trees.{TypedTree}
 use Rattle.typed_tree.specs.Programs.{TypedProgram}
 use Rattle.flow_paths.specs.declared.report.Effects.{Effects}
 use Rattle.flow_paths.specs.Instructions.{Instruction, Declare, Call, EndScope, Finish}
-use Rattle.flow_paths.specs.Objects.{Typing, object_at, is_anonymous, is_package_object, is_observer, view_of}
+use Rattle.flow_paths.specs.Objects.{Typing, object_at, is_anonymous, is_package_object, view_of}
 use Rattle.flow_paths.specs.Names.{has_call}
 use Rattle.flow_paths.specs.Points.{NamedPoint, FlowPoint}
 use Rattle.flow_paths.specs.Laid.{FlowSub, FlowProgram, NamedSub, flow_sub, typing_of, flow_typing, flow_program, flow_named}
@@ -46,8 +46,8 @@ use Rattle.soundness.proofs.Following.{Each, Declares, declare_on}
 use Rattle.soundness.proofs.Beginning.{one_named, one_point}
 use Rattle.soundness.proofs.Waits.{no_waits, drop_none}
 use Rattle.soundness.proofs.Successors.{not_true, successor_cases, unmoved_after}
-use Rattle.owned_loans.specs.Views.{Around, known_gone, Views, Viewed}
-use Rattle.viewed_soundness.specs.Holds.{AllKeep}
+use Rattle.owned_loans.specs.Views.{Around, known_gone, Views, Viewed, IsForeign}
+use Rattle.viewed_soundness.specs.Holds.{AllKeep, sees_only}
 use Rattle.viewed_soundness.proofs.Names.{plain_named, true_false}
 use Rattle.viewed_soundness.proofs.Outcomes.{IsGood, Turned, Leads_on}
 use Rattle.viewed_steps.specs.Awaited.{AreFor, temporaries_of, lasting_of, awaited, WaitsAt}
@@ -58,6 +58,7 @@ use Rattle.viewed_steps.proofs.Placed.{scope_on}
 use Rattle.viewed_steps.proofs.Ended.{none_some}
 use Rattle.viewed_steps.proofs.Standing.{or_right}
 use Rattle.viewed_steps.proofs.Standing as standing
+use Rattle.viewed_steps.proofs.Views.{all_held, anonymous_is_view}
 
 module _ (table : Table) (typed : TypedProgram) (effects : Effects) (input : List ℕ) (ready : IsReady table typed effects) where
   abbrev program : FlowProgram
@@ -185,7 +186,7 @@ module _ (table : Table) (typed : TypedProgram) (effects : Effects) (input : Lis
   -- the main procedure begins, over the frame of the package objects
   module _ (below : ViewStage) (first : IsFirst below) (deep : below.stage.depth ≡ 0) (state : State) (views : Views) (none : HasNone views)
       (begins_main : state.frames ≡ frame_at_start ready.main [] ∷ (below.stage.frame ∷ [])) (facts_there : List Fact)
-      (viewed : Viewed (home s 0) (is_observer s) (known_gone (home s 0) (GoneElsewhere program effects [])) views (view_here s state) facts_there)
+      (viewed : Viewed (home s 0) (sees_only s) (known_gone (home s 0) (GoneElsewhere program effects [])) views (view_here s state) facts_there)
       (unmoved : (name : PlaceName) → Has facts_there (Moved name) → ⊥) (kept : Kept s state.memory (waiting_in state))
       (scope : (f x : ℕ) (q : List Step) (n : ℕ) → word_in s.table (content s state.memory [] (OfRoot (OfVariable f x))) q ≡ Held n → f < 1)
       (above : NoneAbove s 0 state.memory) where
@@ -221,6 +222,7 @@ module _ (table : Table) (typed : TypedProgram) (effects : Effects) (input : Lis
           owned = λ n has. absurd has;
         };
         views = λ x w has. no_views views none x w has;
+        whole = λ x w z has. no_views views none x w has;
         lends = λ l n lent. absurd lent;
         far = λ w n keeps. absurd keeps;
       };
@@ -234,6 +236,7 @@ module _ (table : Table) (typed : TypedProgram) (effects : Effects) (input : Lis
         held = λ x n lasts view e. absurd (nothing_there x n view e);
         within = λ x n view e. absurd (nothing_there x n view e);
         only = λ x w has. no_views views none x w has;
+        named = λ x w has. no_views views none x w has;
       };
       placed = λ x w has. no_views views none x w has;
       none_above = λ f x n less view e. above f x n (omega (arith, less)) view e;
@@ -243,7 +246,7 @@ module _ (table : Table) (typed : TypedProgram) (effects : Effects) (input : Lis
       (running : (top.frame.sub ≡ 0) × IsPlain top × ((x : ℕ) → views.way x ≡ None) × (top.depth ≡ 0)) (above : NoneAbove s 0 state.memory)
       (of_sub : IsNamedSub (flow_named table typed) top.frame.sub named) (at_point : IsAtPoint named.points top.frame.next p)
       (path : ControlPath (path_points program effects (sub_of program top.frame.sub)) top.before top.frame.next)
-      (viewed_before : Viewed (home s 0) (is_observer s) (known_gone (home s 0) (GoneElsewhere program effects [])) views (view_here s state) (facts_of program effects top))
+      (viewed_before : Viewed (home s 0) (sees_only s) (known_gone (home s 0) (GoneElsewhere program effects [])) views (view_here s state) (facts_of program effects top))
       (kept : Kept s state.memory (waiting_in state)) (scope : InScope s state.memory 0 (lasting_of s p.scope)) (holds : HoldsAt s 0 views state.memory p) where
     -- where it leads, and how the frames come from those before
     abbrev Along : Outcome → Type 0
@@ -267,8 +270,8 @@ module _ (table : Table) (typed : TypedProgram) (effects : Effects) (input : Lis
     abbrev acts_first : Instruction → List Act
     acts_first i = standing.acts_here table typed effects input ready state top [] [] named p frames of_sub at_point i
 
-    viewed_first : Viewed (home s 0) (is_observer s) (known_gone (home s 0) (GoneElsewhere program effects [])) views (view_here s state) facts_first
-    viewed_first = subst (Viewed (home s 0) (is_observer s) (known_gone (home s 0) (GoneElsewhere program effects [])) views (view_here s state)) (standing.facts_are table typed effects input ready state top [] [] named p frames of_sub at_point path) viewed_before
+    viewed_first : Viewed (home s 0) (sees_only s) (known_gone (home s 0) (GoneElsewhere program effects [])) views (view_here s state) facts_first
+    viewed_first = subst (Viewed (home s 0) (sees_only s) (known_gone (home s 0) (GoneElsewhere program effects [])) views (view_here s state)) (standing.facts_are table typed effects input ready state top [] [] named p frames of_sub at_point path) viewed_before
 
     in_packages : Has (sub_of program 0).points first_turn.point
     in_packages =
@@ -301,7 +304,8 @@ module _ (table : Table) (typed : TypedProgram) (effects : Effects) (input : Lis
       owner : is_anonymous (view_of s x) ≡ false
       owner = ready.orderly.packages first_turn.point in_packages x v e
 
-      free_first : ((y : ℕ) (w : Way) → views.way y ≡ Some w → IsElsewhere (home s 0) 0 x w)
+      free_first : ((y : ℕ) (w : Way) → views.way y ≡ Some w
+          → ((foreign : IsForeign (home s 0) w) → foreign.0 ≡ 0 → ⊥) × IsElsewhere (home s 0) 0 x w)
           × ((l : Loan) (name : PlaceName) → nowhere.lent l name → name.root ≡ x → 0 ≡ home s 0 x → ⊥)
       free_first = (λ y w has. no_views views running.2 y w has, λ l name lent root at_home. lent)
 
@@ -322,7 +326,7 @@ module _ (table : Table) (typed : TypedProgram) (effects : Effects) (input : Lis
           (word_root s.table (content s state.memory (waiting_in state)) root q ∙ is)))
 
       abbrev GoodFirst : State → Type 0
-      GoodFirst st = IsGood first_turn ready.accepted.settled ready.owns nowhere alone_first no_in_formals views ready.class.parts_named no_sources frames first_takes views facts_first st
+      GoodFirst st = IsGood first_turn ready.accepted.settled ready.owns nowhere alone_first views ready.class.parts_named no_sources frames first_takes views facts_first st
 
       same_declare : (a b : ℕ) (c : TypedTree) → Declare b c ≡ EndScope a → ⊥
       same_declare a b c e = cc
@@ -331,15 +335,13 @@ module _ (table : Table) (typed : TypedProgram) (effects : Effects) (input : Lis
       good_first = record {
         viewed = viewed_first;
         kept = kept;
-        holds = record {
-          held = λ y n view at. holds.held y n (λ fading. same_declare fading.0 x v (sym e ∙ fading.1)) view at;
-          only = holds.only;
-        };
+        holds = all_held s no_in_formals 0 views state.memory (λ y n view at. holds.held y n (λ fading. same_declare fading.0 x v (sym e ∙ fading.1)) view at)
+            holds.only holds.named;
       }
 
       abbrev LeadsFirst : Outcome → Type 0
       LeadsFirst outcome =
-          Leads_on first_turn ready.accepted.settled ready.owns nowhere alone_first no_in_formals views ready.class.parts_named no_sources frames first_takes
+          Leads_on first_turn ready.accepted.settled ready.owns nowhere alone_first views ready.class.parts_named no_sources frames first_takes
           (after (acts_first (Declare x v)) facts_first) outcome
 
       first_leads : LeadsFirst (turn first_turn (Declare x v))
@@ -348,13 +350,13 @@ module _ (table : Table) (typed : TypedProgram) (effects : Effects) (input : Lis
           x v (plain_named s.table (object_at s x).of owner) (subst (IsFine s named.sub.result) e (standing.fine table typed effects input ready state top [] [] named p frames of_sub at_point))
           no_call facts_first good_first
           (subst (λ i. AllowsAll facts_first (acts_first i)) e (standing.allowed table typed effects input ready state top [] [] named p frames of_sub at_point path (calls_plain x v e)))
-          (subst (λ i. AllKeep (is_observer s) (acts_first i)) e (standing.keeps_there table typed effects input ready state top [] [] named p frames of_sub at_point))
+          (subst (λ i. AllKeep (sees_only s) (acts_first i)) e (standing.keeps_there table typed effects input ready state top [] [] named p frames of_sub at_point))
           (λ q. blank_first q (word_in s.table (content s state.memory [] (OfRoot (OfVariable 0 x))) q) refl)
           (λ name has root at_home. new_after state top [] [] named p frames of_sub at_point path x v e (calls_plain x v e) name
           (subst (λ i. Has (after (acts_first i) facts_first) (Moved name)) (sym e) has) root)
           free_first (λ w n keeps base. keeps)
 
-      none_left : (turned_views : Views) → Turned first_turn ready.accepted.settled ready.owns nowhere alone_first no_in_formals views ready.class.parts_named no_sources frames first_takes
+      none_left : (turned_views : Views) → Turned first_turn ready.accepted.settled ready.owns nowhere alone_first views ready.class.parts_named no_sources frames first_takes
           turned_views (after (acts_first (Declare x v)) facts_first) → HasNone turned_views
       none_left turned_views turned y = by_way (turned_views.way y) refl
         where
@@ -380,12 +382,14 @@ module _ (table : Table) (typed : TypedProgram) (effects : Effects) (input : Lis
                 standing.goes_to_next table typed effects input ready state top [] [] named p frames of_sub at_point path (calls_plain x v e) after_step [] top.frame.loops found.0 found.2 q.0 q.1
                 (on.frames ∙ ap (led first_turn (record top.frame { waits = [] })) found.1) deep tt turned_views
                 (running.0, (refl, running.1.1, running.1.2), none_now, deep) (refl, refl)
-                (subst (Viewed (home s 0) (is_observer s) nowhere turned_views (view_here s after_step)) facts_on_e well.viewed) well.kept
+                (subst (Viewed (home s 0) (sees_only s) nowhere turned_views (view_here s after_step)) facts_on_e well.viewed) well.kept
                 (scope_on s ready.owns after_step.memory 0 (scope_behind p) (q.0).scope (subst (λ z. InScope s after_step.memory 0 (lasting_of s z)) (sym scope_first) on.inside) lead)
                 (record {
-                  held = λ y n lasts view at. well.holds.held y n view at;
-                  within = λ y n view at. (let own_way = well.holds.held y n view at in no_views turned_views none_now y own_way.0 own_way.1);
-                  only = well.holds.only;
+                  held = λ y n lasts view at. well.holds.held y n (anonymous_is_view s no_in_formals y view) at;
+                  within = λ y n view at. (
+                      let own_way = well.holds.held y n (anonymous_is_view s no_in_formals y view) at in no_views turned_views none_now y own_way.0 own_way.1);
+                  only = λ y w has. no_views turned_views none_now y w has;
+                  named = λ y w has. no_views turned_views none_now y w has;
                 })
                 (λ y w has. no_views turned_views none_now y w has) nones views
                 (steps_on (calls_plain x v e) (λ end. (let never : Declare x v ≡ Finish = sym e ∙ end in cc))

@@ -9,13 +9,13 @@ use Rattle.place_names.specs.declared.rule.Loan.TheVariants.{Observed}
 use Rattle.place_names.specs.Names.{Name as PlaceName}
 use Rattle.type_definitions.specs.Types.{is_owning}
 use Rattle.flow_paths.specs.Instructions.{Instruction, Skip, Declare, Assign, Call, Output, Input, Release, Test, Choose, Start, Next, Evaluate, LeaveLoop, Hold, EndScope, Finish, Fall}
-use Rattle.flow_paths.specs.Objects.{Typing, object_at, is_anonymous, is_package_object, has_scope_end, view_of}
+use Rattle.flow_paths.specs.Objects.{Typing, object_at, is_anonymous, is_package_object, has_scope_end, view_of, is_observer}
 use Rattle.flow_paths.specs.Laid.{FlowProgram, flow_typing}
 use Rattle.flow_paths.specs.Scopes.{taken, brought, Leads, Silent, is_within, is_temporary}
 use Rattle.flow_paths.specs.Views.{encloses, scope_of}
 use Rattle.machine.specs.Memory.{Memory}
 use Rattle.machine.specs.Step.{Turn, typing}
-use Rattle.owned_ways.specs.Ways.{OfRoot, Held, Way, name_of, number_of}
+use Rattle.owned_ways.specs.Ways.{OfRoot, Held, Way, name_of, number_of, Named, base_of}
 use Rattle.owned_ways.specs.Ways as ways
 use Rattle.part_offsets.specs.Parts.{IsSettled}
 use Rattle.soundness.specs.Seen.{home, IsNear, is_view_formal, content, word_in}
@@ -24,12 +24,15 @@ use Rattle.soundness.specs.Sound.{InScope}
 use Rattle.soundness.proofs.Contents.{word_no}
 use Rattle.soundness.proofs.Lasting.{ownerless}
 use Rattle.owned_loans.specs.Views.{Around, Views}
-use Rattle.viewed_soundness.specs.Holds.{PartsAreNamed}
+use Rattle.viewed_soundness.specs.Holds.{PartsAreNamed, sees_only}
 use Rattle.viewed_soundness.proofs.Names.{true_false}
 use Rattle.viewed_soundness.proofs.Outcomes.{Turned}
 use Rattle.viewed_steps.specs.Awaited.{is_held, lasting_of}
 use Rattle.viewed_steps.proofs.Waited.{lasting_within, within_lasting}
 use Rattle.viewed_steps.specs.Sound.{Lasts, ArePlaced}
+use Rattle.viewed_steps.proofs.Views.{base_named, observes}
+use Rattle.owned_ways.proofs.Dropped.{named_base}
+use Rattle.owned_loans.proofs.Ended.{number_base}
 
 either : (a b : Bool) → a || b ≡ true → (a ≡ true) ⊎ (b ≡ true)
 either true b e = inl refl
@@ -158,13 +161,33 @@ module _ (t : Turn) (settled : IsSettled (typing t).table) (own_law : OwnsByShap
     (itself : (a : ℕ) → encloses t.program.scopes a a ≡ true)
     (local : (x : ℕ) → is_anonymous (view_of (typing t) x) ≡ true → is_package_object (typing t) x ≡ false)
     (only : (x : ℕ) (w : Way) → v.way x ≡ Some w → is_anonymous (view_of (typing t) x) ≡ true)
+    (ways_named : (x : ℕ) (w : Way) → v.way x ≡ Some w → Named (home (typing t) (length t.outer)) w)
     (more : (y : ℕ) → is_within y a ≡ true → is_within y b ≡ true) where
   abbrev may : ℕ → ℕ → Type 0
   may x y = MayBe t.program b x y
 
+  observer_sees : (x : ℕ) → is_observer (typing t) x ≡ true → sees_only (typing t) x ≡ true
+  observer_sees x e = ap (λ b. b || is_view_formal (typing t) x) e
+
+  same_number : (w k : Way) → Named (home (typing t) (length t.outer)) k → base_of w ≡ base_of k → number_of w ≡ number_of k
+  same_number w k named is =
+      number_base w (home (typing t) (length t.outer) (number_of k)) (number_of k) (is ∙ named_base (home (typing t) (length t.outer)) k named)
+
+  -- their ways are named as before
+  pub turned_named : (views : Views) (facts : List Fact) → Turned t settled own_law other alone v parts_named may frames none views facts
+      → (x : ℕ) (w : Way) → views.way x ≡ Some w → Named (home (typing t) (length t.outer)) w
+  turned_named views facts turned x w has = elim (turned x w has) [
+    | inl same ↦ ways_named x w (sym same.way ∙ has)
+    | inr (y, from, comes) ↦ elim comes.root [
+      | inl is ↦ base_named (home (typing t) (length t.outer)) w y is.0
+      | inr (k, has_y, is) ↦ base_named (home (typing t) (length t.outer)) w (number_of k)
+          (is ∙ named_base (home (typing t) (length t.outer)) k (ways_named y k has_y))
+    ]
+  ]
+
   -- views that turned as they may are placed after the instruction
   pub turned_placed : (views : Views) (facts facts' : List Fact) → ((h : ℕ) (n : PlaceName) → Has facts (Lent Observed h n) → Has facts' (Lent Observed h n))
-      → ArePlaced t.program facts v a → Turned t settled own_law other alone no_formals v parts_named may frames none views facts' → ArePlaced t.program facts' views b
+      → ArePlaced t.program facts v a → Turned t settled own_law other alone v parts_named may frames none views facts' → ArePlaced t.program facts' views b
   turned_placed views facts facts' lent placed turned x w has = elim (turned x w has) [
     | inl same ↦ (
         let old = placed x w (sym same.way ∙ has) in
@@ -182,13 +205,14 @@ module _ (t : Turn) (settled : IsSettled (typing t).table) (own_law : OwnsByShap
         | inr (k, has_y, is) ↦ subst (λ z. Lasts t.program b z x) (sym is) (through y k has_y from (number_of (v.up y)) (placed y k has_y).up)
       ];
       root = elim comes.root [
-        | inl is ↦ subst (λ z. Lasts t.program b z x) (sym is.0) from.lasts
-        | inr (k, has_y, is) ↦ subst (λ z. Lasts t.program b z x) (sym is) (through y k has_y from (number_of k) (placed y k has_y).root)
+        | inl is ↦ subst (λ z. Lasts t.program b z x) (sym (number_base w (home (typing t) (length t.outer) y) y is.0)) from.lasts
+        | inr (k, has_y, is) ↦ subst (λ z. Lasts t.program b z x) (sym (same_number w k (ways_named y k has_y) is))
+            (through y k has_y from (number_of k) (placed y k has_y).root)
       ];
-      holder = λ sees. elim (comes.loan sees) [
+      holder = λ sees. elim (comes.loan (observer_sees x sees)) [
         | inl own ↦ (x, own, inr (from.within, view_ends (typing t) x from.view, itself (scope_of (typing t) x), from.plain), sees)
         | inr (k, has_y, sees_y, is) ↦ (
-            let h = (placed y k has_y).holder sees_y in
+            let h = (placed y k has_y).holder (observes (typing t) no_formals y sees_y) in
             (h.0, subst (λ z. Has facts' (Lent Observed h.0 (name_of z))) (sym is) (lent h.0 (name_of (v.loan y)) h.1), through y k has_y from h.0 h.2, h.3))
       ];
     }

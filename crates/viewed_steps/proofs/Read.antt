@@ -12,7 +12,7 @@ use Rattle.place_names.specs.Facts.{effect}
 use Rattle.type_definitions.specs.declared.table.Shape.TheVariants as shape
 use Rattle.type_definitions.specs.Types.{Table, shape_of, words, parts, is_scalar, full, view_of as view_of_shape}
 use Rattle.typed_tree.specs.Trees.{TypedTree, Name}
-use Rattle.flow_paths.specs.Objects.{Typing, object_at, is_observer}
+use Rattle.flow_paths.specs.Objects.{Typing, object_at}
 use Rattle.flow_paths.specs.Names.{waiting as waits_in, name_of}
 use Rattle.flow_paths.specs.Scopes.{taken}
 use Rattle.flow_paths.specs.Acts.{acts_in, source_acts}
@@ -50,13 +50,14 @@ use Rattle.soundness.proofs.Freeing.{plain_parts, switched}
 use Rattle.owned_loans.specs.Views.{Around, Views, expand, Viewed}
 use Rattle.owned_loans.proofs.Allowed.{write_open}
 use Rattle.owned_loans.proofs.Moves.{named_way}
-use Rattle.viewed_soundness.specs.Holds.{IsNamed, PartsAreNamed}
+use Rattle.viewed_soundness.specs.Holds.{IsNamed, PartsAreNamed, sees_only, IsOwners}
 use Rattle.viewed_soundness.proofs.Names.{is_place}
 use Rattle.viewed_soundness.proofs.Stays.{Goes as GoesAlong, steps_taking, name_quiet}
 use Rattle.viewed_soundness.proofs.Moments.{stored_viewed}
 use Rattle.viewed_soundness.proofs.Evaluated.{Ready, blank_ready, live_trunk}
 use Rattle.viewed_soundness.proofs.Stored.{holds_stored, no_view_place}
 use Rattle.viewed_soundness.proofs.Outcomes.{IsGood, Leads_on, raises, unturned, goes_to, live}
+use Rattle.viewed_steps.proofs.Views.{all_owners}
 
 -- a scalar type isn't anonymous
 pub scalar_named : (table : Table) (u : ℕ) → is_scalar (full table u) ≡ true → IsNamed table u
@@ -89,10 +90,10 @@ module _ (t : Turn) (settled : IsSettled (typing t).table) (own_law : OwnsByShap
   at ws = record { memory = m; waits = ws }
 
   abbrev Good : List Fact → Type 0
-  Good facts = IsGood t settled own_law other alone no_formals v parts_named may frames none v facts t.state
+  Good facts = IsGood t settled own_law other alone v parts_named may frames none v facts t.state
 
   abbrev LeadsHere : List Fact → Outcome → Type 0
-  LeadsHere facts outcome = Leads_on t settled own_law other alone no_formals v parts_named may frames none facts outcome
+  LeadsHere facts outcome = Leads_on t settled own_law other alone v parts_named may frames none facts outcome
 
   -- what an input does at the place, by the next item
   pub record Gets (f : Place → Memory → Outcome) : Type 0 where
@@ -105,7 +106,7 @@ module _ (t : Turn) (settled : IsSettled (typing t).table) (own_law : OwnsByShap
         → fits_type s.table k.of (machine.Int i ∷ []) ≡ false → f k m ≡ steps.raised t run.ConstraintError m
 
   raised_here : (facts : List Fact) → Good facts → (e : run.Exception) (m : Memory) → LeadsHere facts (steps.raised t e m)
-  raised_here facts good e m = (λ trap. trap, raises t settled own_law other alone no_formals v parts_named may frames none facts good m)
+  raised_here facts good e m = (λ trap. trap, raises t settled own_law other alone v parts_named may frames none facts good m)
 
   module _ (f : Place → Memory → Outcome) (gets : Gets f) (facts : List Fact) (good : Good facts) (u : ℕ)
       (scalar : is_scalar (full s.table u) ≡ true) (i : ℤ) where
@@ -113,15 +114,15 @@ module _ (t : Turn) (settled : IsSettled (typing t).table) (own_law : OwnsByShap
     value_in = record { of = u; words = machine.Int i ∷ [] }
 
     abbrev ReadyIn : Type 0
-    ReadyIn = Ready (here t) settled t.state.leaks [] other alone (keeps s settled own_law) no_formals index_law own_law v parts_named m (value_in ∷ hands) facts
+    ReadyIn = Ready (here t) settled t.state.leaks [] other alone (keeps s settled own_law) index_law own_law v parts_named m (value_in ∷ hands) facts
 
     ready_in : ReadyIn
-    ready_in = blank_ready (here t) settled t.state.leaks [] other alone (keeps s settled own_law) no_formals index_law own_law v parts_named
+    ready_in = blank_ready (here t) settled t.state.leaks [] other alone (keeps s settled own_law) index_law own_law v parts_named
         m hands facts u (machine.Int i ∷ []) (λ k has. elim has [ inl e ↦ cc | inr e ↦ e ])
         (record { viewed = good.viewed; kept = good.kept; holds = good.holds })
 
-    alive_trunk : (w : Way) (l : Loc) → IsRooted w → Reaches (seen s m (value_in ∷ hands) t.state.leaks) w l → (content s m (value_in ∷ hands) (trunk l)).owns ≡ true
-    alive_trunk = live_trunk (here t) settled t.state.leaks [] other alone (keeps s settled own_law) no_formals index_law own_law v parts_named m (value_in ∷ hands)
+    alive_trunk : (w : Way) (l : Loc) → IsOwners s w → Reaches (seen s m (value_in ∷ hands) t.state.leaks) w l → (content s m (value_in ∷ hands) (trunk l)).owns ≡ true
+    alive_trunk = live_trunk (here t) settled t.state.leaks [] other alone (keeps s settled own_law) index_law own_law v parts_named m (value_in ∷ hands)
         ready_in.viewed.owned
 
     -- a scalar place has no leak checks
@@ -130,7 +131,7 @@ module _ (t : Turn) (settled : IsSettled (typing t).table) (own_law : OwnsByShap
         let none : parts s.table k.of ≡ [] = ap (parts s.table) of ∙ settled.part_law u ∙ plain_parts (parts s.table) (shape_of s.table u) scalar in
         ap (λ z. checked_at pos k.at (slots_at s m k.base) (flat_map (machine.offsets s.table k.of) z)) none
 
-    module _ (x : ℕ) (path : TypedTree) (way : List run.Step) (along : GoesAlong s.table (object_at s x).of u path way) (plain : is_observer s x ≡ false)
+    module _ (x : ℕ) (path : TypedTree) (way : List run.Step) (along : GoesAlong s.table (object_at s x).of u path way) (plain : sees_only s x ≡ false)
         (allowed : Allows facts (act.Write (name_of x path))) where
       abbrev w : Way
       w = way_along way (Object (OfVariable (home s depth x) x))
@@ -147,29 +148,29 @@ module _ (t : Turn) (settled : IsSettled (typing t).table) (own_law : OwnsByShap
         sels = along.sels (Object (OfVariable (home s depth x) x)) j;
       })
 
-      seen_not : is_observer s (number_of w) ≡ false
-      seen_not = ap (is_observer s) (number_along way (Object (OfVariable (home s depth x) x))) ∙ plain
+      seen_not : sees_only s (number_of w) ≡ false
+      seen_not = ap (sees_only s) (number_along way (Object (OfVariable (home s depth x) x))) ∙ plain
 
       stores : (k : Place) (l : Loc) → Spot s m (value_in ∷ hands) k l → Reaches (seen s m (value_in ∷ hands) t.state.leaks) (expand v w) l → k.of ≡ u
           → LeadsHere fs (goes t (stored s k (machine.Int i ∷ []) m) 0)
       stores k l spot reaches of =
           let long : 1 ≡ words s.table k.of = sym (ap (words s.table) of ∙ settled.word_law u ∙ (plain_shape (shape_of s.table u) scalar).3 (words s.table)) in
           let like : Matches s.table u k.of = inl (ap (shape_of s.table) (sym of)) in
-          let rooted = named_rooted (home s depth) (expand v w) (named_way (home s depth) (is_observer s) other v
-          (seen s m (value_in ∷ hands) t.state.leaks) facts ready_in.viewed.views (suc (number_of w)) w (omega arith) (named, seen_not)) in
-          let viewed = stored_viewed s settled (home s depth) (is_observer s) other v m value_in hands t.state.leaks facts k l w t.point.pos ready_in.viewed
+          let rooted = all_owners s no_formals (expand v w) (named_rooted (home s depth) (expand v w) (named_way (home s depth) (sees_only s) other v
+          (seen s m (value_in ∷ hands) t.state.leaks) facts ready_in.viewed.views (suc (number_of w)) w (omega arith) (named, seen_not))) in
+          let viewed = stored_viewed s settled (home s depth) (sees_only s) other v m value_in hands t.state.leaks facts k l w t.point.pos ready_in.viewed
           (λ z b q o. alone b (near_under depth (Object (OfHand z)) b q tt) o) ready_in.kept spot named seen_not
-          (is_place s v (home s depth x) x u way along.lead (scalar_named s.table u scalar) good.holds.only) reaches (alive_trunk (expand v w) l rooted reaches)
+          (is_place s v (home s depth x) x u way along.lead (scalar_named s.table u scalar) (no_formals x) good.holds.only) reaches (alive_trunk (expand v w) l rooted reaches)
           (subst (λ z. Allows facts (act.Write z)) (sym called) allowed) long like in
-          goes_to t settled own_law other alone no_formals v parts_named may frames none (stored s k (machine.Int i ∷ []) m) 0 v fs
-          (unturned t settled own_law other alone no_formals v parts_named may frames none fs)
-          (subst (λ z. Viewed (home s depth) (is_observer s) other v (seen s (stored s k (machine.Int i ∷ []) m) hands t.state.leaks) (effect (act.Write z) facts)) called
-          (subst (λ z. Viewed (home s depth) (is_observer s) other v (seen s (stored s k (machine.Int i ∷ []) m) hands z) (effect (act.Write (ways.name_of w)) facts))
+          goes_to t settled own_law other alone v parts_named may frames none (stored s k (machine.Int i ∷ []) m) 0 v fs
+          (unturned t settled own_law other alone v parts_named may frames none fs)
+          (subst (λ z. Viewed (home s depth) (sees_only s) other v (seen s (stored s k (machine.Int i ∷ []) m) hands t.state.leaks) (effect (act.Write z) facts)) called
+          (subst (λ z. Viewed (home s depth) (sees_only s) other v (seen s (stored s k (machine.Int i ∷ []) m) hands z) (effect (act.Write (ways.name_of w)) facts))
           (ap (λ z. t.state.leaks ++ z) (no_leaks t.point.pos k of) ∙ append-nil t.state.leaks) viewed))
           (put_away s settled m value_in hands k l ready_in.kept spot long like)
-          (holds_stored (here t) settled t.state.leaks [] other alone (keeps s settled own_law) no_formals index_law own_law v parts_named m k (machine.Int i ∷ [])
-          (no_view_place (here t) settled t.state.leaks [] other alone (keeps s settled own_law) no_formals index_law own_law v parts_named m (value_in ∷ hands) u k l
-          (scalar_named s.table u scalar) of spot) good.holds)
+          (holds_stored (here t) settled t.state.leaks [] other alone (keeps s settled own_law) index_law own_law v parts_named m k (machine.Int i ∷ [])
+          (no_view_place (here t) settled t.state.leaks [] other alone (keeps s settled own_law) index_law own_law v parts_named m (value_in ∷ hands) u k l
+          (scalar_named s.table u scalar) of spot (alive_trunk (expand v w) l rooted reaches)) good.holds)
 
       got_at : (y : Evaluated Place) → Walked s settled (value_in ∷ hands) t.state.leaks m [] (expand v w) u y
           → (end : ℕ) → next_item t.input t.state.at ≡ item.Number i end → LeadsHere fs (steps.evaluated t y f)
@@ -182,7 +183,7 @@ module _ (t : Turn) (settled : IsSettled (typing t).table) (own_law : OwnsByShap
             | inl fits ↦ (
                 let on = stores k l spot reaches of in
                 subst (LeadsHere fs) (sym (gets.at_number k m i end next fits))
-                (on.0, on.1, record { viewed = on.2.viewed; kept = on.2.kept; holds = record { held = on.2.holds.held; only = on.2.holds.only } }))
+                (on.0, on.1, record { viewed = on.2.viewed; kept = on.2.kept; holds = record { held = on.2.holds.held; only = on.2.holds.only; owners = on.2.holds.owners; access = on.2.holds.access } }))
           ])
 
       -- where there is no number
@@ -202,7 +203,7 @@ module _ (t : Turn) (settled : IsSettled (typing t).table) (own_law : OwnsByShap
       by_item (item.Number j end) e y is mine = got_at y is end (e ∙ ap (λ z. item.Number z end) (mine j end refl))
 
     -- the steps of the name are evaluated
-    then_got : (x : ℕ) (path : TypedTree) → is_observer s x ≡ false → Allows facts (act.Write (name_of x path)) → (it : Item) → next_item t.input t.state.at ≡ it
+    then_got : (x : ℕ) (path : TypedTree) → sees_only s x ≡ false → Allows facts (act.Write (name_of x path)) → (it : Item) → next_item t.input t.state.at ≡ it
         → ((j : ℤ) (end : ℕ) → it ≡ item.Number j end → j ≡ i) → (y : Evaluated (List run.Step)) → Quiet now (λ way. GoesAlong s.table (object_at s x).of u path way) y
         → LeadsHere (effect (act.Write (name_of x path)) facts) (steps.evaluated t (followed_by y (λ way now. walked s way (variable_place (here t) x) now)) f)
     then_got x path plain allowed it next mine (Done way n) (same, goes) =
@@ -217,7 +218,7 @@ module _ (t : Turn) (settled : IsSettled (typing t).table) (own_law : OwnsByShap
   out_act name = act.Actual name mode.Out false false
 
   pub got_on : (ws : List (List machine.Word)) (f : Place → Memory → Outcome) (p : Pos) (x u : ℕ) (path : TypedTree) → Gets f → is_scalar (full s.table u) ≡ true
-      → Leads s (object_at s x).of path u → Takes (waits_in path) ws [] → is_observer s x ≡ false → (facts : List Fact) (good : Good facts)
+      → Leads s (object_at s x).of path u → Takes (waits_in path) ws [] → sees_only s x ≡ false → (facts : List Fact) (good : Good facts)
       → AllowsAll facts (acts (source_acts s (Name p x path u) out_act))
       → LeadsHere (after (acts (source_acts s (Name p x path u) out_act)) facts) (steps.evaluated t (place_of (here t) (Name p x path u) (at ws)) f)
   got_on ws f p x u path gets scalar lead takes plain facts good allowed =
@@ -226,7 +227,7 @@ module _ (t : Turn) (settled : IsSettled (typing t).table) (own_law : OwnsByShap
       acts_append (acts_in s path) (record { pos = p; act = out_act (name_of x path) } ∷ []) in
       let each = allows_both facts b (out_act (name_of x path) ∷ []) (subst (AllowsAll facts) whole_acts allowed) in
       let inner = steps_taking (here t) settled hands t.state.leaks m [] other facts v good.kept good.viewed good.holds alone
-      (live t settled own_law other alone no_formals v parts_named may frames none facts good) index_law own_law parts_named (object_at s x).of u path lead ws [] takes each.0 in
+      (live t settled own_law other alone v parts_named may frames none facts good) index_law own_law parts_named (object_at s x).of u path lead ws [] takes each.0 in
       let actual : Allows facts (out_act (name_of x path)) = subst (λ z. Allows z (out_act (name_of x path))) inner.1 each.1.0 in
       let writes : Allows facts (act.Write (name_of x path)) = (λ g has. switched (breaks_O3 (name_of x path) g) _ _ (actual g has)) in
       let behind_acts : after (acts (source_acts s (Name p x path u) out_act)) facts ≡ effect (act.Write (name_of x path)) facts =

@@ -14,7 +14,7 @@ use Rattle.place_names.specs.Facts.{effect}
 use Rattle.type_definitions.specs.declared.table.Shape.TheVariants as shape
 use Rattle.type_definitions.specs.Types.{Table, shape_of, words, words_of as words_of_shape, view_of as view_of_shape}
 use Rattle.typed_tree.specs.Trees.{TypedTree, Name}
-use Rattle.flow_paths.specs.Objects.{Typing, object_at, is_observer, designated, designated_of}
+use Rattle.flow_paths.specs.Objects.{Typing, object_at, designated, designated_of}
 use Rattle.flow_paths.specs.Names.{waiting as waits_in, name_of}
 use Rattle.flow_paths.specs.Scopes.{taken}
 use Rattle.flow_paths.specs.Acts.{acts_in, source_acts}
@@ -41,7 +41,8 @@ use Rattle.typed_laws.specs.Needed.{Leads}
 use Rattle.soundness.proofs.Near.{named_near}
 use Rattle.soundness.proofs.Contents.{bool_cases, word_yes, word_no, word_part, checks_made, all_checks}
 use Rattle.soundness.proofs.Joined.{trunk_trunk, below_cell}
-use Rattle.soundness.proofs.Walks.{both_true, way_along, Walked, slot_at, one_slot, type_is, slot_is, held_there, cell_spot}
+use Rattle.soundness.proofs.Walks.{both_true, way_along, Walked}
+use Rattle.viewed_soundness.proofs.Walks.{one_slot, type_is, slot_is, held_there, cell_spot, slot_at, owners_rooted}
 use Rattle.soundness.proofs.Frees.{freed_there, made_still, releases}
 use Rattle.soundness.proofs.Owners.{strip}
 use Rattle.soundness.proofs.Keeping.{cell_has}
@@ -59,13 +60,14 @@ use Rattle.owned_loans.proofs.Clear.{refused, clear_same}
 use Rattle.owned_loans.proofs.Safe.{loan_of}
 use Rattle.owned_loans.proofs.Allowed.{loan_kept, free_open, free_unlent}
 use Rattle.owned_loans.proofs.Others.{below_through}
-use Rattle.owned_loans.proofs.Moves.{IsPlace, named_way, view_on, own_loan, lends_on, expand_under}
+use Rattle.owned_loans.proofs.Moves.{IsPlace, named_way, view_on, own_loan, lends_on, expand_under, reached}
 use Rattle.owned_loans.proofs.Freed as view
-use Rattle.viewed_soundness.specs.Holds.{IsNamed, PartsAreNamed, Holds}
+use Rattle.viewed_soundness.specs.Holds.{IsNamed, PartsAreNamed, Holds, sees_only, IsOwners}
 use Rattle.viewed_soundness.proofs.Names.{is_place}
 use Rattle.viewed_soundness.proofs.Stays.{Goes, steps_taking, name_quiet}
 use Rattle.viewed_soundness.proofs.Stored.{holds_stored, no_view_place}
 use Rattle.viewed_soundness.proofs.Outcomes.{IsGood, Leads_on, raises, unturned, goes_to, goes_on, live}
+use Rattle.viewed_steps.proofs.Views.{all_owners}
 
 -- ---- facts at a release
 
@@ -138,7 +140,8 @@ module _ (home : ℕ → ℕ) (observer : ℕ → Bool) (other : Around home) (v
         ];
         clear = clear_same observer facts viewed.clear a refl;
         views = λ x w has. (let own = viewed.views x w has in
-            view_on home observer other v s s facts (effect a facts) x w own (λ seen n. own_loan observer facts (effect a facts) (loan_kept a facts (λ l h z. refl)) seen x n) own.reaches);
+            view_on home observer other v s s facts (effect a facts) x w own (λ seen n. own_loan observer facts (effect a facts) (loan_kept a facts (λ l h z. refl)) seen x n) (reached home observer other v s facts x w own));
+        whole = viewed.whole;
         lends = λ l n lent. lends_on observer v facts (effect a facts) (loan_kept a facts (λ l h z. refl)) l n (viewed.lends l n lent);
         far = viewed.far;
       }
@@ -169,7 +172,8 @@ module _ (home : ℕ → ℕ) (observer : ℕ → Bool) (other : Around home) (v
         ];
         clear = clear_same observer facts viewed.clear a refl;
         views = λ x w has. (let own = viewed.views x w has in
-            view_on home observer other v s s facts (effect a facts) x w own (λ seen n. own_loan observer facts (effect a facts) (loan_kept a facts (λ l h z. refl)) seen x n) own.reaches);
+            view_on home observer other v s s facts (effect a facts) x w own (λ seen n. own_loan observer facts (effect a facts) (loan_kept a facts (λ l h z. refl)) seen x n) (reached home observer other v s facts x w own));
+        whole = viewed.whole;
         lends = λ l n lent. lends_on observer v facts (effect a facts) (loan_kept a facts (λ l h z. refl)) l n (viewed.lends l n lent);
         far = viewed.far;
       }
@@ -200,10 +204,10 @@ module _ (t : Turn) (settled : IsSettled (typing t).table) (own_law : OwnsByShap
   at ws = record { memory = m; waits = ws }
 
   abbrev Good : List Fact → Type 0
-  Good facts = IsGood t settled own_law other alone no_formals v parts_named may frames none v facts t.state
+  Good facts = IsGood t settled own_law other alone v parts_named may frames none v facts t.state
 
   abbrev LeadsHere : List Fact → Outcome → Type 0
-  LeadsHere facts outcome = Leads_on t settled own_law other alone no_formals v parts_named may frames none facts outcome
+  LeadsHere facts outcome = Leads_on t settled own_law other alone v parts_named may frames none facts outcome
 
   -- what a release does at the place, by the word there
   pub record Releases (f : Place → Memory → Outcome) (pos : Pos) : Type 0 where
@@ -224,8 +228,8 @@ module _ (t : Turn) (settled : IsSettled (typing t).table) (own_law : OwnsByShap
     abbrev seen_here : View
     seen_here = seen s m hands t.state.leaks
 
-    alive_trunk : (w : Way) (l : Loc) → IsRooted w → Reaches seen_here w l → (content s m hands (trunk l)).owns ≡ true
-    alive_trunk = live t settled own_law other alone no_formals v parts_named may frames none facts good
+    alive_trunk : (w : Way) (l : Loc) → IsOwners s w → Reaches seen_here w l → (content s m hands (trunk l)).owns ≡ true
+    alive_trunk = live t settled own_law other alone v parts_named may frames none facts good
 
     abbrev excused : Way → Type 0
     excused = ExcusedBy (home s depth) v other facts
@@ -265,7 +269,7 @@ module _ (t : Turn) (settled : IsSettled (typing t).table) (own_law : OwnsByShap
     abbrev slot_here : Place → Slot
     slot_here k = slot_at s settled hands t.state.leaks m [] excused good.kept good.viewed.owned good.viewed.known alive_trunk k
 
-    empties : (k : Place) (l : Loc) (w : Way) → Spot s m hands k l → k.of ≡ u → IsRooted w → Reaches seen_here w l → (excused w → ⊥)
+    empties : (k : Place) (l : Loc) (w : Way) → Spot s m hands k l → k.of ≡ u → IsOwners s w → Reaches seen_here w l → (excused w → ⊥)
         → ((n : ℕ) → (slot_here k).word ≡ machine.Cell n → ⊥) → (p : List ways.Step) → seen_here.word (part l p) ≡ Empty
     empties k l w spot of rooted reaches clean no_cell (i ∷ p) = inside k l (i ∷ p) spot of (λ e. cc)
     empties k l w spot of rooted reaches clean no_cell [] =
@@ -275,7 +279,7 @@ module _ (t : Turn) (settled : IsSettled (typing t).table) (own_law : OwnsByShap
         ∙ ap owner_word (slot_is s settled hands t.state.leaks m [] excused good.kept good.viewed.owned good.viewed.known alive_trunk k l spot) in
         word ∙ elim (bool_cases slot.gone) [
           | inr whole ↦ plain_word slot.word slot.gone no_cell whole
-          | inl gone ↦ absurd (clean (good.viewed.known w l rooted reaches (word ∙ ap (owner_at slot.word) gone)))
+          | inl gone ↦ absurd (clean (good.viewed.known w l (owners_rooted s w rooted) reaches (word ∙ ap (owner_at slot.word) gone)))
         ]
 
     spot_freed : (n : ℕ) (k : Place) (l : Loc) → Spot s m hands k l → (trunk l ≡ OfCell n → ⊥) → Spot s (freed n m) hands k l
@@ -294,35 +298,35 @@ module _ (t : Turn) (settled : IsSettled (typing t).table) (own_law : OwnsByShap
     no_null k (inr e) = e
 
     -- the variables of views stay
-    holds_freed : (n : ℕ) (k : Place) (l : Loc) → Spot s m hands k l → k.of ≡ u → Holds s depth v (stored s k (machine.Null ∷ []) (freed n m))
-    holds_freed n k l spot of =
-        holds_stored (here t) settled t.state.leaks [] other alone (keeps s settled own_law) no_formals index_law own_law v parts_named (freed n m) k (machine.Null ∷ [])
-        (no_view_place (here t) settled t.state.leaks [] other alone (keeps s settled own_law) no_formals index_law own_law v parts_named m hands u k l
-        (named_type s.table u d access) of spot) (record { held = good.holds.held; only = good.holds.only })
+    holds_freed : (n : ℕ) (k : Place) (l : Loc) → Spot s m hands k l → (content s m hands (trunk l)).owns ≡ true → k.of ≡ u → Holds s depth v (stored s k (machine.Null ∷ []) (freed n m))
+    holds_freed n k l spot owned of =
+        holds_stored (here t) settled t.state.leaks [] other alone (keeps s settled own_law) index_law own_law v parts_named (freed n m) k (machine.Null ∷ [])
+        (no_view_place (here t) settled t.state.leaks [] other alone (keeps s settled own_law) index_law own_law v parts_named m hands u k l
+        (named_type s.table u d access) of spot owned) (record { held = good.holds.held; only = good.holds.only; owners = good.holds.owners; access = good.holds.access })
 
     -- the place is found
-    module _ (w : Way) (named : Named (home s depth) w) (plain : is_observer s (number_of w) ≡ false) (place : IsPlace v w) (allowed : Allows facts (act.Free (ways.name_of w))) where
+    module _ (w : Way) (named : Named (home s depth) w) (plain : sees_only s (number_of w) ≡ false) (place : IsPlace v w) (allowed : Allows facts (act.Free (ways.name_of w))) where
       abbrev fs : List Fact
       fs = effect (act.Free (ways.name_of w)) facts
 
       stands : Named (home s depth) (expand v w)
       stands =
-          let name : IsPlain (home s depth) (is_observer s) v seen_here facts good.viewed.views w = (named, plain) in
-          named_way (home s depth) (is_observer s) other v seen_here facts good.viewed.views (suc (number_of w)) w (omega arith) name
+          let name : IsPlain (home s depth) (sees_only s) v seen_here facts good.viewed.views w = (named, plain) in
+          named_way (home s depth) (sees_only s) other v seen_here facts good.viewed.views (suc (number_of w)) w (omega arith) name
 
-      rooted : IsRooted (expand v w)
-      rooted = named_rooted (home s depth) (expand v w) stands
+      rooted : IsOwners s (expand v w)
+      rooted = all_owners s no_formals (expand v w) (named_rooted (home s depth) (expand v w) stands)
 
       clean : excused (expand v w) → ⊥
-      clean (inl moved) = free_clean (home s depth) (is_observer s) other v seen_here facts good.viewed w named plain allowed moved
+      clean (inl moved) = free_clean (home s depth) (sees_only s) other v seen_here facts good.viewed w named plain allowed moved
       clean (inr o) = alone (expand v w) (named_near s depth (expand v w) stands) o
 
       nothing : (k : Place) (l : Loc) → Spot s m hands k l → Reaches seen_here (expand v w) l → k.of ≡ u
           → ((n : ℕ) → (slot_here k).word ≡ machine.Cell n → ⊥) → LeadsHere fs (goes t m 0)
       nothing k l spot reaches of no_cell =
-          goes_to t settled own_law other alone no_formals v parts_named may frames none m 0 v fs
-          (unturned t settled own_law other alone no_formals v parts_named may frames none fs)
-          (nothing_freed (home s depth) (is_observer s) other v seen_here facts good.viewed w l named place reaches
+          goes_to t settled own_law other alone v parts_named may frames none m 0 v fs
+          (unturned t settled own_law other alone v parts_named may frames none fs)
+          (nothing_freed (home s depth) (sees_only s) other v seen_here facts good.viewed w l named place reaches
           (empties k l (expand v w) spot of rooted reaches clean no_cell)) good.kept good.holds
 
       by_word : (k : Place) (l : Loc) → Spot s m hands k l → Reaches seen_here (expand v w) l → k.of ≡ u → shape_of s.table k.of ≡ shape.Access d false true
@@ -350,15 +354,15 @@ module _ (t : Turn) (settled : IsSettled (typing t).table) (own_law : OwnsByShap
           let one : 1 ≡ words s.table k.of = sym (settled.word_law k.of ∙ ap (words_of_shape (words s.table)) is) in
           let next : Memory = stored s k (machine.Null ∷ []) (freed n m) in
           subst (LeadsHere fs) (sym (does.at_cell k m n (word ∙ ap (λ z. z ∷ []) e) alive))
-          (goes_on t settled own_law other alone no_formals v parts_named may frames none next (checks_at s pos m (cell_place t' n)) leaks (all_checks s pos m (cell_place t' n)) v fs
-          (unturned t settled own_law other alone no_formals v parts_named may frames none fs)
-          (view.freed (home s depth) (is_observer s) other v seen_here (seen s next hands (t.state.leaks ++ leaks)) w l n facts good.viewed
+          (goes_on t settled own_law other alone v parts_named may frames none next (checks_at s pos m (cell_place t' n)) leaks (all_checks s pos m (cell_place t' n)) v fs
+          (unturned t settled own_law other alone v parts_named may frames none fs)
+          (view.freed (home s depth) (sees_only s) other v seen_here (seen s next hands (t.state.leaks ++ leaks)) w l n facts good.viewed
           (releases s settled m hands t.state.leaks (t.state.leaks ++ leaks) n k l good.kept spot there.made.0 there.made.1 (leaf_at k l spot of)
           (alive_trunk (expand v w) l rooted reaches) off checks)
           named plain place reaches held allowed)
           (stored_kept s settled (freed n m) hands k l k.of (machine.Null ∷ []) (freed_kept s settled m n hands good.kept) (spot_freed n k l spot off) one (inl refl)
           (λ p d' c' n' i has is' at. absurd (no_null i (cell_has (machine.Null ∷ []) (offset_in s.table k.of p) i at))))
-          (holds_freed n k l spot of))
+          (holds_freed n k l spot (alive_trunk (expand v w) l rooted reaches) of))
 
       released_at : (y : Evaluated Place) → Walked s settled hands t.state.leaks m [] (expand v w) u y → LeadsHere fs (steps.evaluated t y f)
       released_at (Done k n) (l, same, spot, reaches, of) =
@@ -366,11 +370,11 @@ module _ (t : Turn) (settled : IsSettled (typing t).table) (own_law : OwnsByShap
           let word : words_of s m k ≡ (slot_here k).word ∷ [] =
           ap (map (λ (x : Slot). x.word)) (one_slot s settled hands t.state.leaks m [] excused good.kept good.viewed.owned good.viewed.known alive_trunk k l d false spot is) in
           subst (λ (z : Now). LeadsHere fs (f k z.memory)) (sym same) (by_word k l spot reaches of is word (slot_here k).word refl)
-      released_at (Raises e n) is = (λ trap. trap, raises t settled own_law other alone no_formals v parts_named may frames none facts good n.memory)
+      released_at (Raises e n) is = (λ trap. trap, raises t settled own_law other alone v parts_named may frames none facts good n.memory)
       released_at (Traps e n) never = absurd never
 
     -- the steps of the name are evaluated
-    then_released : (x : ℕ) (path : TypedTree) → is_observer s x ≡ false → Allows facts (act.Free (name_of x path)) → (y : Evaluated (List run.Step))
+    then_released : (x : ℕ) (path : TypedTree) → sees_only s x ≡ false → Allows facts (act.Free (name_of x path)) → (y : Evaluated (List run.Step))
         → Quiet now (λ way. Goes s.table (object_at s x).of u path way) y
         → LeadsHere (effect (act.Free (name_of x path)) facts) (steps.evaluated t (followed_by y (λ way now. walked s way (variable_place (here t) x) now)) f)
     then_released x path plain allowed (Done way n) (same, goes) =
@@ -383,16 +387,16 @@ module _ (t : Turn) (settled : IsSettled (typing t).table) (own_law : OwnsByShap
         let frees : Allows facts (act.Free (ways.name_of w)) = subst (λ z. Allows facts (act.Free z)) (sym called) allowed in
         subst (λ (z : Now). LeadsHere (effect (act.Free (name_of x path)) facts) (steps.evaluated t (walked s way (variable_place (here t) x) z) f)) (sym same)
         (subst (λ z. LeadsHere (effect (act.Free z) facts) (steps.evaluated t (walked s way (variable_place (here t) x) now) f)) called
-        (released_at w named (ap (is_observer s) (number_along way (Object (OfVariable (home s depth x) x))) ∙ plain)
-        (is_place s v (home s depth x) x u way goes.lead (named_type s.table u d access) good.holds.only) frees
+        (released_at w named (ap (sees_only s) (number_along way (Object (OfVariable (home s depth x) x))) ∙ plain)
+        (is_place s v (home s depth x) x u way goes.lead (named_type s.table u d access) (no_formals x) good.holds.only) frees
         (walked s way (variable_place (here t) x) now)
         (name_quiet (here t) settled hands t.state.leaks m [] other facts v good.kept good.viewed good.holds alone alive_trunk index_law own_law parts_named x path u way goes
         (λ q q_named q_called. free_open facts q (subst (λ z. Allows facts (act.Free z)) (sym q_called) allowed)))))
-    then_released x path plain allowed (Raises e n) is = (λ trap. trap, raises t settled own_law other alone no_formals v parts_named may frames none facts good n.memory)
+    then_released x path plain allowed (Raises e n) is = (λ trap. trap, raises t settled own_law other alone v parts_named may frames none facts good n.memory)
     then_released x path plain allowed (Traps e n) never = absurd never
 
   pub released_on : (ws : List (List machine.Word)) (f : Place → Memory → Outcome) (pos p : Pos) (x u d : ℕ) (path : TypedTree) → Releases f pos
-      → shape_of s.table u ≡ shape.Access d false true → Leads s (object_at s x).of path u → Takes (waits_in path) ws [] → is_observer s x ≡ false
+      → shape_of s.table u ≡ shape.Access d false true → Leads s (object_at s x).of path u → Takes (waits_in path) ws [] → sees_only s x ≡ false
       → (facts : List Fact) (good : Good facts)
       → AllowsAll facts (acts (source_acts s (Name p x path u) act.Free))
       → LeadsHere (after (acts (source_acts s (Name p x path u) act.Free)) facts) (steps.evaluated t (place_of (here t) (Name p x path u) (at ws)) f)
@@ -402,7 +406,7 @@ module _ (t : Turn) (settled : IsSettled (typing t).table) (own_law : OwnsByShap
       acts_append (acts_in s path) (record { pos = p; act = act.Free (name_of x path) } ∷ []) in
       let each = allows_both facts b (act.Free (name_of x path) ∷ []) (subst (AllowsAll facts) whole_acts allowed) in
       let inner = steps_taking (here t) settled hands t.state.leaks m [] other facts v good.kept good.viewed good.holds alone
-      (live t settled own_law other alone no_formals v parts_named may frames none facts good) index_law own_law parts_named (object_at s x).of u path lead ws [] takes each.0 in
+      (live t settled own_law other alone v parts_named may frames none facts good) index_law own_law parts_named (object_at s x).of u path lead ws [] takes each.0 in
       let frees : Allows facts (act.Free (name_of x path)) = subst (λ z. Allows z (act.Free (name_of x path))) inner.1 each.1.0 in
       let behind_acts : after (acts (source_acts s (Name p x path u) act.Free)) facts ≡ effect (act.Free (name_of x path)) facts =
       ap (λ z. after z facts) whole_acts ∙ after_append b (act.Free (name_of x path) ∷ []) facts ∙ ap (effect (act.Free (name_of x path))) inner.1 in

@@ -49,7 +49,7 @@ use Rattle.soundness.proofs.Waited.{FillsNone}
 use Rattle.soundness.proofs.Eased.{eased, waits_same}
 use Rattle.soundness.proofs.Successors.{below_one}
 use Rattle.owned_loans.specs.Views.{Around, known_gone, Views, Viewed}
-use Rattle.viewed_soundness.specs.Holds.{IsNamed, AllKeep}
+use Rattle.viewed_soundness.specs.Holds.{IsNamed, AllKeep, sees_only}
 use Rattle.viewed_soundness.proofs.Outcomes.{named_plain, IsGood, Leads_on}
 use Rattle.viewed_steps.specs.Awaited.{AreFor, AreValues, AreValuesBut, temporaries_of, lasting_of, awaited, AreAwaited, AreScalar, FillsTyped, TakesScalars, IsTakenBy, TakesAlone}
 use Rattle.viewed_steps.proofs.Waited.{temporary_first, lasting_more, Shares}
@@ -94,6 +94,7 @@ use Rattle.viewed_steps.proofs.Declared.{source_given}
 use Rattle.viewed_steps.proofs.Beside.{value_stays, source_stays}
 use Rattle.viewed_steps.proofs.Operands.{left_operand_on, right_operand_on}
 use Rattle.viewed_steps.proofs.EachInstruction as each
+use Rattle.viewed_steps.proofs.Views.{anonymous_is_view, not_elsewhere}
 
 none_some : (n : ℕ) → None ≡ Some n → ⊥
 none_some n e = cc
@@ -124,7 +125,7 @@ module _ (table : Table) (typed : TypedProgram) (effects : Effects) (input : Lis
       (awaiting : AreAwaited table typed None (top ∷ stages_of (below ∷ more_frames)))
       (of_sub : IsNamedSub (flow_named table typed) top.frame.sub named) (at_point : IsAtPoint named.points top.frame.next p)
       (path : ControlPath (path_points program effects (sub_of program top.frame.sub)) top.before top.frame.next) (views : Views)
-      (viewed_before : Viewed (home s (suc (length rest))) (is_observer s) (known_gone (home s (suc (length rest))) (GoneElsewhere program effects (below ∷ more_frames))) views
+      (viewed_before : Viewed (home s (suc (length rest))) (sees_only s) (known_gone (home s (suc (length rest))) (GoneElsewhere program effects (below ∷ more_frames))) views
       (view_here s state) (facts_of program effects top))
       (kept : Kept s state.memory (waiting_in state)) (scope : InScope s state.memory (suc (length rest)) (lasting_of s p.scope)) (holds : HoldsAt s (suc (length rest)) views state.memory p)
       (placed_before : ArePlaced program (facts_of program effects top) views p.scope) (above : NoneAbove s (suc (length rest)) state.memory) where
@@ -165,12 +166,13 @@ module _ (table : Table) (typed : TypedProgram) (effects : Effects) (input : Lis
         → AllowsAll facts_now (acts_of_main p.instr)
     allowed_now = innermost.allowed_now table typed effects input ready state top below more_frames rest named p frames deep stages running awaiting of_sub at_point path views viewed_before kept scope holds placed_before above
 
-    abbrev viewed : Viewed (home s depth) (is_observer s) other views (view_here s state) facts_now
+    abbrev viewed : Viewed (home s depth) (sees_only s) other views (view_here s state) facts_now
     viewed = innermost.viewed table typed effects input ready state top below more_frames rest named p frames deep stages running awaiting of_sub at_point path views viewed_before kept scope holds placed_before above
 
     abbrev apart_from_them : (done : List Act) (v : Views) (view : ways.View) → ((x : ℕ) (w : Way) → v.way x ≡ Some w → is_anonymous (view_of s x) ≡ true)
-        → Viewed (home s depth) (is_observer s) other v view (after done facts_now)
-        → Viewed (home s depth) (is_observer s) (known_gone (home s depth) (GoneElsewhere program effects older)) v view (after done own_facts)
+        → ((x : ℕ) (w : Way) → v.way x ≡ Some w → ways.Named (home s depth) w)
+        → Viewed (home s depth) (sees_only s) other v view (after done facts_now)
+        → Viewed (home s depth) (sees_only s) (known_gone (home s depth) (GoneElsewhere program effects older)) v view (after done own_facts)
     apart_from_them = innermost.apart_from_them table typed effects input ready state top below more_frames rest named p frames deep stages running awaiting of_sub at_point path views viewed_before kept scope holds placed_before above
 
     abbrev placed_by : (some all : List Fact) (v : Views) (scope_there : List ℕ) → ((h : ℕ) (m : PlaceName) → is_observer s h ≡ true → Has some (Lent Observed h m) → Has all (Lent Observed h m))
@@ -262,7 +264,7 @@ module _ (table : Table) (typed : TypedProgram) (effects : Effects) (input : Lis
     may x y = MayBe program (scope_behind p) x y × IsStoredAt p.instr x
 
     abbrev LeadsFrom : Instruction → Outcome → Type 0
-    LeadsFrom i outcome = Leads_on easy ready.accepted.settled ready.owns other alone no_in_formals views ready.class.parts_named may refl refl (after (acts_of_main i) facts_now) outcome
+    LeadsFrom i outcome = Leads_on easy ready.accepted.settled ready.owns other alone views ready.class.parts_named may refl refl (after (acts_of_main i) facts_now) outcome
 
     abbrev AnyLeft : List Waiting → Type 0
     AnyLeft waits = Unit {0}
@@ -299,7 +301,7 @@ module _ (table : Table) (typed : TypedProgram) (effects : Effects) (input : Lis
       no_finish : p.instr ≡ Finish → ⊥
       no_finish same = (let never : Evaluate temporary e op ≡ Finish = sym is ∙ same in cc)
 
-      abbrev good_there : IsGood easy ready.accepted.settled ready.owns other alone no_in_formals views ready.class.parts_named may refl refl views facts_now easy.state
+      abbrev good_there : IsGood easy ready.accepted.settled ready.owns other alone views ready.class.parts_named may refl refl views facts_now easy.state
       good_there = each.good table typed effects input ready state top below more_frames rest named p frames deep stages running awaiting of_sub at_point path views viewed_before kept scope holds placed_before above going_here no_call_here plain_operand
 
       allowed_operand : AllowsAll facts_now (acts (acts_in s e))
@@ -309,7 +311,7 @@ module _ (table : Table) (typed : TypedProgram) (effects : Effects) (input : Lis
 
       one_there : Quiet (record { memory = state.memory; waits = [] }) One (value (steps.here main_turn) e (start main_turn))
       one_there =
-          (scalar_taken easy ready.accepted.settled ready.owns other alone no_in_formals views ready.class.parts_named may refl refl given_words e evaluates
+          (scalar_taken easy ready.accepted.settled ready.owns other alone views ready.class.parts_named may refl refl given_words e evaluates
           (takes_of plain_operand (Evaluate temporary e op) is) facts_now good_there allowed_operand).0
 
       -- its value waits
@@ -342,7 +344,7 @@ module _ (table : Table) (typed : TypedProgram) (effects : Effects) (input : Lis
 
       leads_here : (waits : List machine.Word → List Waiting) (easy_waits : List machine.Word → List Waiting) (k : List machine.Word → ℕ)
           → ((ws : List machine.Word) → easy_waits ws ≡ waits ws)
-          → Leads_on easy ready.accepted.settled ready.owns other alone no_in_formals views ready.class.parts_named may refl refl (after (acts (acts_in s e)) facts_now)
+          → Leads_on easy ready.accepted.settled ready.owns other alone views ready.class.parts_named may refl refl (after (acts (acts_in s e)) facts_now)
           (steps.evaluated easy (value (steps.here easy) e (start main_turn)) (λ ws m. Goes (steps.behind easy (easy_waits ws) m (k ws))))
           → LeadsFrom p.instr (steps.evaluated main_turn (value (steps.here main_turn) e (start main_turn)) (λ ws m. Goes (steps.behind main_turn (waits ws) m (k ws))))
       leads_here waits easy_waits k same leads =
@@ -350,7 +352,7 @@ module _ (table : Table) (typed : TypedProgram) (effects : Effects) (input : Lis
           p.instr (value (steps.here main_turn) e (start main_turn)) (λ ws m. Goes (steps.behind easy (easy_waits ws) m (k ws)))
           (λ ws m. Goes (steps.behind main_turn (waits ws) m (k ws)))
           (λ ws m on. subst (λ z. LeadsFrom p.instr (Goes (steps.behind main_turn z m (k ws)))) (same ws) on)
-          (subst (λ i. Leads_on easy ready.accepted.settled ready.owns other alone no_in_formals views ready.class.parts_named may refl refl (after (acts_of_main i) facts_now)
+          (subst (λ i. Leads_on easy ready.accepted.settled ready.owns other alone views ready.class.parts_named may refl refl (after (acts_of_main i) facts_now)
           (steps.evaluated easy (value (steps.here easy) e (start main_turn)) (λ ws m. Goes (steps.behind easy (easy_waits ws) m (k ws))))) (sym is) leads)
 
     left_step : (temporary : ℕ) (e : TypedTree) (o : ShortCircuit) → p.instr ≡ Evaluate temporary e (Some o) → Along (steps.operand main_turn e (Some o))
@@ -460,8 +462,8 @@ module _ (table : Table) (typed : TypedProgram) (effects : Effects) (input : Lis
       allowed_value : AllowsAll facts_now (acts (acts_in s e))
       allowed_value = subst (AllowsAll facts_now) acts_then (allowed_now spare_value (standing.allowed table typed effects input ready state top older outer named p frames of_sub at_point path no_call_then))
 
-      keeps_value : AllKeep (is_observer s) (acts (acts_in s e))
-      keeps_value = subst (AllKeep (is_observer s)) acts_then (standing.keeps_there table typed effects input ready state top older outer named p frames of_sub at_point)
+      keeps_value : AllKeep (sees_only s) (acts (acts_in s e))
+      keeps_value = subst (AllKeep (sees_only s)) acts_then (standing.keeps_there table typed effects input ready state top older outer named p frames of_sub at_point)
 
       left_values : Left (steps.waiting main_turn)
       left_values = left_after (subst (FillsNone s) (sym is) tt)
@@ -570,16 +572,16 @@ module _ (table : Table) (typed : TypedProgram) (effects : Effects) (input : Lis
       facts_then = after (acts_of_main p.instr) own_facts
 
       returned_to : (ws : List machine.Word) (m : Memory)
-          → Viewed (home s depth) (is_observer s) other views (seen s m (value_of ws ∷ waiting_in easy.state) state.leaks) (after (acts (acts_in s e)) facts_now)
+          → Viewed (home s depth) (sees_only s) other views (seen s m (value_of ws ∷ waiting_in easy.state) state.leaks) (after (acts (acts_in s e)) facts_now)
           → Kept s m (value_of ws ∷ waiting_in easy.state) → Holds s depth views m → length ws ≡ words s.table of → Inside s IsOld m depth (lasting_of s left_scope)
           → OthersKept s depth state.memory m → Along (Goes (state_then ws m))
       returned_to ws m viewed_then kept_then holds_then long inside_then stay =
           let v : Waiting = value_of ws in
           let view = seen s m (v ∷ waiting_in easy.state) state.leaks in
           let view_same : view ≡ view_here s (state_then ws m) = ap (λ z. seen s m z state.leaks) (sym (hands_then ws m)) in
-          let well_all : Viewed (home s depth) (is_observer s) other views view (after (acts_of_main p.instr) facts_now) =
-          subst (λ z. Viewed (home s depth) (is_observer s) other views view (after z facts_now)) (sym acts_then) viewed_then in
-          let well = apart_from_them (acts_of_main p.instr) views view holds.only well_all in
+          let well_all : Viewed (home s depth) (sees_only s) other views view (after (acts_of_main p.instr) facts_now) =
+          subst (λ z. Viewed (home s depth) (sees_only s) other views view (after z facts_now)) (sym acts_then) viewed_then in
+          let well = apart_from_them (acts_of_main p.instr) views view holds.only holds.named well_all in
           let found = standing.next_at table typed effects input ready state top older outer named p frames of_sub at_point path next_number next_has in
           let step_on : Has (path_point (standing.points table typed effects input ready state top older outer named p frames of_sub at_point) top.frame.next).next next_number =
           subst (λ (z : PathPoint). Has z.next next_number) (sym (path_there own named top.frame.next p at_point program effects)) next_has in
@@ -590,9 +592,9 @@ module _ (table : Table) (typed : TypedProgram) (effects : Effects) (input : Lis
           let more_behind : (x : ℕ) → is_within x left_scope ≡ true → is_within x (scope_behind p) ≡ true =
           (λ x within. subst (λ i. is_within x (brought i left_scope) ≡ true) (sym is) within) in
           let there = turned_placed easy ready.accepted.settled ready.owns other alone no_in_formals views ready.class.parts_named left_scope (scope_behind p) refl refl
-          ready.orderly.transitive ready.orderly.itself local holds.only more_behind views facts_now (after (acts_of_main p.instr) facts_now)
+          ready.orderly.transitive ready.orderly.itself local holds.only holds.named more_behind views facts_now (after (acts_of_main p.instr) facts_now)
           (λ h n has. loans_stay s (standing.acts_by table typed effects input ready state top older outer named p frames of_sub at_point s p.instr) spare_value facts_now Observed h n has)
-          (placed_left facts_now placed) (unturned easy ready.accepted.settled ready.owns other alone no_in_formals views ready.class.parts_named (λ x y. MayBe program (scope_behind p) x y) refl refl (after (acts_of_main p.instr) facts_now)) in
+          (placed_left facts_now placed) (unturned easy ready.accepted.settled ready.owns other alone views ready.class.parts_named (λ x y. MayBe program (scope_behind p) x y) refl refl (after (acts_of_main p.instr) facts_now)) in
           let placed_next = placed_on program (after (acts_of_main p.instr) facts_now) views (scope_behind p) (found.0).scope holds.only found.2 there in (
             record {
               top = top_then;
@@ -613,15 +615,16 @@ module _ (table : Table) (typed : TypedProgram) (effects : Effects) (input : Lis
               path = subst (λ (z : FlowSub). ControlPath (path_points program effects z) (top.frame.next ∷ top.before) next_number)
                   (sym (standing.sub_is table typed effects input ready state top older outer named p frames of_sub at_point))
                   (goes_on top.before top.frame.next next_number (standing.path_here table typed effects input ready state top older outer named p frames of_sub at_point path) step_on);
-              viewed = subst (λ z. Viewed (home s top.depth) (is_observer s) (known_gone (home s top.depth) (GoneElsewhere program effects (below_with v ∷ more_frames))) views z (facts_of program effects top_then)) view_same
-                  (subst (λ d. Viewed (home s d) (is_observer s) (known_gone (home s d) (GoneElsewhere program effects (below_with v ∷ more_frames))) views view (facts_of program effects top_then)) (sym deep)
-                  (subst (Viewed (home s depth) (is_observer s) (known_gone (home s depth) (GoneElsewhere program effects (below_with v ∷ more_frames))) views view) (sym facts_there)
+              viewed = subst (λ z. Viewed (home s top.depth) (sees_only s) (known_gone (home s top.depth) (GoneElsewhere program effects (below_with v ∷ more_frames))) views z (facts_of program effects top_then)) view_same
+                  (subst (λ d. Viewed (home s d) (sees_only s) (known_gone (home s d) (GoneElsewhere program effects (below_with v ∷ more_frames))) views view (facts_of program effects top_then)) (sym deep)
+                  (subst (Viewed (home s depth) (sees_only s) (known_gone (home s depth) (GoneElsewhere program effects (below_with v ∷ more_frames))) views view) (sym facts_there)
                   (record {
                     owned = well.owned;
                     covered = well.covered;
                     known = λ w l rooted r gone. elim (well.known w l rooted r gone) [ inl moved ↦ inl moved | inr elsewhere ↦ inr (elsewhere_with v w elsewhere) ];
                     clear = well.clear;
                     views = well.views;
+                    whole = λ x w z has foreign gone meets. not_elsewhere (home s depth) w (holds.named x w has) foreign;
                     lends = well.lends;
                     far = λ w n none. absurd none;
                   })));
@@ -633,9 +636,11 @@ module _ (table : Table) (typed : TypedProgram) (effects : Effects) (input : Lis
               scope = subst (λ d. InScope s m d (lasting_of s (found.0).scope)) (sym deep)
                   (scope_on s ready.owns m depth (scope_behind p) (found.0).scope (in_scope m (lasting_of s (scope_behind p)) inside_behind) found.2);
               holds = subst (λ d. HoldsAt s d views m found.0) (sym deep) (record {
-                held = λ x n lasts view_is at. holds_then.held x n view_is at;
-                within = λ x n view_is at. (let own_way = holds_then.held x n view_is at in (placed_next x own_way.0 own_way.1).within);
-                only = holds_then.only;
+                held = λ x n lasts view_is at. holds_then.held x n (anonymous_is_view s no_in_formals x view_is) at;
+                within = λ x n view_is at. (
+                    let own_way = holds_then.held x n (anonymous_is_view s no_in_formals x view_is) at in (placed_next x own_way.0 own_way.1).within);
+                only = holds.only;
+                named = holds.named;
               });
               placed = subst (λ z. ArePlaced program z views (found.0).scope) (sym facts_there)
                   (placed_by (after (acts_of_main p.instr) facts_now) facts_then views (found.0).scope (own_loans (acts_of_main p.instr)) placed_next);
@@ -645,7 +650,7 @@ module _ (table : Table) (typed : TypedProgram) (effects : Effects) (input : Lis
           )
 
       then_returned : (y : Evaluated (List machine.Word))
-          → Given (steps.here main_turn) ready.accepted.settled state.leaks [] other alone (keeps s ready.accepted.settled ready.owns) no_in_formals index_law ready.owns views
+          → Given (steps.here main_turn) ready.accepted.settled state.leaks [] other alone (keeps s ready.accepted.settled ready.owns) index_law ready.owns views
           ready.class.parts_named of (waiting_in easy.state) (after (acts (acts_in s e)) facts_now) y
           → Gets (λ ws m. Inside s IsOld m depth (lasting_of s left_scope)) y → Gets (λ ws m. OthersKept s depth state.memory m) y
           → Along (steps.evaluated main_turn y (λ ws m. Goes (state_then ws m)))
@@ -656,7 +661,7 @@ module _ (table : Table) (typed : TypedProgram) (effects : Effects) (input : Lis
       -- what the value comes to
       abbrev IsGivenValue : Type 0
       IsGivenValue =
-          Given (steps.here main_turn) ready.accepted.settled state.leaks [] other alone (keeps s ready.accepted.settled ready.owns) no_in_formals index_law ready.owns views
+          Given (steps.here main_turn) ready.accepted.settled state.leaks [] other alone (keeps s ready.accepted.settled ready.owns) index_law ready.owns views
           ready.class.parts_named of (waiting_in easy.state) (after (acts (acts_in s e)) facts_now) (steps.taken_by main_turn of e (start main_turn))
 
       value_step : IsGivenValue → Along (steps.hold main_turn (More e last))
@@ -683,7 +688,7 @@ module _ (table : Table) (typed : TypedProgram) (effects : Effects) (input : Lis
             let call : TypedTree = CallIn alone_taken.3 alone_taken.4 alone_taken.5 in
             let both : Hold (More e last) ≡ Hold (More call NoMore) = sym is ∙ same_instr in
             let is_call : e ≡ call = cc in
-            subst (λ z. Source s of z → Given (steps.here main_turn) ready.accepted.settled state.leaks [] other alone (keeps s ready.accepted.settled ready.owns) no_in_formals
+            subst (λ z. Source s of z → Given (steps.here main_turn) ready.accepted.settled state.leaks [] other alone (keeps s ready.accepted.settled ready.owns)
             index_law ready.owns views ready.class.parts_named of (waiting_in easy.state) (after (acts (acts_in s z)) facts_now) (steps.taken_by main_turn of z (start main_turn)))
             (sym is_call)
             (λ source_call. alone_value.source_alone table typed effects input ready state top below more_frames rest named p frames deep stages running awaiting of_sub at_point path views viewed_before kept scope holds placed_before above going_then alone_taken of named_result source_call) source)

@@ -6,8 +6,9 @@ use Rattle.place_names.specs.declared.fact.Fact.TheVariants.{Lent}
 use Rattle.place_names.specs.declared.rule.Loan.{Loan}
 use Rattle.place_names.specs.declared.rule.Loan.TheVariants.{Borrowed, Observed}
 use Rattle.owned_ways.specs.Ways.{Way, Object, Lost, Into, All, View, Under, Named, name_of}
-use Rattle.owned_loans.specs.Views.{on, Views, expand, HasLoan, AreViews}
+use Rattle.owned_loans.specs.Views.{on, Views, expand, HasLoan, AreViews, IsView}
 use Rattle.owned_loans.proofs.Ways.{under_on, on_under, Lifted, lifts, lifted_root, lifted_way}
+use Rattle.owned_loans.proofs.Meeting.{own_view, named_view}
 
 named_front : (at_home : ℕ → ℕ) (k w : Way) → Under k w → Named at_home w → Named at_home k
 named_front at_home k (Object r) u named = subst (Named at_home) (sym u) named
@@ -21,50 +22,48 @@ module _ (at_home : ℕ → ℕ) (observer : ℕ → Bool) (v : Views) (s : View
   GoesOn l w = (h : ℕ) × (k : Way) × Has facts (Lent l h (name_of k)) × Named at_home k × Under k w
 
   -- the place of its own loan, where it was taken from an owner
-  own_place : (x : ℕ) (w : Way) → v.way x ≡ Some w → expand v (v.up x) ≡ v.up x → Named at_home (v.loan x) × Under (v.loan x) w
-  own_place x w has e =
-      let view = views x w has in
-      (named_front at_home (v.loan x) (v.up x) view.begins view.named, subst (Under (v.loan x)) (sym e ∙ view.leads) view.begins)
+  own_place : (x : ℕ) (w : Way) → IsView at_home observer v s facts x w → expand v (v.up x) ≡ v.up x → Named at_home (v.loan x) × Under (v.loan x) w
+  own_place x w view e = (named_front at_home (v.loan x) (v.up x) view.begins view.named, subst (Under (v.loan x)) (sym e ∙ view.leads) view.begins)
 
-  further : (l : Loan) (x : ℕ) (w : Way) → v.way x ≡ Some w → (z : Lifted v (v.up x)) → GoesOn l z.way → GoesOn l w
-  further l x w has z (h, k, lent, named, under) = (
+  further : (l : Loan) (x : ℕ) (w : Way) → IsView at_home observer v s facts x w → (z : Lifted v (v.up x)) → GoesOn l z.way → GoesOn l w
+  further l x w view z (h, k, lent, named, under) = (
     h,
     k,
     lent,
     named,
-    subst (Under k) (sym (lifted_way v (v.up x) z) ∙ (views x w has).leads) (under_on k z.way (on z.way z.rest) under (on_under z.way z.rest)),
+    subst (Under k) (sym (lifted_way v (v.up x) z) ∙ view.leads) (under_on k z.way (on z.way z.rest) under (on_under z.way z.rest)),
   )
 
   borrower_on : (n x : ℕ) (w : Way) → x < n → observer x ≡ false → v.way x ≡ Some w → GoesOn Borrowed w
   borrower_on zero x w less borrows has = absurd (omega (arith, less))
   borrower_on (suc n) x w less borrows has =
-      let view = views x w has in
+      let view = own_view at_home observer v s facts views x w has borrows in
       elim (lifts v (v.up x)) [
         | inl e ↦ (
-            let place = own_place x w has e in
+            let place = own_place x w view e in
             (x, v.loan x, subst (λ b. HasLoan observer b x facts (name_of (v.loan x))) borrows view.lent, place.0, place.1))
         | inr z ↦ (
             let root = lifted_root v (v.up x) z in
             let older = view.older borrows in
-            further Borrowed x w has z (borrower_on n z.object z.way (omega (arith, less, older, root)) (ap observer (sym root) ∙ view.plain) z.has))
+            further Borrowed x w view z (borrower_on n z.object z.way (omega (arith, less, older, root)) (ap observer (sym root) ∙ view.plain) z.has))
       ]
 
   pub borrower_goes : (x : ℕ) (w : Way) → observer x ≡ false → v.way x ≡ Some w → GoesOn Borrowed w
   borrower_goes x w borrows has = borrower_on (suc x) x w (omega arith) borrows has
 
-  pub view_goes : (x : ℕ) (w : Way) → v.way x ≡ Some w → (l : Loan) × GoesOn l w
-  view_goes x w has = by_kind (observer x) refl
+  pub view_goes : (x : ℕ) (w : Way) → v.way x ≡ Some w → Named at_home w → (l : Loan) × GoesOn l w
+  view_goes x w has named = by_kind (observer x) refl
     where
       by_kind : (b : Bool) → observer x ≡ b → (l : Loan) × GoesOn l w
       by_kind false e = (Borrowed, borrower_goes x w e has)
       by_kind true e =
-          let view = views x w has in
+          let view = named_view at_home observer v s facts views x w has named in
           elim (lifts v (v.up x)) [
             | inl own ↦ (
-                let place = own_place x w has own in
+                let place = own_place x w view own in
                 let held = subst (λ b. HasLoan observer b x facts (name_of (v.loan x))) e view.lent in
                 (Observed, (held.0, v.loan x, held.1, place.0, place.1)))
             | inr z ↦ (
                 let root = lifted_root v (v.up x) z in
-                (Borrowed, further Borrowed x w has z (borrower_goes z.object z.way (ap observer (sym root) ∙ view.plain) z.has)))
+                (Borrowed, further Borrowed x w view z (borrower_goes z.object z.way (ap observer (sym root) ∙ view.plain) z.has)))
           ]

@@ -4,7 +4,7 @@ use Rattle.place_names.specs.declared.fact.Fact.{Fact}
 use Rattle.type_definitions.specs.Types.{shape_of, words, is_scalar, full}
 use Rattle.typed_tree.specs.Trees.{TypedTree, Text, Parens, Image, Binary, NoMore, More}
 use Rattle.flow_paths.specs.Instructions.{Skip, Fall}
-use Rattle.flow_paths.specs.Objects.{Typing, object_at, is_anonymous, is_observer, view_of}
+use Rattle.flow_paths.specs.Objects.{Typing, object_at, is_anonymous, view_of}
 use Rattle.flow_paths.specs.Names.{waiting as waits_in}
 use Rattle.flow_paths.specs.Scopes.{taken}
 use Rattle.flow_paths.specs.Acts.{acts_in}
@@ -17,7 +17,7 @@ use Rattle.machine.specs.States.{Waiting, Loop, Frame, State, Outcome, Goes}
 use Rattle.machine.specs.Step.{Turn, typing, here, start, waiting, behind, led, successor}
 use Rattle.machine.specs.Step as steps
 use Rattle.machine.specs.Owners.{waiting_in}
-use Rattle.owned_ways.specs.Ways.{OfVariable, Loc, OfRoot, Way, Reaches, IsRooted, after, AllowsAll}
+use Rattle.owned_ways.specs.Ways.{OfVariable, Loc, OfRoot, Way, Reaches, after, AllowsAll}
 use Rattle.part_offsets.specs.Parts.{offset_in, IsSettled}
 use Rattle.soundness.specs.Seen.{IsNear, is_view_formal, content, trunk, seen, home}
 use Rattle.soundness.specs.Typed.{OwnsByShape, Kept, Spot}
@@ -35,13 +35,14 @@ use Rattle.soundness.proofs.Taking.{Takes, takes_as, takes_both, takes_zero, not
 use Rattle.soundness.proofs.Waits.{waits_of, led_waits}
 use Rattle.owned_loans.specs.Views.{Around, Views, Viewed}
 use Rattle.owned_loans.proofs.Moves.{same_viewed}
-use Rattle.viewed_soundness.specs.Holds.{PartsAreNamed, Holds}
+use Rattle.viewed_soundness.specs.Holds.{PartsAreNamed, Holds, sees_only, IsOwners, is_view}
 use Rattle.viewed_soundness.proofs.Names.{true_false}
 use Rattle.viewed_soundness.proofs.Stays.{taking}
 use Rattle.viewed_soundness.proofs.Evaluated.{scalar_given}
 use Rattle.viewed_soundness.proofs.Outcomes.{named_plain, IsGood, Leads_on, raises, start_is, hands_behind, unturned, goes_to, live}
 use Rattle.viewed_steps.proofs.Declared.{same_root}
 use Rattle.viewed_steps.proofs.Read.{scalar_named}
+use Rattle.viewed_steps.proofs.Views.{is_anonymous_view}
 
 value_long : (ws : List machine.Word) (v : ℤ) → length (steps.parameter_words ws v) ≡ 1
 value_long [] v = refl
@@ -75,33 +76,33 @@ module _ (t : Turn) (settled : IsSettled (typing t).table) (own_law : OwnsByShap
   at ws = record { memory = m; waits = ws }
 
   abbrev GoodState : List Fact → State → Type 0
-  GoodState facts state = IsGood t settled own_law other alone no_formals v parts_named may frames none v facts state
+  GoodState facts state = IsGood t settled own_law other alone v parts_named may frames none v facts state
 
   abbrev Good : List Fact → Type 0
   Good facts = GoodState facts t.state
 
   abbrev LeadsHere : List Fact → Outcome → Type 0
-  LeadsHere facts outcome = Leads_on t settled own_law other alone no_formals v parts_named may frames none facts outcome
+  LeadsHere facts outcome = Leads_on t settled own_law other alone v parts_named may frames none facts outcome
 
   raised_here : (facts : List Fact) → Good facts → (e : run.Exception) (m : Memory) → LeadsHere facts (steps.raised t e m)
-  raised_here facts good e m = (λ trap. trap, raises t settled own_law other alone no_formals v parts_named may frames none facts good m)
+  raised_here facts good e m = (λ trap. trap, raises t settled own_law other alone v parts_named may frames none facts good m)
 
   stays_here : (facts : List Fact) → Good facts → (k : ℕ) → LeadsHere facts (steps.goes t m k)
   stays_here facts good k =
-      goes_to t settled own_law other alone no_formals v parts_named may frames none m k v facts
-      (unturned t settled own_law other alone no_formals v parts_named may frames none facts) good.viewed good.kept good.holds
+      goes_to t settled own_law other alone v parts_named may frames none m k v facts
+      (unturned t settled own_law other alone v parts_named may frames none facts) good.viewed good.kept good.holds
 
   started_is : start t ≡ now
-  started_is = start_is t settled own_law other alone no_formals v parts_named may frames none
+  started_is = start_is t settled own_law other alone v parts_named may frames none
 
-  alive_trunk : (facts : List Fact) → Good facts → (w : Way) (l : Loc) → IsRooted w → Reaches (seen s m hands t.state.leaks) w l → (content s m hands (trunk l)).owns ≡ true
-  alive_trunk facts good = live t settled own_law other alone no_formals v parts_named may frames none facts good
+  alive_trunk : (facts : List Fact) → Good facts → (w : Way) (l : Loc) → IsOwners s w → Reaches (seen s m hands t.state.leaks) w l → (content s m hands (trunk l)).owns ≡ true
+  alive_trunk facts good = live t settled own_law other alone v parts_named may frames none facts good
 
   pub skip_leads : (facts : List Fact) → Good facts → LeadsHere facts (steps.turn t Skip)
   skip_leads facts good = stays_here facts good 0
 
   pub fall_leads : (facts : List Fact) → Good facts → LeadsHere facts (steps.turn t Fall)
-  fall_leads facts good = (λ trap. trap, raises t settled own_law other alone no_formals v parts_named may frames none facts good m)
+  fall_leads facts good = (λ trap. trap, raises t settled own_law other alone v parts_named may frames none facts good m)
 
   -- ---- output
 
@@ -135,7 +136,7 @@ module _ (t : Turn) (settled : IsSettled (typing t).table) (own_law : OwnsByShap
       let on = stays_here facts good 0 in
       subst (λ (z : Now). LeadsHere facts (Goes (record (behind t (waiting t) z.memory 0) {
         output = t.state.output ++ a ++ (if line then 10 ∷ [] else []);
-      }))) (sym same) (on.0, on.1, record { viewed = on.2.viewed; kept = on.2.kept; holds = record { held = on.2.holds.held; only = on.2.holds.only } })
+      }))) (sym same) (on.0, on.1, record { viewed = on.2.viewed; kept = on.2.kept; holds = record { held = on.2.holds.held; only = on.2.holds.only; owners = on.2.holds.owners; access = on.2.holds.access } })
   then_written facts good line (Raises e n) is = raised_here facts good e n.memory
   then_written facts good line (Traps e n) never = absurd never
 
@@ -166,23 +167,23 @@ module _ (t : Turn) (settled : IsSettled (typing t).table) (own_law : OwnsByShap
   turn_waits loops k = led_waits t (record t.frame { loops = loops }) (successor t k) ∙ sym (ap (flat_map waits_of) frames)
 
   turned_there : (loops : List Loop) (n : Memory) (k : ℕ) (facts : List Fact)
-      → Viewed (home s depth) (is_observer s) other v (seen s n hands t.state.leaks) facts
+      → Viewed (home s depth) (sees_only s) other v (seen s n hands t.state.leaks) facts
       → Kept s n hands → Holds s depth v n → LeadsHere facts (steps.with_turn t loops n k)
   turned_there loops n k facts viewed kept holds = (
     v,
-    unturned t settled own_law other alone no_formals v parts_named may frames none facts,
+    unturned t settled own_law other alone v parts_named may frames none facts,
     record {
-      viewed = subst (λ z. Viewed (home s depth) (is_observer s) other v (seen s n z t.state.leaks) facts) (sym (turn_waits loops k)) viewed;
+      viewed = subst (λ z. Viewed (home s depth) (sees_only s) other v (seen s n z t.state.leaks) facts) (sym (turn_waits loops k)) viewed;
       kept = subst (Kept s n) (sym (turn_waits loops k)) kept;
-      holds = record { held = holds.held; only = holds.only };
+      holds = record { held = holds.held; only = holds.only; owners = holds.owners; access = holds.access };
     },
   )
 
   -- the variables of views aren't that of a scalar object
-  apart : (f x : ℕ) → is_scalar (full s.table (object_at s x).of) ≡ true → (y : ℕ) → is_anonymous (view_of s y) ≡ true → OfVariable f x ≡ OfVariable (home s depth y) y → ⊥
+  apart : (f x : ℕ) → is_scalar (full s.table (object_at s x).of) ≡ true → (y : ℕ) → is_view s y ≡ true → OfVariable f x ≡ OfVariable (home s depth y) y → ⊥
   apart f x scalar y view e =
       let same = same_root f x (home s depth y) y e in
-      true_false (is_anonymous (view_of s y)) view
+      true_false (is_anonymous (view_of s y)) (is_anonymous_view s no_formals y view)
       (ap (λ z. is_anonymous (view_of s z)) (sym same.1) ∙ named_plain s.table (object_at s x).of (scalar_named s.table (object_at s x).of scalar))
 
   next_by : (x : ℕ) → is_scalar (full s.table (object_at s x).of) ≡ true → (facts : List Fact) → Good facts
@@ -199,7 +200,7 @@ module _ (t : Turn) (settled : IsSettled (typing t).table) (own_law : OwnsByShap
       let slots : List Slot = take 0 all ++ fresh value ++ drop (0 + length (fresh value)) all in
       let next : Memory = stored s k value m in
       turned_there (steps.turned x t.frame.loops) next 0 facts
-      (same_viewed (home s depth) (is_observer s) other v (seen s m hands t.state.leaks) (seen s next hands t.state.leaks) facts
+      (same_viewed (home s depth) (sees_only s) other v (seen s m hands t.state.leaks) (seen s next hands t.state.leaks) facts
       (scalar_same s settled m hands t.state.leaks f x scalar next.variables (λ g y ne. put_other s f x g y ne slots m.variables)) good.viewed)
       (stored_kept s settled m hands k (OfRoot (OfVariable f x)) u value good.kept spot long (inl refl)
       (λ p d c n j has is at. absurd (value_plain ws i j (cell_has value (offset_in s.table u p) j at))))
@@ -207,17 +208,21 @@ module _ (t : Turn) (settled : IsSettled (typing t).table) (own_law : OwnsByShap
         held = λ y n view e. good.holds.held y n view
             (sym (ap (λ z. (get_or z 0 no_slot).word) (put_other s f x (home s depth y) y (apart f x scalar y view) slots m.variables)) ∙ e);
         only = good.holds.only;
+        owners = good.holds.owners;
+        access = good.holds.access;
       })
   next_by x scalar facts good ws None =
       let next : Memory = undeclared depth x m in
       turned_there (steps.without_loop x t.frame.loops) next 1 facts
-      (same_viewed (home s depth) (is_observer s) other v (seen s m hands t.state.leaks) (seen s next hands t.state.leaks) facts
+      (same_viewed (home s depth) (sees_only s) other v (seen s m hands t.state.leaks) (seen s next hands t.state.leaks) facts
       (scalar_same s settled m hands t.state.leaks depth x scalar next.variables (λ g y ne. removed_other s depth x g y ne m.variables)) good.viewed)
       (removed_kept s settled m depth x hands good.kept)
       (record {
         held = λ y n view e. good.holds.held y n view
             (sym (ap (λ z. (get_or z 0 no_slot).word) (removed_other s depth x (home s depth y) y (apart depth x scalar y view) m.variables)) ∙ e);
         only = good.holds.only;
+        owners = good.holds.owners;
+        access = good.holds.access;
       })
 
   -- the parameter of a loop gets its next value, or leaves scope
@@ -256,21 +261,23 @@ module _ (t : Turn) (settled : IsSettled (typing t).table) (own_law : OwnsByShap
     begun_there b both =
         let u : ℕ = (object_at s x).of in
         let value_of : Waiting = record { of = u; words = b.low } in
-        let given = scalar_given (here t) settled t.state.leaks [] other alone (keeps s settled own_law) no_formals index_law own_law v parts_named
+        let given = scalar_given (here t) settled t.state.leaks [] other alone (keeps s settled own_law) index_law own_law v parts_named
         m hands facts facts u (record { viewed = good.viewed; kept = good.kept; holds = good.holds }) refl scalar (Done b.low now) (refl, both.0) in
         let next : Memory = declared depth x b.low m in
-        let waits = loop_waits (starts.loop b) (behind t (waiting t) next 0) ∙ hands_behind t settled own_law other alone no_formals v parts_named may frames none next 0 in (
+        let waits = loop_waits (starts.loop b) (behind t (waiting t) next 0) ∙ hands_behind t settled own_law other alone v parts_named may frames none next 0 in (
           v,
-          unturned t settled own_law other alone no_formals v parts_named may frames none facts,
+          unturned t settled own_law other alone v parts_named may frames none facts,
           record {
-            viewed = subst (λ z. Viewed (home s depth) (is_observer s) other v (seen s next z t.state.leaks) facts) (sym waits)
-                (same_viewed (home s depth) (is_observer s) other v (seen s m hands t.state.leaks) (seen s next hands t.state.leaks) facts
+            viewed = subst (λ z. Viewed (home s depth) (sees_only s) other v (seen s next z t.state.leaks) facts) (sym waits)
+                (same_viewed (home s depth) (sees_only s) other v (seen s m hands t.state.leaks) (seen s next hands t.state.leaks) facts
                 (scalar_same s settled m hands t.state.leaks depth x scalar next.variables (λ g y ne. put_other s depth x g y ne (fresh b.low) m.variables)) good.viewed);
             kept = subst (Kept s next) (sym waits) (declared_kept s settled m depth x value_of hands given.0.kept given.1 (inl refl));
             holds = record {
               held = λ y n view e. good.holds.held y n view
                   (sym (ap (λ z. (get_or z 0 no_slot).word) (put_other s depth x (home s depth y) y (apart depth x scalar y view) (fresh b.low) m.variables)) ∙ e);
               only = good.holds.only;
+              owners = good.holds.owners;
+              access = good.holds.access;
             };
           },
         )

@@ -1,4 +1,5 @@
 -- The end of a scope leads on.
+use Rattle.viewed_soundness.specs.Holds.{sees_only}
 use Rattle.soundness.specs.Ready.{Fills, IsSupplied}
 use Rattle.std.proofs.Common.{◌≡◌, refl, sym, ap, ◌∙◌, subst, ◌⊎◌, inl, inr, ℕ, zero, suc, ◌<◌, true, false, List, [], ◌∷◌, ◌++◌, map, drop, length, arith, Some, None}
 use Rattle.spark_base.specs.Lists.{Has}
@@ -81,7 +82,7 @@ module _ (table : Table) (typed : TypedProgram) (effects : Effects) (input : Lis
       (awaiting : AreAwaited table typed None (top ∷ stages_of (below ∷ more_frames)))
       (of_sub : IsNamedSub (flow_named table typed) top.frame.sub named) (at_point : IsAtPoint named.points top.frame.next p)
       (path : ControlPath (path_points program effects (sub_of program top.frame.sub)) top.before top.frame.next) (views : Views)
-      (viewed_before : Viewed (home s (suc (length rest))) (is_observer s) (known_gone (home s (suc (length rest))) (GoneElsewhere program effects (below ∷ more_frames))) views
+      (viewed_before : Viewed (home s (suc (length rest))) (sees_only s) (known_gone (home s (suc (length rest))) (GoneElsewhere program effects (below ∷ more_frames))) views
       (view_here s state) (facts_of program effects top))
       (kept : Kept s state.memory (waiting_in state)) (scope : InScope s state.memory (suc (length rest)) (lasting_of s p.scope)) (holds : HoldsAt s (suc (length rest)) views state.memory p)
       (placed_before : ArePlaced program (facts_of program effects top) views p.scope) (above : NoneAbove s (suc (length rest)) state.memory) where
@@ -136,12 +137,13 @@ module _ (table : Table) (typed : TypedProgram) (effects : Effects) (input : Lis
     abbrev borrower_local : (x : ℕ) → is_borrower s x ≡ true → is_package_object s x ≡ false
     borrower_local = innermost.borrower_local table typed effects input ready state top below more_frames rest named p frames deep stages running awaiting of_sub at_point path views viewed_before kept scope holds placed_before above
 
-    abbrev viewed : Viewed (home s depth) (is_observer s) other views (view_here s state) facts_now
+    abbrev viewed : Viewed (home s depth) (sees_only s) other views (view_here s state) facts_now
     viewed = innermost.viewed table typed effects input ready state top below more_frames rest named p frames deep stages running awaiting of_sub at_point path views viewed_before kept scope holds placed_before above
 
     abbrev apart_from_them : (done : List Act) (v : Views) (view : ways.View) → ((x : ℕ) (w : Way) → v.way x ≡ Some w → is_anonymous (view_of s x) ≡ true)
-        → Viewed (home s depth) (is_observer s) other v view (after done facts_now)
-        → Viewed (home s depth) (is_observer s) (known_gone (home s depth) (GoneElsewhere program effects older)) v view (after done own_facts)
+        → ((x : ℕ) (w : Way) → v.way x ≡ Some w → ways.Named (home s depth) w)
+        → Viewed (home s depth) (sees_only s) other v view (after done facts_now)
+        → Viewed (home s depth) (sees_only s) (known_gone (home s depth) (GoneElsewhere program effects older)) v view (after done own_facts)
     apart_from_them = innermost.apart_from_them table typed effects input ready state top below more_frames rest named p frames deep stages running awaiting of_sub at_point path views viewed_before kept scope holds placed_before above
 
     abbrev placed_by : (some all : List Fact) (v : Views) (scope_there : List ℕ) → ((h : ℕ) (m : PlaceName) → is_observer s h ≡ true → Has some (Lent Observed h m) → Has all (Lent Observed h m))
@@ -266,6 +268,14 @@ module _ (table : Table) (typed : TypedProgram) (effects : Effects) (input : Lis
           (λ x within sees region. orderly.followed y x is at_next_point.0 (next_point.0, next_point.2, at_next_point.1) within sees region)
           lead facts_now end_allowed.0 viewed kept holds placed (not_lent y not_shared)
 
+      left_named : (x : ℕ) (w : Way) → left_views.way x ≡ Some w → ways.Named (home s depth) w
+      left_named x w has =
+          holds.named x w
+          ((leaves main_turn ready.accepted.settled ready.owns other alone no_in_formals views ready.class.parts_named no_source frames nothing_taken
+          p at_next_point.0 y is (home_frame y not_shared) not_shared (ready_there (EndScope y) is) ready.orderly.local (λ x within off. orderly.ended y x is within off)
+          (λ x within sees region. orderly.followed y x is at_next_point.0 (next_point.0, next_point.2, at_next_point.1) within sees region)
+          lead facts_now end_allowed.0 viewed kept holds placed (not_lent y not_shared)).1.was x w has).2
+
       -- they had their ways before, and none begins at the object
       were_left : AreLeft y views left_views
       were_left x w has = (
@@ -276,11 +286,12 @@ module _ (table : Table) (typed : TypedProgram) (effects : Effects) (input : Lis
         (leaves_others main_turn ready.accepted.settled ready.owns other alone no_in_formals views ready.class.parts_named no_source frames nothing_taken
             p at_next_point.0 y is (home_frame y not_shared) not_shared (ready_there (EndScope y) is) ready.orderly.local (λ x within off. orderly.ended y x is within off)
             (λ x within sees region. orderly.followed y x is at_next_point.0 (next_point.0, next_point.2, at_next_point.1) within sees region)
-            lead facts_now end_allowed.0 viewed kept holds placed (not_lent y not_shared)).roots x w has,
+            lead facts_now end_allowed.0 viewed kept holds placed (not_lent y not_shared)).roots x w has
+            (left_named x w has),
       )
 
       then_left : (outcome : Outcome)
-          → Is_left main_turn ready.accepted.settled ready.owns other alone no_in_formals views ready.class.parts_named no_source frames nothing_taken
+          → Is_left main_turn ready.accepted.settled ready.owns other alone views ready.class.parts_named no_source frames nothing_taken
           left_views y (after (acts_of_main (EndScope y)) facts_now) outcome
           → Each (GoesOn main_turn Left left_values IsOld (lasting_of s p.scope) (drop 1 (lasting_of s p.scope)) inside) outcome
           → Each (λ (next : State). OthersKept s depth state.memory next.memory) outcome → Along outcome
@@ -297,8 +308,8 @@ module _ (table : Table) (typed : TypedProgram) (effects : Effects) (input : Lis
           standing.goes_to_next table typed effects input ready state top older outer named p frames of_sub at_point path no_call_here after_step on.waits on.loops next_point.0 next_point.2 at_next_point.0 at_next_point.1
           frames_there deep stages left_views (running.0, running.1, wait_still after_step (drop 1 (lasting_of s p.scope)) on.inside stay still_viewed.far)
           (standing.waits_next table typed effects input ready state top older outer named p frames of_sub at_point path on.waits on.loops next_point.0 next_point.2 on.are, others_await (ap returns_value is))
-          (apart_from_them (acts_of_main p.instr) left_views (view_here s after_step) still_holds.only
-          (subst (Viewed (home s depth) (is_observer s) other left_views (view_here s after_step)) facts_are_there still_viewed)) still_kept
+          (apart_from_them (acts_of_main p.instr) left_views (view_here s after_step) still_holds.only still_holds.named
+          (subst (Viewed (home s depth) (sees_only s) other left_views (view_here s after_step)) facts_are_there still_viewed)) still_kept
           (scope_on s ready.owns after_step.memory depth (drop 1 p.scope) (at_next_point.0).scope (subst (InScope s after_step.memory depth) (sym lasting_left) (in_scope after_step.memory (drop 1 (lasting_of s p.scope)) on.inside)) lead)
           still_holds
           (placed_by (after (acts_of_main p.instr) facts_now) (after (acts_of_main p.instr) own_facts) left_views (at_next_point.0).scope (own_loans (acts_of_main p.instr))

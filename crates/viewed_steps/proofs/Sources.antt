@@ -26,6 +26,7 @@ use Rattle.viewed_soundness.specs.Holds.{IsNamed, PartsAreNamed}
 use Rattle.viewed_soundness.proofs.Outcomes.{IsGood, Leads_on}
 use Rattle.viewed_soundness.proofs.Lends.{Observes, Declares, Puts, borrower_on, observer_on, observer_again_on, assign_borrower_on, assign_observer_on}
 use Rattle.viewed_steps.proofs.Ended.{view_kinds}
+use Rattle.viewed_steps.proofs.Views.{observes_not}
 
 -- ---- types of views
 
@@ -101,41 +102,41 @@ module _ (t : Turn) (settled : IsSettled (typing t).table) (own_law : OwnsByShap
   depth = length t.outer
 
   abbrev Good : List Fact → Type 0
-  Good facts = IsGood t settled own_law other alone no_formals v parts_named may frames none v facts t.state
+  Good facts = IsGood t settled own_law other alone v parts_named may frames none v facts t.state
 
   abbrev LeadsHere : List Fact → Outcome → Type 0
-  LeadsHere facts outcome = Leads_on t settled own_law other alone no_formals v parts_named may frames none facts outcome
+  LeadsHere facts outcome = Leads_on t settled own_law other alone v parts_named may frames none facts outcome
 
   -- the instructions, with the values that they take
   abbrev Declares_here : List (List machine.Word) → ℕ → TypedTree → Outcome
-  Declares_here ws x e = Declares t settled own_law other alone no_formals v parts_named may frames none ws x e
+  Declares_here ws x e = Declares t settled own_law other alone v parts_named may frames none ws x e
 
   abbrev Puts_here : List (List machine.Word) → Pos → ℕ → TypedTree → Outcome
   Puts_here ws r x e =
-      Puts t settled own_law other alone no_formals v parts_named may frames none (target_pos t (Name r x NoMore (object_at s x).of)) r x (object_at s x).of
+      Puts t settled own_law other alone v parts_named may frames none (target_pos t (Name r x NoMore (object_at s x).of)) r x (object_at s x).of
       (taken_by t (object_at s x).of e (record { memory = t.state.memory; waits = ws }))
 
   abbrev Observes_here : ℕ → ℕ → ℕ → ℕ → TypedTree → Type 0
-  Observes_here x y u d path = Observes t settled own_law other alone no_formals v parts_named may frames none x y u d path
+  Observes_here x y u d path = Observes t settled own_law other alone v parts_named may frames none x y u d path
 
   pub observes : (q : Pos) (x y u : ℕ) (path : TypedTree) → is_anonymous (view_of s x) ≡ true → home s depth x ≡ depth
       → Source s (object_at s x).of (Name q y path u) → (d : ℕ) × Observes_here x y u d path
   unfolding Gives
   observes q x y u path view mine (inl (is_view, (d, k, c, n, e, o, lead, source, want, fits))) = (
     d,
-    record { k = k; c = c; n = n; e = e; o = o; lead = lead; source = source; view = want; fits = fits; anonymous = view; mine = mine },
+    record { k = k; c = c; n = n; e = e; o = o; lead = lead; source = source; view = want; fits = fits; anonymous = view; mine = mine; own = no_formals x },
   )
   observes q x y u path view mine (inr (lead, inl same)) =
       let sh = view_shape (shape_of s.table (object_at s x).of) view in (
         sh.0,
-        record { k = sh.0; c = sh.1; n = sh.2; e = sh.1; o = sh.2; lead = lead; source = same ∙ sh.3; view = sh.3; fits = inl refl; anonymous = view; mine = mine },
+        record { k = sh.0; c = sh.1; n = sh.2; e = sh.1; o = sh.2; lead = lead; source = same ∙ sh.3; view = sh.3; fits = inl refl; anonymous = view; mine = mine; own = no_formals x },
       )
   observes q x y u path view mine (inr (lead, inr scalar)) = absurd (view_scalar (shape_of s.table (object_at s x).of) view scalar.1)
 
   -- a view is declared
   pub view_declared : (ws : List (List machine.Word)) (q : Pos) (x y u : ℕ) (path : TypedTree) → is_anonymous (view_of s x) ≡ true → is_variable (object_at s x).kind ≡ true
       → home s depth x ≡ depth → Source s (object_at s x).of (Name q y path u) → Takes (waits_in path) ws []
-      → (is_observer s x ≡ false → (is_observer s y ≡ false) × (y < x)) → may x y → (facts : List Fact) → Good facts → Unused other.lent v facts x
+      → (is_observer s x ≡ false → (is_observer s y ≡ false) × (y < x)) → may x y → (facts : List Fact) → Good facts → Unused (home s depth) other.lent v facts x
       → AllowsAll facts (acts (declared_acts s x (More (Name q y path u) NoMore)))
       → LeadsHere (after (acts (declared_acts s x (More (Name q y path u) NoMore))) facts) (Declares_here ws x (More (Name q y path u) NoMore))
   view_declared ws q x y u path view variable mine source takes older from facts good unused allowed =
@@ -145,13 +146,13 @@ module _ (t : Turn) (settled : IsSettled (typing t).table) (own_law : OwnsByShap
       by_kind : (d : ℕ) → Observes_here x y u d path → (b : Bool) → is_observer s x ≡ b → (c : Bool) → is_observer s y ≡ c
           → LeadsHere (after (acts (declared_acts s x (More (Name q y path u) NoMore))) facts) (Declares_here ws x (More (Name q y path u) NoMore))
       by_kind d found true e true f =
-          observer_again_on t settled own_law other alone no_formals v parts_named may frames none ws x y u d q path NoMore found (observer_only s x e) e f from takes facts good allowed
+          observer_again_on t settled own_law other alone v parts_named may frames none ws x y u d q path NoMore found (observer_only s x e) e f from takes facts good allowed
       by_kind d found true e false f =
-          observer_on t settled own_law other alone no_formals v parts_named may frames none ws x y u d q path NoMore found (observer_only s x e) e f from takes facts good allowed
+          observer_on t settled own_law other alone v parts_named may frames none ws x y u d q path NoMore found (observer_only s x e) e f from takes facts good allowed
       by_kind d found false e c f =
-          borrower_on t settled own_law other alone no_formals v parts_named may frames none ws x y u d q path NoMore found
+          borrower_on t settled own_law other alone v parts_named may frames none ws x y u d q path NoMore found
           (view_kinds (is_variable (object_at s x).kind) (is_borrowing (view_of s x)) (is_observing (view_of s x)) view variable e) e
-          (older e).0 (older e).1 from takes facts good unused allowed
+          (observes_not s no_formals y (older e).0) (older e).1 from takes facts good unused allowed
 
   -- a view is assigned
   pub view_assigned : (ws : List (List machine.Word)) (pos r q : Pos) (x y u : ℕ) (path : TypedTree) → is_anonymous (view_of s x) ≡ true → is_variable (object_at s x).kind ≡ true
@@ -168,7 +169,7 @@ module _ (t : Turn) (settled : IsSettled (typing t).table) (own_law : OwnsByShap
           → LeadsHere (after (acts (assigned_to s pos (Some x) (Name r x NoMore (object_at s x).of) (Name q y path u))) facts)
           (Puts_here ws r x (Name q y path u))
       by_kind d found true e =
-          assign_observer_on t settled own_law other alone no_formals v parts_named may frames none ws pos r q x y u d path found (observer_only s x e) e from takes facts good allowed
+          assign_observer_on t settled own_law other alone v parts_named may frames none ws pos r q x y u d path found (observer_only s x e) e from takes facts good allowed
       by_kind d found false e = at_itself y (itself e) found from allowed
         where
           at_itself : (y : ℕ) → y ≡ x → Observes_here x y u d path → may x y
@@ -178,7 +179,7 @@ module _ (t : Turn) (settled : IsSettled (typing t).table) (own_law : OwnsByShap
           at_itself y same found from allowed =
               subst (λ z. LeadsHere (after (acts (assigned_to s pos (Some x) (Name r x NoMore (object_at s x).of) (Name q z path u))) facts)
               (Puts_here ws r x (Name q z path u))) (sym same)
-              (assign_borrower_on t settled own_law other alone no_formals v parts_named may frames none ws pos r q x u d path
+              (assign_borrower_on t settled own_law other alone v parts_named may frames none ws pos r q x u d path
               (subst (λ z. Observes_here x z u d path) same found)
               (view_kinds (is_variable (object_at s x).kind) (is_borrowing (view_of s x)) (is_observing (view_of s x)) view variable e) e
               (subst (may x) same from) takes facts good

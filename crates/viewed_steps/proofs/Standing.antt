@@ -9,7 +9,7 @@ use Rattle.typed_tree.specs.Trees.{TypedTree}
 use Rattle.typed_tree.specs.Programs.{TypedProgram}
 use Rattle.flow_paths.specs.declared.report.Effects.{Effects}
 use Rattle.flow_paths.specs.Instructions.{Instruction, Skip, Declare, Assign, Call, Output, Input, Release, Test, Choose, Start, Next, Evaluate, LeaveLoop, Hold, EndScope, Finish, Fall}
-use Rattle.flow_paths.specs.Objects.{Typing, Signature, object_at, sub_at, is_formal, is_anonymous, is_package_object, is_observer, view_of}
+use Rattle.flow_paths.specs.Objects.{Typing, Signature, object_at, sub_at, is_formal, is_anonymous, is_package_object, view_of}
 use Rattle.flow_paths.specs.Acts.{acts_of}
 use Rattle.flow_paths.specs.Points.{NamedPoint, FlowPoint}
 use Rattle.flow_paths.specs.Laid.{FlowSub, FlowProgram, NamedSub, flow_sub, kept_roots, sub_facts, typing_of, flow_typing, flow_program, flow_named}
@@ -34,11 +34,12 @@ use Rattle.soundness.proofs.Scalars.{acts}
 use Rattle.soundness.proofs.Paths.{accepted_point, facts_next}
 use Rattle.soundness.proofs.Points.{flow_at, named_has, point_has, sub_there, sub_has, point_there, point_in, path_there, IsLaid, next_there}
 use Rattle.owned_loans.specs.Views.{known_gone, Views, Viewed}
-use Rattle.viewed_soundness.specs.Holds.{AllKeep}
+use Rattle.viewed_soundness.specs.Holds.{AllKeep, sees_only}
 use Rattle.viewed_steps.specs.Awaited.{AreFor, AreValues, temporaries_of, lasting_of, WaitsAt, AreAwaited}
 use Rattle.viewed_steps.proofs.Waited.{leads_temporaries}
 use Rattle.viewed_steps.specs.Sound.{HoldsAt, ArePlaced, NoneAbove, ViewStage, stages_of, GoneElsewhere, IsRunning, Follows, LeadsAlong}
 use Rattle.viewed_steps.specs.Ready.{IsReady}
+use Rattle.viewed_steps.proofs.Views.{all_keep_only}
 
 no_second : (a b : Bool) → b ≡ false → a && b ≡ false
 no_second true b e = e
@@ -178,8 +179,8 @@ module _ (table : Table) (typed : TypedProgram) (effects : Effects) (input : Lis
     pub acts_plain : IsNoCall p.instr → whole_acts p.instr ≡ acts_here p.instr
     acts_plain plain = ap (λ z. acts (acts_by s p.instr ++ z)) (no_callee p.instr plain) ∙ ap acts (append-nil (acts_by s p.instr))
 
-    pub keeps_there : AllKeep (is_observer s) (acts_here p.instr)
-    keeps_there = subst (λ z. AllKeep (is_observer s) (acts z)) (sym acts_agree) (ready.orderly.kept sub in_program here in_sub)
+    pub keeps_there : AllKeep (sees_only s) (acts_here p.instr)
+    keeps_there = subst (λ z. AllKeep (sees_only s) (acts z)) (sym acts_agree) (all_keep_only s no_in_formals (acts here.acts) (ready.orderly.kept sub in_program here in_sub))
 
     module _ (path : ControlPath (path_points program effects (sub_of program top.frame.sub)) top.before top.frame.next) where
       pub path_here : ControlPath points top.before top.frame.next
@@ -234,7 +235,7 @@ module _ (table : Table) (typed : TypedProgram) (effects : Effects) (input : Lis
           → top.depth ≡ length outer → AreStages (stages_of older) outer → (views : Views)
           → IsRunning table typed effects after_step (record { stage = at_next waits loops n; views = views }) older
           → AreAwaited table typed None (at_next waits loops n ∷ stages_of older)
-          → Viewed (home s (length outer)) (is_observer s) (known_gone (home s (length outer)) (GoneElsewhere program effects older)) views (view_here s after_step) (after (acts_here p.instr) facts)
+          → Viewed (home s (length outer)) (sees_only s) (known_gone (home s (length outer)) (GoneElsewhere program effects older)) views (view_here s after_step) (after (acts_here p.instr) facts)
           → Kept s after_step.memory (waiting_in after_step) → InScope s after_step.memory (length outer) (lasting_of s q.scope)
           → HoldsAt s (length outer) views after_step.memory q → ArePlaced program (after (acts_here p.instr) facts) views q.scope
           → NoneAbove s (length outer) after_step.memory → (before : Views)
@@ -254,8 +255,8 @@ module _ (table : Table) (typed : TypedProgram) (effects : Effects) (input : Lis
               awaited = awaited;
               path = subst (λ (z : FlowSub). ControlPath (path_points program effects z) (top.frame.next ∷ top.before) n) (sym sub_is)
                   (goes_on top.before top.frame.next n path_here step_on);
-              viewed = subst (λ d. Viewed (home s d) (is_observer s) (known_gone (home s d) (GoneElsewhere program effects older)) views (view_here s after_step) (facts_of program effects (at_next waits loops n))) (sym deep)
-                  (subst (Viewed (home s (length outer)) (is_observer s) (known_gone (home s (length outer)) (GoneElsewhere program effects older)) views (view_here s after_step)) (sym facts_there) viewed);
+              viewed = subst (λ d. Viewed (home s d) (sees_only s) (known_gone (home s d) (GoneElsewhere program effects older)) views (view_here s after_step) (facts_of program effects (at_next waits loops n))) (sym deep)
+                  (subst (Viewed (home s (length outer)) (sees_only s) (known_gone (home s (length outer)) (GoneElsewhere program effects older)) views (view_here s after_step)) (sym facts_there) viewed);
               kept = kept;
               named = named;
               of_sub = of_sub;

@@ -1,5 +1,6 @@
 -- Frames that wait for a call to end, with views: what they keep concerns the innermost frame as ways
 -- of others, and they wait still after its steps.
+use Rattle.viewed_soundness.specs.Holds.{sees_only}
 use Rattle.std.proofs.Common.{◌≡◌, refl, sym, ap, ◌∙◌, subst, ◌⊎◌, inl, inr, ℕ, suc, ◌<◌, ◌≤◌, Bool, true, false, ◌&&◌, ◌==◌, eqb-true, nat_lt, ltb-true, lt-ltb, List, [], ◌∷◌, ◌++◌, length, get_or, arith, Option, Some, None, if◌then◌else◌}
 use Rattle.std.specs.Prelude.{flat_map}
 use Rattle.spark_base.specs.Lists.{Has}
@@ -12,7 +13,7 @@ use Rattle.place_names.specs.Names.{Name, overlaps}
 use Rattle.type_definitions.specs.Types.{Table}
 use Rattle.typed_tree.specs.Programs.{TypedProgram}
 use Rattle.flow_paths.specs.declared.report.Effects.{Effects}
-use Rattle.flow_paths.specs.Objects.{Typing, is_anonymous, is_observer, is_package_object, view_of}
+use Rattle.flow_paths.specs.Objects.{Typing, is_anonymous, is_package_object, view_of}
 use Rattle.flow_paths.specs.Laid.{FlowProgram, flow_typing, flow_program}
 use Rattle.machine.specs.Words as machine
 use Rattle.machine.specs.Memory.{variable_slots, no_slot}
@@ -28,12 +29,13 @@ use Rattle.soundness.proofs.Inherited.{Splits}
 use Rattle.owned_loans.specs.Views.{on, Around, known_gone, Views, expand, IsThrough, IsMovedBy, HasLoan, Viewed}
 use Rattle.owned_loans.proofs.Ended.{stands_itself}
 use Rattle.owned_loans.proofs.Ways.{under_on, on_under, lifts, lifted_root, lifted_way}
-use Rattle.owned_loans.proofs.Moves.{view_named, named_way, view_on, own_loan}
+use Rattle.owned_loans.proofs.Moves.{named_way, view_on, own_loan, reached}
 use Rattle.viewed_steps.specs.Taken.{TakenBy}
 use Rattle.viewed_steps.proofs.Between.{taken_from as words_taken, taken_base, still_taken, near_base}
 use Rattle.viewed_steps.proofs.Roots.{borrower_goes, view_goes}
 use Rattle.viewed_steps.specs.Awaited.{lasting_of}
 use Rattle.viewed_steps.specs.Sound.{ViewStage, stages_of, GoneElsewhere, IsWaiting, IsFirst, AreWaiting}
+use Rattle.viewed_steps.proofs.Views.{not_elsewhere, Lies}
 
 -- ---- near ways
 
@@ -232,63 +234,75 @@ module _ (table : Table) (typed : TypedProgram) (effects : Effects)
         → g.views.way x ≡ Some w
         → Named (home s g.stage.depth) w × ((is_package_object s (number_of w) ≡ false) ⊎ ((l : Loan) × IsLentFor l w))
     way_cases callee backs g has some waits x w way = (
-      view_named (home s g.stage.depth) (is_observer s) (known_gone (home s g.stage.depth) (λ w. ⊥)) g.views (view_here s state) (facts_of program effects g.stage)
-          waits.views x w way,
+      waits.holds.named x w way,
       elim (bool_cases (is_package_object s (number_of w))) [
         | inr own ↦ inl own
         | inl shared ↦ (
-            let goes = view_goes (home s g.stage.depth) (is_observer s) g.views (view_here s state) (facts_of program effects g.stage) waits.views x w way in
+            let goes = view_goes (home s g.stage.depth) (sees_only s) g.views (view_here s state) (facts_of program effects g.stage) waits.views x w way (waits.holds.named x w way) in
             let place = goes.1 in
             inr (goes.0, lent_for g has some goes.0 place.0 place.1 w place.2 place.3 place.4 shared))
       ],
     )
 
-    pub begins_elsewhere : (w : Way) (n : ℕ) → KeptElsewhere older w n
-        → (f : ℕ) × (x : ℕ) × (base_of w ≡ OfRoot (OfVariable f x)) × ((f ≡ home s depth x → ⊥) ⊎ ((l : Loan) × IsLentFor l w))
-    begins_elsewhere w n (g, has, x, is, cell) = elim (between g has) [
-      | inl first ↦ none_some x w g.views (first.2 x) is
-      | inr (some, less, callee, backs, waits) ↦ (
-          let way = way_cases callee backs g has some waits x w is in (
-            home s g.stage.depth (number_of w),
-            number_of w,
-            named_base (home s g.stage.depth) w way.0,
-            elim way.1 [
-              | inr lent ↦ inr lent
-              | inl own ↦ inl (λ e. other_frame s g.stage.depth depth some less (number_of w) own (sym (ap (λ z. if z then 0 else g.stage.depth) own) ∙ e))
-            ],
-          ))
-    ]
+    -- a way of a view of a frame below
+    record Begins (w : Way) : Type 0 where
+      frame : ℕ
+      object : ℕ
+      base : base_of w ≡ OfRoot (OfVariable frame object)
+      low : frame < depth
+      other : (frame ≡ home s depth object → ⊥) ⊎ ((l : Loan) × IsLentFor l w)
 
-    -- no variable of the innermost frame begins one
-    pub apart_elsewhere : (x : ℕ) (w : Way) (n : ℕ) → KeptElsewhere older w n → base_of w ≡ OfRoot (OfVariable depth x) → ⊥
-    apart_elsewhere x w n (g, has, y, is, cell) base = elim (between g has) [
-      | inl first ↦ none_some y w g.views (first.2 y) is
-      | inr (some, less, callee, backs, waits) ↦ (
-          let way = way_cases callee backs g has some waits y w is in
-          let frames = same_frame (home s g.stage.depth (number_of w)) (number_of w) depth x (sym (named_base (home s g.stage.depth) w way.0) ∙ base) in
-          below (is_package_object s (number_of w)) g.stage.depth some less frames)
-    ]
-      where
-        below : (b : Bool) (a : ℕ) → 0 < a → a < depth → (if b then 0 else a) ≡ depth → ⊥
-        below true a some less e = omega (arith, some, less, e)
-        below false a some less e = omega (arith, less, e)
-
-    -- the ways of their views begin below
     low_home : (b : Bool) (d : ℕ) → d < depth → (if b then 0 else d) < depth
     low_home true d less = omega (arith, less)
     low_home false d less = less
 
-    pub kept_low : (w : Way) (n : ℕ) → KeptElsewhere older w n → (f : ℕ) × (x : ℕ) × (base_of w ≡ OfRoot (OfVariable f x)) × (f < depth)
-    kept_low w n (g, has, x, is, cell) = elim (between g has) [
+    way_begins : (callee : ℕ) (backs : List Return) (g : ViewStage) → Has older g → 0 < g.stage.depth → g.stage.depth < depth
+        → IsWaiting table typed effects state callee backs g → (x : ℕ) (w : Way) → g.views.way x ≡ Some w → Lies (home s g.stage.depth) g.stage.depth w → Begins w
+    way_begins callee backs g has some less waits x w is (inr (foreign, low)) = record {
+      frame = foreign.0;
+      object = foreign.1;
+      base = foreign.2;
+      low = omega (arith, low, less);
+      other = inl (by_kind (is_package_object s foreign.1) refl);
+    }
+      where
+        by_kind : (b : Bool) → is_package_object s foreign.1 ≡ b → foreign.0 ≡ home s depth foreign.1 → ⊥
+        by_kind true shared e =
+            foreign.3 (e ∙ ap (λ b. if b then 0 else depth) shared ∙ sym (ap (λ b. if b then 0 else g.stage.depth) shared))
+        by_kind false own e =
+            (let there : home s depth foreign.1 ≡ depth = ap (λ b. if b then 0 else depth) own in omega (arith, low, less, e, there))
+    way_begins callee backs g has some less waits x w is (inl named) =
+        let way = way_cases callee backs g has some waits x w is in record {
+          frame = home s g.stage.depth (number_of w);
+          object = number_of w;
+          base = named_base (home s g.stage.depth) w named;
+          low = low_home (is_package_object s (number_of w)) g.stage.depth less;
+          other = elim way.1 [
+            | inr lent ↦ inr lent
+            | inl own ↦ inl (λ e. other_frame s g.stage.depth depth some less (number_of w) own (sym (ap (λ z. if z then 0 else g.stage.depth) own) ∙ e))
+          ];
+        }
+
+    begins_there : (w : Way) (n : ℕ) → KeptElsewhere older w n → Begins w
+    begins_there w n (g, has, x, is, cell) = elim (between g has) [
       | inl first ↦ none_some x w g.views (first.2 x) is
-      | inr (some, less, callee, backs, waits) ↦ (
-          let way = way_cases callee backs g has some waits x w is in (
-            home s g.stage.depth (number_of w),
-            number_of w,
-            named_base (home s g.stage.depth) w way.0,
-            low_home (is_package_object s (number_of w)) g.stage.depth less,
-          ))
+      | inr (some, less, callee, backs, waits) ↦ way_begins callee backs g has some less waits x w is (inl (waits.holds.named x w is))
     ]
+
+    pub begins_elsewhere : (w : Way) (n : ℕ) → KeptElsewhere older w n
+        → (f : ℕ) × (x : ℕ) × (base_of w ≡ OfRoot (OfVariable f x)) × ((f ≡ home s depth x → ⊥) ⊎ ((l : Loan) × IsLentFor l w))
+    begins_elsewhere w n kept = (let b = begins_there w n kept in (b.frame, b.object, b.base, b.other))
+
+    -- no variable of the innermost frame begins one
+    pub apart_elsewhere : (x : ℕ) (w : Way) (n : ℕ) → KeptElsewhere older w n → base_of w ≡ OfRoot (OfVariable depth x) → ⊥
+    apart_elsewhere x w n kept base =
+        let b = begins_there w n kept in
+        let frames = same_frame b.frame b.object depth x (sym b.base ∙ base) in
+        let low = b.low in omega (arith, low, frames)
+
+    -- the ways of their views begin below
+    pub kept_low : (w : Way) (n : ℕ) → KeptElsewhere older w n → (f : ℕ) × (x : ℕ) × (base_of w ≡ OfRoot (OfVariable f x)) × (f < depth)
+    kept_low w n kept = (let b = begins_there w n kept in (b.frame, b.object, b.base, b.low))
 
     -- and so does what is gone for them
     pub gone_low : (w : Way) → GoneElsewhere program effects older w → (f : ℕ) × (x : ℕ) × (base_of w ≡ OfRoot (OfVariable f x)) × (f < depth)
@@ -304,7 +318,7 @@ module _ (table : Table) (typed : TypedProgram) (effects : Effects)
       | inr (some, less, callee, backs, waits) ↦ (
           let named : Named (home s g.stage.depth) w =
           subst (Named (home s g.stage.depth)) leads
-          (named_way (home s g.stage.depth) (is_observer s) (known_gone (home s g.stage.depth) (λ z. ⊥)) g.views (view_here s state) (facts_of program effects g.stage)
+          (named_way (home s g.stage.depth) (sees_only s) (known_gone (home s g.stage.depth) (λ z. ⊥)) g.views (view_here s state) (facts_of program effects g.stage)
           waits.views (suc (number_of u)) u (omega arith) (moved.0, waits.clear.owned (name_of u) moved.1)) in (
             home s g.stage.depth (number_of w),
             number_of w,
@@ -336,13 +350,13 @@ module _ (table : Table) (typed : TypedProgram) (effects : Effects)
             subst (IsMoved (home s g.stage.depth) (facts_of program effects g.stage)) (sym e ∙ leads) moved in
             inl (near_package s g.stage.depth depth some less w here.0 near, g, has, here))
         | inr l ↦ (
-            let plain : is_observer s (number_of u) ≡ false = waits.clear.owned (name_of u) moved.1 in
-            let goes = borrower_goes (home s g.stage.depth) (is_observer s) g.views (view_here s state) (facts_of program effects g.stage) waits.views l.object l.way
-            (ap (is_observer s) (sym (lifted_root g.views u l)) ∙ plain) l.has in
+            let plain : sees_only s (number_of u) ≡ false = waits.clear.owned (name_of u) moved.1 in
+            let goes = borrower_goes (home s g.stage.depth) (sees_only s) g.views (view_here s state) (facts_of program effects g.stage) waits.views l.object l.way
+            (ap (sees_only s) (sym (lifted_root g.views u l)) ∙ plain) l.has in
             let stands : w ≡ on l.way l.rest = sym leads ∙ lifted_way g.views u l in
             let named : Named (home s g.stage.depth) w =
             subst (Named (home s g.stage.depth)) leads
-            (named_way (home s g.stage.depth) (is_observer s) (known_gone (home s g.stage.depth) (λ z. ⊥)) g.views (view_here s state) (facts_of program effects g.stage)
+            (named_way (home s g.stage.depth) (sees_only s) (known_gone (home s g.stage.depth) (λ z. ⊥)) g.views (view_here s state) (facts_of program effects g.stage)
             waits.views (suc (number_of u)) u (omega arith) (moved.0, plain)) in
             inr (lent_for g has some Borrowed goes.0 goes.1 w goes.2 goes.3
             (subst (Under goes.1) (sym stands) (under_on goes.1 l.way (on l.way l.rest) goes.4 (on_under l.way l.rest)))
@@ -368,7 +382,8 @@ module _ (table : Table) (typed : TypedProgram) (effects : Effects)
     pub far : (w : Way) (n : ℕ) → KeptElsewhere older w n → Reaches (view_here s state) w (OfCell n)
     far w n (g, has, x, is, cell) = elim (between g has) [
       | inl first ↦ none_some x w g.views (first.2 x) is
-      | inr (some, less, callee, backs, waits) ↦ subst (λ z. Reaches (view_here s state) w (OfCell z)) cell (waits.views x w is).reaches
+      | inr (some, less, callee, backs, waits) ↦ subst (λ z. Reaches (view_here s state) w (OfCell z)) cell
+          (reached (home s g.stage.depth) (sees_only s) (known_gone (home s g.stage.depth) (λ z. ⊥)) g.views (view_here s state) (facts_of program effects g.stage) x w (waits.views x w is))
     ]
 
     -- What concerns the innermost frame when it has their facts on package objects beside its own.
@@ -439,10 +454,10 @@ module _ (table : Table) (typed : TypedProgram) (effects : Effects)
 
     -- with them
     pub with_them : (v : Views) (view : View) (facts : List Fact) → ((x : ℕ) (w : Way) → v.way x ≡ Some w → is_package_object s x ≡ false)
-        → ((x : ℕ) → is_package_object s x ≡ true → is_observer s x ≡ false) → AreApart facts
+        → ((x : ℕ) → is_package_object s x ≡ true → sees_only s x ≡ false) → AreApart facts
         → ((w : Way) (n : ℕ) → KeptElsewhere older w n → Reaches view w (OfCell n))
-        → Viewed (home s depth) (is_observer s) (known_gone (home s depth) (GoneElsewhere program effects older)) v view facts
-        → Viewed (home s depth) (is_observer s) beside_them v view (facts ++ handed)
+        → Viewed (home s depth) (sees_only s) (known_gone (home s depth) (GoneElsewhere program effects older)) v view facts
+        → Viewed (home s depth) (sees_only s) beside_them v view (facts ++ handed)
     with_them v view facts only plain apart reach well = record {
       owned = well.owned;
       covered = well.covered;
@@ -494,10 +509,11 @@ module _ (table : Table) (typed : TypedProgram) (effects : Effects)
         ];
       };
       views = λ x w has.
-          view_on (home s depth) (is_observer s) (known_gone (home s depth) (GoneElsewhere program effects older)) v view view facts (facts ++ handed) x w
+          view_on (home s depth) (sees_only s) (known_gone (home s depth) (GoneElsewhere program effects older)) v view view facts (facts ++ handed) x w
           (well.views x w has)
-          (λ b n loan. own_loan (is_observer s) facts (facts ++ handed) (λ l h m own. Has-append_left facts handed (Lent l h m) own) b x n loan)
-          (well.views x w has).reaches;
+          (λ b n loan. own_loan (sees_only s) facts (facts ++ handed) (λ l h m own. Has-append_left facts handed (Lent l h m) own) b x n loan)
+          (reached (home s depth) (sees_only s) beside_them v view facts x w (well.views x w has));
+      whole = λ x w z has foreign gone meets. well.whole x w z has foreign gone.1 meets;
       lends = λ l n lent. record {
         has = Has-append_right facts handed (Lent l n.root n) (Has-append_right moved_there (loans_there older) (Lent l n.root n) (loans_has older l n lent));
         none = none_there n.root lent.5;
@@ -530,16 +546,17 @@ module _ (table : Table) (typed : TypedProgram) (effects : Effects)
                     (Has-append_left moved_there (loans_there older) (Moved (name_of w))
                     (inherited_has program effects (stages_of older) g.stage (Has-map (λ (k : ViewStage). k.stage) older g has) (Moved (name_of w)) moved.1 shared)),
               ),
-              stands_itself (home s depth) (is_observer s) (known_gone (home s depth) (λ z. ⊥)) v w named (none_there (number_of w) shared),
+              stands_itself (home s depth) (sees_only s) (known_gone (home s depth) (λ z. ⊥)) v w named (none_there (number_of w) shared),
             )
 
     -- and without them
     pub without_them : (v : Views) (view : View) (all facts : List Fact) → ((x : ℕ) (w : Way) → v.way x ≡ Some w → is_package_object s x ≡ false)
-        → ((x : ℕ) → is_package_object s x ≡ true → is_observer s x ≡ false)
+        → ((x : ℕ) (w : Way) → v.way x ≡ Some w → Named (home s depth) w)
+        → ((x : ℕ) → is_package_object s x ≡ true → sees_only s x ≡ false)
         → ((f : Fact) → Has facts f → Has all f) → Splits all facts handed
-        → Viewed (home s depth) (is_observer s) beside_them v view all
-        → Viewed (home s depth) (is_observer s) (known_gone (home s depth) (GoneElsewhere program effects older)) v view facts
-    without_them v view all facts only plain part from well = record {
+        → Viewed (home s depth) (sees_only s) beside_them v view all
+        → Viewed (home s depth) (sees_only s) (known_gone (home s depth) (GoneElsewhere program effects older)) v view facts
+    without_them v view all facts only ways_named plain part from well = record {
       owned = well.owned;
       covered = well.covered;
       known = λ w l rooted r gone. elim (well.known w l rooted r gone) [
@@ -556,9 +573,10 @@ module _ (table : Table) (typed : TypedProgram) (effects : Effects)
         seen = λ b h n m one two over. well.clear.seen b h n m (part (Lent Borrowed b n) one) (part (Lent Observed h m) two) over;
         owned = λ n has. well.clear.owned n (part (Moved n) has);
       };
+      whole = λ x w z has foreign gone meets. not_elsewhere (home s depth) w (ways_named x w has) foreign;
       views = λ x w has.
-          view_on (home s depth) (is_observer s) beside_them v view view all facts x w (well.views x w has) (λ b n loan. loan_kept x w has b n loan)
-          (well.views x w has).reaches;
+          view_on (home s depth) (sees_only s) beside_them v view view all facts x w (well.views x w has) (λ b n loan. loan_kept x w has b n loan)
+          (reached (home s depth) (sees_only s) beside_them v view all x w (well.views x w has));
       lends = λ l n none. absurd none;
       far = λ w n none. absurd none;
     }
@@ -568,11 +586,11 @@ module _ (table : Table) (typed : TypedProgram) (effects : Effects)
         not_both false e h = cc
 
         -- the frame's own loans are held by its own objects
-        loan_kept : (x : ℕ) (w : Way) → v.way x ≡ Some w → (b : Bool) (n : Name) → HasLoan (is_observer s) b x all n → HasLoan (is_observer s) b x facts n
+        loan_kept : (x : ℕ) (w : Way) → v.way x ≡ Some w → (b : Bool) (n : Name) → HasLoan (sees_only s) b x all n → HasLoan (sees_only s) b x facts n
         loan_kept x w has true n (h, lent, sees) = elim (from (Lent Observed h n) lent) [
           | inl mine ↦ (h, mine, sees)
           | inr there ↦ absurd (let away = lent_handed Observed h n there in
-              not_both (is_observer s h) sees (plain h (ap (is_package_object s) away.0 ∙ (away.1).5)))
+              not_both (sees_only s h) sees (plain h (ap (is_package_object s) away.0 ∙ (away.1).5)))
         ]
         loan_kept x w has false n lent = elim (from (Lent Borrowed x n) lent) [
           | inl mine ↦ mine
@@ -591,10 +609,10 @@ module _ (table : Table) (typed : TypedProgram) (effects : Effects)
             → (g : ViewStage) × Has older g × Has (facts_of program effects g.stage) (Moved (name_of u)) × (is_package_object s (number_of u) ≡ true)
             → GoneElsewhere program effects older w
         known_there w u named leads (g, has, moved, shared) =
-            let itself : expand v u ≡ u = stands_itself (home s depth) (is_observer s) (known_gone (home s depth) (λ z. ⊥)) v u named (none_there (number_of u) shared) in
+            let itself : expand v u ≡ u = stands_itself (home s depth) (sees_only s) (known_gone (home s depth) (λ z. ⊥)) v u named (none_there (number_of u) shared) in
             let there : Named (home s g.stage.depth) u = package_named s depth g.stage.depth u shared named in
             let by_them : expand g.views u ≡ u =
-            stands_itself (home s g.stage.depth) (is_observer s) (known_gone (home s g.stage.depth) (λ z. ⊥)) g.views u there (no_view_there g has (number_of u) shared) in
+            stands_itself (home s g.stage.depth) (sees_only s) (known_gone (home s g.stage.depth) (λ z. ⊥)) g.views u there (no_view_there g has (number_of u) shared) in
             (g, has, inl (u, (there, moved), by_them ∙ sym itself ∙ leads))
 
   -- ---- after a step of the innermost frame
@@ -622,12 +640,13 @@ module _ (table : Table) (typed : TypedProgram) (effects : Effects)
       writes = waits.writes;
       clear = waits.clear;
       views = λ x w has.
-          view_on (home s g.stage.depth) (is_observer s) (known_gone (home s g.stage.depth) (λ z. ⊥)) g.views (view_here s state) (view_here s next)
+          view_on (home s g.stage.depth) (sees_only s) (known_gone (home s g.stage.depth) (λ z. ⊥)) g.views (view_here s state) (view_here s next)
           (facts_of program effects g.stage) (facts_of program effects g.stage) x w (waits.views x w has) (λ b n loan. loan) (reach x w has);
       holds = record {
         held = λ x n lasts view e. waits.holds.held x n lasts view (word_before x n view e);
         within = λ x n view e. waits.holds.within x n view (word_before x n view e);
         only = waits.holds.only;
+        named = waits.holds.named;
       };
       placed = waits.placed;
       taken = still_taken s state.memory next.memory g.stage.depth (facts_of program effects g.stage) (lasting_of s waits.point.scope)
@@ -663,5 +682,5 @@ module _ (table : Table) (typed : TypedProgram) (effects : Effects)
         all_on callee backs older outer stages less
         (λ g has x w there. elim (all_between state callee depth backs older outer stages less waiting g has) [
           | inl first ↦ none_some x w g.views (first.2 x) there
-          | inr (some, under, below, backs_there, waits) ↦ same_reaches (view_here s state) (view_here s next) same w (OfCell (g.views.cell x)) (waits.views x w there).reaches
+          | inr (some, under, below, backs_there, waits) ↦ same_reaches (view_here s state) (view_here s next) same w (OfCell (g.views.cell x)) (reached (home s g.stage.depth) (sees_only s) (known_gone (home s g.stage.depth) (λ z. ⊥)) g.views (view_here s state) (facts_of program effects g.stage) x w (waits.views x w there))
         ]) waiting

@@ -28,13 +28,13 @@ use Rattle.machine.specs.Memory.{Memory, variable_slots, no_slot}
 use Rattle.machine.specs.States.{Return, Waiting, Frame, State, Outcome, Goes, Ends, sub_of}
 use Rattle.machine.specs.Owners.{WellOwned, waiting_in}
 use Rattle.machine.specs.Run.{step}
-use Rattle.owned_ways.specs.Ways.{Step, OfVariable, OfRoot, Held, Way, name_of, number_of}
+use Rattle.owned_ways.specs.Ways.{Step, OfVariable, OfRoot, Held, Way, Named, name_of, number_of}
 use Rattle.soundness.specs.Seen.{content, word_in, home}
 use Rattle.soundness.specs.Typed.{Kept}
 use Rattle.soundness.specs.Sound.{AreCopied, is_temporary_object, IsNamedSub, IsAtPoint, IsRunnable, Stage, facts_of, AreStages, Uses, IsPlain, InScope, IsTrap}
 use Rattle.soundness.specs.Sound as owners
 use Rattle.owned_loans.specs.Views.{known_gone, Views, IsMovedBy, AreClear, AreViews, Viewed}
-use Rattle.viewed_soundness.specs.Holds.{IsNamed, PartsAreNamed}
+use Rattle.viewed_soundness.specs.Holds.{IsNamed, PartsAreNamed, sees_only}
 use Rattle.viewed_steps.specs.Awaited.{is_held, lasting_of, AreNamedResults, AreAwaited}
 use Rattle.viewed_steps.specs.Taken.{TakenBy, AreTaken, AreCarried}
 
@@ -88,6 +88,7 @@ pub record HoldsAt (s : Typing) (frame : ℕ) (v : Views) (m : Memory) (p : Name
   pub within : (x n : ℕ) → is_anonymous (view_of s x) ≡ true
       → (get_or (variable_slots s (home s frame x) x m.variables) 0 no_slot).word ≡ Cell n → is_within x p.scope ≡ true
   pub only : (x : ℕ) (w : Way) → v.way x ≡ Some w → is_anonymous (view_of s x) ≡ true
+  pub named : (x : ℕ) (w : Way) → v.way x ≡ Some w → Named (home s frame) w
 
 -- A view is in scope. The roots of its way and of what it was taken from last, and so does the one
 -- that holds the loan of an observer.
@@ -161,8 +162,8 @@ pub record IsWaiting (table : Table) (typed : TypedProgram) (effects : Effects) 
       → is_package_object (flow_typing (flow_program table typed)) name.root ≡ true → Uses effects callee name.root → ⊥
   pub uses : (x : ℕ) → Uses effects callee x → Uses effects g.stage.frame.sub x
   pub writes : (x : ℕ) → Has (written_by effects callee) x → Has (written_by effects g.stage.frame.sub) x
-  pub clear : AreClear (is_observer (flow_typing (flow_program table typed))) (facts_of (flow_program table typed) effects g.stage)
-  pub views : AreViews (home (flow_typing (flow_program table typed)) g.stage.depth) (is_observer (flow_typing (flow_program table typed))) g.views
+  pub clear : AreClear (sees_only (flow_typing (flow_program table typed))) (facts_of (flow_program table typed) effects g.stage)
+  pub views : AreViews (home (flow_typing (flow_program table typed)) g.stage.depth) (sees_only (flow_typing (flow_program table typed))) g.views
       (owners.view_of (flow_typing (flow_program table typed)) state) (facts_of (flow_program table typed) effects g.stage)
   pub holds : HoldsAt (flow_typing (flow_program table typed)) g.stage.depth g.views state.memory point
   pub placed : ArePlaced (flow_program table typed) (facts_of (flow_program table typed) effects g.stage) g.views point.scope
@@ -200,7 +201,7 @@ pub record IsSound (table : Table) (typed : TypedProgram) (effects : Effects) (s
   pub awaited : AreAwaited table typed None (top ∷ stages_of older)
   pub path : ControlPath (path_points (flow_program table typed) effects (sub_of (flow_program table typed) top.frame.sub)) top.before top.frame.next
   -- the state is well owned, each view has a way to its cell, and what ways find gone is moved
-  pub viewed : Viewed (home (flow_typing (flow_program table typed)) top.depth) (is_observer (flow_typing (flow_program table typed)))
+  pub viewed : Viewed (home (flow_typing (flow_program table typed)) top.depth) (sees_only (flow_typing (flow_program table typed)))
       (known_gone (home (flow_typing (flow_program table typed)) top.depth) (GoneElsewhere (flow_program table typed) effects older)) views
       (owners.view_of (flow_typing (flow_program table typed)) state) (facts_of (flow_program table typed) effects top)
   -- words have the types of what they stand in
