@@ -11,6 +11,8 @@
 //! `Examples` has a program whose code is orderly.
 //!
 //! The classes of programs stand in `specs/Class.antt`. Of what they ask of the typed program, laws on
-//! runs ask of the one that is laid out (`proofs/Classes.antt`); what is called has a body (`Called`),
-//! and in a text without formals there are none (`Formless`, `Formals`). Nothing here runs.
+//! runs ask of the one that is laid out (`proofs/Classes.antt`, and `Owners` with formals that own).
+//! What is called has a body (`Called`); formals of functions are of mode `in` (`Functions`); the main
+//! procedure has none (`Mains`), and no subprogram in a text without them (`Formless`, `Formals`).
+//! Nothing here runs.
 #![tactic(auto)]

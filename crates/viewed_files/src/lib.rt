@@ -7,7 +7,7 @@
 //! body (`specs/Laid.antt`, `proofs/Bodies.antt`); so code is layered (`Layers`). Typing has it that
 //! sources of views are names or calls, and that views are variables of subprograms (`Sources`,
 //! `Walked`, `Units`, for `specs/Sources.antt`; `Roots`). What is named was declared before, so sources
-//! are older (`Joined`), and where results are of scalar types none is a call (`Named`). `Main` joins
-//! this, and `Files` has the law on runs for the class with functions of `sound_files`. Nothing here
-//! runs.
+//! are older (`Joined`), and where results are of scalar types none is a call (`Named`). Actuals that
+//! are copied back to are names of what formals may hold (`Passed`). `Main` joins this, and `Files` has
+//! the law on runs for the class of `sound_files` with formals that own. Nothing here runs.
 #![tactic(auto)]
