@@ -13,3 +13,4 @@ pub mod Relaid
 pub mod Temporaries
 -- what follows a return
 pub mod Returning
+pub mod Given
