@@ -14,10 +14,10 @@ use Rattle.viewed_steps.proofs.Main.{sound_start}
 use Rattle.null_places.specs.Cleared.{RunsWithNull}
 use Rattle.null_places.specs.Compares.{AreCompared}
 use Rattle.null_places.proofs.Runs.{GoesOn, sound_runs}
-use Rattle.viewed_nulls.proofs.Steps.{step_same}
+use Rattle.viewed_nulls.proofs.Steps.{GivesScalars, step_same}
 
 module _ (table : Table) (typed : TypedProgram) (effects : Effects) (input : List ℕ) (ready : IsReady table typed effects)
-    (compared : AreCompared (flow_program table typed)) where
+    (compared : AreCompared (flow_program table typed)) (scalars : GivesScalars (flow_program table typed)) where
   leads : (o : Outcome) → LeadsOn table typed effects o → GoesOn (λ state. IsSound table typed effects state) o
   leads (Goes state) on = on
   leads (Ends e state) on = tt
@@ -27,4 +27,4 @@ module _ (table : Table) (typed : TypedProgram) (effects : Effects) (input : Lis
   viewed_runs =
       sound_runs (flow_program table typed) input (λ state. IsSound table typed effects state) (sound_start table typed effects input ready)
       (λ state sound. leads (step (flow_program table typed) input state) (sound_step table typed effects input ready state sound))
-      (step_same table typed effects input ready compared)
+      (step_same table typed effects input ready compared scalars)

@@ -1,20 +1,22 @@
 -- Each step of a sound state is the same in memories that agree, in a program with borrowers and
 -- observers that is ready.
-use Rattle.std.proofs.Common.{◌≡◌, refl, sym, ap, ◌∙◌, subst, ◌⊎◌, inl, inr, ℕ, suc, Bool, true, false, not, ◌||◌, List, [], ◌∷◌, ◌++◌, length, is_some, append-nil, Option, Some, None, if◌then◌else◌}
+use Rattle.std.proofs.Common.{◌≡◌, refl, sym, ap, ◌∙◌, subst, ◌⊎◌, inl, inr, ℕ, suc, Bool, true, false, not, ◌||◌, List, [], ◌∷◌, ◌++◌, length, is_some, append-nil, Option, Some, None, if◌then◌else◌, take}
+use Rattle.viewed_soundness.proofs.Names.{plain_named}
+use Rattle.viewed_steps.specs.Awaited.{AreAwaited, awaited, lasting_of, temporaries_of, AreScalar}
 use Rattle.spark_base.specs.Lists.{Has}
 use Rattle.place_names.specs.declared.act.Act.{Act}
 use Rattle.place_names.specs.declared.act.Act.TheVariants as act
 use Rattle.place_names.specs.declared.fact.Fact.{Fact}
-use Rattle.type_definitions.specs.Types.{Table, full}
+use Rattle.type_definitions.specs.Types.{Table, full, is_scalar}
 use Rattle.typed_tree.specs.Trees.{TypedTree, NoMore, More}
 use Rattle.typed_tree.specs.Programs.{TypedProgram}
 use Rattle.flow_paths.specs.declared.report.Effects.{Effects}
 use Rattle.flow_paths.specs.Instructions.{Instruction, Declare, Call, Hold, EndScope, Finish}
-use Rattle.flow_paths.specs.Objects.{Typing, sub_at, passings, is_anonymous, is_observer}
+use Rattle.flow_paths.specs.Objects.{Typing, sub_at, passings, is_anonymous, is_observer, object_at}
 use Rattle.flow_paths.specs.Names.{has_call, waiting as waits_in}
 use Rattle.flow_paths.specs.Acts as flow
 use Rattle.flow_paths.specs.Acts.{acts_in}
-use Rattle.flow_paths.specs.Points.{NamedPoint}
+use Rattle.flow_paths.specs.Points.{NamedPoint, FlowPoint}
 use Rattle.flow_paths.specs.Scopes.{taken}
 use Rattle.flow_paths.specs.Laid.{FlowSub, FlowProgram, NamedSub, flow_sub, typing_of, flow_typing, flow_program, flow_named}
 use Rattle.flow_paths.specs.Paths.{ControlPath}
@@ -29,7 +31,7 @@ use Rattle.machine.specs.Run.{step}
 use Rattle.owned_ways.specs.Ways.{Way, AllowsAll}
 use Rattle.soundness.specs.Seen.{IsNear, home, is_view_formal}
 use Rattle.soundness.specs.Typed.{Kept}
-use Rattle.soundness.specs.Sound.{calls_procedures, Stage, facts_of, AreStages, AreAwaited, awaited, IsRunnable, IsNoCall, IsPlain, InScope, IsNamedSub, IsAtPoint, view_of as view_here}
+use Rattle.soundness.specs.Sound.{calls_procedures, Stage, facts_of, AreStages, ArePlainResults, is_temporary_object, IsRunnable, IsNoCall, IsPlain, InScope, IsNamedSub, IsAtPoint, view_of as view_here}
 use Rattle.typed_laws.specs.Needed.{IsFine, Source, Gives, Returns}
 use Rattle.soundness.proofs.Numbers.{index_law}
 use Rattle.soundness.proofs.Scalars.{acts}
@@ -44,7 +46,6 @@ use Rattle.viewed_soundness.specs.Holds.{IsNamed, AllKeep}
 use Rattle.viewed_soundness.proofs.Outcomes.{named_plain}
 use Rattle.viewed_steps.specs.Sound.{IsResting, HoldsAt, ArePlaced, NoneAbove, ViewStage, stages_of, GoneElsewhere, AreWaiting, IsRunning, IsSound}
 use Rattle.viewed_steps.specs.Ready.{IsReady}
-use Rattle.viewed_steps.proofs.Read.{scalar_named}
 use Rattle.viewed_steps.proofs.Standing as standing
 use Rattle.viewed_steps.proofs.Innermost as innermost
 use Rattle.viewed_steps.proofs.EachInstruction as each
@@ -67,8 +68,14 @@ end_or : (i : Instruction) → ((x : ℕ) × (i ≡ EndScope x)) ⊎ ((x : ℕ) 
 end_or (EndScope x) = inl (x, refl)
 end_or i = inr (λ x e. cc)
 
+-- Procedures alone are called, or all results are of scalar types; and so are temporaries.
+abbrev pub GivesScalars : FlowProgram → Type 0
+GivesScalars program =
+    (((sub : FlowSub) → Has program.subs sub → (p : FlowPoint) → Has sub.points p → calls_procedures p.instr ≡ true) ⊎ ArePlainResults (flow_typing program))
+    × ((x : ℕ) → is_temporary_object (flow_typing program) x ≡ true → is_scalar (full program.table (object_at (flow_typing program) x).of) ≡ true)
+
 module _ (table : Table) (typed : TypedProgram) (effects : Effects) (input : List ℕ) (ready : IsReady table typed effects)
-    (compared : AreCompared (flow_program table typed)) where
+    (compared : AreCompared (flow_program table typed)) (scalars : GivesScalars (flow_program table typed)) where
   abbrev program : FlowProgram
   program = flow_program table typed
 
@@ -80,6 +87,20 @@ module _ (table : Table) (typed : TypedProgram) (effects : Effects) (input : Lis
 
   abbrev no_formals : (x : ℕ) → is_view_formal s x ≡ false
   no_formals = standing.no_in_formals table typed effects input ready
+
+  one_scalar : (x : ℕ) (xs : List ℕ) (b : Bool) → is_temporary_object s x ≡ b → AreScalar s (temporaries_of s xs) → AreScalar s (temporaries_of s (x ∷ xs))
+  one_scalar x xs true is more = subst (AreScalar s) (sym first) (scalars.1 x is, more)
+    where
+      first : temporaries_of s (x ∷ xs) ≡ x ∷ temporaries_of s xs
+      first = rw is refl
+  one_scalar x xs false is more = subst (AreScalar s) (sym others) more
+    where
+      others : temporaries_of s (x ∷ xs) ≡ temporaries_of s xs
+      others = rw is refl
+
+  temporaries_scalar : (xs : List ℕ) → AreScalar s (temporaries_of s xs)
+  temporaries_scalar [] = tt
+  temporaries_scalar (x ∷ xs) = one_scalar x xs (is_temporary_object s x) refl (temporaries_scalar xs)
 
   abbrev SameAt : State → Memory → Type 0
   SameAt state n = SameStepBy s (step program input state) (step program input (record state { memory = n }))
@@ -155,12 +176,12 @@ module _ (table : Table) (typed : TypedProgram) (effects : Effects) (input : Lis
       (frames : state.frames ≡ top.frame ∷ (below.stage.frame ∷ rest)) (deep : top.depth ≡ suc (length rest))
       (stages : AreStages (stages_of (below ∷ more_frames)) (below.stage.frame ∷ rest))
       (running : IsRunnable table typed top.frame.sub × IsResting s top × AreWaiting table typed effects state top.frame.sub top.frame.returns (below ∷ more_frames))
-      (awaiting : AreAwaited table typed 0 (top ∷ stages_of (below ∷ more_frames)))
+      (awaiting : AreAwaited table typed None (top ∷ stages_of (below ∷ more_frames)))
       (of_sub : IsNamedSub (flow_named table typed) top.frame.sub named) (at_point : IsAtPoint named.points top.frame.next p)
       (path : ControlPath (path_points program effects (sub_of program top.frame.sub)) top.before top.frame.next) (views : Views)
       (viewed_before : Viewed (home s (suc (length rest))) (is_observer s) (known_gone (home s (suc (length rest))) (GoneElsewhere program effects (below ∷ more_frames))) views
       (view_here s state) (facts_of program effects top))
-      (kept : Kept s state.memory (waiting_in state)) (scope : InScope s state.memory (suc (length rest)) p.scope) (holds : HoldsAt s (suc (length rest)) views state.memory p)
+      (kept : Kept s state.memory (waiting_in state)) (scope : InScope s state.memory (suc (length rest)) (lasting_of s p.scope)) (holds : HoldsAt s (suc (length rest)) views state.memory p)
       (placed_before : ArePlaced program (facts_of program effects top) views p.scope) (above : NoneAbove s (suc (length rest)) state.memory)
       (only : OnlyOwners s state.memory) (n : Memory) (agrees : Agrees state.memory n) where
     abbrev outer : List Frame
@@ -220,10 +241,13 @@ module _ (table : Table) (typed : TypedProgram) (effects : Effects) (input : Lis
       laws = viewed_values (steps.here main_turn) ready.accepted.settled state.leaks other alone no_formals index_law ready.owns views ready.class.parts_named
 
       takes_of : (i : Instruction) → p.instr ≡ i → Takes (taken i) (start main_turn).waits []
-      takes_of = innermost.takes_of table typed effects input ready state top below more_frames rest named p frames deep stages running awaiting of_sub at_point path views viewed_before kept scope holds placed_before above
+      takes_of i e = innermost.takes_of table typed effects input ready state top below more_frames rest named p frames deep stages running awaiting of_sub at_point path views viewed_before kept scope holds placed_before above (temporaries_scalar (take (taken p.instr) p.scope)) i e
 
       plainly : (i : Instruction) → p.instr ≡ i → (calls : Bool) → (calls_procedures i ≡ true → calls ≡ false) → TakesPlainly s calls
-      plainly = innermost.plainly table typed effects input ready state top below more_frames rest named p frames deep stages running awaiting of_sub at_point path views viewed_before kept scope holds placed_before above
+      plainly i e calls none = elim scalars.0 [
+        | inr plain ↦ inr plain
+        | inl procedures ↦ inl (none (sym (ap calls_procedures e) ∙ procedures (flow_sub own named) in_program main_turn.point in_sub))
+      ]
 
       allowed_now : IsNoCall p.instr → (p.instr ≡ Finish → ⊥) → AllowsAll facts_now (acts_of_main p.instr)
       allowed_now no_call end =
@@ -242,7 +266,7 @@ module _ (table : Table) (typed : TypedProgram) (effects : Effects) (input : Lis
       unfolding acts_in has_call waits_in Compares
       holds_value e of is result source compares_there allowed keep =
           let own_type : IsNamed s.table of =
-          scalar_named s.table of (innermost.plain_result table typed effects input ready state top below more_frames rest named p frames deep stages running awaiting of_sub at_point path views viewed_before kept scope holds placed_before above of result) in
+          plain_named s.table of (innermost.named_result table typed effects input ready state top below more_frames rest named p frames deep stages running awaiting of_sub at_point path views viewed_before kept scope holds placed_before above of result) in
           let owner : is_anonymous (full s.table of) ≡ false = named_plain s.table of own_type in
           let same : acts_of_main (Hold (More e NoMore)) ≡ acts (acts_in s e) =
           ap (λ r. acts (flow.returned_acts s r (More e NoMore))) result
@@ -302,8 +326,8 @@ module _ (table : Table) (typed : TypedProgram) (effects : Effects) (input : Lis
         so_easy : IsReadyIn (steps.here main_turn) ready.accepted.settled state.leaks other alone no_formals index_law ready.owns views ready.class.parts_named
             state.memory (waiting_in (eased main_turn).state) facts_now
         so_easy = record {
-          viewed = (innermost.viewed_easy table typed effects input ready state top below more_frames rest named p frames deep stages running awaiting of_sub at_point path views viewed_before kept scope holds placed_before above).0;
-          kept = (innermost.viewed_easy table typed effects input ready state top below more_frames rest named p frames deep stages running awaiting of_sub at_point path views viewed_before kept scope holds placed_before above).1;
+          viewed = (innermost.viewed_easy table typed effects input ready state top below more_frames rest named p frames deep stages running awaiting of_sub at_point path views viewed_before kept scope holds placed_before above (temporaries_scalar (take (taken p.instr) p.scope))).0;
+          kept = (innermost.viewed_easy table typed effects input ready state top below more_frames rest named p frames deep stages running awaiting of_sub at_point path views viewed_before kept scope holds placed_before above (temporaries_scalar (take (taken p.instr) p.scope))).1;
           holds = calling.holds_now table typed effects input ready state top below more_frames rest named p frames deep stages running awaiting of_sub at_point path views viewed_before kept scope holds placed_before above k actuals result e;
         }
 
@@ -374,7 +398,7 @@ module _ (table : Table) (typed : TypedProgram) (effects : Effects) (input : Lis
             subst (λ z. AreStages (stages_of (below ∷ (h ∷ m))) (below.stage.frame ∷ z)) (sym same) there in
             back_wholly main_turn ready.accepted.settled ready.owns no_formals (waiting_in state) state.leaks below.stage.depth
             (ends.deep_low table typed effects input ready state top below more_frames rest named p frames deep stages running awaiting of_sub at_point path views viewed_before kept scope holds placed_before above h m stages_there waiting well still is)
-            below.views (facts_of program effects below.stage) waiting.0.point.scope
+            below.views (facts_of program effects below.stage) (lasting_of s waiting.0.point.scope)
             (ends.around_low table typed effects input ready state top below more_frames rest named p frames deep stages running awaiting of_sub at_point path views viewed_before kept scope holds placed_before above h m stages_there waiting well still is)
             (ends.free_low table typed effects input ready state top below more_frames rest named p frames deep stages running awaiting of_sub at_point path views viewed_before kept scope holds placed_before above h m stages_there waiting well still is)
             (ends.whole_low table typed effects input ready state top below more_frames rest named p frames deep stages running awaiting of_sub at_point path views viewed_before kept scope holds placed_before above h m stages_there waiting well still is)
@@ -400,12 +424,12 @@ module _ (table : Table) (typed : TypedProgram) (effects : Effects) (input : Lis
   -- ---- each step
 
   by_stages : (state : State) (top : Stage) (views : Views) (older : List ViewStage) (fs : List Frame) → state.frames ≡ fs → AreStages (top ∷ stages_of older) fs
-      → IsRunning table typed effects state (record { stage = top; views = views }) older → AreAwaited table typed 0 (top ∷ stages_of older)
+      → IsRunning table typed effects state (record { stage = top; views = views }) older → AreAwaited table typed None (top ∷ stages_of older)
       → ControlPath (path_points program effects (sub_of program top.frame.sub)) top.before top.frame.next
       → Viewed (home s top.depth) (is_observer s) (known_gone (home s top.depth) (GoneElsewhere program effects older)) views (view_here s state) (facts_of program effects top)
       → Kept s state.memory (waiting_in state)
       → (named : NamedSub) → IsNamedSub (flow_named table typed) top.frame.sub named → (p : NamedPoint) → IsAtPoint named.points top.frame.next p
-      → InScope s state.memory top.depth p.scope → HoldsAt s top.depth views state.memory p → ArePlaced program (facts_of program effects top) views p.scope
+      → InScope s state.memory top.depth (lasting_of s p.scope) → HoldsAt s top.depth views state.memory p → ArePlaced program (facts_of program effects top) views p.scope
       → NoneAbove s top.depth state.memory → OnlyOwners s state.memory → (n : Memory) → Agrees state.memory n → SameAt state n
   by_stages state top views [] (f ∷ []) is (frame, deep, none) running awaiting path seen_well kept named of_sub p at_point scope holds there above only n agrees =
       package_same state top named p (is ∙ ap (λ z. z ∷ []) (sym frame)) views running of_sub at_point path
@@ -414,7 +438,7 @@ module _ (table : Table) (typed : TypedProgram) (effects : Effects) (input : Lis
   by_stages state top views (below ∷ more) (f ∷ (g ∷ rest)) is (frame, deep, (around_frame, deeper, others)) running awaiting path seen_well kept named of_sub p at_point scope holds there above only n agrees =
       main_same state top below more rest named p (is ∙ (λ j. sym frame j ∷ (sym around_frame j ∷ rest))) deep (refl, deeper, others) running awaiting of_sub at_point path views
       (subst (λ d. Viewed (home s d) (is_observer s) (known_gone (home s d) (GoneElsewhere program effects (below ∷ more))) views (view_here s state) (facts_of program effects top)) deep seen_well) kept
-      (subst (λ d. InScope s state.memory d p.scope) deep scope) (subst (λ d. HoldsAt s d views state.memory p) deep holds) there
+      (subst (λ d. InScope s state.memory d (lasting_of s p.scope)) deep scope) (subst (λ d. HoldsAt s d views state.memory p) deep holds) there
       (subst (λ d. NoneAbove s d state.memory) deep above) only n agrees
   by_stages state top views [] [] is stages running awaiting path seen_well kept named of_sub p at_point scope holds there above only n agrees = absurd stages
   by_stages state top views [] (f ∷ (g ∷ others)) is stages running awaiting path seen_well kept named of_sub p at_point scope holds there above only n agrees = absurd stages.2

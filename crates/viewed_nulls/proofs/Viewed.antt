@@ -33,7 +33,7 @@ use Rattle.owned_loans.proofs.Allowed.{read_open, look_open, look_whole, move_op
 use Rattle.viewed_soundness.specs.Holds.{IsNamed, PartsAreNamed, AllKeep}
 use Rattle.viewed_soundness.proofs.Names.{Starts, name_walked}
 use Rattle.viewed_soundness.proofs.Stays.{Goes, taking, steps_taking}
-use Rattle.viewed_soundness.proofs.Evaluated.{keep_both, matches_named, part_named, Ready, GivenOn, live_trunk, evaluated_on}
+use Rattle.viewed_soundness.proofs.Evaluated.{keep_both, matches_named, part_named, Ready, GivenOn, live_trunk, evaluated_on, gives_plainly}
 use Rattle.null_places.proofs.Only.{OnlyOwners}
 use Rattle.null_places.proofs.Walks.{walk_same}
 use Rattle.null_places.proofs.Direct.{has_deref, past_deref, selectors_direct}
@@ -206,6 +206,6 @@ module _ (h : Here) (settled : IsSettled h.typing.table) (leaks : List Leak) (ot
     behaves = λ m hands facts ready only. viewed_behaves m hands facts ready only;
     given = λ e want gives calls before on takes m hands facts ready allowed own keep.
         given_by on want hands (after (acts (acts_in h.typing e)) facts) (evaluate h AsValue e (record { memory = m; waits = before }))
-        (evaluated_on h settled leaks [] other alone (keeps h.typing settled own_law) no_formals index_law own_law v parts_named e want gives calls before on takes m hands facts
+        (evaluated_on h settled leaks [] other alone (keeps h.typing settled own_law) no_formals index_law own_law v parts_named e want gives (gives_plainly h.typing e calls) before on takes m hands facts
         ready allowed own keep);
   }
