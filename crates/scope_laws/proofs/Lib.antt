@@ -14,3 +14,4 @@ pub mod Temporaries
 -- what follows a return
 pub mod Returning
 pub mod Given
+pub mod Results
