@@ -15,3 +15,4 @@ pub mod Temporaries
 pub mod Returning
 pub mod Given
 pub mod Results
+pub mod Alone
