@@ -17,7 +17,7 @@ use Rattle.flow_paths.specs.Prep.{Setting, held, with_held, prep}
 use Rattle.flow_paths.specs.Layout.{Around, within_loop, within_block, with_scope, declared, from, ending, ends, uses, uses_both, uses_second_first, laid, laid_branches, laid_branch, laid_whens, laid_when}
 use Rattle.flow_paths.specs.Laid.{declared_within, around_body, scope_at_end, function_end, procedure_end, sub_points}
 use Rattle.scope_laws.specs.Code.{objects_of}
-use Rattle.scope_laws.specs.Alone.{CallsOnly, ValueFits, SourceFits, CodeFits}
+use Rattle.scope_laws.specs.Alone.{CallsOnly, ValueFits, SourceFits, CodeFits, BranchesFit, BranchFits, AlternativesFit, AlternativeFits}
 use Rattle.scope_laws.proofs.Lists.{has_reverse}
 use Rattle.scope_laws.proofs.Given.{Takes, none_held, none_before}
 
@@ -343,7 +343,7 @@ module _ (s : Setting) (whole : List NamedPoint) (ask alone good : ℕ → Type 
   declare_takes x v e is = inl (x, ap (instruction.Declare x) is)
 
   mutual
-    unfolding laid laid_branches laid_branch laid_whens laid_when CodeFits declared_within
+    unfolding laid laid_branches laid_branch laid_whens laid_when CodeFits BranchesFit BranchFits AlternativesFit AlternativeFits declared_within
 
     laid_fine : (c : TypedCode) (at : Place) (w : Around) (k : List PointName) → CodeFits ask alone c → AllGood good (declared_within c) → Within (laid s c at w k)
         → IsGoodAround w → AreFine (laid s c at w k)
@@ -407,7 +407,7 @@ module _ (s : Setting) (whole : List NamedPoint) (ask alone good : ℕ → Type 
         (good_both (reverse (declared stmts)) w.scope (reversed_good (declared stmts) (declared_good stmts objects)) fine.0)))
     laid_fine _ at w k fits objects within fine = λ p has. absurd has
 
-    branches_fine : (c : TypedCode) (at : Place) (w : Around) (k m : List PointName) → CodeFits ask alone c → AllGood good (declared_within c) → Within (laid_branches s c at w k m)
+    branches_fine : (c : TypedCode) (at : Place) (w : Around) (k m : List PointName) → BranchesFit ask alone c → AllGood good (declared_within c) → Within (laid_branches s c at w k m)
         → IsGoodAround w → AreFine (laid_branches s c at w k m)
     branches_fine (typed.More a rest) at w k m (first, second) objects within fine =
         fine_both (laid_branch s a (0 ∷ at) w k _) _
@@ -415,14 +415,14 @@ module _ (s : Setting) (whole : List NamedPoint) (ask alone good : ℕ → Type 
         (branches_fine rest (1 ∷ at) w k m second (λ x has. objects x (Has-append_right (declared_within a) (declared_within rest) x has)) (second_of (laid_branch s a (0 ∷ at) w k _) _ within) fine)
     branches_fine _ at w k m fits objects within fine = λ p has. absurd has
 
-    branch_fine : (c : TypedCode) (at : Place) (w : Around) (k m : List PointName) → CodeFits ask alone c → AllGood good (declared_within c) → Within (laid_branch s c at w k m)
+    branch_fine : (c : TypedCode) (at : Place) (w : Around) (k m : List PointName) → BranchFits ask alone c → AllGood good (declared_within c) → Within (laid_branch s c at w k m)
         → IsGoodAround w → AreFine (laid_branch s c at w k m)
     branch_fine (Branch p e stmts) at w k m (first, second) objects within fine =
         fine_both (uses s at p e (instruction.Test e) w _) _ (uses_good at p e (instruction.Test e) w _ first (first_of (uses s at p e (instruction.Test e) w _) _ within) fine.0 tt)
         (laid_fine stmts (1 ∷ at) w k second objects (second_of (uses s at p e (instruction.Test e) w _) _ within) fine)
     branch_fine _ at w k m fits objects within fine = λ p has. absurd has
 
-    whens_fine : (c : TypedCode) (at : Place) (w : Around) (k : List PointName) → CodeFits ask alone c → AllGood good (declared_within c)
+    whens_fine : (c : TypedCode) (at : Place) (w : Around) (k : List PointName) → AlternativesFit ask alone c → AllGood good (declared_within c)
         → Within (flat_map (λ ps. ps) (laid_whens s c at w k)) → IsGoodAround w → AreFine (flat_map (λ ps. ps) (laid_whens s c at w k))
     whens_fine (typed.More a rest) at w k (first, second) objects within fine =
         fine_both (laid_when s a (0 ∷ at) w k) _
@@ -430,7 +430,7 @@ module _ (s : Setting) (whole : List NamedPoint) (ask alone good : ℕ → Type 
         (whens_fine rest (1 ∷ at) w k second (λ x has. objects x (Has-append_right (declared_within a) (declared_within rest) x has)) (second_of (laid_when s a (0 ∷ at) w k) _ within) fine)
     whens_fine _ at w k fits objects within fine = λ p has. absurd has
 
-    when_fine : (c : TypedCode) (at : Place) (w : Around) (k : List PointName) → CodeFits ask alone c → AllGood good (declared_within c) → Within (laid_when s c at w k)
+    when_fine : (c : TypedCode) (at : Place) (w : Around) (k : List PointName) → AlternativeFits ask alone c → AllGood good (declared_within c) → Within (laid_when s c at w k)
         → IsGoodAround w → AreFine (laid_when s c at w k)
     when_fine (When choices stmts) at w k fits objects within fine = laid_fine stmts (1 ∷ at) w k fits objects within fine
     when_fine _ at w k fits objects within fine = λ p has. absurd has
@@ -488,26 +488,42 @@ module _ (ask alone : ℕ → Type 0) (all : (n : ℕ) → ask n) where
   calls_all (typed.More e rest) = (calls_all e, calls_all rest)
   calls_all _ = tt
 
-  pub code_all : (c : TypedCode) → CodeFits ask alone c
-  unfolding CodeFits
-  code_all (typed.More a rest) = (code_all a, code_all rest)
-  code_all (Declare p x v) = inl (calls_all v)
-  code_all (Assign p target e) = (calls_all target, inl (calls_all e))
-  code_all (typed.Call p sub actuals) = calls_all actuals
-  code_all (Output p text line) = calls_all text
-  code_all (Input p target) = calls_all target
-  code_all (Release p m) = calls_all m
-  code_all (If branches otherwise) = (code_all branches, code_all otherwise)
-  code_all (Branch p e stmts) = (calls_all e, code_all stmts)
-  code_all (Case p e whens) = (calls_all e, code_all whens)
-  code_all (When choices stmts) = code_all stmts
-  code_all (Loop stmts) = code_all stmts
-  code_all (While p e stmts) = (calls_all e, code_all stmts)
-  code_all (For p x reversed low high stmts) = (calls_all low, calls_all high, code_all stmts)
-  code_all (Exit p e) = calls_all e
-  code_all (Return p v) = inl (calls_all v)
-  code_all (Block n stmts end) = code_all stmts
-  code_all _ = tt
+  mutual
+    unfolding CodeFits BranchesFit BranchFits AlternativesFit AlternativeFits
+
+    pub code_all : (c : TypedCode) → CodeFits ask alone c
+    code_all (typed.More a rest) = (code_all a, code_all rest)
+    code_all (Declare p x v) = inl (calls_all v)
+    code_all (Assign p target e) = (calls_all target, inl (calls_all e))
+    code_all (typed.Call p sub actuals) = calls_all actuals
+    code_all (Output p text line) = calls_all text
+    code_all (Input p target) = calls_all target
+    code_all (Release p m) = calls_all m
+    code_all (If branches otherwise) = (branches_all branches, code_all otherwise)
+    code_all (Case p e whens) = (calls_all e, alternatives_all whens)
+    code_all (Loop stmts) = code_all stmts
+    code_all (While p e stmts) = (calls_all e, code_all stmts)
+    code_all (For p x reversed low high stmts) = (calls_all low, calls_all high, code_all stmts)
+    code_all (Exit p e) = calls_all e
+    code_all (Return p v) = inl (calls_all v)
+    code_all (Block n stmts end) = code_all stmts
+    code_all _ = tt
+
+    branches_all : (c : TypedCode) → BranchesFit ask alone c
+    branches_all (typed.More a rest) = (branch_all a, branches_all rest)
+    branches_all _ = tt
+
+    branch_all : (c : TypedCode) → BranchFits ask alone c
+    branch_all (Branch p e stmts) = (calls_all e, code_all stmts)
+    branch_all _ = tt
+
+    alternatives_all : (c : TypedCode) → AlternativesFit ask alone c
+    alternatives_all (typed.More a rest) = (alternative_all a, alternatives_all rest)
+    alternatives_all _ = tt
+
+    alternative_all : (c : TypedCode) → AlternativeFits ask alone c
+    alternative_all (When choices stmts) = code_all stmts
+    alternative_all _ = tt
 
 -- ---- where none is called
 

@@ -50,7 +50,7 @@ first_placed at (t ∷ all) d less = by (same_place at t.place) refl less (first
         subst (λ k. Found at (t ∷ all) (get_or (t ∷ all) k d)) (sym one) (inr later.0, later.1)
 
 -- a temporary of some points is filled by one of them
-filled_by : (s : Typing) (ps : List NamedPoint) (r : Temporary) → Has (temporaries s ps) r
+pub filled_by : (s : Typing) (ps : List NamedPoint) (r : Temporary) → Has (temporaries s ps) r
     → (q : NamedPoint) × Has ps q × Has (filled s q.name.place q.instr) r
 filled_by s [] r has = absurd has
 filled_by s (p ∷ ps) r has = elim (Has-append_cases (filled s p.name.place p.instr) (temporaries s ps) r has) [

@@ -43,25 +43,42 @@ SourceFits ask alone target e =
     × (r : Pos) × (x : ℕ) × (path : TypedTree) × (u : ℕ) × (target ≡ Name r x path u) × (has_call path ≡ false))
 
 -- So are the expressions of code.
-unfoldable pub CodeFits : (ask alone : ℕ → Type 0) → TypedCode → Type 0
-CodeFits ask alone (typed.More a rest) = CodeFits ask alone a × CodeFits ask alone rest
-CodeFits ask alone (Declare p x v) = ValueFits ask alone v
-CodeFits ask alone (Assign p target e) = CallsOnly ask target × SourceFits ask alone target e
-CodeFits ask alone (typed.Call p sub actuals) = CallsOnly ask actuals
-CodeFits ask alone (Output p text line) = CallsOnly ask text
-CodeFits ask alone (Input p target) = CallsOnly ask target
-CodeFits ask alone (Release p m) = CallsOnly ask m
-CodeFits ask alone (If branches otherwise) = CodeFits ask alone branches × CodeFits ask alone otherwise
-CodeFits ask alone (Branch p e stmts) = CallsOnly ask e × CodeFits ask alone stmts
-CodeFits ask alone (Case p e whens) = CallsOnly ask e × CodeFits ask alone whens
-CodeFits ask alone (When choices stmts) = CodeFits ask alone stmts
-CodeFits ask alone (Loop stmts) = CodeFits ask alone stmts
-CodeFits ask alone (While p e stmts) = CallsOnly ask e × CodeFits ask alone stmts
-CodeFits ask alone (For p x reversed low high stmts) = CallsOnly ask low × CallsOnly ask high × CodeFits ask alone stmts
-CodeFits ask alone (Exit p e) = CallsOnly ask e
-CodeFits ask alone (Return p v) = ValueFits ask alone v
-CodeFits ask alone (Block n stmts end) = CodeFits ask alone stmts
-CodeFits ask alone c = Unit {0}
+unfoldable mutual
+  pub CodeFits : (ask alone : ℕ → Type 0) → TypedCode → Type 0
+  CodeFits ask alone (typed.More a rest) = CodeFits ask alone a × CodeFits ask alone rest
+  CodeFits ask alone (Declare p x v) = ValueFits ask alone v
+  CodeFits ask alone (Assign p target e) = CallsOnly ask target × SourceFits ask alone target e
+  CodeFits ask alone (typed.Call p sub actuals) = CallsOnly ask actuals
+  CodeFits ask alone (Output p text line) = CallsOnly ask text
+  CodeFits ask alone (Input p target) = CallsOnly ask target
+  CodeFits ask alone (Release p m) = CallsOnly ask m
+  CodeFits ask alone (If branches otherwise) = BranchesFit ask alone branches × CodeFits ask alone otherwise
+  CodeFits ask alone (Case p e whens) = CallsOnly ask e × AlternativesFit ask alone whens
+  CodeFits ask alone (Loop stmts) = CodeFits ask alone stmts
+  CodeFits ask alone (While p e stmts) = CallsOnly ask e × CodeFits ask alone stmts
+  CodeFits ask alone (For p x reversed low high stmts) = CallsOnly ask low × CallsOnly ask high × CodeFits ask alone stmts
+  CodeFits ask alone (Exit p e) = CallsOnly ask e
+  CodeFits ask alone (Return p v) = ValueFits ask alone v
+  CodeFits ask alone (Block n stmts end) = CodeFits ask alone stmts
+  CodeFits ask alone c = Unit {0}
+
+  -- the branches of an `if`
+  pub BranchesFit : (ask alone : ℕ → Type 0) → TypedCode → Type 0
+  BranchesFit ask alone (typed.More a rest) = BranchFits ask alone a × BranchesFit ask alone rest
+  BranchesFit ask alone c = Unit {0}
+
+  pub BranchFits : (ask alone : ℕ → Type 0) → TypedCode → Type 0
+  BranchFits ask alone (Branch p e stmts) = CallsOnly ask e × CodeFits ask alone stmts
+  BranchFits ask alone c = Unit {0}
+
+  -- the alternatives of a `case`
+  pub AlternativesFit : (ask alone : ℕ → Type 0) → TypedCode → Type 0
+  AlternativesFit ask alone (typed.More a rest) = AlternativeFits ask alone a × AlternativesFit ask alone rest
+  AlternativesFit ask alone c = Unit {0}
+
+  pub AlternativeFits : (ask alone : ℕ → Type 0) → TypedCode → Type 0
+  AlternativeFits ask alone (When choices stmts) = CodeFits ask alone stmts
+  AlternativeFits ask alone c = Unit {0}
 
 -- ---- functions
 
@@ -72,3 +89,7 @@ GivesScalar s n = (t : ℕ) → (sub_at s n).result ≡ Some t → is_scalar (fu
 -- or of no anonymous access type.
 abbrev pub GivesNamed : Typing → ℕ → Type 0
 GivesNamed s n = (t : ℕ) → (sub_at s n).result ≡ Some t → is_anonymous (full s.table t) ≡ false
+
+-- What functions give in code is of scalar types; or it stands alone, and is of no anonymous access type.
+abbrev pub ResultsFit : Typing → TypedCode → Type 0
+ResultsFit s c = CodeFits (GivesScalar s) (GivesNamed s) c

@@ -271,13 +271,13 @@ module _ (table : Table) (typed : TypedProgram) (effects : Effects) (given : IsV
   text_local x anonymous = (given.views.local x anonymous).0
 
   anonymous_same : (x : ℕ) → is_anonymous (view_of s x) ≡ is_anonymous (view_of own x)
-  anonymous_same = same.anonymous_same table typed given.temporaries text_local
+  anonymous_same = same.anonymous_same table typed (valued.temporaries_named table typed effects given) text_local
 
   observer_same : (x : ℕ) → is_observer s x ≡ is_observer own x
-  observer_same = same.observer_same table typed given.temporaries text_local
+  observer_same = same.observer_same table typed (valued.temporaries_named table typed effects given) text_local
 
   scope_same : (x : ℕ) → scope_of s x ≡ scope_of own x
-  scope_same = same.scope_same table typed given.temporaries text_local
+  scope_same = same.scope_same table typed (valued.temporaries_named table typed effects given) text_local
 
   scopes_same : program.scopes ≡ typed.scopes
   unfolding flow_program
@@ -391,7 +391,7 @@ module _ (table : Table) (typed : TypedProgram) (effects : Effects) (given : IsV
           → (is_within y left ≡ true → encloses program.scopes (scope_of s y) (scope_of s x) ≡ true) → Outlives p.scope y x
       outlives y x names lasts around = elim (seen_there y names) [
         | inl shared ↦ inl shared
-        | inr within ↦ inr (within_whole y (taken p.instr) p.scope within, lasts, around within, valued.unheld table typed effects given y)
+        | inr within ↦ inr (within_whole y (taken p.instr) p.scope within, lasts, around within, scoped.named_unheld table typed effects given named has p there y names)
       ]
 
       older_encloses : (y x : ℕ) → is_older own typed.scopes x y ≡ true → encloses program.scopes (scope_of s y) (scope_of s x) ≡ true

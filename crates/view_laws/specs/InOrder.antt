@@ -11,7 +11,7 @@ use Rattle.flow_paths.specs.Instructions.{Instruction, Declare, Assign}
 use Rattle.flow_paths.specs.Objects.{Typing, object_at, is_variable, is_anonymous, is_observer, is_package_object, view_of}
 use Rattle.flow_paths.specs.Names.{first, whole}
 use Rattle.flow_paths.specs.Laid.{typing_of}
-use Rattle.scope_laws.specs.Code.{roots}
+use Rattle.scope_laws.specs.Code.{roots, body_seen}
 use Rattle.layered_scopes.specs.Layered.{is_older, is_body_layered}
 
 -- ---- what views are declared and assigned with
@@ -70,6 +70,7 @@ names_no_view s _ = true
 -- The subprogram of the package objects, and those with a body in the text.
 pub record AreViewsInOrder (table : Table) (program : TypedProgram) (first : TypedSub) (rest : List TypedSub) : Type 0 where
   pub values : names_no_view (typing_of table program) first.body ≡ true
+  pub seen : body_seen (is_package_object (typing_of table program)) first ≡ true
   -- the scope around one has a smaller number, or is it
   pub inner : (b : ℕ) → get_or program.scopes b b ≤ b
   -- what stands around an object is older
