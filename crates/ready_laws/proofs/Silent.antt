@@ -1,5 +1,5 @@
 -- Code in whose points no function is called: so its expressions call none.
-use Rattle.std.proofs.Common.{◌≡◌, refl, sym, ap, ◌∙◌, subst, inl, inr, ℕ, Bool, true, false, not, ◌&&◌, ◌||◌, List, [], ◌∷◌, ◌++◌, Some, None}
+use Rattle.std.proofs.Common.{◌≡◌, refl, inl, inr, ℕ, Bool, true, false, not, ◌&&◌, List, [], ◌∷◌, ◌++◌, None}
 use Rattle.std.specs.Prelude.{flat_map}
 use Rattle.spark_base.specs.declared.position.Pos.{Pos}
 use Rattle.spark_base.specs.Lists.{Has}

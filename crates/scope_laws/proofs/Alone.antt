@@ -45,7 +45,8 @@ drop_none (x ∷ xs) = refl
 abbrev pub IsFine : (ask alone good : ℕ → Type 0) → NamedPoint → Type 0
 IsFine ask alone good p =
     IsGoodPoint ask alone good p
-    ⊎ ((t : ℕ) × (rest : List ℕ) × (p.scope ≡ t ∷ rest) × AllGood good rest × (q : Pos) × (n : ℕ) × (a : TypedTree) × Takes p.instr (typed.Call q n a))
+    ⊎ ((t : ℕ) × (rest : List ℕ) × (p.scope ≡ t ∷ rest) × AllGood good rest × (q : Pos) × (n : ℕ) × (a : TypedTree) × Takes p.instr (typed.Call q n a)
+    × alone n)
 
 module _ (s : Setting) (whole : List NamedPoint) (ask alone good : ℕ → Type 0) (weaker : (n : ℕ) → ask n → alone n)
     (fills : (r : NamedPoint) → Has whole r → (n : ℕ) (a : TypedTree) (t : ℕ) → r.instr ≡ instruction.Call n a (Some t) → ask n → good t)
@@ -261,6 +262,7 @@ module _ (s : Setting) (whole : List NamedPoint) (ask alone good : ℕ → Type 
         n,
         a,
         takes (typed.Call q n a) is,
+        may,
       )))
     where
       alone_before : Within (prep s v (0 ∷ at) w.scope (row_at at 0 ∷ [])) → AreGood (prep s v (0 ∷ at) w.scope (row_at at 0 ∷ []))
@@ -305,6 +307,7 @@ module _ (s : Setting) (whole : List NamedPoint) (ask alone good : ℕ → Type 
         n,
         a,
         inr (inl (r, x, path, u, (λ j. instruction.Assign (target_is j) (is j)), none)),
+        may,
       )))
     where
       scope_is : (inner : List ℕ) → inner ≡ s.temporary (1 ∷ at) ∷ w.scope → with_held s target (0 ∷ at) inner ≡ s.temporary (1 ∷ at) ∷ w.scope

@@ -2,6 +2,8 @@
 -- object that is declared, beside what `ready_laws` says of any program in order.
 use Rattle.std.proofs.Common.{◌≡◌, refl, sym, ap, ◌∙◌, subst, ◌⊎◌, inl, inr, ℕ, suc, Bool, true, false, not, ◌&&◌, ◌||◌, List, ◌∷◌, map, get_or, Option, None, Some}
 use Rattle.std.specs.Prelude.{reverse}
+use Rattle.std.specs.List.{AllByRecursion}
+use Rattle.spark_base.specs.declared.position.Pos.{Pos}
 use Rattle.spark_base.specs.Lists.{Has}
 use Rattle.spark_base.proofs.Lists.{Has-map, Has-map_from, Has-append_left, Has-append_right}
 use Rattle.place_names.specs.declared.act.Placed.{Placed}
@@ -10,10 +12,11 @@ use Rattle.place_names.specs.Facts.{adds}
 use Rattle.place_names.specs.Names.{Name as PlaceName}
 use Rattle.type_definitions.specs.Types.{Table, is_owning}
 use Rattle.typed_tree.specs.Trees.{TypedTree}
+use Rattle.typed_tree.specs.Trees as typed_tree
 use Rattle.typed_tree.specs.declared.object.Object.{Object}
 use Rattle.typed_tree.specs.Programs.{TypedSub, TypedProgram, text_io}
 use Rattle.flow_paths.specs.declared.report.Effects.{Effects}
-use Rattle.flow_paths.specs.Instructions.{Declare, Call}
+use Rattle.flow_paths.specs.Instructions.{Instruction, Declare, Assign, Call}
 use Rattle.flow_paths.specs.Objects.{Typing, Signature, object_at, sub_at, is_variable, is_anonymous, is_formal, is_package_object, traverses, has_scope_end, view_of}
 use Rattle.flow_paths.specs.Acts.{acts_of}
 use Rattle.flow_paths.specs.Points.{NamedPoint, FlowPoint}
@@ -28,19 +31,23 @@ use Rattle.soundness.specs.Ready.{AreScoped, AreNew, AreElaborated, AreReturning
 use Rattle.soundness.proofs.Points.{IsLaid, flow_at}
 use Rattle.soundness.proofs.Typings.{Agree, flow_agrees, instruction_same, package_same}
 use Rattle.soundness.proofs.Passing.{signature_there}
+use Rattle.scope_laws.specs.Alone.{GivesNamed}
 use Rattle.scope_laws.specs.Code.{roots, objects_of}
 use Rattle.scope_laws.specs.Order.{named_in, IsSeen}
 use Rattle.scope_laws.specs.Supplied.{IsLeft}
-use Rattle.scope_laws.proofs.Lists.{and_second, has_reverse}
+use Rattle.scope_laws.proofs.Lists.{and_second, all_has, has_reverse}
 use Rattle.scope_laws.proofs.Filled.{temporaries_of, object_before}
+use Rattle.layered_scopes.specs.Layered.{is_older}
+use Rattle.layered_scopes.specs.Points.{IsAbove, AreFading}
+use Rattle.layered_scopes.proofs.Layered.{sub_good}
 use Rattle.ready_laws.specs.InOrder.{names_no_owner}
 use Rattle.ready_laws.proofs.Elaborated.{Declares, package_declares, owns_none}
-use Rattle.ready_laws.proofs.Subs.{IsOfBody}
+use Rattle.ready_laws.proofs.Subs.{setting_from, IsOfBody}
 use Rattle.ready_laws.proofs.Ready as ordered
 use Rattle.ready_laws.proofs.Ready.{seen_has}
 use Rattle.typed_laws.specs.Needed.{IsFine}
 use Rattle.viewed_steps.specs.Awaited.{is_held}
-use Rattle.view_laws.specs.InOrder.{NamesSource}
+use Rattle.view_laws.specs.InOrder.{no_views, stores_name, NamesSource, fits}
 use Rattle.view_laws.specs.Program.{IsViewProgram}
 use Rattle.view_laws.proofs.Same as same
 use Rattle.view_laws.proofs.Valued as valued
@@ -51,6 +58,18 @@ use Rattle.view_laws.proofs.Facts.{new_there}
 either : (a b : Bool) → a || b ≡ true → (a ≡ true) ⊎ (b ≡ true)
 either true b e = inl refl
 either false b e = inr e
+
+not_both : (a b : Bool) → a ≡ true → not a && b ≡ true → ⊥
+not_both true b is e = cc
+not_both false b is e = cc
+
+no_source : (a b : Bool) → a ≡ true → b ≡ false → not a || b ≡ true → ⊥
+no_source true b is none e = (let no : true ≡ false = sym e ∙ none in cc)
+no_source false b is none e = cc
+
+no_stored : (a b : Bool) → a ≡ true → b ≡ false → (not a || false) || b ≡ true → ⊥
+no_stored true b is none e = (let no : true ≡ false = sym e ∙ none in cc)
+no_stored false b is none e = cc
 
 module _ (table : Table) (typed : TypedProgram) (effects : Effects) (given : IsViewProgram table typed effects) where
   abbrev pub program : FlowProgram
@@ -162,6 +181,22 @@ module _ (table : Table) (typed : TypedProgram) (effects : Effects) (given : IsV
       by_result None answer = refl
       by_result (Some of) answer = valued.named_results table typed effects given sub has p there n actuals result is of answer
 
+  -- ---- the text
+
+  pub plain_there : (named : NamedSub) → Elaborates named → (p : NamedPoint) → Has named.points p → IsPlain own p
+  plain_there named e p there =
+      package_plain own (unnumbered own) given.order.first given.order.declares given.views.values p (subst (λ (z : NamedSub). Has z.points p) (sym e) there)
+
+  abbrev pub Above : NamedPoint → Type 0
+  Above p = IsAbove (is_older own typed.scopes) (fits own) p
+
+  pub body_good : (named : NamedSub) → OfBody named → AllByRecursion Above named.points × AreFading own named.points
+  body_good named body =
+      let text : TypedSub = body.0 in
+      let layered = given.views.layered text body.1 in
+      subst (λ (z : NamedSub). AllByRecursion Above z.points × AreFading own z.points) body.4
+      (sub_good (setting_from own body.2 text) (is_older own typed.scopes) (fits own) layered.0 text (given.order.bodies text (in_subs text body.1)).settled layered.1)
+
   -- ---- a point
 
   module _ (named : NamedSub) (has : Has (flow_named table typed) named) (p : NamedPoint) (there : Has named.points p) where
@@ -171,8 +206,42 @@ module _ (table : Table) (typed : TypedProgram) (effects : Effects) (given : IsV
     pub fine_there : IsFine s named.sub.result p.instr
     fine_there = given.accepted.fine (flow_sub own named) (in_program named has) (flow_at own named p) in_sub
 
+    -- No view has what a function gives as its source.
     pub source_there : NamesSource s p.instr
-    source_there = given.sources (flow_sub own named) (in_program named has) (flow_at own named p) in_sub
+    source_there = elim (valued.where_is table typed effects given named has) [
+      | inl e ↦ (
+          let declared = declares named e p there (still_there named e p there) in
+          subst (NamesSource s) (sym declared.2) (plain_source declared.0 declared.1 (plain_there named e p there declared.0 declared.1 declared.2)))
+      | inr inside ↦ body_source p.instr refl
+          (all_has Above named.points p (body_good named (valued.body table typed effects given named has inside)).0 there)
+          (valued.source_named table typed effects given named has inside p there)
+    ]
+      where
+        plain_source : (x : ℕ) (v : TypedTree) → not (is_anonymous (view_of own x)) && no_views own (roots v) ≡ true → NamesSource s (Declare x v)
+        plain_source x v plain anonymous =
+            absurd (not_both (is_anonymous (view_of own x)) (no_views own (roots v)) (sym (anonymous_same x) ∙ anonymous) plain)
+
+        no_traversal : (n : ℕ) → GivesNamed own n → traverses own.table (sub_at own n).result ≡ false
+        no_traversal n may = by (sub_at own n).result refl
+          where
+            by : (r : Option ℕ) → (sub_at own n).result ≡ r → traverses own.table r ≡ false
+            by None is = refl
+            by (Some t) is = may t is
+
+        body_source : (i : Instruction) → p.instr ≡ i → Above p → ((q : Pos) (n : ℕ) (a : TypedTree) → valued.IsSourceOf p.instr (typed_tree.Call q n a) → GivesNamed own n)
+            → NamesSource s i
+        body_source (Declare x (typed_tree.More (typed_tree.Call q n a) rest)) is above may = λ anonymous.
+            absurd (no_source (is_anonymous (view_of own x)) (traverses own.table (sub_at own n).result) (sym (anonymous_same x) ∙ anonymous)
+            (no_traversal n (may q n a (inl (x, rest, is)))) (sym (ap (fits own) is) ∙ above.declared x (typed_tree.More (typed_tree.Call q n a) rest) is))
+        body_source (Declare x (typed_tree.More e rest)) is above may = λ anonymous. refl
+        body_source (Declare x v) is above may = λ anonymous. refl
+        body_source (Assign target (typed_tree.Call q n a)) is above may = λ x whole_is anonymous.
+            absurd (no_stored (is_anonymous (view_of own x)) (traverses own.table (sub_at own n).result) (sym (anonymous_same x) ∙ anonymous)
+            (no_traversal n (may q n a (inr (target, is))))
+            (subst (λ w. stores_name own w (typed_tree.Call q n a) || traverses own.table (sub_at own n).result ≡ true) whole_is
+            (sym (ap (fits own) is) ∙ above.assigned target (typed_tree.Call q n a) is)))
+        body_source (Assign target e) is above may = λ x whole_is anonymous. refl
+        body_source i is above may = tt
 
     -- formals of what is called are known as such
     formals_there : (n : ℕ) (actuals : TypedTree) (t : Option ℕ) → p.instr ≡ Call n actuals t → (x : ℕ) → Has (sub_at s n).formals x → is_formal s x ≡ true
@@ -185,6 +254,13 @@ module _ (table : Table) (typed : TypedProgram) (effects : Effects) (given : IsV
         → acts_of (record { typing = s; result = result; roots = kept }) p.pos p.instr ≡ acts_of (record { typing = own; result = result; roots = kept }) p.pos p.instr
     acts_same result kept = instruction_same s own alike result kept p.pos p.instr formals_there
 
+  sources_there : (sub : FlowSub) → Has program.subs sub → (p : FlowPoint) → Has sub.points p → NamesSource s p.instr
+  unfolding flow_program
+  sources_there sub has p there =
+      let named = Has-map_from (flow_sub own) (flow_named table typed) sub has in
+      let q = Has-map_from (λ (z : NamedPoint). flow_at own named.0 z) (named.0).points p (subst (λ (z : FlowSub). Has z.points p) (sym named.2) there) in
+      subst (λ (z : FlowPoint). NamesSource s z.instr) q.2 (source_there named.0 named.1 q.0 q.1)
+
   -- ---- facts
 
   abbrev IsNewIn : FlowSub → Type 0
@@ -193,10 +269,6 @@ module _ (table : Table) (typed : TypedProgram) (effects : Effects) (given : IsV
       → (x : ℕ) (v : TypedTree) → (get_or sub.points last no_point).instr ≡ Declare x v → (name : PlaceName) → name.root ≡ x
       → (Has (facts_before (path_points program effects sub) before) (Moved name) → ⊥)
       × (Has (facts_before (path_points program effects sub) (last ∷ before)) (Moved name) → ⊥)
-
-  pub plain_there : (named : NamedSub) → Elaborates named → (p : NamedPoint) → Has named.points p → IsPlain own p
-  plain_there named e p there =
-      package_plain own (unnumbered own) given.order.first given.order.declares given.views.values p (subst (λ (z : NamedSub). Has z.points p) (sym e) there)
 
   -- what they are declared with names nothing that owns, in the layout either
   text_owners : names_no_owner s given.order.first.body ≡ true
@@ -248,12 +320,12 @@ module _ (table : Table) (typed : TypedProgram) (effects : Effects) (given : IsV
   new_in : (named : NamedSub) → Has (flow_named table typed) named → IsNewIn (flow_sub own named)
   new_in named has = elim (cases named has) [
     | inl e ↦ new_there table typed effects given.owns given.parts_named given.accepted.fine given.accepted.effects_are (λ x anonymous. (local x anonymous).0)
-        given.sources plainly named has (laid named has) (λ p there. (supplied_there named has p there).0)
+        sources_there plainly named has (laid named has) (λ p there. (supplied_there named has p there).0)
         (ordered.IsNumbered table typed effects given.accepted given.owns given.order given.answered given.passed given.still) (λ x. ⊥) (reverse given.order.first.formals)
         (λ x what out. out) (ordered.package_is_ordered table typed effects given.accepted given.owns given.order given.answered given.passed given.still named e)
         (λ p there x names lasts. absurd (names_none named e p there x names lasts)) (named_unheld named has)
     | inr b ↦ new_there table typed effects given.owns given.parts_named given.accepted.fine given.accepted.effects_are (λ x anonymous. (local x anonymous).0)
-        given.sources plainly named has (laid named has) (λ p there. (supplied_there named has p there).0)
+        sources_there plainly named has (laid named has) (λ p there. (supplied_there named has p there).0)
         (ordered.IsOwn table typed effects given.accepted given.owns given.order given.answered given.passed given.still) (λ x. is_package_object own x ≡ true)
         (reverse (b.0).formals) (λ x what out. (let both : false ≡ true = sym what.1 ∙ out in cc))
         (ordered.body_is_ordered table typed effects given.accepted given.owns given.order given.answered given.passed given.still named b)

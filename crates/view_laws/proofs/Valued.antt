@@ -101,6 +101,10 @@ no_call_taken i q n m a b r (inl (x, is)) call = (let both : Declare x (typed_tr
 no_call_taken i q n m a b r (inr (inl (p, x, path, u, is, none))) call = (let both : Assign (Name p x path u) (typed_tree.Call q n a) ≡ Call m b r = sym is ∙ call in cc)
 no_call_taken i q n m a b r (inr (inr is)) call = (let both : Hold (typed_tree.More (typed_tree.Call q n a) NoMore) ≡ Call m b r = sym is ∙ call in cc)
 
+-- an object is declared with this value, or it is assigned
+abbrev pub IsSourceOf : Instruction → TypedTree → Type 0
+IsSourceOf i e = ((x : ℕ) × (rest : TypedTree) × (i ≡ Declare x (typed_tree.More e rest))) ⊎ ((target : TypedTree) × (i ≡ Assign target e))
+
 module _ (table : Table) (typed : TypedProgram) (effects : Effects) (given : IsViewProgram table typed effects) where
   abbrev program : FlowProgram
   program = flow_program table typed
@@ -193,7 +197,7 @@ module _ (table : Table) (typed : TypedProgram) (effects : Effects) (given : IsV
   -- ---- a body
 
   module _ (named : NamedSub) (has : Has (flow_named table typed) named) (inside : Has bodies named) where
-    body : IsOfBody own given.order.rest named
+    pub body : IsOfBody own given.order.rest named
     body = subs_of own (length own.objects) given.order.rest named (omega arith) inside
 
     in_points : (r : NamedPoint) → Has (sub_points (setting_from own (body.2) (body.0)) (body.0)) r → Has named.points r
@@ -229,7 +233,7 @@ module _ (table : Table) (typed : TypedProgram) (effects : Effects) (given : IsV
     left_good : (p : NamedPoint) → Has named.points p → AllGood Good (drop (taken p.instr) p.scope)
     left_good p there x in_left = elim (point_fine p there) [
       | inl (all, asked) ↦ all x (dropped_has (taken p.instr) p.scope x in_left)
-      | inr (t, rest, scope, all, q, n, a, takes) ↦ (
+      | inr (t, rest, scope, all, q, n, a, takes, may) ↦ (
           let one = takes_one p.instr q n a takes in
           all x (beside_first one.0 t rest x (subst (λ xs. Has (drop (suc one.0) xs) x) scope (subst (λ k. Has (drop k p.scope) x) one.1 in_left))))
     ]
@@ -281,7 +285,7 @@ module _ (table : Table) (typed : TypedProgram) (effects : Effects) (given : IsV
     body_takes : (p : NamedPoint) → Has named.points p → IsTaken s p
     body_takes p there = elim (point_fine p there) [
       | inl (all, asked) ↦ inl (scalars (take (taken p.instr) p.scope) (λ x more. all x (taken_has (taken p.instr) p.scope x more)), takes_scalars p.instr asked)
-      | inr (t, rest, scope, all, q, n, a, takes) ↦ alone t rest scope all q n a takes
+      | inr (t, rest, scope, all, q, n, a, takes, may) ↦ alone t rest scope all q n a takes
           (sub_given (setting_from own (body.2) (body.0)) (body.0) p (subst (λ (z : NamedSub). Has z.points p) (sym (body.4)) there) q n a takes)
     ]
       where
@@ -333,8 +337,32 @@ module _ (table : Table) (typed : TypedProgram) (effects : Effects) (given : IsV
     body_named : (p : NamedPoint) → Has named.points p → (n : ℕ) (actuals : TypedTree) (t : ℕ) → p.instr ≡ Call n actuals (Some t) → May n
     body_named p there n actuals t is = elim (point_fine p there) [
       | inl (all, asked) ↦ subst (TakesAsked Asked May) is asked
-      | inr (x, rest, scope, all, q, m, a, takes) ↦ absurd (no_call_taken p.instr q m n a actuals (Some t) takes is)
+      | inr (x, rest, scope, all, q, m, a, takes, may) ↦ absurd (no_call_taken p.instr q m n a actuals (Some t) takes is)
     ]
+
+    pub source_named : (p : NamedPoint) → Has named.points p → (q : Pos) (n : ℕ) (a : TypedTree) → IsSourceOf p.instr (typed_tree.Call q n a) → May n
+    unfolding CallsOnly
+    source_named p there q n a source = elim (point_fine p there) [
+      | inl (all, asked) ↦ elim source [
+        | inl (x, rest, is) ↦ weaker n (subst (TakesAsked Asked May) is asked).0.0
+        | inr (target, is) ↦ weaker n (subst (TakesAsked Asked May) is asked).0
+      ]
+      | inr (t, rest, scope, all, r, m, b, takes, may) ↦ subst May (one p.instr r m b takes source) may
+    ]
+      where
+        one : (i : Instruction) (r : Pos) (m : ℕ) (b : TypedTree) → Takes i (typed_tree.Call r m b) → IsSourceOf i (typed_tree.Call q n a) → m ≡ n
+        one i r m b (inl (x, is)) (inl (y, rest, also)) =
+            (let both : Declare x (typed_tree.More (typed_tree.Call r m b) NoMore) ≡ Declare y (typed_tree.More (typed_tree.Call q n a) rest) = sym is ∙ also in cc)
+        one i r m b (inl (x, is)) (inr (target, also)) =
+            (let both : Declare x (typed_tree.More (typed_tree.Call r m b) NoMore) ≡ Assign target (typed_tree.Call q n a) = sym is ∙ also in cc)
+        one i r m b (inr (inl (k, x, path, u, is, none))) (inl (y, rest, also)) =
+            (let both : Assign (Name k x path u) (typed_tree.Call r m b) ≡ Declare y (typed_tree.More (typed_tree.Call q n a) rest) = sym is ∙ also in cc)
+        one i r m b (inr (inl (k, x, path, u, is, none))) (inr (target, also)) =
+            (let both : Assign (Name k x path u) (typed_tree.Call r m b) ≡ Assign target (typed_tree.Call q n a) = sym is ∙ also in cc)
+        one i r m b (inr (inr is)) (inl (y, rest, also)) =
+            (let both : Hold (typed_tree.More (typed_tree.Call r m b) NoMore) ≡ Declare y (typed_tree.More (typed_tree.Call q n a) rest) = sym is ∙ also in cc)
+        one i r m b (inr (inr is)) (inr (target, also)) =
+            (let both : Hold (typed_tree.More (typed_tree.Call r m b) NoMore) ≡ Assign target (typed_tree.Call q n a) = sym is ∙ also in cc)
 
   -- ---- the package objects
 
@@ -407,7 +435,7 @@ module _ (table : Table) (typed : TypedProgram) (effects : Effects) (given : IsV
   filled_named sub has q there t fills =
       by q.instr fills (elim (sub_fine (unnumbered own) sub Asked May (λ x. Unit {0}) weaker (λ r at n a x is asked. tt) (λ r at x e op is. tt) (given.results sub has) (λ x object. tt) q there) [
         | inl (all, asked) ↦ (λ n a x is. subst (TakesAsked Asked May) is asked)
-        | inr (x, rest, scope, all, p, m, b, takes) ↦ (λ n a y is. absurd (no_call_taken q.instr p m n b a (Some y) takes is))
+        | inr (x, rest, scope, all, p, m, b, takes, may) ↦ (λ n a y is. absurd (no_call_taken q.instr p m n b a (Some y) takes is))
       ]) refl
     where
       plain : (k : ℕ) → is_scalar (full s.table k) ≡ true → is_anonymous (full own.table k) ≡ false

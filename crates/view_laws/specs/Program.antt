@@ -18,7 +18,7 @@ use Rattle.ready_laws.specs.InOrder.{IsInOrder, AreAnswered, AreStill, ArePassed
 use Rattle.viewed_soundness.specs.Holds.{PartsAreNamed}
 use Rattle.viewed_steps.specs.Sound.{IsScalarObject, IsKindOfFormal}
 use Rattle.viewed_steps.specs.Ready.{AreActualsTo}
-use Rattle.view_laws.specs.InOrder.{NamesSource, AreViewsInOrder}
+use Rattle.view_laws.specs.InOrder.{AreViewsInOrder}
 
 -- What is passed is as it is asked for.
 abbrev pub PassActuals : FlowProgram → Type 0
@@ -30,8 +30,7 @@ PassActuals program =
 -- It is accepted and typed, and anonymous access types are those of objects alone. What functions give is of scalar
 -- types; or it stands alone, and is of no anonymous access type. Formals are of scalar types, or of mode `in out` and of no
 -- anonymous access type, those of functions and of the main procedure of scalar types; actuals that are copied back to go
--- through no access value, and those that aren't scalar belong to no package; no view has a call as its source, and its
--- subprograms and views are in order.
+-- through no access value, and those that aren't scalar belong to no package; and its subprograms and views are in order.
 pub record IsViewProgram (table : Table) (typed : TypedProgram) (effects : Effects) : Type 0 where
   pub accepted : Accepted table typed effects
   pub owns : OwnsByShape (flow_program table typed).table
@@ -46,8 +45,6 @@ pub record IsViewProgram (table : Table) (typed : TypedProgram) (effects : Effec
       (result : Option ℕ) → p.instr ≡ Call n actuals result
       → ((x : ℕ) → Has (sub_of (flow_program table typed) n).formals x → is_formal (flow_typing (flow_program table typed)) x ≡ true)
       → AreCopied (flow_typing (flow_program table typed)) (sub_of (flow_program table typed) n).formals actuals
-  pub sources : (sub : FlowSub) → Has (flow_program table typed).subs sub → (p : FlowPoint) → Has sub.points p
-      → NamesSource (flow_typing (flow_program table typed)) p.instr
   pub order : IsInOrder table typed
   pub results : (sub : TypedSub) → Has order.rest sub → ResultsFit (typing_of table typed) sub.body
   pub answered : AreAnswered table typed order.rest
