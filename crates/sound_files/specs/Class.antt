@@ -1,6 +1,6 @@
 -- Programs with a main procedure and without anonymous access types, by their text: those without formals and
 -- calls, those that call procedures alone, whose formals are of scalar types, and those that call functions, too,
--- whose results are. And programs with formals of types that own.
+-- whose results are. And programs with formals of types that own, and results that stand alone.
 use Rattle.std.specs.Prelude.{◌≡◌, ◌⊎◌, ℕ, true, false, List, ◌∷◌, Option, Some, None}
 use Rattle.spark_base.specs.Lists.{Has}
 use Rattle.place_names.specs.declared.act.Mode.TheVariants as mode
