@@ -11,7 +11,7 @@ use Rattle.file_positions.specs.Texts.{AreParsed}
 use Rattle.file_positions.proofs.Cuts.{cut_in_order}
 use Rattle.function_files.proofs.Main.{parsed_functions_sound}
 use Rattle.accepted_runs.proofs.Runs.{RunsAreSound}
-use Rattle.accepted_runs.proofs.Functions.{AreInThirdClass}
+use Rattle.accepted_runs.specs.Classes.{AreInThirdClass}
 use Rattle.accepted_runs.proofs.Main.{first_third}
 use Rattle.accepted_examples.proofs.Naming.{naming}
 use Rattle.accepted_examples.proofs.Typing.{typing}

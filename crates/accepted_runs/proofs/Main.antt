@@ -16,7 +16,8 @@ use Rattle.spark_tool.specs.Reading.{sources}
 use Rattle.spark_tool.specs.Product.{Product}
 use Rattle.accepted_runs.proofs.Passing.{Passed}
 use Rattle.accepted_runs.proofs.Runs.{RunsAreSound, RunsHold, RunsAreWithNull}
-use Rattle.accepted_runs.proofs.Functions.{AreInThirdClass, accepted_functions_sound}
+use Rattle.accepted_runs.specs.Classes.{AreInThirdClass}
+use Rattle.accepted_runs.proofs.Functions.{accepted_functions_sound}
 
 -- ---- the first class
 
