@@ -15,6 +15,7 @@ pub mod Waiting
 pub mod Apart
 pub mod Left
 pub mod Between
+pub mod Emptied
 pub mod Carried
 pub mod Called
 pub mod Alike
