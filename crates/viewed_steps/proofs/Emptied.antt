@@ -1,6 +1,6 @@
 -- What a place of the frame has is leaked, and the place is gone: a call with a formal of mode `out`, before the
 -- formal is declared.
-use Rattle.std.proofs.Common.{◌≡◌, refl, sym, ap, ◌∙◌, subst, ◌⊎◌, inl, inr, ℕ, Bool, true, false, List, [], ◌∷◌, ◌++◌, ◌<◌, Some}
+use Rattle.std.proofs.Common.{◌≡◌, sym, ap, ◌∙◌, subst, ◌⊎◌, inl, inr, ℕ, Bool, true, List, [], ◌∷◌, ◌<◌}
 use Rattle.spark_base.specs.Lists.{Has}
 use Rattle.place_names.specs.declared.fact.Fact.{Fact}
 use Rattle.place_names.specs.declared.fact.Fact.TheVariants.{Moved, Lent}
@@ -11,7 +11,7 @@ use Rattle.owned_ways.specs.Ways as ways
 use Rattle.owned_ways.proofs.Locations.{below, reaches_along, past_under, under_along, under_itself}
 use Rattle.owned_ways.proofs.Unique.{one_location, one_way}
 use Rattle.owned_ways.proofs.Assigned.{is_false}
-use Rattle.owned_loans.specs.Views.{Around, Views, expand, Viewed, AreClear}
+use Rattle.owned_loans.specs.Views.{Around, Views, expand, Viewed}
 use Rattle.owned_loans.proofs.Moves.{view_on, own_loan, lends_on}
 use Rattle.viewed_steps.proofs.Between.{gone_also, IsClearOf}
 

@@ -16,6 +16,7 @@ pub mod Apart
 pub mod Left
 pub mod Between
 pub mod Emptied
+pub mod Vacated
 pub mod Carried
 pub mod Called
 pub mod Alike
