@@ -1,6 +1,6 @@
 -- What a place of the frame has is leaked, and the place is gone: a call with a formal of mode `out`, before the
 -- formal is declared.
-use Rattle.std.proofs.Common.{◌≡◌, sym, ap, ◌∙◌, subst, ◌⊎◌, inl, inr, ℕ, Bool, true, List, [], ◌∷◌, ◌<◌}
+use Rattle.std.proofs.Common.{◌≡◌, refl, sym, ap, ◌∙◌, subst, ◌⊎◌, inl, inr, ℕ, Bool, not, true, List, [], ◌∷◌, ◌<◌}
 use Rattle.spark_base.specs.Lists.{Has}
 use Rattle.place_names.specs.declared.fact.Fact.{Fact}
 use Rattle.place_names.specs.declared.fact.Fact.TheVariants.{Moved, Lent}
@@ -10,8 +10,16 @@ use Rattle.owned_ways.specs.Ways.{Step, Loc, OfCell, Way, Object, Lost, Into, Al
 use Rattle.owned_ways.specs.Ways as ways
 use Rattle.owned_ways.proofs.Locations.{below, reaches_along, past_under, under_along, under_itself}
 use Rattle.owned_ways.proofs.Unique.{one_location, one_way}
-use Rattle.owned_ways.proofs.Assigned.{is_false}
-use Rattle.owned_loans.specs.Views.{Around, Views, expand, Viewed}
+use Rattle.owned_ways.proofs.Assigned.{is_false, kept_fact}
+use Rattle.owned_ways.proofs.Named.{covered_under}
+use Rattle.place_names.specs.Names.{covers}
+use Rattle.place_names.specs.Facts.{removes, effect}
+use Rattle.place_names.specs.declared.act.Act.TheVariants as act
+use Rattle.place_names.specs.declared.act.Mode.TheVariants as mode
+use Rattle.spark_base.proofs.Lists.{Has-append_cases, Has-filter}
+use Rattle.soundness.proofs.Contents.{bool_cases}
+use Rattle.std.specs.List.{filter}
+use Rattle.owned_loans.specs.Views.{Around, Views, AreClear, expand, Viewed}
 use Rattle.owned_loans.proofs.Moves.{view_on, own_loan, lends_on}
 use Rattle.viewed_steps.proofs.Between.{gone_also, IsClearOf}
 
@@ -93,14 +101,61 @@ module _ (s t : View) (l : Loc) (d : IsEmptied s t l) where
 -- ---- with views
 
 module _ (home : ℕ → ℕ) (observer : ℕ → Bool) (v : Views) (other : Around home) (gone : Way → Type 0) where
-  -- Facts that stay: loans, and moved names that stand for no way that goes on from the place.
+  fewer_clear : (facts facts' : List Fact) → ((f : Fact) → Has facts' f → Has facts f) → AreClear observer facts → AreClear observer facts'
+  fewer_clear facts facts' part clear = record {
+    moved = λ k h n m has lent. clear.moved k h n m (part (Moved n) has) (part (Lent k h m) lent);
+    lent = λ b h n m one two. clear.lent b h n m (part _ one) (part _ two);
+    seen = λ b h n m one two. clear.seen b h n m (part _ one) (part _ two);
+    owned = λ n has. clear.owned n (part (Moved n) has);
+  }
+
+  -- Facts that stay: loans, and moved names, but for some that stand for ways that go on from the place.
   pub record AreLeft (facts facts' : List Fact) (u : Way) : Type 0 where
     pub part : (f : Fact) → Has facts' f → Has facts f
     pub loans : (k : Loan) (h : ℕ) (n : PlaceName) → Has facts (Lent k h n) → Has facts' (Lent k h n)
-    pub moved : (w : Way) → Named home w → (Under u (expand v w) → ⊥) → Has facts (Moved (name_of w)) → Has facts' (Moved (name_of w))
+    pub moved : (w : Way) → Named home w → Has facts (Moved (name_of w)) → Has facts' (Moved (name_of w)) ⊎ Under u (expand v w)
+
+  -- So are the facts after the act of an actual of mode `out`, if names that go on from it stand for themselves.
+  pub out_left : (facts : List Fact) (to : Way) (owning access : Bool) → Named home to → ((w : Way) → Named home w → Under to w → expand v w ≡ w)
+      → AreLeft facts (effect (act.Actual (name_of to) mode.Out owning access) facts) to
+  out_left facts to owning access named itself = record {
+    part = λ f has. elim (Has-append_cases (filter (λ g. not (removes (act.Actual (name_of to) mode.Out owning access) g)) facts) [] f has) [
+      | inl old ↦ (Has-filter (λ g. not (removes (act.Actual (name_of to) mode.Out owning access) g)) facts f old).0
+      | inr never ↦ absurd never
+    ];
+    loans = λ k h n has. kept_fact (act.Actual (name_of to) mode.Out owning access) facts (Lent k h n) has refl;
+    moved = λ w named_w has. elim (bool_cases (covers (name_of to) (name_of w))) [
+      | inl covered ↦ inr (let under = covered_under home to w named named_w covered in subst (Under to) (sym (itself w named_w under)) under)
+      | inr other ↦ inl (kept_fact (act.Actual (name_of to) mode.Out owning access) facts (Moved (name_of w)) has other)
+    ];
+  }
+
+  -- An act that takes back what was moved at a way or past it: meanwhile others know of that.
+  pub taken_back : (s : View) (u : Way) (facts facts' : List Fact) → Viewed home observer other v s facts → AreLeft facts facts' u
+      → ((w : Way) → other.gone w → gone w) → ((w : Way) → Under u w → gone w)
+      → Viewed home observer (gone_also home other gone) v s facts'
+  taken_back s u facts facts' viewed left more adds = record {
+    owned = viewed.owned;
+    covered = viewed.covered;
+    known = λ w m n r h. elim (viewed.known w m n r h) [
+      | inr else ↦ inr (more w else)
+      | inl (inr away) ↦ inl (inr away)
+      | inl (inl (z, moved, leads)) ↦ elim (left.moved z moved.0 moved.1) [
+        | inl stays ↦ inl (inl (z, (moved.0, stays), leads))
+        | inr under ↦ inr (adds w (subst (Under u) leads under))
+      ]
+    ];
+    clear = fewer_clear facts facts' left.part viewed.clear;
+    views = λ x w has.
+        view_on home observer other v s s facts facts' x w (viewed.views x w has) (λ b n loan. own_loan observer facts facts' left.loans b x n loan)
+        (viewed.views x w has).reaches;
+    lends = λ k n lent. lends_on observer v facts facts' left.loans k n (viewed.lends k n lent);
+    far = viewed.far;
+  }
 
   pub emptied : (s t : View) (u : Way) (l : Loc) (facts facts' : List Fact) → IsEmptied s t l → Viewed home observer other v s facts → IsRooted u
-      → Reaches s u l → AreLeft facts facts' u → IsClearOf home observer v other gone u → ((w : Way) → other.gone w → gone w)
+      → Reaches s u l → AreLeft facts facts' u → IsClearOf home observer v other gone u
+      → ((w : Way) → other.gone w → (Under u w → ⊥) → gone w)
       → ((p : List Step) → gone (along u p)) → Viewed home observer (gone_also home other gone) v t facts'
   emptied s t u l facts facts' d viewed rooted reaches left off more adds = record {
     owned = owned_then s t l d viewed.owned;
@@ -111,21 +166,15 @@ module _ (home : ℕ → ℕ) (observer : ℕ → Bool) (v : Views) (other : Aro
           one_way s viewed.owned w (along u b.0) m (before s t l d w m n r) (subst (Reaches s (along u b.0)) (sym b.1) (reaches_along s u l b.0 reaches)) in
           inr (subst gone (sym same) (adds b.0)))
       | inr outside ↦ elim (viewed.known w m n (before s t l d w m n r) (sym (d.off m outside) ∙ h)) [
-        | inr else ↦ inr (more w else)
+        | inr else ↦ inr (more w else (λ under. outside (inside_there s t l d viewed.owned u rooted reaches w m n under r)))
         | inl (inr away) ↦ inl (inr away)
-        | inl (inl (z, moved, leads)) ↦ inl (inl (
-          z,
-          (moved.0, left.moved z moved.0 (λ under. outside (inside_there s t l d viewed.owned u rooted reaches w m n (subst (Under u) leads under) r)) moved.1),
-          leads,
-        ))
+        | inl (inl (z, moved, leads)) ↦ elim (left.moved z moved.0 moved.1) [
+          | inl stays ↦ inl (inl (z, (moved.0, stays), leads))
+          | inr under ↦ absurd (outside (inside_there s t l d viewed.owned u rooted reaches w m n (subst (Under u) leads under) r))
+        ]
       ]
     ];
-    clear = record {
-      moved = λ k h n m has lent. viewed.clear.moved k h n m (left.part (Moved n) has) (left.part (Lent k h m) lent);
-      lent = λ b h n m one two. viewed.clear.lent b h n m (left.part _ one) (left.part _ two);
-      seen = λ b h n m one two. viewed.clear.seen b h n m (left.part _ one) (left.part _ two);
-      owned = λ n has. viewed.clear.owned n (left.part (Moved n) has);
-    };
+    clear = fewer_clear facts facts' left.part viewed.clear;
     views = λ x w has.
         view_on home observer other v s t facts facts' x w (viewed.views x w has) (λ b n loan. own_loan observer facts facts' left.loans b x n loan)
         (keeps_off s t l d viewed.owned u rooted reaches w (OfCell (v.cell x)) (viewed.views x w has).reaches (λ past. off.own x w has past));
