@@ -1,14 +1,14 @@
 -- What a place has is leaked by the leak checks of the place, and the machine marks it as gone.
-use Rattle.std.proofs.Common.{◌≡◌, refl, sym, ap, ◌∙◌, subst, ◌⊎◌, inl, inr, ℕ, suc, ◌+◌, ◌<◌, Bool, true, false, List, ◌++◌, take, drop, length, get_or, arith}
+use Rattle.std.proofs.Common.{[], ◌≡◌, refl, sym, ap, ◌∙◌, subst, ◌⊎◌, inl, inr, ℕ, suc, ◌+◌, ◌<◌, Bool, true, false, List, ◌++◌, take, drop, length, get_or, arith}
 use Rattle.spark_base.specs.declared.position.Pos.{Pos}
 use Rattle.type_definitions.specs.Types.{words}
-use Rattle.flow_paths.specs.Objects.{Typing}
+use Rattle.flow_paths.specs.Objects.{Typing, object_at}
 use Rattle.machine.specs.Words.{access_offsets}
 use Rattle.machine.specs.Words as machine
-use Rattle.machine.specs.Memory.{Slot, Memory, Place, no_slot, slots_of, slots_at, gone_at, moved_out}
+use Rattle.machine.specs.Memory.{Slot, Memory, Place, no_slot, slots_of, slots_at, gone_at, moved_out, fresh, declared}
 use Rattle.machine.specs.Calls.{checked_at}
 use Rattle.machine.specs.States.{Waiting, Leak}
-use Rattle.owned_ways.specs.Ways.{Step, Loc, Gone, Held, Below}
+use Rattle.owned_ways.specs.Ways.{Step, Loc, Gone, Held, Below, OfVariable, OfHand, OfRoot, OfCell, Inside, IsSame}
 use Rattle.owned_ways.proofs.Locations.{same_loc}
 use Rattle.part_offsets.specs.Parts.{type_in, offset_in, is_leaf, IsSettled}
 use Rattle.part_offsets.proofs.Ranges.{leaf_outside}
@@ -18,7 +18,8 @@ use Rattle.soundness.specs.Changes.{Alike, Put, Checks, leaks_at}
 use Rattle.soundness.specs.Typed.{Kept, Spot, loc_of}
 use Rattle.soundness.proofs.Joined.{offset_join, leaf_join, trunk_trunk, below_from}
 use Rattle.soundness.proofs.Contents.{bool_cases, word_yes, word_no, shown, word_part, leaf_below, checks_made}
-use Rattle.soundness.proofs.Memories.{marked_gone, marked_length}
+use Rattle.soundness.proofs.Memories.{marked_gone, marked_length, put_same, put_other}
+use Rattle.soundness.proofs.Defaults.{blank_word, none_default}
 use Rattle.soundness.proofs.Steps.{content_slots}
 use Rattle.soundness.proofs.Steps.{put_at, put_off, put_count, put_freed, alike, matches_words, taken_slots, room}
 use Rattle.viewed_steps.proofs.Emptied.{IsEmptied}
@@ -147,3 +148,23 @@ module _ (s : Typing) (settled : IsSettled s.table) (m : Memory) (hands : List W
     where
       slots_with : List Slot → List Slot
       slots_with slots = take k.at (slots_at s m k.base) ++ slots ++ drop (k.at + length slots) (slots_at s m k.base)
+
+-- A variable that has nothing gets what an object has without a value: owners see no change.
+pub default_same : (s : Typing) (m : Memory) (hands : List Waiting) (leaks : List Leak) (f x : ℕ)
+    → ((p : List Step) → word_in s.table (content s m [] (OfRoot (OfVariable f x))) p ≡ Empty)
+    → IsSame (seen s m hands leaks) (seen s (declared f x (machine.default s.table (object_at s x).of) m) hands leaks)
+default_same s m hands leaks f x blank = record { word = λ l. by_trunk l (steps_in l); made = refl; freed = λ n. refl; leaked = λ n. refl }
+  where
+    by_trunk : (l : Loc) (p : List Step)
+        → word_in s.table (content s (declared f x (machine.default s.table (object_at s x).of) m) hands (trunk l)) p ≡ word_in s.table (content s m hands (trunk l)) p
+    by_trunk (OfRoot (OfVariable g y)) p = elim (same_loc (OfRoot (OfVariable f x)) (OfRoot (OfVariable g y))) [
+      | inr ne ↦ ap (λ z. word_in s.table (record { of = (object_at s y).of; slots = z; owns = (content s m hands (OfRoot (OfVariable g y))).owns }) p)
+          (put_other s f x g y (λ e. ne (ap OfRoot e)) (fresh (machine.default s.table (object_at s x).of)) m.variables)
+      | inl e ↦ subst (λ z. word_in s.table (content s (declared f x (machine.default s.table (object_at s x).of) m) hands z) p ≡ word_in s.table (content s m hands z) p) e
+          (blank_word s.table (content s (declared f x (machine.default s.table (object_at s x).of) m) hands (OfRoot (OfVariable f x)))
+          (machine.default s.table (object_at s x).of) (put_same s f x (fresh (machine.default s.table (object_at s x).of)) m.variables)
+          (none_default s.table (object_at s x).of) p ∙ sym (blank p))
+    ]
+    by_trunk (OfRoot (OfHand h)) p = refl
+    by_trunk (OfCell c) p = refl
+    by_trunk (Inside l i) p = by_trunk l p
