@@ -8,7 +8,7 @@ use Rattle.machine.specs.Words as machine
 use Rattle.machine.specs.Memory.{Slot, Memory, Place, no_slot, slots_of, slots_at, gone_at, moved_out, fresh, declared}
 use Rattle.machine.specs.Calls.{checked_at}
 use Rattle.machine.specs.States.{Waiting, Leak}
-use Rattle.owned_ways.specs.Ways.{Step, Loc, Gone, Held, Below, OfVariable, OfHand, OfRoot, OfCell, Inside, IsSame}
+use Rattle.owned_ways.specs.Ways.{Empty, Step, Loc, Gone, Held, Below, OfVariable, OfHand, OfRoot, OfCell, Inside, IsSame}
 use Rattle.owned_ways.proofs.Locations.{same_loc}
 use Rattle.part_offsets.specs.Parts.{type_in, offset_in, is_leaf, IsSettled}
 use Rattle.part_offsets.proofs.Ranges.{leaf_outside}
