@@ -16,6 +16,8 @@ pub mod Waiting
 pub mod Apart
 pub mod Left
 pub mod Between
+pub mod Emptied
+pub mod Vacated
 pub mod Carried
 pub mod Called
 pub mod Waited
