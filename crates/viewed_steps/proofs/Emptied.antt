@@ -1,6 +1,6 @@
 -- What a place of the frame has is leaked, and the place is gone: a call with a formal of mode `out`, before the
 -- formal is declared.
-use Rattle.std.proofs.Common.{◌≡◌, refl, sym, ap, ◌∙◌, subst, ◌⊎◌, inl, inr, ℕ, Bool, not, true, List, [], ◌∷◌, ◌<◌}
+use Rattle.std.proofs.Common.{◌≡◌, refl, sym, ap, ◌∙◌, subst, ◌⊎◌, inl, inr, ℕ, Bool, not, true, List, [], ◌∷◌, ◌<◌, Some}
 use Rattle.spark_base.specs.Lists.{Has}
 use Rattle.place_names.specs.declared.fact.Fact.{Fact}
 use Rattle.place_names.specs.declared.fact.Fact.TheVariants.{Moved, Lent}
@@ -19,8 +19,8 @@ use Rattle.place_names.specs.declared.act.Mode.TheVariants as mode
 use Rattle.spark_base.proofs.Lists.{Has-append_cases, Has-filter}
 use Rattle.soundness.proofs.Contents.{bool_cases}
 use Rattle.std.specs.List.{filter}
-use Rattle.owned_loans.specs.Views.{Around, Views, AreClear, expand, Viewed}
-use Rattle.owned_loans.proofs.Moves.{view_on, own_loan, lends_on}
+use Rattle.owned_loans.specs.Views.{Around, Views, AreClear, expand, Viewed, IsForeign}
+use Rattle.owned_loans.proofs.Moves.{view_on, reached, own_loan, lends_on}
 use Rattle.viewed_steps.proofs.Between.{gone_also, IsClearOf}
 
 -- The numbers at a place and in it are leaked, and the place has none.
@@ -34,7 +34,7 @@ pub record IsEmptied (s t : View) (l : Loc) : Type 0 where
   pub only : (c : ℕ) → t.leaked c ≡ true → (s.leaked c ≡ true) ⊎ ((p : List Step) × (s.word (part l p) ≡ Held c))
 
 module _ (s t : View) (l : Loc) (d : IsEmptied s t l) where
-  owner_before : (m : Loc) (c : ℕ) → t.word m ≡ Held c → (s.word m ≡ Held c) × (Below l m → ⊥)
+  pub owner_before : (m : Loc) (c : ℕ) → t.word m ≡ Held c → (s.word m ≡ Held c) × (Below l m → ⊥)
   owner_before m c h =
       let outside : Below l m → ⊥ = λ b. d.goes b.0 c (ap t.word (sym b.1) ∙ h) in
       (sym (d.off m outside) ∙ h, outside)
@@ -100,38 +100,43 @@ module _ (s t : View) (l : Loc) (d : IsEmptied s t l) where
 
 -- ---- with views
 
-module _ (home : ℕ → ℕ) (observer : ℕ → Bool) (v : Views) (other : Around home) (gone : Way → Type 0) where
-  fewer_clear : (facts facts' : List Fact) → ((f : Fact) → Has facts' f → Has facts f) → AreClear observer facts → AreClear observer facts'
-  fewer_clear facts facts' part clear = record {
-    moved = λ k h n m has lent. clear.moved k h n m (part (Moved n) has) (part (Lent k h m) lent);
-    lent = λ b h n m one two. clear.lent b h n m (part _ one) (part _ two);
-    seen = λ b h n m one two. clear.seen b h n m (part _ one) (part _ two);
-    owned = λ n has. clear.owned n (part (Moved n) has);
-  }
+fewer_clear : (observer : ℕ → Bool) (facts facts' : List Fact) → ((f : Fact) → Has facts' f → Has facts f) → AreClear observer facts → AreClear observer facts'
+fewer_clear observer facts facts' part clear = record {
+  moved = λ k h n m has lent. clear.moved k h n m (part (Moved n) has) (part (Lent k h m) lent);
+  lent = λ b h n m one two. clear.lent b h n m (part _ one) (part _ two);
+  seen = λ b h n m one two. clear.seen b h n m (part _ one) (part _ two);
+  owned = λ n has. clear.owned n (part (Moved n) has);
+}
 
-  -- Facts that stay: loans, and moved names, but for some that stand for ways that go on from the place.
-  pub record AreLeft (facts facts' : List Fact) (u : Way) : Type 0 where
-    pub part : (f : Fact) → Has facts' f → Has facts f
-    pub loans : (k : Loan) (h : ℕ) (n : PlaceName) → Has facts (Lent k h n) → Has facts' (Lent k h n)
-    pub moved : (w : Way) → Named home w → Has facts (Moved (name_of w)) → Has facts' (Moved (name_of w)) ⊎ Under u (expand v w)
+-- Facts that stay: loans, and moved names, but for some that stand for ways that go on from the place.
+pub record AreLeft (home : ℕ → ℕ) (v : Views) (facts facts' : List Fact) (u : Way) : Type 0 where
+  pub part : (f : Fact) → Has facts' f → Has facts f
+  pub loans : (k : Loan) (h : ℕ) (n : PlaceName) → Has facts (Lent k h n) → Has facts' (Lent k h n)
+  pub moved : (w : Way) → Named home w → Has facts (Moved (name_of w)) → Has facts' (Moved (name_of w)) ⊎ Under u (expand v w)
 
-  -- So are the facts after the act of an actual of mode `out`, if names that go on from it stand for themselves.
-  pub out_left : (facts : List Fact) (to : Way) (owning access : Bool) → Named home to → ((w : Way) → Named home w → Under to w → expand v w ≡ w)
-      → AreLeft facts (effect (act.Actual (name_of to) mode.Out owning access) facts) to
-  out_left facts to owning access named itself = record {
-    part = λ f has. elim (Has-append_cases (filter (λ g. not (removes (act.Actual (name_of to) mode.Out owning access) g)) facts) [] f has) [
-      | inl old ↦ (Has-filter (λ g. not (removes (act.Actual (name_of to) mode.Out owning access) g)) facts f old).0
-      | inr never ↦ absurd never
-    ];
-    loans = λ k h n has. kept_fact (act.Actual (name_of to) mode.Out owning access) facts (Lent k h n) has refl;
-    moved = λ w named_w has. elim (bool_cases (covers (name_of to) (name_of w))) [
-      | inl covered ↦ inr (let under = covered_under home to w named named_w covered in subst (Under to) (sym (itself w named_w under)) under)
-      | inr other ↦ inl (kept_fact (act.Actual (name_of to) mode.Out owning access) facts (Moved (name_of w)) has other)
-    ];
-  }
+pub none_left : (home : ℕ → ℕ) (v : Views) (facts : List Fact) (u : Way) → AreLeft home v facts facts u
+none_left home v facts u = record { part = λ f has. has; loans = λ k h n has. has; moved = λ w named has. inl has }
 
+-- So are the facts after the act of an actual of mode `out`, if names that go on from it stand for themselves.
+pub out_left : (home : ℕ → ℕ) (v : Views) (facts : List Fact) (to : Way) (owning access : Bool) → Named home to
+    → ((w : Way) → Named home w → Under to w → expand v w ≡ w)
+    → AreLeft home v facts (effect (act.Actual (name_of to) mode.Out owning access) facts) to
+out_left home v facts to owning access named itself = record {
+  part = λ f has. elim (Has-append_cases (filter (λ g. not (removes (act.Actual (name_of to) mode.Out owning access) g)) facts) [] f has) [
+    | inl old ↦ (Has-filter (λ g. not (removes (act.Actual (name_of to) mode.Out owning access) g)) facts f old).0
+    | inr never ↦ absurd never
+  ];
+  loans = λ k h n has. kept_fact (act.Actual (name_of to) mode.Out owning access) facts (Lent k h n) has refl;
+  moved = λ w named_w has. elim (bool_cases (covers (name_of to) (name_of w))) [
+    | inl covered ↦ inr (let under = covered_under home to w named named_w covered in subst (Under to) (sym (itself w named_w under)) under)
+    | inr other ↦ inl (kept_fact (act.Actual (name_of to) mode.Out owning access) facts (Moved (name_of w)) has other)
+  ];
+}
+
+module _ (home : ℕ → ℕ) (observer : ℕ → Bool) (v : Views) (other : Around home) (gone : Way → Type 0)
+    (apart : (x : ℕ) (w z : Way) → v.way x ≡ Some w → IsForeign home w → gone z → Under z w ⊎ Under w z → ⊥) where
   -- An act that takes back what was moved at a way or past it: meanwhile others know of that.
-  pub taken_back : (s : View) (u : Way) (facts facts' : List Fact) → Viewed home observer other v s facts → AreLeft facts facts' u
+  pub taken_back : (s : View) (u : Way) (facts facts' : List Fact) → Viewed home observer other v s facts → AreLeft home v facts facts' u
       → ((w : Way) → other.gone w → gone w) → ((w : Way) → Under u w → gone w)
       → Viewed home observer (gone_also home other gone) v s facts'
   taken_back s u facts facts' viewed left more adds = record {
@@ -145,16 +150,17 @@ module _ (home : ℕ → ℕ) (observer : ℕ → Bool) (v : Views) (other : Aro
         | inr under ↦ inr (adds w (subst (Under u) leads under))
       ]
     ];
-    clear = fewer_clear facts facts' left.part viewed.clear;
+    clear = fewer_clear observer facts facts' left.part viewed.clear;
     views = λ x w has.
         view_on home observer other v s s facts facts' x w (viewed.views x w has) (λ b n loan. own_loan observer facts facts' left.loans b x n loan)
-        (viewed.views x w has).reaches;
+        (reached home observer other v s facts x w (viewed.views x w has));
+    whole = apart;
     lends = λ k n lent. lends_on observer v facts facts' left.loans k n (viewed.lends k n lent);
     far = viewed.far;
   }
 
   pub emptied : (s t : View) (u : Way) (l : Loc) (facts facts' : List Fact) → IsEmptied s t l → Viewed home observer other v s facts → IsRooted u
-      → Reaches s u l → AreLeft facts facts' u → IsClearOf home observer v other gone u
+      → Reaches s u l → AreLeft home v facts facts' u → IsClearOf home observer v other gone apart u
       → ((w : Way) → other.gone w → (Under u w → ⊥) → gone w)
       → ((p : List Step) → gone (along u p)) → Viewed home observer (gone_also home other gone) v t facts'
   emptied s t u l facts facts' d viewed rooted reaches left off more adds = record {
@@ -174,10 +180,11 @@ module _ (home : ℕ → ℕ) (observer : ℕ → Bool) (v : Views) (other : Aro
         ]
       ]
     ];
-    clear = fewer_clear facts facts' left.part viewed.clear;
+    clear = fewer_clear observer facts facts' left.part viewed.clear;
     views = λ x w has.
         view_on home observer other v s t facts facts' x w (viewed.views x w has) (λ b n loan. own_loan observer facts facts' left.loans b x n loan)
-        (keeps_off s t l d viewed.owned u rooted reaches w (OfCell (v.cell x)) (viewed.views x w has).reaches (λ past. off.own x w has past));
+        (keeps_off s t l d viewed.owned u rooted reaches w (OfCell (v.cell x)) (reached home observer other v s facts x w (viewed.views x w has)) (λ past. off.own x w has past));
+    whole = apart;
     lends = λ k n lent. lends_on observer v facts facts' left.loans k n (viewed.lends k n lent);
     far = λ w n held. keeps_off s t l d viewed.owned u rooted reaches w (OfCell n) (viewed.far w n held) (λ past. off.far w n held past);
   }

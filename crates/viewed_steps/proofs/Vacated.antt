@@ -8,7 +8,7 @@ use Rattle.machine.specs.Words as machine
 use Rattle.machine.specs.Memory.{Slot, Memory, Place, no_slot, slots_of, slots_at, gone_at, moved_out, fresh, declared}
 use Rattle.machine.specs.Calls.{checked_at}
 use Rattle.machine.specs.States.{Waiting, Leak}
-use Rattle.owned_ways.specs.Ways.{Empty, Step, Loc, Gone, Held, Below, OfVariable, OfHand, OfRoot, OfCell, Inside, IsSame}
+use Rattle.owned_ways.specs.Ways.{Empty, Step, Loc, Gone, Held, Below, OfVariable, OfHand, OfRoot, OfCell, Inside, IsSame, part}
 use Rattle.owned_ways.proofs.Locations.{same_loc}
 use Rattle.part_offsets.specs.Parts.{type_in, offset_in, is_leaf, IsSettled}
 use Rattle.part_offsets.proofs.Ranges.{leaf_outside}
@@ -24,7 +24,7 @@ use Rattle.soundness.proofs.Steps.{content_slots}
 use Rattle.soundness.proofs.Steps.{put_at, put_off, put_count, put_freed, alike, matches_words, taken_slots, room}
 use Rattle.viewed_steps.proofs.Emptied.{IsEmptied}
 
-module _ (s : Typing) (settled : IsSettled s.table) (m : Memory) (hands : List Waiting) (leaks : List Leak) (pos : Pos) (k : Place) (l : Loc)
+module _ (s : Typing) (settled : IsSettled s.table) (m : Memory) (hands : List Waiting) (leaks : List Leak) (k : Place) (l : Loc)
     (kept : Kept s m hands) (spot : Spot s m hands k l) (owns : (content s m hands (trunk l)).owns ≡ true) where
   abbrev a : Loc → Content
   a = content s m hands
@@ -119,8 +119,9 @@ module _ (s : Typing) (settled : IsSettled s.table) (m : Memory) (hands : List W
       let at = ap (λ t. owner_word (get_or (b (trunk l)).slots (offset_in s.table t (p ++ steps_in l)) no_slot)) here.of in
       let is : Held n ≡ Gone = sym is_shown.slot ∙ at ∙ gone in cc
 
-  checks : Checks s.table (content s m hands (trunk l)) (steps_in l) leaks (leaks ++ leaks_at s pos m k)
-  checks =
+  -- the leak checks of the place fail for what it has
+  pub place_checks : (pos : Pos) → Checks s.table (content s m hands (trunk l)) (steps_in l) leaks (leaks ++ leaks_at s pos m k)
+  place_checks pos =
       subst (λ z. Checks s.table (content s m hands (trunk l)) (steps_in l) leaks (leaks ++ z)) same_leaks
       (checks_made s.table settled (content s m hands (trunk l)) (steps_in l) k.of pos leaks spot.there owns like)
     where
@@ -131,9 +132,10 @@ module _ (s : Typing) (settled : IsSettled s.table) (m : Memory) (hands : List W
           ∙ ap (λ z. checked_at pos k.at (content s m hands z).slots (access_offsets s.table k.of)) spot.base
           ∙ ap (λ z. checked_at pos k.at z (access_offsets s.table k.of)) (content_slots s m hands k.base spot.made)
 
-  -- So owners see the place emptied.
-  pub vacated : IsEmptied (seen s m hands leaks) (seen s (moved_out s k m) hands (leaks ++ leaks_at s pos m k)) l
-  vacated = record {
+  -- Where all that the place has is leaked, owners see it emptied.
+  pub vacated : (found : List Leak) → Checks s.table (content s m hands (trunk l)) (steps_in l) leaks found
+      → IsEmptied (seen s m hands leaks) (seen s (moved_out s k m) hands found) l
+  vacated found checks = record {
     made = ap suc (put_count s m k.base (slots_with marks));
     freed = λ c. put_freed s m k.base (slots_with marks) c;
     off = off;
@@ -148,6 +150,15 @@ module _ (s : Typing) (settled : IsSettled s.table) (m : Memory) (hands : List W
     where
       slots_with : List Slot → List Slot
       slots_with slots = take k.at (slots_at s m k.base) ++ slots ++ drop (k.at + length slots) (slots_at s m k.base)
+
+  -- what was gone there is so still
+  pub vacated_gone : (found : List Leak) (p : List Step) → (seen s m hands leaks).word (part l p) ≡ Gone → (seen s (moved_out s k m) hands found).word (part l p) ≡ Gone
+  vacated_gone found p gone =
+      let is_shown = shown s.table (a (trunk l)) (p ++ steps_in l) Gone (λ z. cc) (sym (word_part s.table a l p) ∙ gone) in
+      word_part s.table b l p
+      ∙ word_yes s.table (b (trunk l)) (p ++ steps_in l) (here.owns ∙ owns) (ap (λ t. is_leaf s.table t (p ++ steps_in l)) here.of ∙ is_shown.leaf)
+      ∙ ap (λ t. owner_word (get_or (b (trunk l)).slots (offset_in s.table t (p ++ steps_in l)) no_slot)) here.of
+      ∙ gone_word _ _ (marked p is_shown.leaf)
 
 -- A variable that has nothing gets what an object has without a value: owners see no change.
 pub default_same : (s : Typing) (m : Memory) (hands : List Waiting) (leaks : List Leak) (f x : ℕ)
