@@ -11,7 +11,6 @@ pub mod Main
 -- what is called
 pub mod Called
 -- what the third class says as it is laid out
-pub mod Temporaries
 pub mod Classes
 pub mod Results
 pub mod Mains
