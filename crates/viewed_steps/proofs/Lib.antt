@@ -8,6 +8,7 @@ pub mod Lent
 pub mod Placed
 pub mod Ended
 pub mod Sources
+pub mod Sighted
 pub mod Beside
 pub mod Inherited
 pub mod Uses
