@@ -27,6 +27,7 @@ pub mod Backed
 pub mod Whole
 pub mod Passed
 pub mod Eased
+pub mod Blank
 pub mod Standing
 pub mod Packages
 pub mod Innermost
