@@ -1,11 +1,11 @@
 -- A value of an anonymous access type that waits. Owners don't see it.
-use Rattle.std.proofs.Common.{◌≡◌, refl, sym, ap, ◌∙◌, subst, ℕ, Bool, true, List, [], ◌∷◌, get_or}
+use Rattle.std.proofs.Common.{◌≡◌, refl, sym, ap, ◌∙◌, ℕ, Bool, true, List, [], ◌∷◌, get_or}
 use Rattle.place_names.specs.declared.fact.Fact.{Fact}
 use Rattle.type_definitions.specs.declared.table.Shape.TheVariants as shape
-use Rattle.type_definitions.specs.Types.{shape_of, full, view_of as view_of_shape}
+use Rattle.type_definitions.specs.Types.{shape_of, full}
 use Rattle.flow_paths.specs.Objects.{Typing, is_anonymous}
 use Rattle.machine.specs.Words as machine
-use Rattle.machine.specs.Memory.{Slot, Memory, fresh, no_slot}
+use Rattle.machine.specs.Memory.{Memory, fresh, no_slot}
 use Rattle.machine.specs.States.{Waiting, Leak}
 use Rattle.owned_ways.specs.Ways.{IsSame}
 use Rattle.part_offsets.specs.Parts.{type_in, offset_in, IsSettled}

@@ -9,6 +9,7 @@ pub mod Placed
 pub mod Ended
 pub mod Sources
 pub mod Sighted
+pub mod Returned
 pub mod Beside
 pub mod Inherited
 pub mod Uses

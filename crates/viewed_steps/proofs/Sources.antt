@@ -38,7 +38,7 @@ view_shape (shape.Fields cs) view = cc
 view_shape (shape.Elements a b el) view = cc
 view_shape (shape.Same of) view = cc
 
-view_scalar : (sh : Shape) → is_anonymous (view_of_shape sh) ≡ true → is_scalar (view_of_shape sh) ≡ true → ⊥
+pub view_scalar : (sh : Shape) → is_anonymous (view_of_shape sh) ≡ true → is_scalar (view_of_shape sh) ≡ true → ⊥
 view_scalar sh view scalar = by_shape (view_shape sh view)
   where
     by_shape : ((k : ℕ) × (e : Bool) × (o : Bool) × (sh ≡ shape.Access k e o)) → ⊥
