@@ -8,5 +8,7 @@ pub mod Viewing
 pub mod Sources
 pub mod Outcomes
 pub mod Lends
+-- what waits for borrowers and observers
+pub mod Coming
 -- what formals see
 pub mod Given
