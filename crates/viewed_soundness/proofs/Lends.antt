@@ -24,7 +24,7 @@ use Rattle.machine.specs.States.{Waiting, State, Outcome}
 use Rattle.machine.specs.Step.{Turn, counted, typing, here, start, waiting, Stored, first_value, taken_by, declare, assign, goes, behind, led, successor, leaking_goes, target_pos}
 use Rattle.machine.specs.Step as steps
 use Rattle.machine.specs.Owners.{waiting_in}
-use Rattle.owned_ways.specs.Ways.{Loc, Way, All, Reaches, IsRooted, Named, Allows, after, AllowsAll, number_of, base_of, OfRoot}
+use Rattle.owned_ways.specs.Ways.{Loc, Way, All, Reaches, IsRooted, Under, Named, Allows, after, AllowsAll, number_of, base_of, OfRoot}
 use Rattle.owned_ways.specs.Ways as ways
 use Rattle.part_offsets.specs.Parts.{IsSettled}
 use Rattle.soundness.specs.Seen.{IsNear, content, trunk, seen, home, is_view_formal}
@@ -47,7 +47,7 @@ use Rattle.soundness.proofs.Taking.{Takes}
 use Rattle.owned_loans.specs.Views.{Go, on, Around, Views, expand, Viewed, Becomes, Unused, with_view}
 use Rattle.owned_loans.proofs.Allowed.{Cleared, borrow_clears, observe_clears, loan_kept, reborrow_clears}
 use Rattle.owned_ways.proofs.Dropped.{named_base}
-use Rattle.owned_loans.proofs.Ways.{Lifted, next_of, lifts, lifted_root, lifted_way, root_on, named_on, base_on}
+use Rattle.owned_loans.proofs.Ways.{Lifted, next_of, lifts, lifted_root, lifted_way, root_on, named_on, base_on, on_under}
 use Rattle.owned_loans.proofs.Taken.{becomes_with}
 use Rattle.owned_loans.proofs.Taken as lent
 use Rattle.viewed_soundness.specs.Holds.{PartsAreNamed, is_view, sees_only, IsOwners, Holds}
@@ -161,15 +161,31 @@ module _ (t : Turn) (settled : IsSettled (typing t).table) (own_law : OwnsByShap
           let off : q ≡ x → ⊥ = λ same. (let no = eq-eqb q x same in cc) in
           inl (record { way = becomes.ways q off; loan = becomes.loans q off; up = becomes.ups q off })
 
+  -- what a name stands for that is rooted in a view goes on from the way of that
+  comes_under : (y : ℕ) (k w : Way) → expand v k ≡ w → (l : Lifted v k) → l.object ≡ y → (q : Way) × (v.way y ≡ Some q) × Under q w
+  comes_under y k w is l object =
+      (l.way, subst (λ q. v.way q ≡ Some l.way) object l.has, subst (Under l.way) (sym (lifted_way v k l) ∙ is) (on_under l.way l.rest))
+
+  in_word : (z : machine.Word) (w k : Way) → way_from z w ≡ Some k → (n : ℕ) × (z ≡ machine.Cell n)
+  in_word (machine.Cell n) w k e = (n, refl)
+  in_word (machine.Int n) w k e = cc
+  in_word (machine.Enumerated n) w k e = cc
+  in_word machine.Null w k e = cc
+
   -- it is taken from an object, or from what another view designates
   taken_from : (views : Views) (x y : ℕ) (z : machine.Word) (k loan : Way) (facts : List Fact)
       → Becomes v views x (way_from z (expand v k)) loan k (number_in z) → may x y → Named (home s depth) k → number_of k ≡ y → (y ≡ x → ⊥)
-      → (sees_only s x ≡ true → Has facts (Lent Observed x (ways.name_of loan))) → Turned_here views facts
-  taken_from views x y z k loan facts becomes mine named root apart lent =
+      → (sees_only s x ≡ true → Has facts (Lent Observed x (ways.name_of loan)))
+      → (is_view s y ≡ true → (n : ℕ) → z ≡ machine.Cell n → (l : Lifted v k) × (l.object ≡ y)) → Turned_here views facts
+  taken_from views x y z k loan facts becomes mine named root apart lent lifted =
       turned_by views x y (way_from z (expand v k)) loan k (number_in z) facts becomes mine (λ w e. record {
         up = inl (ap number_of becomes.up_is ∙ root);
         root = subst (Has_root x y) (sym (way_of z (expand v k) w e)) (root_from x y k named root apart);
         loan = λ sees. inl (subst (λ q. Has facts (Lent Observed x (ways.name_of q))) (sym becomes.loan_is) (lent sees));
+        under = λ view. (
+            let n = in_word z (expand v k) w e in
+            let l = lifted view n.0 n.1 in
+            comes_under y k w (sym (way_of z (expand v k) w e)) l.0 l.1);
       })
 
   taken_again : (views : Views) (x y : ℕ) (z : machine.Word) (k : Way) (l : Lifted v k) (facts : List Fact)
@@ -182,6 +198,7 @@ module _ (t : Turn) (settled : IsSettled (typing t).table) (own_law : OwnsByShap
         up = inr (l.way, has, ap number_of becomes.up_is ∙ root_on (v.up l.object) l.rest ∙ ap (λ q. number_of (v.up q)) object);
         root = subst (Has_root x y) (sym (way_of z (expand v k) w e)) (lifted_from x y k root l);
         loan = λ observes. inr (l.way, has, sees observes, becomes.loan_is ∙ ap v.loan object);
+        under = λ view. comes_under y k w (sym (way_of z (expand v k) w e)) l object;
       })
 
   -- it has none
@@ -288,7 +305,7 @@ module _ (t : Turn) (settled : IsSettled (typing t).table) (own_law : OwnsByShap
       taken_from views x y z (on (All w) r) w (effect (act.Borrow x (ways.name_of w)) facts) (becomes_with v x (way_from z (expand v (on (All w) r))) w (on (All w) r) (number_in z)) mine
       (named_on (home s depth) (All w) r named) (root_on (All w) r ∙ root)
       (λ same. absurd (omega (arith, older, same)))
-      (λ sees. absurd (true_false (sees_only s x) sees borrows)) in
+      (λ sees. absurd (true_false (sees_only s x) sees borrows)) lifted in
       (views, subst (λ n. Got views x z (effect (act.Borrow x n) facts)) called (got.sound, got.words_kept, got.views_held, turned))
 
   observe_gets : (x y d : ℕ) (path : TypedTree) (facts : List Fact) → Sees x d → Good v facts t.state
@@ -305,7 +322,7 @@ module _ (t : Turn) (settled : IsSettled (typing t).table) (own_law : OwnsByShap
       taken_from views x y z (on (All w) r) w (effect (act.Observe x (ways.name_of w) false) facts) (becomes_with v x (way_from z (expand v (on (All w) r))) w (on (All w) r) (number_in z)) mine
       (named_on (home s depth) (All w) r named) (root_on (All w) r ∙ root)
       (λ same. absurd (true_false (sees_only s x) sees (ap (sees_only s) (sym same) ∙ plain)))
-      (λ sees. fact_added (act.Observe x (ways.name_of w) false) facts (Lent Observed x (ways.name_of w)) (inl refl)) in
+      (λ sees. fact_added (act.Observe x (ways.name_of w) false) facts (Lent Observed x (ways.name_of w)) (inl refl)) lifted in
       (views, subst (λ n. Got views x z (effect (act.Observe x n false) facts)) called (got.sound, got.words_kept, got.views_held, turned))
 
   abbrev Shown : (facts : List Fact) → Good v facts t.state → ℕ → ℕ → PlaceName → List machine.Word → Type 0

@@ -21,7 +21,7 @@ use Rattle.machine.specs.States.{Waiting, Leak, State, Outcome, Goes, Ends}
 use Rattle.machine.specs.Step.{Turn, counted, typing, here, start, waiting, Stored, first_value, taken_by, declare, assign, goes, behind, led, successor, leaking_goes, target_pos}
 use Rattle.machine.specs.Step as steps
 use Rattle.machine.specs.Owners.{waiting_in, WellOwned}
-use Rattle.owned_ways.specs.Ways.{Loc, Way, All, Reaches, IsRooted, Named, Allows, after, AllowsAll, number_of, base_of, OfRoot}
+use Rattle.owned_ways.specs.Ways.{Loc, Way, All, Reaches, IsRooted, Under, Named, Allows, after, AllowsAll, number_of, base_of, OfRoot}
 use Rattle.owned_ways.specs.Ways as ways
 use Rattle.part_offsets.specs.Parts.{IsSettled}
 use Rattle.soundness.specs.Seen.{IsNear, content, trunk, seen, home, is_view_formal}
@@ -48,7 +48,7 @@ use Rattle.soundness.proofs.Stays.{Quiet, One}
 use Rattle.soundness.proofs.Taking.{Takes, no_takes}
 use Rattle.soundness.proofs.Waits.{take_none, drop_none, waits_of, led_waits}
 use Rattle.owned_loans.specs.Views.{Around, Views, Viewed, HasLoan}
-use Rattle.viewed_soundness.specs.Holds.{IsNamed, PartsAreNamed, sees_only, is_fixed, IsOwners, Holds, AllKeep}
+use Rattle.viewed_soundness.specs.Holds.{IsNamed, PartsAreNamed, is_view, sees_only, is_fixed, IsOwners, Holds, AllKeep}
 use Rattle.viewed_soundness.specs.Taken.{GivesPlainly}
 use Rattle.viewed_soundness.proofs.Names.{not_view}
 use Rattle.viewed_soundness.proofs.Stays.{taking}
@@ -126,6 +126,7 @@ module _ (t : Turn) (settled : IsSettled (typing t).table) (own_law : OwnsByShap
     pub root : ((base_of w ≡ OfRoot (ways.OfVariable (home s depth y) y)) × (y ≡ x → ⊥)) ⊎ ((k : Way) × (v.way y ≡ Some k) × (base_of w ≡ base_of k))
     pub loan : sees_only s x ≡ true → (Has facts (Lent Observed x (ways.name_of (views.loan x))))
         ⊎ ((k : Way) × (v.way y ≡ Some k) × (sees_only s y ≡ true) × (views.loan x ≡ v.loan y))
+    pub under : is_view s y ≡ true → (k : Way) × (v.way y ≡ Some k) × Under k w
 
   -- Each view has what it had, or got its way from an object that it may have it from.
   abbrev pub Turned : Views → List Fact → Type 0

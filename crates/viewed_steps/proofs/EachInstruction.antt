@@ -322,7 +322,7 @@ module _ (table : Table) (typed : TypedProgram) (effects : Effects) (input : Lis
           turned_views,
           λ x w e. elim (turned x w e) [
             | inl same_view ↦ inl (record { way = same_view.way; loan = same_view.loan; up = same_view.up })
-            | inr (y, from, comes) ↦ inr (y, from, record { up = comes.up; root = comes.root; loan = comes.loan })
+            | inr (y, from, comes) ↦ inr (y, from, record { up = comes.up; root = comes.root; loan = comes.loan; under = comes.under })
           ],
           record { viewed = well.viewed; kept = well.kept; holds = well.holds },
         )
@@ -746,7 +746,7 @@ module _ (table : Table) (typed : TypedProgram) (effects : Effects) (input : Lis
           turned_views facts
       only_may turned_views facts turned x w has = elim (turned x w has) [
         | inl old ↦ inl (record { way = old.way; loan = old.loan; up = old.up })
-        | inr (y, from, comes) ↦ inr (y, from.0, record { up = comes.up; root = comes.root; loan = comes.loan })
+        | inr (y, from, comes) ↦ inr (y, from.0, record { up = comes.up; root = comes.root; loan = comes.loan; under = comes.under })
       ]
 
       pub goes_there : sparing → (p.instr ≡ Finish → ⊥) → returns_value p.instr ≡ false → (after_step : State) (waits : List Waiting) (loops : List Loop) (k : ℕ)
