@@ -79,11 +79,11 @@ rest_within x y (z ∷ rest) last within off =
     drop_none (a ∷ rest) w = w
 
 module _ (t : Turn) (settled : IsSettled (typing t).table) (own_law : OwnsByShape (typing t).table) (other : Around (home (typing t) (length t.outer)))
-    (alone : (w : Way) → IsNear (length t.outer) w → other.gone w → ⊥) (no_formals : (x : ℕ) → is_view_formal (typing t) x ≡ false)
+    (alone : (w : Way) → IsNear (length t.outer) w → other.gone w → ⊥)
     (v : Views) (parts_named : PartsAreNamed (typing t).table) (may : ℕ → ℕ → Type 0)
     (frames : t.state.frames ≡ t.frame ∷ t.outer) (none : taken t.point.instr ≡ 0)
     (p q : NamedPoint) (y : ℕ) (is : p.instr ≡ EndScope y) (mine : home (typing t) (length t.outer) y ≡ length t.outer)
-    (not_shared : is_package_object (typing t) y ≡ false) (last : is_last y p.scope ≡ true)
+    (not_shared : is_package_object (typing t) y ≡ false) (owner : is_view_formal (typing t) y ≡ false) (last : is_last y p.scope ≡ true)
     (local : (x : ℕ) → is_anonymous (view_of (typing t) x) ≡ true
     → (is_variable (object_at (typing t) x).kind ≡ true) × (is_package_object (typing t) x ≡ false))
     (ended : (x : ℕ) → is_within x p.scope ≡ true → (x ≡ y → ⊥)
@@ -94,7 +94,7 @@ module _ (t : Turn) (settled : IsSettled (typing t).table) (own_law : OwnsByShap
     (facts : List Fact) (allowed : Allows facts (act.EndScope y (is_borrower (typing t) y)))
     (viewed : Viewed (home (typing t) (length t.outer)) (sees_only (typing t)) other v (sound.view_of (typing t) t.state) facts)
     (kept : Kept (typing t) t.state.memory (waiting_in t.state))
-    (holds : HoldsAt (typing t) (length t.outer) v t.state.memory p) (placed : ArePlaced t.program facts v p.scope)
+    (holds : HoldsAt (typing t) (length t.outer) v t.state.memory p) (placed : ArePlaced t.program (length t.outer) facts v p.scope)
     (unlent : (l : Loan) (n : PlaceName) → other.lent l n → n.root ≡ y → ⊥) where
   abbrev pub s : Typing
   s = typing t
@@ -119,23 +119,26 @@ module _ (t : Turn) (settled : IsSettled (typing t).table) (own_law : OwnsByShap
   left_viewed = faded (home s depth) (sees_only s) other v fades
       (λ x e. ap (λ b. b || is_view_formal s x) (both_parts (is_observer s x) (scope_of s x == scope_of s y) e).0) (sound.view_of s t.state) facts viewed
 
-  -- the view is one of the frame
-  own_of : (x : ℕ) (w : Way) → v.way x ≡ Some w → IsView (home s depth) (sees_only s) v (sound.view_of s t.state) facts x w
-  own_of x w has = named_view (home s depth) (sees_only s) v (sound.view_of s t.state) facts viewed.views x w has (holds.named x w has)
+  abbrev Home : ℕ → ℕ
+  Home = home s depth
 
-  older_of : (x : ℕ) (w : Way) → v.way x ≡ Some w → is_observer s x ≡ false → number_of (v.up x) < x
-  older_of x w has e = (own_of x w has).older (observes_not s no_formals x e)
+  -- a borrower of the frame is younger than what it was taken from
+  older_of : (x : ℕ) (w : Way) → v.way x ≡ Some w → Named Home (v.up x) → sees_only s x ≡ false → number_of (v.up x) < x
+  older_of x w has named e = elim (viewed.views x w has) [
+    | inl own ↦ own.older e
+    | inr passed ↦ absurd (true_false (sees_only s x) passed.sees e)
+  ]
 
   -- nothing that another view goes by is the object
   other_root : (x : ℕ) → is_within x p.scope ≡ true → (x ≡ y → ⊥) → fades x ≡ false → (r : ℕ) → Lasts t.program p.scope r x
-      → (is_observer s x ≡ false → r < x) → r ≡ y → ⊥
-  other_root x within off stays r (inl shared) older same = true_false (is_package_object s y) (ap (is_package_object s) (sym same) ∙ shared) not_shared
-  other_root x within off stays r (inr (there, end, around, plain)) older same = by_kind (is_observer s x) refl
+      → (sees_only s x ≡ false → r < x) → is_view_formal s x ≡ false → r ≡ y → ⊥
+  other_root x within off stays r (inl shared) older own same = true_false (is_package_object s y) (ap (is_package_object s) (sym same) ∙ shared) not_shared
+  other_root x within off stays r (inr (there, end, around, plain)) older own same = by_kind (is_observer s x) refl
     where
       by_kind : (b : Bool) → is_observer s x ≡ b → ⊥
       by_kind false e =
           let less = (ended x within off).0 in
-          let low = older e in
+          let low = older (sees_not s x e own) in
           absurd (omega (arith, less, low, same))
       by_kind true e =
           let region = (ended x within off).1 (subst (λ z. encloses t.program.scopes (scope_of s z) (scope_of s x) ≡ true) same around) in
