@@ -3,7 +3,7 @@ use Rattle.std.proofs.Common.{◌≡◌, refl, sym, ap, ◌∙◌, subst, ◌⊎
 use Rattle.type_definitions.specs.declared.table.Shape.{Shape}
 use Rattle.type_definitions.specs.declared.table.Shape.TheVariants as shape
 use Rattle.type_definitions.specs.Types.{shape_of, full, is_scalar, is_owning, view_of as view_of_shape}
-use Rattle.flow_paths.specs.Objects.{Typing, object_at, is_anonymous, is_observer, is_package_object, has_scope_end, view_of}
+use Rattle.flow_paths.specs.Objects.{Typing, object_at, is_anonymous, is_observer, has_scope_end, view_of}
 use Rattle.machine.specs.Words.{Cell}
 use Rattle.machine.specs.Memory.{Memory, variable_slots, no_slot}
 use Rattle.machine.specs.Owners.{is_in_formal}
@@ -111,15 +111,15 @@ view_ends s x view = elim (view_cases s x view) [
   | inr formal ↦ ap (λ b. b || is_anonymous (view_of s x)) (second_true (is_in_formal s x) (is_owning s.table (object_at s x).of) formal)
 ]
 
--- Formals that own nothing are of access types.
+-- Formals that own nothing are of named access types.
 abbrev pub AreAccess : Typing → Type 0
-AreAccess s = (x : ℕ) → is_view_formal s x ≡ true → IsAccess s x
+AreAccess s = (x : ℕ) → is_view_formal s x ≡ true → IsAccess s x × (is_anonymous (view_of s x) ≡ true → ⊥)
 
 module _ (s : Typing) (in_formals : AreAccess s) where
   pub view_access : (x : ℕ) → is_view s x ≡ true → IsAccess s x
   view_access x view = elim (view_cases s x view) [
     | inl anonymous ↦ access_of (shape_of s.table (object_at s x).of) anonymous
-    | inr formal ↦ in_formals x formal
+    | inr formal ↦ (in_formals x formal).0
   ]
 
   -- no object of a scalar type is a view

@@ -240,8 +240,8 @@ abbrev pub AreTurned : Instruction → Views → Views → Type 0
 AreTurned i before later = (x : ℕ) (w : Way) → later.way x ≡ Some w → (before.way x ≡ Some w) ⊎ IsStoredAt i x
 
 -- The views that are left where the scope of an object ends had their ways, and none begins at the object.
-abbrev pub AreLeft : ℕ → Views → Views → Type 0
-AreLeft y before later = (x : ℕ) (w : Way) → later.way x ≡ Some w → (before.way x ≡ Some w) × (number_of w ≡ y → ⊥)
+abbrev pub AreLeft : (ℕ → ℕ) → ℕ → Views → Views → Type 0
+AreLeft at_home y before later = (x : ℕ) (w : Way) → later.way x ≡ Some w → (before.way x ≡ Some w) × (Named at_home w → number_of w ≡ y → ⊥)
 
 -- How the frames after a step, with their views, come from those before it, of which `top` is the innermost one: it goes on; the
 -- scope of an object ends; after the last package object the main procedure begins; a subprogram is called, which has executed
@@ -250,7 +250,8 @@ AreLeft y before later = (x : ℕ) (w : Way) → later.way x ≡ Some w → (bef
 pub data Follows (program : FlowProgram) (effects : Effects) (i : Instruction) (m : Memory) (top : ViewStage) (older : List ViewStage) (n : Memory) (next : ViewStage) (around : List ViewStage) : Type 0 where
   steps_on : owners.IsNoCall i → (i ≡ Finish → ⊥) → ((y : ℕ) → i ≡ EndScope y → ⊥) → owners.IsOnward top.stage next.stage
       → AreTurned i top.views next.views → around ≡ older → Follows program effects i m top older n next around
-  leaves_scope : (y : ℕ) → i ≡ EndScope y → owners.IsOnward top.stage next.stage → AreLeft y top.views next.views → around ≡ older
+  leaves_scope : (y : ℕ) → i ≡ EndScope y → owners.IsOnward top.stage next.stage
+      → AreLeft (home (flow_typing program) top.stage.depth) y top.views next.views → around ≡ older
       → Follows program effects i m top older n next around
   begins_main : (below : ViewStage) → older ≡ [] → around ≡ below ∷ [] → owners.IsOnward top.stage below.stage → next.stage.before ≡ []
       → Follows program effects i m top older n next around
