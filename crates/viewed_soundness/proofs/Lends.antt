@@ -47,7 +47,7 @@ use Rattle.soundness.proofs.Taking.{Takes}
 use Rattle.owned_loans.specs.Views.{Go, on, Around, Views, expand, Viewed, Becomes, Unused, with_view}
 use Rattle.owned_loans.proofs.Allowed.{Cleared, borrow_clears, observe_clears, loan_kept, reborrow_clears}
 use Rattle.owned_ways.proofs.Dropped.{named_base}
-use Rattle.owned_loans.proofs.Ways.{Lifted, next_of, lifts, lifted_root, lifted_way, root_on, named_on, base_on, on_under}
+use Rattle.owned_loans.proofs.Ways.{Lifted, next_of, lifts, lifted_root, lifted_way, root_on, named_on, base_on, on_named, on_under}
 use Rattle.owned_loans.proofs.Taken.{becomes_with}
 use Rattle.owned_loans.proofs.Taken as lent
 use Rattle.viewed_soundness.specs.Holds.{PartsAreNamed, is_view, sees_only, IsOwners, Holds}
@@ -194,10 +194,12 @@ module _ (t : Turn) (settled : IsSettled (typing t).table) (own_law : OwnsByShap
   taken_again views x y z k l facts becomes mine root sees =
       let object : l.object ≡ y = sym (lifted_root v k l) ∙ root in
       let has : v.way y ≡ Some l.way = subst (λ q. v.way q ≡ Some l.way) object l.has in
+      let back : Named (home s depth) (views.up x) → Named (home s depth) (v.up y) =
+      (λ named. subst (λ q. Named (home s depth) (v.up q)) object (on_named (home s depth) (v.up l.object) l.rest (subst (Named (home s depth)) becomes.up_is named))) in
       turned_by views x y (way_from z (expand v k)) (v.loan l.object) (next_of v k l) (number_in z) facts becomes mine (λ w e. record {
-        up = inr (l.way, has, ap number_of becomes.up_is ∙ root_on (v.up l.object) l.rest ∙ ap (λ q. number_of (v.up q)) object);
+        up = inr (l.way, has, ap number_of becomes.up_is ∙ root_on (v.up l.object) l.rest ∙ ap (λ q. number_of (v.up q)) object, back);
         root = subst (Has_root x y) (sym (way_of z (expand v k) w e)) (lifted_from x y k root l);
-        loan = λ observes. inr (l.way, has, sees observes, becomes.loan_is ∙ ap v.loan object);
+        loan = λ observes. inr (l.way, has, sees observes, becomes.loan_is ∙ ap v.loan object, back);
         under = λ view. comes_under y k w (sym (way_of z (expand v k) w e)) l object;
       })
 
