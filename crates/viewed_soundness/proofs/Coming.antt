@@ -1,6 +1,6 @@
 -- Borrowers and observers that are declared with what a traversal function gave, or are assigned it. It waits,
 -- and a name leads to its cell that goes on from the first actual.
-use Rattle.std.proofs.Common.{◌≡◌, refl, sym, ap, ◌∙◌, subst, ℕ, ◌<◌, ◌||◌, Bool, true, false, List, [], ◌∷◌, ◌++◌, length, Some, if◌then◌else◌}
+use Rattle.std.proofs.Common.{◌≡◌, refl, sym, ap, ◌∙◌, subst, ℕ, ◌<◌, Bool, true, false, List, [], ◌∷◌, ◌++◌, length, Some, if◌then◌else◌}
 use Rattle.spark_base.specs.declared.position.Pos.{Pos}
 use Rattle.place_names.specs.declared.act.Act.{Act}
 use Rattle.place_names.specs.declared.act.Act.TheVariants as act
@@ -31,6 +31,7 @@ use Rattle.owned_loans.proofs.Ways.{Lifted, further}
 use Rattle.viewed_soundness.specs.Holds.{PartsAreNamed, is_view, sees_only}
 use Rattle.viewed_soundness.proofs.Viewing.{IsReached}
 use Rattle.viewed_soundness.proofs.Outcomes.{IsGood, Leads_on}
+use Rattle.viewed_soundness.proofs.Names.{observer_sees}
 use Rattle.viewed_soundness.proofs.Lends.{Sees, Got, Gets, Declares, Puts, got_declared, got_put, borrow_gets, seen_gets, through_gets, reborrow_gets}
 
 -- a name that goes on from one rooted in a view is rooted in it
@@ -163,7 +164,7 @@ module _ (t : Turn) (settled : IsSettled (typing t).table) (own_law : OwnsByShap
         → GetsHere x y d (name_of y path) (effect (act.Observe x (name_of y path) b) facts)
     observer_gets sees own true kind one =
         through_gets t settled own_law other alone v parts_named may frames none true x y d path facts looks good
-        (ap (λ b. b || is_view_formal s x) sees) (ap (λ b. b || is_view_formal s y) kind) mine one
+        (observer_sees s x sees) (observer_sees s y kind) mine one
     observer_gets sees own false kind one =
         seen_gets t settled own_law other alone v parts_named may frames none x y d path facts looks own good sees kind mine one
 
@@ -191,14 +192,14 @@ module _ (t : Turn) (settled : IsSettled (typing t).table) (own_law : OwnsByShap
 
   -- A borrower goes on from where it is.
   pub assign_borrower_given : (q : Pos) (n : ℕ) (p : Pos) (path : TypedTree) (u : ℕ) (more : TypedTree) (x d : ℕ) (z : machine.Word) (facts : List Fact) → SeesHere x d → Good facts
-      → IsComing x d (name_of x path) z → may x x → (pos r : Pos) → is_borrower s x ≡ true → sees_only s x ≡ false
+      → IsComing x d (name_of x path) z → may x x → (pos r : Pos) → is_borrower s x ≡ true → sees_only s x ≡ false → is_view_formal s x ≡ false
       → AllowsAll facts (acts (assigned_to s pos (Some x) (Name r x NoMore (object_at s x).of) (call_of q n p x path u more)))
       → LeadsHere (after (acts (assigned_to s pos (Some x) (Name r x NoMore (object_at s x).of) (call_of q n p x path u more))) facts)
       (PutsHere ((z ∷ []) ∷ []) r x (call_of q n p x path u more))
-  assign_borrower_given q n p path u more x d z facts looks good coming mine pos r is borrows allowed =
+  assign_borrower_given q n p path u more x d z facts looks good coming mine pos r is borrows own allowed =
       let target : TypedTree = Name r x NoMore (object_at s x).of in
       let call : TypedTree = call_of q n p x path u more in
       puts_it q n p x path u more x d z facts looks good coming mine pos r (act.Reborrow x) r
       (ap (λ b. if b then index_acts s call ++ reborrow (acts_target_pos pos (written target)) x (source call)
       else (if is_observer s x then source_acts s call (observe s x) else stored_acts s target call)) is) allowed
-      (λ one. reborrow_gets t settled own_law other alone v parts_named may frames none x d path facts looks good borrows mine one)
+      (λ one. reborrow_gets t settled own_law other alone v parts_named may frames none x d path facts looks good borrows own mine one)

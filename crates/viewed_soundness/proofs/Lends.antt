@@ -1,6 +1,6 @@
 -- What declarations of borrowers and observers and assignments to them lead to: the view gets what
 -- its source has, and its way from it.
-use Rattle.std.proofs.Common.{◌≡◌, refl, sym, ap, ◌∙◌, subst, ◌⊎◌, inl, inr, ℕ, ◌<◌, Bool, true, false, not, ◌&&◌, ◌||◌, List, [], ◌∷◌, ◌++◌, flat_map, take, drop, length, Option, Some, if◌then◌else◌, ◌==◌, eqb-true, eq-eqb, ◌+◌, append-nil, arith}
+use Rattle.std.proofs.Common.{◌≡◌, refl, sym, ap, ◌∙◌, subst, ◌⊎◌, inl, inr, ℕ, ◌<◌, Bool, true, false, not, ◌||◌, List, [], ◌∷◌, ◌++◌, flat_map, take, drop, length, Option, Some, if◌then◌else◌, ◌==◌, eqb-true, eq-eqb, ◌+◌, append-nil, arith}
 use Rattle.spark_base.specs.declared.position.Pos.{Pos}
 use Rattle.place_names.specs.declared.act.Act.{Act}
 use Rattle.place_names.specs.declared.act.Act.TheVariants as act
@@ -10,7 +10,7 @@ use Rattle.place_names.specs.Facts.{adds, removes, effect}
 use Rattle.type_definitions.specs.declared.table.Shape.TheVariants as shape
 use Rattle.type_definitions.specs.Types.{Table, shape_of, words, words_of as shape_words, full, is_scalar, view_of as view_of_shape, parts, parts_of}
 use Rattle.typed_tree.specs.Trees.{TypedTree, Name, NoMore, More}
-use Rattle.flow_paths.specs.Objects.{Typing, object_at, is_anonymous, is_borrowing, is_observing, is_borrower, is_observer, is_variable, view_of}
+use Rattle.flow_paths.specs.Objects.{Typing, object_at, is_anonymous, is_borrower, is_observer, view_of}
 use Rattle.flow_paths.specs.Names.{waiting as waits_in, name_of, written, source}
 use Rattle.flow_paths.specs.Scopes.{taken}
 use Rattle.flow_paths.specs.Acts.{acts_in, stored_acts, declared_acts, assigned_to, source_acts, index_acts, reborrow, observe, target_pos as acts_target_pos}
@@ -47,11 +47,11 @@ use Rattle.soundness.proofs.Taking.{Takes}
 use Rattle.owned_loans.specs.Views.{Go, on, Around, Views, expand, Viewed, Becomes, Unused, with_view}
 use Rattle.owned_loans.proofs.Allowed.{Cleared, borrow_clears, observe_clears, loan_kept, reborrow_clears}
 use Rattle.owned_ways.proofs.Dropped.{named_base}
-use Rattle.owned_loans.proofs.Ways.{Lifted, next_of, lifts, lifted_root, lifted_way, root_on, named_on, base_on, on_under}
+use Rattle.owned_loans.proofs.Ways.{Lifted, next_of, lifts, lifted_root, lifted_way, root_on, named_on, base_on, on_named, on_under}
 use Rattle.owned_loans.proofs.Taken.{becomes_with}
 use Rattle.owned_loans.proofs.Taken as lent
 use Rattle.viewed_soundness.specs.Holds.{PartsAreNamed, is_view, sees_only, IsOwners, Holds}
-use Rattle.viewed_soundness.proofs.Names.{both_no, either_true, true_false}
+use Rattle.viewed_soundness.proofs.Names.{either_true, observer_sees, borrower_sees, sees_view, true_false}
 use Rattle.viewed_soundness.proofs.Stays.{steps_taking}
 use Rattle.viewed_soundness.proofs.Viewing.{IsReached, IsOfType, way_from, number_in, borrower_declared, observer_stored, observer_again, view_emptied, borrower_stored}
 use Rattle.viewed_soundness.proofs.Sources.{Shows, source_on}
@@ -194,10 +194,12 @@ module _ (t : Turn) (settled : IsSettled (typing t).table) (own_law : OwnsByShap
   taken_again views x y z k l facts becomes mine root sees =
       let object : l.object ≡ y = sym (lifted_root v k l) ∙ root in
       let has : v.way y ≡ Some l.way = subst (λ q. v.way q ≡ Some l.way) object l.has in
+      let back : Named (home s depth) (views.up x) → Named (home s depth) (v.up y) =
+      (λ named. subst (λ q. Named (home s depth) (v.up q)) object (on_named (home s depth) (v.up l.object) l.rest (subst (Named (home s depth)) becomes.up_is named))) in
       turned_by views x y (way_from z (expand v k)) (v.loan l.object) (next_of v k l) (number_in z) facts becomes mine (λ w e. record {
-        up = inr (l.way, has, ap number_of becomes.up_is ∙ root_on (v.up l.object) l.rest ∙ ap (λ q. number_of (v.up q)) object);
+        up = inr (l.way, has, ap number_of becomes.up_is ∙ root_on (v.up l.object) l.rest ∙ ap (λ q. number_of (v.up q)) object, back);
         root = subst (Has_root x y) (sym (way_of z (expand v k) w e)) (lifted_from x y k root l);
-        loan = λ observes. inr (l.way, has, sees observes, becomes.loan_is ∙ ap v.loan object);
+        loan = λ observes. inr (l.way, has, sees observes, becomes.loan_is ∙ ap v.loan object, back);
         under = λ view. comes_under y k w (sym (way_of z (expand v k) w e)) l object;
       })
 
@@ -267,10 +269,17 @@ module _ (t : Turn) (settled : IsSettled (typing t).table) (own_law : OwnsByShap
 
   -- what an object sees that is no formal
   observes_only : (x : ℕ) → is_observer s x ≡ true → sees_only s x ≡ true
-  observes_only x e = ap (λ b. b || is_view_formal s x) e
+  observes_only x e = observer_sees s x e
 
   borrows_only : (x : ℕ) → is_observer s x ≡ false → is_view_formal s x ≡ false → sees_only s x ≡ false
-  borrows_only x e own = both_no (is_observer s x) (is_view_formal s x) e own
+  borrows_only x e own = borrower_sees s x e own
+
+  -- a name through a formal goes by its way
+  found : (w : Way) (r : List Go) (y : ℕ) (z : machine.Word) → number_of w ≡ y
+      → (is_view s y ≡ true → (k : ℕ) → z ≡ machine.Cell k → (l : Lifted v (on (All w) r)) × (l.object ≡ y))
+      → is_view_formal s (number_of (on (All w) r)) ≡ true → (k : ℕ) → z ≡ machine.Cell k → Lifted v (on (All w) r)
+  found w r y z root lifted formal k e =
+      (lifted (either_true (is_anonymous (view_of s y)) (is_view_formal s y) (ap (is_view_formal s) (sym (root_on (All w) r ∙ root)) ∙ formal)) k e).0
 
   same_designated : (k d : ℕ) (e o c n : Bool) → shape.Access k e o ≡ shape.Access d c n → k ≡ d
   same_designated k d e o c n is = cc
@@ -292,7 +301,7 @@ module _ (t : Turn) (settled : IsSettled (typing t).table) (own_law : OwnsByShap
       let root : number_of w ≡ y = ap (λ (n : PlaceName). n.root) called in
       let got = borrower_declared s settled depth other v views m hands t.state.leaks facts good.viewed good.kept good.holds x z observes.mine observes.anonymous
       (one_word x d observes) (of_type x d observes z typed) w r
-      (becomes_with v x (way_from z (expand v (on (All w) r))) w (on (All w) r) (number_in z)) unused borrows named (ap (sees_only s) root ∙ plain)
+      (becomes_with v x (way_from z (expand v (on (All w) r))) w (on (All w) r) (number_in z)) unused borrows (found w r y z root lifted) named (ap (sees_only s) root ∙ plain)
       (subst (λ n. n < x) (sym root) older) is (subst (λ n. Allows facts (act.Borrow x n)) (sym called) allowed) in
       let turned : Turned_here views (effect (act.Borrow x (ways.name_of w)) facts) =
       taken_from views x y z (on (All w) r) w (effect (act.Borrow x (ways.name_of w)) facts) (becomes_with v x (way_from z (expand v (on (All w) r))) w (on (All w) r) (number_in z)) mine
@@ -309,7 +318,7 @@ module _ (t : Turn) (settled : IsSettled (typing t).table) (own_law : OwnsByShap
       let root : number_of w ≡ y = ap (λ (n : PlaceName). n.root) called in
       let got = observer_stored s settled depth other v views m hands t.state.leaks facts good.viewed good.kept good.holds x z observes.mine observes.anonymous
       (one_word x d observes) (of_type x d observes z typed) w r
-      (becomes_with v x (way_from z (expand v (on (All w) r))) w (on (All w) r) (number_in z)) sees named (ap (sees_only s) root ∙ plain)
+      (becomes_with v x (way_from z (expand v (on (All w) r))) w (on (All w) r) (number_in z)) sees (found w r y z root lifted) named (ap (sees_only s) root ∙ plain)
       is (subst (λ n. Allows facts (act.Observe x n false)) (sym called) allowed) in
       let turned : Turned_here views (effect (act.Observe x (ways.name_of w) false) facts) =
       taken_from views x y z (on (All w) r) w (effect (act.Observe x (ways.name_of w) false) facts) (becomes_with v x (way_from z (expand v (on (All w) r))) w (on (All w) r) (number_in z)) mine
@@ -406,15 +415,8 @@ module _ (t : Turn) (settled : IsSettled (typing t).table) (own_law : OwnsByShap
       → Gets x y d (name_of y path) (effect (act.Observe x (name_of y path) b) facts)
   through_gets b x y d path facts observes good looks from mine allowed w r z named called is typed lifted = by_word z is typed lifted
     where
-      anonymous : (a b c f : Bool) → (a && c) || f ≡ true → (b || c) || f ≡ true
-      anonymous true true c f e = refl
-      anonymous true false c f e = e
-      anonymous false true c f e = refl
-      anonymous false false true f e = refl
-      anonymous false false false f e = e
-
       view_y : is_view s y ≡ true
-      view_y = anonymous (is_variable (object_at s y).kind) (is_borrowing (view_of s y)) (is_observing (view_of s y)) (is_view_formal s y) from
+      view_y = sees_view s y from
 
       nothing : (z : machine.Word) → ((k : ℕ) → z ≡ machine.Cell k → ⊥) → IsReached v (seen s m hands t.state.leaks) (on (All w) r) z
           → ((k : ℕ) → z ≡ machine.Cell k → IsCell s m d k) → (views : Views) × Got views x z (effect (act.Observe x (name_of y path) b) facts)
@@ -452,11 +454,11 @@ module _ (t : Turn) (settled : IsSettled (typing t).table) (own_law : OwnsByShap
   pub seen_gets : (x y d : ℕ) (path : TypedTree) (facts : List Fact) → Sees x d → is_view_formal s x ≡ false → Good v facts t.state
       → is_observer s x ≡ true → is_observer s y ≡ false → may x y → Allows facts (act.Observe x (name_of y path) false)
       → Gets x y d (name_of y path) (effect (act.Observe x (name_of y path) false) facts)
-  seen_gets x y d path facts observes own good sees plain mine allowed = by_kind (is_view_formal s y) refl
+  seen_gets x y d path facts observes own good sees plain mine allowed = by_kind (sees_only s y) refl
     where
-      by_kind : (b : Bool) → is_view_formal s y ≡ b → Gets x y d (name_of y path) (effect (act.Observe x (name_of y path) false) facts)
-      by_kind false e = observe_gets x y d path facts observes good (observes_only x sees) (borrows_only y plain e) mine allowed
-      by_kind true e = through_gets false x y d path facts observes good (observes_only x sees) (either_true (is_observer s y) (is_view_formal s y) e) mine allowed
+      by_kind : (b : Bool) → sees_only s y ≡ b → Gets x y d (name_of y path) (effect (act.Observe x (name_of y path) false) facts)
+      by_kind false e = observe_gets x y d path facts observes good (observes_only x sees) e mine allowed
+      by_kind true e = through_gets false x y d path facts observes good (observes_only x sees) e mine allowed
 
   -- An observer is declared, of what an owner has, or what a borrower leads to.
   pub observer_on : (ws : List (List machine.Word)) (x y u d : ℕ) (p : Pos) (path rest : TypedTree) → Observes x y u d path → is_borrower s x ≡ false → is_observer s x ≡ true
@@ -576,9 +578,9 @@ module _ (t : Turn) (settled : IsSettled (typing t).table) (own_law : OwnsByShap
 
   -- A borrower goes on from where it is.
   pub reborrow_gets : (x d : ℕ) (path : TypedTree) (facts : List Fact) → Sees x d → Good v facts t.state
-      → sees_only s x ≡ false → may x x → Allows facts (act.Reborrow x (name_of x path))
+      → sees_only s x ≡ false → is_view_formal s x ≡ false → may x x → Allows facts (act.Reborrow x (name_of x path))
       → Gets x x d (name_of x path) (effect (act.Reborrow x (name_of x path)) facts)
-  reborrow_gets x d path facts observes good borrows mine allowed w r z named called is typed lifted = by_word z is typed lifted
+  reborrow_gets x d path facts observes good borrows own mine allowed w r z named called is typed lifted = by_word z is typed lifted
     where
       nothing : (z : machine.Word) → ((k : ℕ) → z ≡ machine.Cell k → ⊥) → ((k : ℕ) → z ≡ machine.Cell k → IsCell s m d k)
           → (views : Views) × Got views x z (effect (act.Reborrow x (name_of x path)) facts)
@@ -601,7 +603,7 @@ module _ (t : Turn) (settled : IsSettled (typing t).table) (own_law : OwnsByShap
           let views : Views = with_view v x (way_from z (expand v (on (All w) r))) (v.loan l.0.object) (next_of v (on (All w) r) l.0) (number_in z) in
           let got = borrower_stored s settled depth other v views m hands t.state.leaks facts good.viewed good.kept good.holds x z observes.mine observes.anonymous
           (one_word x d observes) (of_type x d observes z typed) (name_of x path) (on (All w) r) l.0 l.1
-          (becomes_with v x (way_from z (expand v (on (All w) r))) (v.loan l.0.object) (next_of v (on (All w) r) l.0) (number_in z)) borrows
+          (becomes_with v x (way_from z (expand v (on (All w) r))) (v.loan l.0.object) (next_of v (on (All w) r) l.0) (number_in z)) borrows own
           (named_on (home s depth) (All w) r named) is allowed in
           let turned : Turned_here views (effect (act.Reborrow x (name_of x path)) facts) =
           taken_again views x x z (on (All w) r) l.0 (effect (act.Reborrow x (name_of x path)) facts)
@@ -626,7 +628,7 @@ module _ (t : Turn) (settled : IsSettled (typing t).table) (own_law : OwnsByShap
       subst (λ z. Leads_here (after (acts z) facts) (Puts (target_pos t target) q x (object_at s x).of (taken_by t (object_at s x).of e (at ws)))) (sym same)
       (put_on ws (target_pos t target) q p q x x u d path (act.Reborrow x) observes takes facts good (subst (λ z. AllowsAll facts (acts z)) same allowed)
       (λ w called plain mine. reborrow_clears facts x w (ap (λ (n : PlaceName). n.root) called) (subst (λ n. Allows facts (act.Reborrow x n)) (sym called) mine))
-      (λ mine. reborrow_gets x d path facts (sees_it x x u d path observes) good (borrows_only x borrows observes.own) from mine))
+      (λ mine. reborrow_gets x d path facts (sees_it x x u d path observes) good (borrows_only x borrows observes.own) observes.own from mine))
 
   -- An observer gets another value, of what an owner has, or what a borrower or an observer leads to.
   pub assign_observer_on : (ws : List (List machine.Word)) (pos q p : Pos) (x y u d : ℕ) (path : TypedTree) → Observes x y u d path → is_borrower s x ≡ false → is_observer s x ≡ true

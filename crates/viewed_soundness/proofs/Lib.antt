@@ -1,4 +1,5 @@
 pub mod Walks
+pub mod Spared
 pub mod Names
 pub mod Stays
 pub mod Moments

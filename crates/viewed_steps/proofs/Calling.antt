@@ -62,15 +62,15 @@ use Rattle.soundness.proofs.Eased.{eased}
 use Rattle.soundness.proofs.Scoped.{Inside}
 use Rattle.soundness.proofs.Beginning.{one_named, one_point}
 use Rattle.soundness.proofs.Successors.{below_one, successor_there}
-use Rattle.owned_loans.specs.Views.{Around, known_gone, Views, IsMovedBy, AreClear, AreViews, Viewed}
+use Rattle.owned_loans.specs.Views.{Around, known_gone, Views, IsMovedBy, AreClear, IsForeign, AreViews, Viewed}
 use Rattle.owned_loans.proofs.Moves.{named_way}
 use Rattle.viewed_soundness.proofs.Names.{true_false}
-use Rattle.viewed_soundness.specs.Holds.{Holds, sees_only, IsOwners}
+use Rattle.viewed_soundness.specs.Holds.{Holds, is_view, sees_only, IsOwners}
 use Rattle.viewed_soundness.proofs.Evaluated.{live_trunk}
 use Rattle.soundness.specs.Ready.{IsSupplied, Fills}
 use Rattle.viewed_steps.specs.Awaited.{AreFor, AreValuesBut, temporaries_of, lasting_of, awaited, WaitsAt, AreAwaited, AreScalar, FillsTyped, TakesScalars, IsTakenBy}
 use Rattle.viewed_steps.proofs.Waited.{temporary_first, leads_temporaries, within_lasting, lasting_more, Shares, plain_unheld}
-use Rattle.viewed_steps.specs.Sound.{HoldsAt, ArePlaced, NoneAbove, ViewStage, stages_of, GoneElsewhere, Disturbs, IsWaiting, AreWaiting, calls_one, LeadsAlong, IsResting, IsKindOfFormal, IsScalarObject, AreReturned}
+use Rattle.viewed_steps.specs.Sound.{AreUnmet, HoldsAt, ArePlaced, NoneAbove, ViewStage, stages_of, GoneElsewhere, Disturbs, IsWaiting, AreWaiting, calls_one, LeadsAlong, IsResting, IsKindOfFormal, IsScalarObject, AreReturned}
 use Rattle.viewed_steps.specs.Ready.{IsReady, roots_passed, IsCalled}
 use Rattle.viewed_steps.specs.Taken.{TakenBy, AreTaken, AreCarried}
 use Rattle.viewed_steps.proofs.Lent.{Spare, spare_both, loans_stay}
@@ -86,7 +86,7 @@ use Rattle.viewed_steps.proofs.Uses.{called_writes, lent_spared}
 use Rattle.viewed_steps.proofs.Standing as standing
 use Rattle.viewed_steps.proofs.Packages as packages
 use Rattle.viewed_steps.proofs.Innermost as innermost
-use Rattle.viewed_steps.proofs.Views.{all_held, anonymous_is_view, AreFar, not_elsewhere}
+use Rattle.viewed_steps.proofs.Views.{AreAccess, AreFar, all_held, lies_far}
 
 module _ (table : Table) (typed : TypedProgram) (effects : Effects) (input : List ℕ) (ready : IsReady table typed effects) where
   abbrev program : FlowProgram
@@ -98,10 +98,10 @@ module _ (table : Table) (typed : TypedProgram) (effects : Effects) (input : Lis
   abbrev own : Typing
   own = typing_of table typed
 
-  abbrev no_in_formals : (x : ℕ) → is_view_formal s x ≡ false
-  no_in_formals = standing.no_in_formals table typed effects input ready
+  abbrev in_formals : AreAccess s
+  in_formals = standing.in_formals table typed effects input ready
 
-  abbrev local : (x : ℕ) → is_anonymous (view_of s x) ≡ true → is_package_object s x ≡ false
+  abbrev local : (x : ℕ) → is_view s x ≡ true → is_package_object s x ≡ false
   local = standing.local table typed effects input ready
 
   abbrev unmoved_stage : (e : Stage) → e.frame.sub ≡ 0 → (name : PlaceName) → Has (facts_of program effects e) (Moved name) → ⊥
@@ -124,7 +124,7 @@ module _ (table : Table) (typed : TypedProgram) (effects : Effects) (input : Lis
       (viewed_before : Viewed (home s (suc (length rest))) (sees_only s) (known_gone (home s (suc (length rest))) (GoneElsewhere program effects (below ∷ more_frames))) views
       (view_here s state) (facts_of program effects top))
       (kept : Kept s state.memory (waiting_in state)) (scope : InScope s state.memory (suc (length rest)) (lasting_of s p.scope)) (holds : HoldsAt s (suc (length rest)) views state.memory p)
-      (placed_before : ArePlaced program (facts_of program effects top) views p.scope) (above : NoneAbove s (suc (length rest)) state.memory) where
+      (placed_before : ArePlaced program (suc (length rest)) (facts_of program effects top) views p.scope) (above : NoneAbove s (suc (length rest)) state.memory) where
     abbrev outer : List Frame
     outer = below.stage.frame ∷ rest
 
@@ -171,13 +171,12 @@ module _ (table : Table) (typed : TypedProgram) (effects : Effects) (input : Lis
     abbrev viewed : Viewed (home s depth) (sees_only s) other views (view_here s state) facts_now
     viewed = innermost.viewed table typed effects input ready state top below more_frames rest named p frames deep stages running awaiting of_sub at_point path views viewed_before kept scope holds placed_before above
 
-    abbrev apart_from_them : (done : List Act) (v : Views) (view : ways.View) → ((x : ℕ) (w : Way) → v.way x ≡ Some w → is_anonymous (view_of s x) ≡ true)
-        → ((x : ℕ) (w : Way) → v.way x ≡ Some w → ways.Named (home s depth) w)
+    abbrev apart_from_them : (done : List Act) (v : Views) (view : ways.View) → ((x : ℕ) (w : Way) → v.way x ≡ Some w → is_view s x ≡ true)
         → Viewed (home s depth) (sees_only s) other v view (after done facts_now)
         → Viewed (home s depth) (sees_only s) (known_gone (home s depth) (GoneElsewhere program effects older)) v view (after done own_facts)
     apart_from_them = innermost.apart_from_them table typed effects input ready state top below more_frames rest named p frames deep stages running awaiting of_sub at_point path views viewed_before kept scope holds placed_before above
 
-    abbrev placed_own : ArePlaced program own_facts views p.scope
+    abbrev placed_own : ArePlaced program (suc (length rest)) own_facts views p.scope
     placed_own = innermost.placed_own table typed effects input ready state top below more_frames rest named p frames deep stages running awaiting of_sub at_point path views viewed_before kept scope holds placed_before above
 
     abbrev left_scope : List ℕ
@@ -213,7 +212,7 @@ module _ (table : Table) (typed : TypedProgram) (effects : Effects) (input : Lis
     abbrev viewed_easy : Plain → Viewed (home s depth) (sees_only s) other views (view_here s easy.state) facts_now × Kept s state.memory (waiting_in easy.state)
     viewed_easy = innermost.viewed_easy table typed effects input ready state top below more_frames rest named p frames deep stages running awaiting of_sub at_point path views viewed_before kept scope holds placed_before above
 
-    abbrev placed_left : (facts : List Fact) → ArePlaced program facts views p.scope → ArePlaced program facts views left_scope
+    abbrev placed_left : (facts : List Fact) → ArePlaced program (suc (length rest)) facts views p.scope → ArePlaced program (suc (length rest)) facts views left_scope
     placed_left = innermost.placed_left table typed effects input ready state top below more_frames rest named p frames deep stages running awaiting of_sub at_point path views viewed_before kept scope holds placed_before above
 
     abbrev IsOld : ℕ → ℕ → Type 0
@@ -336,7 +335,7 @@ module _ (table : Table) (typed : TypedProgram) (effects : Effects) (input : Lis
       not_end x is = (let no : Call n actuals result ≡ EndScope x = sym e ∙ is in cc)
 
       pub holds_now : Holds s depth views state.memory
-      holds_now = all_held s no_in_formals depth views state.memory (λ x k view at. holds.held x k (λ fading. not_end fading.0 fading.1) view at) holds.only holds.named
+      holds_now = all_held s in_formals depth views state.memory (λ x k view at. holds.held x k (λ fading. not_end fading.0 fading.1) view at) holds.only holds.owners
 
       pub live_now : (w : Way) (l : ways.Loc) → IsOwners s w → ways.Reaches (seen s state.memory (waiting_in easy.state) state.leaks) w l
           → (content s state.memory (waiting_in easy.state) (trunk l)).owns ≡ true
@@ -346,7 +345,7 @@ module _ (table : Table) (typed : TypedProgram) (effects : Effects) (input : Lis
 
       abbrev pub Given : List Passed → Type 0
       Given passed =
-          AreGiven (steps.here main_turn) ready.accepted.settled (waiting_in easy.state) state.leaks state.memory [] other facts_now views (viewed_easy plain_there.0).1 (viewed_easy plain_there.0).0 holds_now alone live_now no_in_formals
+          AreGiven (steps.here main_turn) ready.accepted.settled (waiting_in easy.state) state.leaks state.memory [] other facts_now views (viewed_easy plain_there.0).1 (viewed_easy plain_there.0).0 holds_now alone live_now (standing.no_in_formals table typed effects input ready)
           index_law ready.owns ready.class.parts_named procedure formals actuals passed
 
       -- the values that the actuals take
@@ -358,12 +357,12 @@ module _ (table : Table) (typed : TypedProgram) (effects : Effects) (input : Lis
 
       pub passed_quiet : Quiet then_now Given (all_passed (steps.here main_turn) ways_there formals actuals (start main_turn))
       passed_quiet =
-          all_given (steps.here main_turn) ready.accepted.settled (waiting_in easy.state) state.leaks state.memory [] other facts_now views (viewed_easy plain_there.0).1 (viewed_easy plain_there.0).0 holds_now alone live_now no_in_formals
+          all_given (steps.here main_turn) ready.accepted.settled (waiting_in easy.state) state.leaks state.memory [] other facts_now views (viewed_easy plain_there.0).1 (viewed_easy plain_there.0).0 holds_now alone live_now (standing.no_in_formals table typed effects input ready)
           index_law ready.owns ready.class.parts_named procedure given_words taken_there.0 formals actuals kinds called.actuals_stay copied_there taken_there.1 values_allowed
 
       given_laid : (passed : List Passed) → Given passed → AreLaidOut s depth formals actuals passed
       given_laid passed given =
-          all_laid_out (steps.here main_turn) ready.accepted.settled (waiting_in easy.state) state.leaks state.memory [] other facts_now views (viewed_easy plain_there.0).1 (viewed_easy plain_there.0).0 holds_now alone live_now no_in_formals
+          all_laid_out (steps.here main_turn) ready.accepted.settled (waiting_in easy.state) state.leaks state.memory [] other facts_now views (viewed_easy plain_there.0).1 (viewed_easy plain_there.0).0 holds_now alone live_now (standing.no_in_formals table typed effects input ready)
           index_law ready.owns ready.class.parts_named procedure formals actuals passed given
 
       -- the state is sound with views under the facts after the acts
@@ -372,7 +371,7 @@ module _ (table : Table) (typed : TypedProgram) (effects : Effects) (input : Lis
           subst (Viewed (home s depth) (sees_only s) other views (view_here s easy.state))
           (sym (ap (λ z. after z facts_now) (acts_append values copies) ∙ after_append (acts values) (acts copies) facts_now
           ∙ ap (after (acts copies)) (reads_keep values reads_there facts_now)))
-          (all_acted (steps.here main_turn) ready.accepted.settled (waiting_in easy.state) state.leaks state.memory [] other facts_now views (viewed_easy plain_there.0).1 (viewed_easy plain_there.0).0 holds_now alone live_now no_in_formals
+          (all_acted (steps.here main_turn) ready.accepted.settled (waiting_in easy.state) state.leaks state.memory [] other facts_now views (viewed_easy plain_there.0).1 (viewed_easy plain_there.0).0 holds_now alone live_now (standing.no_in_formals table typed effects input ready)
           index_law ready.owns ready.class.parts_named procedure formals actuals passed facts_now kinds given (viewed_easy plain_there.0).0)
 
       -- loans stay
@@ -445,14 +444,14 @@ module _ (table : Table) (typed : TypedProgram) (effects : Effects) (input : Lis
       next_scope : InScope s state.memory depth (lasting_of s (at_successor.0).scope)
       next_scope = scope_on s ready.owns state.memory depth (scope_behind p) (at_successor.0).scope behind_scope at_successor.2
 
-      next_placed : ArePlaced program facts_called views (at_successor.0).scope
+      next_placed : ArePlaced program (suc (length rest)) facts_called views (at_successor.0).scope
       next_placed =
-          placed_on program facts_called views (scope_behind p) (at_successor.0).scope holds.only at_successor.2
+          placed_on program depth facts_called views (scope_behind p) (at_successor.0).scope holds.only at_successor.2
           (λ x w has. (let own_place = placed_left own_facts placed_own x w has in record {
             within = more x own_place.within;
-            up = lasts_more program left_scope (scope_behind p) (ways.number_of (views.up x)) x more own_place.up;
-            root = lasts_more program left_scope (scope_behind p) (ways.number_of w) x more own_place.root;
-            holder = λ sees. (let h = own_place.holder sees in
+            up = λ up_named. lasts_more program left_scope (scope_behind p) (ways.number_of (views.up x)) x more (own_place.up up_named);
+            root = λ at_home. lasts_more program left_scope (scope_behind p) (ways.number_of w) x more (own_place.root at_home);
+            holder = λ up_named sees. (let h = own_place.holder up_named sees in
                 (h.0, loans_called h.0 (ways.name_of (views.loan x)) h.1, lasts_more program left_scope (scope_behind p) h.0 x more h.2, h.3));
           }))
 
@@ -492,10 +491,10 @@ module _ (table : Table) (typed : TypedProgram) (effects : Effects) (input : Lis
         other_all = known_gone (home s depth) (GoneElsewhere program effects older)
 
         pub far_views : AreFar (home s depth) views depth
-        far_views x w has foreign = absurd (not_elsewhere (home s depth) w (holds.named x w has) foreign)
+        far_views = lies_far s depth views holds.lies
 
         pub well_all : Viewed (home s depth) (sees_only s) other_all views (view_here s easy.state) facts_called
-        well_all = apart_from_them (acts (values ++ copies)) views (view_here s easy.state) holds.only holds.named (acted_now passed given)
+        well_all = apart_from_them (acts (values ++ copies)) views (view_here s easy.state) holds.only (acted_now passed given)
 
         -- what is taken
         no_overlap : ((r : Report) → Has (overlap_reports s (alias.passed formals actuals)) r → ⊥) ⊎ ((x : ℕ) → Has formals x → IsScalarObject s x)
@@ -546,7 +545,7 @@ module _ (table : Table) (typed : TypedProgram) (effects : Effects) (input : Lis
         abbrev pub ways_taken : List Way
         ways_taken = all_passed_ways.0
 
-        pub open_there : IsOpen s ready.accepted.settled ready.owns no_in_formals (waiting_in easy.state) state.leaks depth views far_views facts_called next_there other_all ways_taken
+        pub open_there : IsOpen s ready.accepted.settled ready.owns in_formals (waiting_in easy.state) state.leaks depth views far_views facts_called next_there other_all ways_taken
         open_there = record {
           free = λ k w under gone. (let root = gone_low table typed effects unmoved_stage local state depth older between w gone in
               hand_base (sym (base_under (ways.Object (ways.OfHand k)) w under) ∙ root.2));
@@ -562,7 +561,7 @@ module _ (table : Table) (typed : TypedProgram) (effects : Effects) (input : Lis
             hand_base is = cc
 
         -- the formals have nothing yet
-        pub blank_formals : AreBlank s ready.accepted.settled ready.owns no_in_formals (waiting_in easy.state) state.leaks depth views far_views facts_called next_there state.memory formals
+        pub blank_formals : AreBlank s ready.accepted.settled ready.owns in_formals (waiting_in easy.state) state.leaks depth views far_views facts_called next_there state.memory formals
         blank_formals x has q = by_word (word_in s.table (content s state.memory [] (ways.OfRoot (ways.OfVariable (suc depth) x))) q) refl
           where
             by_word : (w : ways.Word) → word_in s.table (content s state.memory [] (ways.OfRoot (ways.OfVariable (suc depth) x))) q ≡ w
@@ -584,7 +583,7 @@ module _ (table : Table) (typed : TypedProgram) (effects : Effects) (input : Lis
                       let less = there.3 in omega (arith, frames_same, less))
                   | inl (inr none) ↦ absurd none
                   | inl (inl (u, moved, leads)) ↦ not_named (home s depth) (suc depth) x
-                      (not_above s ready.accepted.settled ready.owns no_in_formals (waiting_in easy.state) state.leaks depth views far_views facts_called next_there) w
+                      (not_above s ready.accepted.settled ready.owns in_formals (waiting_in easy.state) state.leaks depth views far_views facts_called next_there) w
                       (subst (ways.Named (home s depth)) leads
                       (named_way (home s depth) (sees_only s) other_all views (view_here s easy.state) facts_called well_all.views (suc (ways.number_of u)) u (omega arith)
                       (moved.0, well_all.clear.owned (ways.name_of u) moved.1))) (base_along (ways.Object root) q)
@@ -593,13 +592,13 @@ module _ (table : Table) (typed : TypedProgram) (effects : Effects) (input : Lis
         abbrev with_all : Memory
         with_all = with_formals s (suc depth) formals passed state.memory
 
-        enters : Enter s ready.accepted.settled ready.owns no_in_formals (waiting_in easy.state) state.leaks depth views far_views facts_called next_there other_all formals passed ways_taken
+        enters : Enter s ready.accepted.settled ready.owns in_formals (waiting_in easy.state) state.leaks depth views far_views facts_called next_there other_all formals passed ways_taken
             state.memory with_all
         enters =
-            all_declared s ready.accepted.settled ready.owns no_in_formals (waiting_in easy.state) state.leaks depth views far_views facts_called next_there other_all formals passed ways_taken
+            all_declared s ready.accepted.settled ready.owns in_formals (waiting_in easy.state) state.leaks depth views far_views facts_called next_there other_all formals passed ways_taken
             state.memory all_passed_ways.1 open_there (viewed_easy plain_there.0).1 well_all blank_formals
 
-        abbrev declared_there : AreDeclared s ready.accepted.settled ready.owns no_in_formals (waiting_in easy.state) state.leaks depth views far_views facts_called next_there formals
+        abbrev declared_there : AreDeclared s ready.accepted.settled ready.owns in_formals (waiting_in easy.state) state.leaks depth views far_views facts_called next_there formals
             state.memory with_all
         declared_there = enters.0
 
@@ -638,6 +637,12 @@ module _ (table : Table) (typed : TypedProgram) (effects : Effects) (input : Lis
             → word_in s.table (content s state.memory [] (ways.OfRoot (ways.OfVariable f x))) q ≡ ways.Held k
         held_called f x q k off held = elim (declared_there.held f x q k held) [ inl before ↦ before | inr mine ↦ absurd (off mine.0) ]
 
+        -- the variables of its views stay
+        word_still : (x : ℕ) → is_view s x ≡ true
+            → (get_or (variable_slots s (home s depth x) x with_all.variables) 0 no_slot).word ≡ (get_or (variable_slots s (home s depth x) x state.memory.variables) 0 no_slot).word
+        word_still x view = declared_there.views (home s depth x) x view (λ up formal has. not_above s ready.accepted.settled ready.owns in_formals
+            (waiting_in easy.state) state.leaks depth views far_views facts_called next_there x up)
+
         is_waiting : IsWaiting table typed effects after_call n (returns_of formals passed) waits_there
         is_waiting = record {
           runs = running.0;
@@ -664,12 +669,15 @@ module _ (table : Table) (typed : TypedProgram) (effects : Effects) (input : Lis
           views = subst (λ z. AreViews (home s top.depth) (sees_only s) views (view_here s after_call) z) (sym facts_there)
               (subst (λ d. AreViews (home s d) (sees_only s) views (view_here s after_call) facts_called) (sym deep) well_called.views);
           holds = subst (λ d. HoldsAt s d views with_all at_successor.0) (sym deep) (record {
-            held = λ x k lasts view at. holds_now.held x k (anonymous_is_view s no_in_formals x view) (sym (declared_there.views (home s depth x) x view) ∙ at);
-            within = λ x k view at. (let own_way = holds_now.held x k (anonymous_is_view s no_in_formals x view) (sym (declared_there.views (home s depth x) x view) ∙ at) in (next_placed x own_way.0 own_way.1).within);
+            held = λ x k lasts view at. holds_now.held x k view (sym (word_still x view) ∙ at);
+            within = λ x k view at. (let own_way = holds_now.held x k view (sym (word_still x view) ∙ at) in (next_placed x own_way.0 own_way.1).within);
             only = holds.only;
-            named = holds.named;
+            lies = holds.lies;
+            owners = holds.owners;
+            passed = holds.passed;
           });
-          placed = subst (λ z. ArePlaced program z views (at_successor.0).scope) (sym facts_there) next_placed;
+          placed = subst (λ d. ArePlaced program d (facts_of program effects (waits_with all_passed_ways.0)) views (at_successor.0).scope) (sym deep)
+              (subst (λ z. ArePlaced program depth z views (at_successor.0).scope) (sym facts_there) next_placed);
           taken = subst (λ z. AreTaken s with_all top.depth z next_there (returns_of formals passed) all_passed_ways.0) (sym facts_there)
               (subst (λ d. AreTaken s with_all d facts_called next_there (returns_of formals passed) all_passed_ways.0) (sym deep) enters.2);
         }
@@ -678,7 +686,7 @@ module _ (table : Table) (typed : TypedProgram) (effects : Effects) (input : Lis
         others_wait =
             all_on table typed effects unmoved_stage local state after_call depth
             (λ f x q k some less held. held_called f x q k (λ above_it. omega (arith, less, above_it)) held)
-            (λ f x some less view. declared_there.views f x view)
+            (λ f x some less view. declared_there.views f x view (λ up formal has. omega (arith, less, up)))
             top.frame.sub top.frame.returns older outer stages (omega arith)
             (λ g has x w is. (let root = kept_low table typed effects unmoved_stage local state depth older between w (g.views.cell x) (g, has, x, is, refl) in
             subst (λ z. ways.Reaches z w (ways.OfCell (g.views.cell x))) view_called
@@ -705,8 +713,14 @@ module _ (table : Table) (typed : TypedProgram) (effects : Effects) (input : Lis
           λ x has. all_returned s ready.accepted.settled depth formals actuals passed (given_laid passed given) called.actuals_stay kinds x
               (subst (λ z. Has z x) (ap (λ (z : Signature). z.formals) (signature_is program n)) has),
           λ r has. called.formals r.formal
-              (formals_of_returns s ready.accepted.settled ready.owns no_in_formals (waiting_in easy.state) state.leaks depth views far_views facts_called next_there formals passed r has),
+              (formals_of_returns s ready.accepted.settled ready.owns in_formals (waiting_in easy.state) state.leaks depth views far_views facts_called next_there formals passed r has),
         )
+
+        -- nothing that is gone meets what its views see of others
+        viewed_before_whole : AreUnmet program effects waits_there older
+        viewed_before_whole =
+            subst (λ d. (x : ℕ) (w z : Way) → views.way x ≡ Some w → IsForeign (home s d) w → GoneElsewhere program effects older z → ways.Under z w ⊎ ways.Under w z → ⊥)
+            (sym deep) viewed_before.whole
 
         entered_sound : Along (Goes after_call)
         entered_sound = (
@@ -715,7 +729,7 @@ module _ (table : Table) (typed : TypedProgram) (effects : Effects) (input : Lis
             views = blank_views;
             older = waits_there ∷ older;
             stages = subst (AreStages (called_stage ∷ stages_of (waits_there ∷ older))) (sym frames_there) (refl, refl, (refl, deep, stages));
-            running = (called.runs, returned_there, (is_waiting, others_wait));
+            running = (called.runs, returned_there, (is_waiting, others_wait, viewed_before_whole));
             awaited = (
               packages.first_waits table typed effects input ready (suc depth) n (returns_of formals passed) called.runs.named called.runs.stands called.runs.point
                   called.runs.points called.runs.begins,
@@ -757,10 +771,12 @@ module _ (table : Table) (typed : TypedProgram) (effects : Effects) (input : Lis
               held = λ x k lasts view at. absurd (no_view x k view at);
               within = λ x k view at. absurd (no_view x k view at);
               only = λ x w has. absurd (none_some w has);
-              named = λ x w has. absurd (none_some w has);
+              lies = λ x w has. absurd (none_some w has);
+              owners = λ x w has. absurd (none_some w has);
+              passed = λ x w has. absurd (none_some w has);
             };
             placed = λ x w has. absurd (none_some w has);
-            none_above = λ f x k less view at. above f x k (omega (arith, less)) view (sym (declared_there.views f x view) ∙ at);
+            none_above = λ f x k less view at. above f x k (omega (arith, less)) view (sym (declared_there.views f x view (λ up formal has. omega (arith, less, up))) ∙ at);
           },
           calls_one waits_stage refl (refl, refl, refl) refl none_new (subst (λ d. AreCarried s (λ f. f ≡ suc d → ⊥) [] state.memory with_all) (sym deep) declared_there.carried),
         )
@@ -784,11 +800,12 @@ module _ (table : Table) (typed : TypedProgram) (effects : Effects) (input : Lis
                     no_number : ways.Empty ≡ ways.Held k → ⊥
                     no_number same_word = cc
 
-            no_view : (x k : ℕ) → is_anonymous (view_of s x) ≡ true
+            no_view : (x k : ℕ) → is_view s x ≡ true
                 → (get_or (variable_slots s (home s (suc depth) x) x with_all.variables) 0 no_slot).word ≡ machine.Cell k → ⊥
             no_view x k view at =
                 let up : home s (suc depth) x ≡ suc depth = ap (λ b. if b then 0 else suc depth) (local x view) in
-                above (home s (suc depth) x) x k (omega (arith, up)) view (sym (declared_there.views (home s (suc depth) x) x view) ∙ at)
+                above (home s (suc depth) x) x k (omega (arith, up)) view (sym (declared_there.views (home s (suc depth) x) x view
+                (λ same_depth formal has. (let none = standing.no_in_formals table typed effects input ready x in let no : true ≡ false = sym formal ∙ none in cc))) ∙ at)
 
       pub calls_it : Along (turn main_turn (Call n actuals result))
       calls_it =

@@ -20,7 +20,9 @@ use Rattle.place_names.specs.Reports.{Report}
 use Rattle.type_definitions.specs.Types.{shape_of, full, parts, is_scalar, is_owning}
 use Rattle.typed_tree.specs.Trees.{TypedTree, Name, More}
 use Rattle.flow_paths.specs.declared.report.Effects.{Effects}
-use Rattle.flow_paths.specs.Objects.{Typing, object_at, sub_at, is_package_object, is_named_access, is_variable_access, view_of, Passing, passing, passing_by, passings}
+use Rattle.flow_paths.specs.Objects.{Typing, object_at, sub_at, is_formal, is_package_object, is_named_access, is_variable_access, view_of, Passing, passing, passing_by, passings}
+use Rattle.machine.specs.Owners.{is_in}
+use Rattle.soundness.specs.Seen.{is_view_formal}
 use Rattle.flow_paths.specs.Names.{Written, written, name_of}
 use Rattle.flow_paths.specs.Acts.{actual_act, actual_acts}
 use Rattle.flow_paths.specs.Views.{is_in_mode, text_report}
@@ -190,6 +192,14 @@ module _ (s : Typing) (own_law : OwnsByShape s.table) (depth : ℕ) (facts : Lis
   plain_first x e a formals actuals passed plain (to ∷ ways_left, are, names) =
       (to ∷ ways_left, inl (plain, are), λ k has. more_named x e formals actuals k (names k has))
 
+  -- what is copied back owns
+  copied_owner : (x : ℕ) → (object_at s x).mode ≡ mode.InOut → is_view_formal s x ≡ false
+  copied_owner x in_out = ap (λ m. (is_formal s x && is_in m) && is_owning s.table (object_at s x).of) in_out ∙ no_middle (is_formal s x) (is_owning s.table (object_at s x).of)
+    where
+      no_middle : (a b : Bool) → (a && false) && b ≡ false
+      no_middle true b = refl
+      no_middle false b = refl
+
   own_first : (x : ℕ) (e : TypedTree) (k : Place) (formals : List ℕ) (actuals : TypedTree) (passed : List Passed) (known : List Fact)
       → IsInOut s x → is_scalar (full s.table (object_at s x).of) ≡ false → IsOwnPut s depth x e k → is_package_object s x ≡ false
       → DiffersFrom x formals
@@ -213,6 +223,7 @@ module _ (s : Typing) (own_law : OwnsByShape s.table) (depth : ℕ) (facts : Lis
             inside = inside;
             fits = fits;
             formal = local;
+            owner = copied_owner x in_out;
             many = many;
             within = λ owns. within inside.object (inl (sym object_is)) inside.own owns;
             unlent = λ l h n has over. passed_unlent known to owning access by_way l h n (less (Lent l h n) has) over;
