@@ -16,8 +16,8 @@ use Rattle.soundness.specs.Seen.{IsNear, is_view_formal, home}
 use Rattle.soundness.specs.Typed.{OwnsByShape}
 use Rattle.soundness.proofs.Scalars.{acts}
 use Rattle.owned_loans.specs.Views.{Around, Views, Unused}
-use Rattle.viewed_soundness.specs.Holds.{PartsAreNamed, sees_only}
-use Rattle.viewed_soundness.proofs.Names.{both_no}
+use Rattle.viewed_soundness.specs.Holds.{PartsAreNamed, is_given, sees_only}
+use Rattle.viewed_soundness.proofs.Names.{borrower_sees}
 use Rattle.viewed_soundness.proofs.Outcomes.{IsGood, Leads_on}
 use Rattle.viewed_soundness.proofs.Lends.{Sees, Declares, Puts}
 use Rattle.viewed_soundness.proofs.Coming.{IsComing, borrower_given, observer_given, assign_observer_given, assign_borrower_given}
@@ -51,7 +51,7 @@ module _ (t : Turn) (settled : IsSettled (typing t).table) (own_law : OwnsByShap
       (taken_by t (object_at s x).of e (record { memory = t.state.memory; waits = (z ∷ []) ∷ [] }))
 
   module _ (n : ℕ) (c : TraversalCall) (x d : ℕ) (z : machine.Word) (facts : List Fact) (looks : Sees t settled own_law other alone v parts_named may frames none x d)
-      (variable : is_variable (object_at s x).kind ≡ true) (own : is_view_formal s x ≡ false) (good : Good facts)
+      (variable : is_variable (object_at s x).kind ≡ true) (own : is_given s x ≡ false) (good : Good facts)
       (coming : IsComing t settled own_law other alone v parts_named may frames none c.root d (traversed_name c) z) (mine : may x c.root) where
     borrows_only : is_observer s x ≡ false → is_borrower s x ≡ true
     borrows_only e = view_kinds (is_variable (object_at s x).kind) (is_borrowing (view_of s x)) (is_observing (view_of s x)) looks.anonymous variable e
@@ -69,7 +69,7 @@ module _ (t : Turn) (settled : IsSettled (typing t).table) (own_law : OwnsByShap
             NoMore (observer_only s x e) e own allowed
         by_kind false e =
             borrower_given t settled own_law other alone v parts_named may frames none c.pos n c.name_pos c.root c.path c.of c.others x d z facts looks good coming mine
-            NoMore (borrows_only e) (both_no (is_observer s x) (is_view_formal s x) e own) (older e).0 (older e).1 (older e).2 allowed
+            NoMore (borrows_only e) (borrower_sees s x e own) (older e).0 (older e).1 (older e).2 allowed
 
     -- a view is assigned
     pub view_assigned : (pos r : Pos) → (is_observer s x ≡ false → c.root ≡ x)
@@ -93,5 +93,5 @@ module _ (t : Turn) (settled : IsSettled (typing t).table) (own_law : OwnsByShap
                 (PutsHere z r x (call_in n (record c { root = y })))) (sym same)
                 (assign_borrower_given t settled own_law other alone v parts_named may frames none c.pos n c.name_pos c.path c.of c.others x d z facts looks good
                 (subst (λ y. IsComing t settled own_law other alone v parts_named may frames none y d (name_of y c.path) z) same coming) (subst (may x) same mine)
-                pos r (borrows_only e) (both_no (is_observer s x) (is_view_formal s x) e own)
+                pos r (borrows_only e) (borrower_sees s x e own) own
                 (subst (λ y. AllowsAll facts (acts (assigned_to s pos (Some x) (Name r x NoMore (object_at s x).of) (call_in n (record c { root = y }))))) same allowed))
