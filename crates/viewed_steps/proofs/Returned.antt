@@ -1,5 +1,5 @@
 -- What a traversal function returns: null, or what goes on from what its first formal sees.
-use Rattle.std.proofs.Common.{◌≡◌, refl, sym, ap, ◌∙◌, subst, inl, inr, ℕ, Bool, true, List, [], ◌∷◌, ◌++◌, length, Some, if◌then◌else◌}
+use Rattle.std.proofs.Common.{◌≡◌, refl, sym, ap, ◌∙◌, subst, ◌⊎◌, inl, inr, ℕ, Bool, true, List, [], ◌∷◌, ◌++◌, length, Option, Some, None, if◌then◌else◌}
 use Rattle.spark_base.specs.declared.position.Pos.{Pos}
 use Rattle.place_names.specs.declared.act.Act.{Act}
 use Rattle.place_names.specs.declared.act.Act.TheVariants as act
@@ -20,8 +20,9 @@ use Rattle.machine.specs.Evaluate.{Now, AsView, Evaluated, Done, Raises, Traps, 
 use Rattle.machine.specs.States.{Waiting}
 use Rattle.machine.specs.Step.{Turn, typing, here, taken_by}
 use Rattle.machine.specs.Owners.{waiting_in}
-use Rattle.owned_ways.specs.Ways.{Way, OfCell, All, Reaches, Under, Named, Allows, after, AllowsAll}
+use Rattle.owned_ways.specs.Ways.{Way, OfRoot, OfCell, Inside, All, Reaches, Under, Named, Allows, after, AllowsAll}
 use Rattle.owned_ways.specs.Ways as ways
+use Rattle.owned_ways.proofs.Locations.{same_loc}
 use Rattle.part_offsets.specs.Parts.{IsSettled}
 use Rattle.soundness.specs.Seen.{IsNear, seen, home}
 use Rattle.soundness.specs.Typed.{OwnsByShape}
@@ -40,6 +41,64 @@ use Rattle.viewed_soundness.proofs.Coming.{IsComing, lifted_on}
 use Rattle.viewed_steps.specs.Traversals.{AreRooted}
 use Rattle.viewed_steps.proofs.Rooted.{goes_on_from}
 use Rattle.viewed_steps.proofs.Sources.{view_shape, view_scalar}
+
+-- ---- ways are equal or not, and begin each other or not
+
+same_ways : (a b : Way) → (a ≡ b) ⊎ (a ≡ b → ⊥)
+same_ways (ways.Object r) (ways.Object q) = elim (same_loc (OfRoot r) (OfRoot q)) [
+  | inl e ↦ inl (let is : r ≡ q = cc in ap ways.Object is)
+  | inr differs ↦ inr (λ e. differs (let is : r ≡ q = cc in ap OfRoot is))
+]
+same_ways (ways.Object r) (ways.Lost n) = inr (λ e. cc)
+same_ways (ways.Object r) (ways.Into w i) = inr (λ e. cc)
+same_ways (ways.Object r) (All w) = inr (λ e. cc)
+same_ways (ways.Lost n) (ways.Object q) = inr (λ e. cc)
+same_ways (ways.Lost n) (ways.Lost k) = elim (same_loc (OfCell n) (OfCell k)) [
+  | inl e ↦ inl (let is : n ≡ k = cc in ap ways.Lost is)
+  | inr differs ↦ inr (λ e. differs (let is : n ≡ k = cc in ap OfCell is))
+]
+same_ways (ways.Lost n) (ways.Into w i) = inr (λ e. cc)
+same_ways (ways.Lost n) (All w) = inr (λ e. cc)
+same_ways (ways.Into w i) (ways.Object q) = inr (λ e. cc)
+same_ways (ways.Into w i) (ways.Lost n) = inr (λ e. cc)
+same_ways (ways.Into w i) (ways.Into u j) = elim (same_ways w u) [
+  | inr differs ↦ inr (λ e. differs cc)
+  | inl same ↦ elim (same_loc (Inside (OfCell 0) i) (Inside (OfCell 0) j)) [
+    | inl e ↦ inl (let is : i ≡ j = cc in (λ k. ways.Into (same k) (is k)))
+    | inr differs ↦ inr (λ e. differs (let is : i ≡ j = cc in ap (Inside (OfCell 0)) is))
+  ]
+]
+same_ways (ways.Into w i) (All u) = inr (λ e. cc)
+same_ways (All w) (ways.Object q) = inr (λ e. cc)
+same_ways (All w) (ways.Lost n) = inr (λ e. cc)
+same_ways (All w) (ways.Into u j) = inr (λ e. cc)
+same_ways (All w) (All u) = elim (same_ways w u) [ inl e ↦ inl (ap All e) | inr differs ↦ inr (λ e. differs cc) ]
+
+under_or : (a w : Way) → Under a w ⊎ (Under a w → ⊥)
+under_or a (ways.Object x) = same_ways a (ways.Object x)
+under_or a (ways.Lost n) = same_ways a (ways.Lost n)
+under_or a (ways.Into w i) = elim (same_ways a (ways.Into w i)) [
+  | inl e ↦ inl (inl e)
+  | inr differs ↦ elim (under_or a w) [ inl u ↦ inl (inr u) | inr none ↦ inr (λ u. elim u [ inl e ↦ differs e | inr u ↦ none u ]) ]
+]
+under_or a (All w) = elim (same_ways a (All w)) [
+  | inl e ↦ inl (inl e)
+  | inr differs ↦ elim (under_or a w) [ inl u ↦ inl (inr u) | inr none ↦ inr (λ u. elim u [ inl e ↦ differs e | inr u ↦ none u ]) ]
+]
+
+-- what isn't refuted to go on from the way that there is goes on from it
+pub certain : (o : Option Way) (w : Way) → ((((k : Way) × (o ≡ Some k) × Under k w) → ⊥) → ⊥) → (k : Way) × (o ≡ Some k) × Under k w
+certain None w sure = absurd (sure (λ (k, is, u). none_some k is))
+  where
+    none_some : (k : Way) → ◌≡◌ {A = Option Way} None (Some k) → ⊥
+    none_some k e = cc
+certain (Some k) w sure = elim (under_or k w) [
+  | inl u ↦ (k, refl, u)
+  | inr differs ↦ absurd (sure (λ (q, is, u). differs (subst (λ z. Under z w) (sym (some_is k q is)) u)))
+]
+  where
+    some_is : (k q : Way) → Some k ≡ Some q → k ≡ q
+    some_is k q e = cc
 
 -- what begins with a way goes on from it
 pub under_on : (a w : Way) → Under a w → (r : List Go) × (w ≡ on a r)
@@ -185,13 +244,13 @@ module _ (t : Turn) (settled : IsSettled (typing t).table) (own_law : OwnsByShap
         both.0 (λ w called plain. give_clears facts borrows w
         (subst (λ n. Allows facts (act.Give n borrows)) (sym called) (subst (λ z. Allows z (act.Give (name_of y path) borrows)) indexes_change_nothing both.1.0)))))
 
-  -- What is given goes on from what the first formal sees.
-  pub goes_on : (acts_there : List Act) (f : ℕ) → is_view s f ≡ true → AreRooted s acts_there f v → (y d : ℕ) (name : PlaceName) (z : machine.Word) → IsOnlyRoot s acts_there y f
-      → Comes y d name z → (k : ℕ) → z ≡ machine.Cell k
+  -- What is given goes on from what the first formal sees. It is enough that no other root isn't refuted.
+  pub goes_on : (acts_there : List Act) (f : ℕ) → is_view s f ≡ true → AreRooted s acts_there f v → (y d : ℕ) (name : PlaceName) (z : machine.Word)
+      → ((IsOnlyRoot s acts_there y f → ⊥) → ⊥) → Comes y d name z → (k : ℕ) → z ≡ machine.Cell k
       → (w : Way) × (v.way f ≡ Some w) × (r : List Go) × Reaches (seen s m hands t.state.leaks) (on w r) (OfCell k)
   goes_on acts_there f view rooted y d name z only coming k e =
       let there : Way = on (All coming.place) coming.rest in
-      let first = goes_on_from s acts_there f view v rooted y only there
-      (λ is. (let l = coming.lifted is k e in let more = lifted_on v (All coming.place) coming.rest l.0 in (more.0, more.1 ∙ l.1))) in
+      let first = certain (v.way f) (expand v there) (λ none. only (λ one. none (goes_on_from s acts_there f view v rooted y one there
+      (λ is. (let l = coming.lifted is k e in let more = lifted_on v (All coming.place) coming.rest l.0 in (more.0, more.1 ∙ l.1)))))) in
       let rest = under_on first.0 (expand v there) first.2 in
       (first.0, first.1, rest.0, subst (λ x. Reaches (seen s m hands t.state.leaks) x (OfCell k)) rest.1 (coming.reached k e))
