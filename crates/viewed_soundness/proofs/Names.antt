@@ -218,7 +218,7 @@ plain_given s x plain =
     let none = neither (is_anonymous (view_of s x)) (is_view_formal s x) plain in
     both_no (is_view_formal s x) (is_in_formal s x && is_anonymous (view_of s x)) none.1 (no_and (is_in_formal s x) (is_anonymous (view_of s x)) none.0)
 
-given_view : (s : Typing) (x : ℕ) → is_given s x ≡ true → is_view s x ≡ true
+pub given_view : (s : Typing) (x : ℕ) → is_given s x ≡ true → is_view s x ≡ true
 given_view s x given = by (is_view_formal s x) (is_in_formal s x) (is_anonymous (view_of s x)) given
   where
     by : (f i a : Bool) → f || (i && a) ≡ true → a || f ≡ true
@@ -240,6 +240,9 @@ pub plain_sees : (s : Typing) (x : ℕ) → is_view s x ≡ false → sees_only 
 plain_sees s x plain =
     let none = neither (is_anonymous (view_of s x)) (is_view_formal s x) plain in
     both_no (is_observer s x) (is_given s x && not (is_exclusive s x)) (plain_observer s x none.0) (ap (λ b. b && not (is_exclusive s x)) (plain_given s x plain))
+
+pub owner_sees : (s : Typing) (x : ℕ) → is_anonymous (view_of s x) ≡ false → is_view_formal s x ≡ false → sees_only s x ≡ false
+owner_sees s x own plain = plain_sees s x (both_no (is_anonymous (view_of s x)) (is_view_formal s x) own plain)
 
 -- what sees is a view
 pub sees_view : (s : Typing) (x : ℕ) → sees_only s x ≡ true → is_view s x ≡ true

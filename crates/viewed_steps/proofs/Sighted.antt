@@ -12,7 +12,7 @@ use Rattle.machine.specs.States.{Outcome}
 use Rattle.machine.specs.Step.{Turn, typing, taken_by, target_pos}
 use Rattle.owned_ways.specs.Ways.{Way, after, AllowsAll}
 use Rattle.part_offsets.specs.Parts.{IsSettled}
-use Rattle.soundness.specs.Seen.{IsNear, is_view_formal, home}
+use Rattle.soundness.specs.Seen.{IsNear, home}
 use Rattle.soundness.specs.Typed.{OwnsByShape}
 use Rattle.soundness.proofs.Scalars.{acts}
 use Rattle.owned_loans.specs.Views.{Around, Views, Unused}
