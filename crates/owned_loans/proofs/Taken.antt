@@ -18,8 +18,8 @@ use Rattle.owned_ways.specs.Ways.{OfVariable, OfHand, OfCell, base_of, Way, Obje
 use Rattle.owned_ways.proofs.Named.{longer}
 use Rattle.owned_ways.proofs.Assigned.{kept_fact}
 use Rattle.owned_ways.proofs.Locations.{under_itself}
-use Rattle.owned_loans.specs.Views.{Views, Around, expand_root, expand, IsObject, AreClear, HasLoan, IsView, Viewed, Becomes, with_view, Unused, on, IsForeign, IsPassed, AreViews}
-use Rattle.owned_loans.proofs.Ways.{beginnings, under_on, on_under, base_on, on_deep, Lifted, lifted_way, next_of}
+use Rattle.owned_loans.specs.Views.{Go, Views, Around, expand_root, expand, IsObject, AreClear, HasLoan, IsView, Viewed, Becomes, with_view, Unused, on, IsForeign, IsPassed, AreViews}
+use Rattle.owned_loans.proofs.Ways.{beginnings, under_on, on_under, base_on, root_on, named_on, on_deep, Lifted, lifted_way, next_of}
 use Rattle.owned_loans.proofs.Meeting.{own_view, named_view, next, not_foreign}
 use Rattle.owned_loans.proofs.Clear.{refused, clear_borrow, clear_observe, clear_same}
 use Rattle.owned_loans.proofs.Allowed.{LoansStay, loan_kept}
@@ -183,44 +183,48 @@ module _ (home : ℕ → ℕ) (observer : ℕ → Bool) (other : Around home) (v
     untaken = λ x w has named off e. true_false (observer b) is (ap observer (sym e) ∙ (own_of x w has named).plain);
   }
 
-  -- The way to what a name designates, if it designates a cell.
-  abbrev pub Designates : Option Way → Way → ℕ → Type 0
-  Designates o u n = (w : Way) → o ≡ Some w → (w ≡ expand v (All u)) × Reaches s w (OfCell n)
+  -- The way that a name stands for, if it leads to a cell.
+  abbrev pub LeadsTo : Option Way → Way → ℕ → Type 0
+  LeadsTo o k n = (w : Way) → o ≡ Some w → (w ≡ expand v k) × Reaches s w (OfCell n)
 
-  pub borrowed : (b : ℕ) (o : Option Way) (u : Way) (n : ℕ) → Becomes v t b o u (All u) n → Unused home other.lent v facts b → observer b ≡ false
-      → Named home u → observer (number_of u) ≡ false → number_of u < b → Designates o u n → Allows facts (Borrow b (name_of u))
+  -- The place that is lent is what a name designates, or a part of that.
+  designated_begins : (u : Way) (r : List Go) → Under u (on (All u) r)
+  designated_begins u r = under_on u (All u) (on (All u) r) (inr (under_itself u)) (on_under (All u) r)
+
+  pub borrowed : (b : ℕ) (o : Option Way) (u : Way) (r : List Go) (n : ℕ) → Becomes v t b o u (on (All u) r) n → Unused home other.lent v facts b → observer b ≡ false
+      → Named home u → observer (number_of u) ≡ false → number_of u < b → LeadsTo o (on (All u) r) n → Allows facts (Borrow b (name_of u))
       → Viewed home observer other t s (effect (Borrow b (name_of u)) facts)
-  borrowed b o u n becomes unused borrows named plain less designates allowed =
+  borrowed b o u r n becomes unused borrows named plain less designates allowed =
       let act : Act = Borrow b (name_of u) in
-      rebound home observer other v t b o u (All u) n becomes s facts (effect act facts) viewed unused
+      rebound home observer other v t b o u (on (All u) r) n becomes s facts (effect act facts) viewed unused
       (stays act (λ m. refl)) (loan_kept act facts (λ l h k. refl))
       (clear_borrow observer facts viewed.clear b (name_of u) allowed)
       (λ w e. record {
-        named = named;
+        named = named_on home (All u) r named;
         leads = sym (designates w e).0;
-        begins = inr (under_itself u);
-        deep = λ d. d;
-        plain = plain;
-        older = λ is. less;
+        begins = designated_begins u r;
+        deep = on_deep (All u) r (λ d. d);
+        plain = ap observer (root_on (All u) r) ∙ plain;
+        older = λ is. subst (λ z. z < b) (sym (root_on (All u) r)) less;
         lent = subst (λ z. HasLoan observer z b (effect act facts) (name_of u)) (sym borrows)
             (Has-append_right (filter (λ g. not (removes act g)) facts) (Lent Borrowed b (name_of u) ∷ []) (Lent Borrowed b (name_of u)) (inl refl));
         reaches = (designates w e).1;
       })
 
-  pub observed : (b : ℕ) (o : Option Way) (u : Way) (n : ℕ) → Becomes v t b o u (All u) n → observer b ≡ true
-      → Named home u → observer (number_of u) ≡ false → Designates o u n → Allows facts (Observe b (name_of u) false)
+  pub observed : (b : ℕ) (o : Option Way) (u : Way) (r : List Go) (n : ℕ) → Becomes v t b o u (on (All u) r) n → observer b ≡ true
+      → Named home u → observer (number_of u) ≡ false → LeadsTo o (on (All u) r) n → Allows facts (Observe b (name_of u) false)
       → Viewed home observer other t s (effect (Observe b (name_of u) false) facts)
-  observed b o u n becomes observes named plain designates allowed =
+  observed b o u r n becomes observes named plain designates allowed =
       let act : Act = Observe b (name_of u) false in
-      rebound home observer other v t b o u (All u) n becomes s facts (effect act facts) viewed (observer_unused b observes)
+      rebound home observer other v t b o u (on (All u) r) n becomes s facts (effect act facts) viewed (observer_unused b observes)
       (stays act (λ m. refl)) (loan_kept act facts (λ l h k. refl))
       (clear_observe observer facts viewed.clear b (name_of u) false allowed)
       (λ w e. record {
-        named = named;
+        named = named_on home (All u) r named;
         leads = sym (designates w e).0;
-        begins = inr (under_itself u);
-        deep = λ d. d;
-        plain = plain;
+        begins = designated_begins u r;
+        deep = on_deep (All u) r (λ d. d);
+        plain = ap observer (root_on (All u) r) ∙ plain;
         older = λ is. absurd (true_false (observer b) observes is);
         lent = subst (λ z. HasLoan observer z b (effect act facts) (name_of u)) (sym observes)
             (b, Has-append_right (filter (λ g. not (removes act g)) facts) (Lent Observed b (name_of u) ∷ []) (Lent Observed b (name_of u)) (inl refl), observes);
@@ -228,16 +232,16 @@ module _ (home : ℕ → ℕ) (observer : ℕ → Bool) (other : Around home) (v
       })
 
   -- what an observer sees that belongs to another frame
-  passed_on : (b : ℕ) (o : Option Way) (u : Way) (n : ℕ) (l : Lifted v (All u)) → IsPassed home observer v s l.object l.way → (loan up : Way)
-      (becomes : Becomes v t b o loan up n) → observer b ≡ true → Designates o u n → (w : Way) → o ≡ Some w → FitsPassed home observer other v t b o loan up n becomes s w
-  passed_on b o u n l passed loan up becomes observes designates w e =
-      let stands : w ≡ on l.way l.rest = (designates w e).0 ∙ lifted_way v (All u) l in
+  passed_on : (b : ℕ) (o : Option Way) (k : Way) (n : ℕ) (l : Lifted v k) → IsPassed home observer v s l.object l.way → (loan up : Way)
+      (becomes : Becomes v t b o loan up n) → observer b ≡ true → LeadsTo o k n → (w : Way) → o ≡ Some w → FitsPassed home observer other v t b o loan up n becomes s w
+  passed_on b o k n l passed loan up becomes observes designates w e =
+      let stands : w ≡ on l.way l.rest = (designates w e).0 ∙ lifted_way v k l in
       record {
         sees = observes;
         foreign = (passed.foreign.0, passed.foreign.1, ap base_of stands ∙ base_on l.way l.rest ∙ passed.foreign.2, passed.foreign.3);
         reaches = (designates w e).1;
         whole = λ z gone meets. viewed.whole l.object l.way z l.has passed.foreign gone
-            (nearer z (subst (λ k. Under z k ⊎ Under k z) stands meets));
+            (nearer z (subst (λ q. Under z q ⊎ Under q z) stands meets));
       }
     where
       nearer : (z : Way) → Under z (on l.way l.rest) ⊎ Under (on l.way l.rest) z → Under z l.way ⊎ Under l.way z
@@ -245,26 +249,26 @@ module _ (home : ℕ → ℕ) (observer : ℕ → Bool) (other : Around home) (v
       nearer z (inr below) = inr (under_on l.way (on l.way l.rest) z (on_under l.way l.rest) below)
 
   -- an observer of what another frame's belongs to takes a loan, which serves for nothing
-  pub observed_passed : (b : ℕ) (o : Option Way) (u loan up : Way) (n : ℕ) (l : Lifted v (All u)) → IsPassed home observer v s l.object l.way
-      → Becomes v t b o loan up n → observer b ≡ true → Designates o u n → (seen : Bool) → Allows facts (Observe b (name_of u) seen)
-      → Viewed home observer other t s (effect (Observe b (name_of u) seen) facts)
-  observed_passed b o u loan up n l passed becomes observes designates seen allowed =
-      let act : Act = Observe b (name_of u) seen in
+  pub observed_passed : (b : ℕ) (o : Option Way) (m : Name) (k loan up : Way) (n : ℕ) (l : Lifted v k) → IsPassed home observer v s l.object l.way
+      → Becomes v t b o loan up n → observer b ≡ true → LeadsTo o k n → (seen : Bool) → Allows facts (Observe b m seen)
+      → Viewed home observer other t s (effect (Observe b m seen) facts)
+  observed_passed b o m k loan up n l passed becomes observes designates seen allowed =
+      let act : Act = Observe b m seen in
       rebound_any home observer other v t b o loan up n becomes s facts (effect act facts) viewed (observer_unused b observes)
-      (stays act (λ m. refl)) (loan_kept act facts (λ k h z. refl)) (clear_observe observer facts viewed.clear b (name_of u) seen allowed)
-      (λ w e. inr (passed_on b o u n l passed loan up becomes observes designates w e))
+      (stays act (λ z. refl)) (loan_kept act facts (λ l h z. refl)) (clear_observe observer facts viewed.clear b m seen allowed)
+      (λ w e. inr (passed_on b o k n l passed loan up becomes observes designates w e))
 
   -- what another observer sees: its loan serves
-  own_again : (b : ℕ) (o : Option Way) (u : Way) (n : ℕ) (l : Lifted v (All u)) → IsView home observer v s facts l.object l.way → observer l.object ≡ true
-      → Becomes v t b o (v.loan l.object) (next_of v (All u) l) n → observer b ≡ true → Named home u → Designates o u n
-      → (seen : Bool) → Allows facts (Observe b (name_of u) seen) → Viewed home observer other t s (effect (Observe b (name_of u) seen) facts)
-  own_again b o u n l view sees becomes observes named designates seen allowed =
-      let act : Act = Observe b (name_of u) seen in
-      let on = next home observer v s facts viewed.views (All u) l view named in
+  own_again : (b : ℕ) (o : Option Way) (m : Name) (k : Way) (n : ℕ) (l : Lifted v k) → IsView home observer v s facts l.object l.way → observer l.object ≡ true
+      → Becomes v t b o (v.loan l.object) (next_of v k l) n → observer b ≡ true → Named home k → LeadsTo o k n
+      → (seen : Bool) → Allows facts (Observe b m seen) → Viewed home observer other t s (effect (Observe b m seen) facts)
+  own_again b o m k n l view sees becomes observes named designates seen allowed =
+      let act : Act = Observe b m seen in
+      let on = next home observer v s facts viewed.views k l view named in
       let loan = subst (λ z. HasLoan observer z l.object facts (name_of (v.loan l.object))) sees view.lent in
-      rebound home observer other v t b o (v.loan l.object) (next_of v (All u) l) n becomes s facts (effect act facts) viewed (observer_unused b observes)
-      (stays act (λ m. refl)) (loan_kept act facts (λ k h z. refl))
-      (clear_observe observer facts viewed.clear b (name_of u) seen allowed)
+      rebound home observer other v t b o (v.loan l.object) (next_of v k l) n becomes s facts (effect act facts) viewed (observer_unused b observes)
+      (stays act (λ z. refl)) (loan_kept act facts (λ l h z. refl))
+      (clear_observe observer facts viewed.clear b m seen allowed)
       (λ w e. record {
         named = on.plain.0;
         leads = on.same ∙ sym (designates w e).0;
@@ -277,12 +281,12 @@ module _ (home : ℕ → ℕ) (observer : ℕ → Bool) (other : Around home) (v
         reaches = (designates w e).1;
       })
 
-  pub observed_again : (b : ℕ) (o : Option Way) (u : Way) (n : ℕ) (l : Lifted v (All u)) → observer l.object ≡ true
-      → Becomes v t b o (v.loan l.object) (next_of v (All u) l) n → observer b ≡ true → Named home u → Designates o u n
-      → (seen : Bool) → Allows facts (Observe b (name_of u) seen) → Viewed home observer other t s (effect (Observe b (name_of u) seen) facts)
-  observed_again b o u n l sees becomes observes named designates seen allowed = elim (viewed.views l.object l.way l.has) [
-    | inl view ↦ own_again b o u n l view sees becomes observes named designates seen allowed
-    | inr passed ↦ observed_passed b o u (v.loan l.object) (next_of v (All u) l) n l passed becomes observes designates seen allowed
+  pub observed_again : (b : ℕ) (o : Option Way) (m : Name) (k : Way) (n : ℕ) (l : Lifted v k) → observer l.object ≡ true
+      → Becomes v t b o (v.loan l.object) (next_of v k l) n → observer b ≡ true → Named home k → LeadsTo o k n
+      → (seen : Bool) → Allows facts (Observe b m seen) → Viewed home observer other t s (effect (Observe b m seen) facts)
+  observed_again b o m k n l sees becomes observes named designates seen allowed = elim (viewed.views l.object l.way l.has) [
+    | inl view ↦ own_again b o m k n l view sees becomes observes named designates seen allowed
+    | inr passed ↦ observed_passed b o m k (v.loan l.object) (next_of v k l) n l passed becomes observes designates seen allowed
   ]
 
   -- no name that is rooted in an object that is reborrowed was moved, or is lent
@@ -311,18 +315,18 @@ module _ (home : ℕ → ℕ) (observer : ℕ → Bool) (other : Around home) (v
           (allowed (Lent Borrowed x (name_of loan)) has)
 
   -- a borrower goes on from where it is
-  pub reborrowed : (b : ℕ) (o : Option Way) (u : Way) (n : ℕ) (l : Lifted v (All u)) → l.object ≡ b
-      → Becomes v t b o (v.loan l.object) (next_of v (All u) l) n → observer b ≡ false → Named home u → Designates o u n
-      → Allows facts (Reborrow b (name_of u)) → Viewed home observer other t s (effect (Reborrow b (name_of u)) facts)
-  reborrowed b o u n l same becomes borrows named designates allowed =
-      let act : Act = Reborrow b (name_of u) in
+  pub reborrowed : (b : ℕ) (o : Option Way) (m : Name) (k : Way) (n : ℕ) (l : Lifted v k) → l.object ≡ b
+      → Becomes v t b o (v.loan l.object) (next_of v k l) n → observer b ≡ false → Named home k → LeadsTo o k n
+      → Allows facts (Reborrow b m) → Viewed home observer other t s (effect (Reborrow b m) facts)
+  reborrowed b o m k n l same becomes borrows named designates allowed =
+      let act : Act = Reborrow b m in
       let is : observer l.object ≡ false = ap observer same ∙ borrows in
       let view = own_view home observer v s facts viewed.views l.object l.way l.has is in
-      let on = next home observer v s facts viewed.views (All u) l view named in
+      let on = next home observer v s facts viewed.views k l view named in
       let loan = subst (λ z. HasLoan observer z l.object facts (name_of (v.loan l.object))) is view.lent in
-      rebound home observer other v t b o (v.loan l.object) (next_of v (All u) l) n becomes s facts (effect act facts) viewed
-      (reborrow_unused b (name_of u) allowed)
-      (stays act (λ m. refl)) (loan_kept act facts (λ k h z. refl))
+      rebound home observer other v t b o (v.loan l.object) (next_of v k l) n becomes s facts (effect act facts) viewed
+      (reborrow_unused b m allowed)
+      (stays act (λ z. refl)) (loan_kept act facts (λ l h z. refl))
       (clear_same observer facts viewed.clear act refl)
       (λ w e. record {
         named = on.plain.0;
@@ -330,7 +334,7 @@ module _ (home : ℕ → ℕ) (observer : ℕ → Bool) (other : Around home) (v
         begins = on.loan;
         deep = on_deep (v.up l.object) l.rest view.deep;
         plain = on.plain.1;
-        older = λ z. subst (λ y. number_of (next_of v (All u) l) < y) same (on.less is);
+        older = λ z. subst (λ y. number_of (next_of v k l) < y) same (on.less is);
         lent = subst (λ z. HasLoan observer z b (effect act facts) (name_of (v.loan l.object))) (sym borrows)
             (subst (λ z. Has (effect act facts) (Lent Borrowed z (name_of (v.loan l.object)))) same
             (kept_fact act facts (Lent Borrowed l.object (name_of (v.loan l.object))) loan refl));

@@ -44,16 +44,16 @@ use Rattle.soundness.proofs.Numbers.{index_law}
 use Rattle.soundness.proofs.Scalars.{acts, acts_append, after_append, allows_both}
 use Rattle.soundness.proofs.Stays.{Quiet}
 use Rattle.soundness.proofs.Taking.{Takes}
-use Rattle.owned_loans.specs.Views.{Around, Views, expand, Viewed, Becomes, Unused, with_view}
+use Rattle.owned_loans.specs.Views.{Go, on, Around, Views, expand, Viewed, Becomes, Unused, with_view}
 use Rattle.owned_loans.proofs.Allowed.{Cleared, borrow_clears, observe_clears, loan_kept, reborrow_clears}
 use Rattle.owned_ways.proofs.Dropped.{named_base}
-use Rattle.owned_loans.proofs.Ways.{Lifted, next_of, lifts, lifted_root, lifted_way, root_on, base_on}
+use Rattle.owned_loans.proofs.Ways.{Lifted, next_of, lifts, lifted_root, lifted_way, root_on, named_on, base_on, on_named}
 use Rattle.owned_loans.proofs.Taken.{becomes_with}
 use Rattle.owned_loans.proofs.Taken as lent
 use Rattle.viewed_soundness.specs.Holds.{PartsAreNamed, is_view, sees_only, IsOwners, Holds}
 use Rattle.viewed_soundness.proofs.Names.{both_no, either_true, true_false}
 use Rattle.viewed_soundness.proofs.Stays.{steps_taking}
-use Rattle.viewed_soundness.proofs.Viewing.{IsDesignated, IsOfType, way_from, number_in, borrower_declared, observer_stored, observer_again, view_emptied, borrower_stored}
+use Rattle.viewed_soundness.proofs.Viewing.{IsReached, IsOfType, way_from, number_in, borrower_declared, observer_stored, observer_again, view_emptied, borrower_stored}
 use Rattle.viewed_soundness.proofs.Sources.{Shows, source_on}
 use Rattle.viewed_soundness.proofs.Outcomes.{IsGood, IsSame, Comes, Turned, Leads_on, raises, goes_to, goes_on, live}
 
@@ -162,26 +162,28 @@ module _ (t : Turn) (settled : IsSettled (typing t).table) (own_law : OwnsByShap
           inl (record { way = becomes.ways q off; loan = becomes.loans q off; up = becomes.ups q off })
 
   -- it is taken from an object, or from what another view designates
-  taken_from : (views : Views) (x y : ℕ) (z : machine.Word) (u loan : Way) (facts : List Fact)
-      → Becomes v views x (way_from z (expand v (All u))) loan (All u) (number_in z) → may x y → Named (home s depth) u → number_of u ≡ y → (y ≡ x → ⊥)
+  taken_from : (views : Views) (x y : ℕ) (z : machine.Word) (k loan : Way) (facts : List Fact)
+      → Becomes v views x (way_from z (expand v k)) loan k (number_in z) → may x y → Named (home s depth) k → number_of k ≡ y → (y ≡ x → ⊥)
       → (sees_only s x ≡ true → Has facts (Lent Observed x (ways.name_of loan))) → Turned_here views facts
-  taken_from views x y z u loan facts becomes mine named root apart lent =
-      turned_by views x y (way_from z (expand v (All u))) loan (All u) (number_in z) facts becomes mine (λ w e. record {
+  taken_from views x y z k loan facts becomes mine named root apart lent =
+      turned_by views x y (way_from z (expand v k)) loan k (number_in z) facts becomes mine (λ w e. record {
         up = inl (ap number_of becomes.up_is ∙ root);
-        root = subst (Has_root x y) (sym (way_of z (expand v (All u)) w e)) (root_from x y (All u) named root apart);
+        root = subst (Has_root x y) (sym (way_of z (expand v k) w e)) (root_from x y k named root apart);
         loan = λ sees. inl (subst (λ q. Has facts (Lent Observed x (ways.name_of q))) (sym becomes.loan_is) (lent sees));
       })
 
-  taken_again : (views : Views) (x y : ℕ) (z : machine.Word) (u : Way) (l : Lifted v (All u)) (facts : List Fact)
-      → Becomes v views x (way_from z (expand v (All u))) (v.loan l.object) (next_of v (All u) l) (number_in z) → may x y → number_of u ≡ y
+  taken_again : (views : Views) (x y : ℕ) (z : machine.Word) (k : Way) (l : Lifted v k) (facts : List Fact)
+      → Becomes v views x (way_from z (expand v k)) (v.loan l.object) (next_of v k l) (number_in z) → may x y → number_of k ≡ y
       → (sees_only s x ≡ true → sees_only s y ≡ true) → Turned_here views facts
-  taken_again views x y z u l facts becomes mine root sees =
-      let object : l.object ≡ y = sym (lifted_root v (All u) l) ∙ root in
+  taken_again views x y z k l facts becomes mine root sees =
+      let object : l.object ≡ y = sym (lifted_root v k l) ∙ root in
       let has : v.way y ≡ Some l.way = subst (λ q. v.way q ≡ Some l.way) object l.has in
-      turned_by views x y (way_from z (expand v (All u))) (v.loan l.object) (next_of v (All u) l) (number_in z) facts becomes mine (λ w e. record {
-        up = inr (l.way, has, ap number_of becomes.up_is ∙ root_on (v.up l.object) l.rest ∙ ap (λ q. number_of (v.up q)) object);
-        root = subst (Has_root x y) (sym (way_of z (expand v (All u)) w e)) (lifted_from x y (All u) root l);
-        loan = λ observes. inr (l.way, has, sees observes, becomes.loan_is ∙ ap v.loan object);
+      let back : Named (home s depth) (views.up x) → Named (home s depth) (v.up y) =
+      (λ named. subst (λ q. Named (home s depth) (v.up q)) object (on_named (home s depth) (v.up l.object) l.rest (subst (Named (home s depth)) becomes.up_is named))) in
+      turned_by views x y (way_from z (expand v k)) (v.loan l.object) (next_of v k l) (number_in z) facts becomes mine (λ w e. record {
+        up = inr (l.way, has, ap number_of becomes.up_is ∙ root_on (v.up l.object) l.rest ∙ ap (λ q. number_of (v.up q)) object, back);
+        root = subst (Has_root x y) (sym (way_of z (expand v k) w e)) (lifted_from x y k root l);
+        loan = λ observes. inr (l.way, has, sees observes, becomes.loan_is ∙ ap v.loan object, back);
       })
 
   -- it has none
@@ -204,12 +206,13 @@ module _ (t : Turn) (settled : IsSettled (typing t).table) (own_law : OwnsByShap
   fact_added : (a : Act) (facts : List Fact) (f : Fact) → Has (adds a) f → Has (effect a facts) f
   fact_added a facts f has = Has-append_right (filter (λ g. not (removes a g)) facts) (adds a) f has
 
-  -- What the source gives is stored in the variable of the view.
+  -- What the source gives is stored in the variable of the view. It may lead further than the source does
+  -- itself, where a function gave it.
   abbrev Gets : ℕ → ℕ → ℕ → PlaceName → List Fact → Type 0
   Gets x y d name facts =
-      (u : Way) (z : machine.Word) → Named (home s depth) u → ways.name_of u ≡ name → IsDesignated v (seen s m hands t.state.leaks) u z
+      (u : Way) (r : List Go) (z : machine.Word) → Named (home s depth) u → ways.name_of u ≡ name → IsReached v (seen s m hands t.state.leaks) (on (All u) r) z
       → ((k : ℕ) → z ≡ machine.Cell k → IsCell s m d k)
-      → (is_view s y ≡ true → (k : ℕ) → z ≡ machine.Cell k → (l : Lifted v (All u)) × (l.object ≡ y)) → (views : Views) × Got views x z facts
+      → (is_view s y ≡ true → (k : ℕ) → z ≡ machine.Cell k → (l : Lifted v (on (All u) r)) × (l.object ≡ y)) → (views : Views) × Got views x z facts
 
   -- An object of an anonymous access type whose source designates what it does.
   pub record Observes (x y u d : ℕ) (path : TypedTree) : Type 0 where
@@ -248,15 +251,16 @@ module _ (t : Turn) (settled : IsSettled (typing t).table) (own_law : OwnsByShap
   borrow_gets : (x y u d : ℕ) (path : TypedTree) (facts : List Fact) → Observes x y u d path → Good v facts t.state → Unused (home s depth) other.lent v facts x
       → sees_only s x ≡ false → sees_only s y ≡ false → y < x → may x y → Allows facts (act.Borrow x (name_of y path))
       → Gets x y d (name_of y path) (effect (act.Borrow x (name_of y path)) facts)
-  borrow_gets x y u d path facts observes good unused borrows plain older mine allowed w z named called is typed lifted =
-      let views : Views = with_view v x (way_from z (expand v (All w))) w (All w) (number_in z) in
+  borrow_gets x y u d path facts observes good unused borrows plain older mine allowed w r z named called is typed lifted =
+      let views : Views = with_view v x (way_from z (expand v (on (All w) r))) w (on (All w) r) (number_in z) in
       let root : number_of w ≡ y = ap (λ (n : PlaceName). n.root) called in
       let got = borrower_declared s settled depth other v views m hands t.state.leaks facts good.viewed good.kept good.holds x z observes.mine observes.anonymous
-      (one_word x y u d path observes) (of_type x y u d path observes z typed) w
-      (becomes_with v x (way_from z (expand v (All w))) w (All w) (number_in z)) unused borrows named (ap (sees_only s) root ∙ plain)
+      (one_word x y u d path observes) (of_type x y u d path observes z typed) w r
+      (becomes_with v x (way_from z (expand v (on (All w) r))) w (on (All w) r) (number_in z)) unused borrows named (ap (sees_only s) root ∙ plain)
       (subst (λ n. n < x) (sym root) older) is (subst (λ n. Allows facts (act.Borrow x n)) (sym called) allowed) in
       let turned : Turned_here views (effect (act.Borrow x (ways.name_of w)) facts) =
-      taken_from views x y z w w (effect (act.Borrow x (ways.name_of w)) facts) (becomes_with v x (way_from z (expand v (All w))) w (All w) (number_in z)) mine named root
+      taken_from views x y z (on (All w) r) w (effect (act.Borrow x (ways.name_of w)) facts) (becomes_with v x (way_from z (expand v (on (All w) r))) w (on (All w) r) (number_in z)) mine
+      (named_on (home s depth) (All w) r named) (root_on (All w) r ∙ root)
       (λ same. absurd (omega (arith, older, same)))
       (λ sees. absurd (true_false (sees_only s x) sees borrows)) in
       (views, subst (λ n. Got views x z (effect (act.Borrow x n) facts)) called (got.sound, got.words_kept, got.views_held, turned))
@@ -264,15 +268,16 @@ module _ (t : Turn) (settled : IsSettled (typing t).table) (own_law : OwnsByShap
   observe_gets : (x y u d : ℕ) (path : TypedTree) (facts : List Fact) → Observes x y u d path → Good v facts t.state
       → sees_only s x ≡ true → sees_only s y ≡ false → may x y → Allows facts (act.Observe x (name_of y path) false)
       → Gets x y d (name_of y path) (effect (act.Observe x (name_of y path) false) facts)
-  observe_gets x y u d path facts observes good sees plain mine allowed w z named called is typed lifted =
-      let views : Views = with_view v x (way_from z (expand v (All w))) w (All w) (number_in z) in
+  observe_gets x y u d path facts observes good sees plain mine allowed w r z named called is typed lifted =
+      let views : Views = with_view v x (way_from z (expand v (on (All w) r))) w (on (All w) r) (number_in z) in
       let root : number_of w ≡ y = ap (λ (n : PlaceName). n.root) called in
       let got = observer_stored s settled depth other v views m hands t.state.leaks facts good.viewed good.kept good.holds x z observes.mine observes.anonymous
-      (one_word x y u d path observes) (of_type x y u d path observes z typed) w
-      (becomes_with v x (way_from z (expand v (All w))) w (All w) (number_in z)) sees named (ap (sees_only s) root ∙ plain)
+      (one_word x y u d path observes) (of_type x y u d path observes z typed) w r
+      (becomes_with v x (way_from z (expand v (on (All w) r))) w (on (All w) r) (number_in z)) sees named (ap (sees_only s) root ∙ plain)
       is (subst (λ n. Allows facts (act.Observe x n false)) (sym called) allowed) in
       let turned : Turned_here views (effect (act.Observe x (ways.name_of w) false) facts) =
-      taken_from views x y z w w (effect (act.Observe x (ways.name_of w) false) facts) (becomes_with v x (way_from z (expand v (All w))) w (All w) (number_in z)) mine named root
+      taken_from views x y z (on (All w) r) w (effect (act.Observe x (ways.name_of w) false) facts) (becomes_with v x (way_from z (expand v (on (All w) r))) w (on (All w) r) (number_in z)) mine
+      (named_on (home s depth) (All w) r named) (root_on (All w) r ∙ root)
       (λ same. absurd (true_false (sees_only s x) sees (ap (sees_only s) (sym same) ∙ plain)))
       (λ sees. fact_added (act.Observe x (ways.name_of w) false) facts (Lent Observed x (ways.name_of w)) (inl refl)) in
       (views, subst (λ n. Got views x z (effect (act.Observe x n false) facts)) called (got.sound, got.words_kept, got.views_held, turned))
@@ -285,7 +290,7 @@ module _ (t : Turn) (settled : IsSettled (typing t).table) (own_law : OwnsByShap
   then_got : (x y d : ℕ) (name : PlaceName) (facts behind : List Fact) (good : Good v facts t.state) → Gets x y d name behind → (e : Evaluated (List machine.Word))
       → Quiet now (Shown facts good y d name) e → Leads_here behind (steps.evaluated t e (λ ws m. goes t (declared depth x ws m) 0))
   then_got x y d name facts behind good gets (Done ws n) (same, (u, named, called, shows)) =
-      let got = gets u shows.word named called shows.designated shows.typed shows.lifted in
+      let got = gets u [] shows.word named called shows.designated shows.typed shows.lifted in
       subst (λ (z : Now). Leads_here behind (goes t (declared depth x ws z.memory) 0)) (sym same)
       (subst (λ z. Leads_here behind (goes t (declared depth x z m) 0)) (sym shows.is)
       (goes_to t settled own_law other alone v parts_named may frames none (declared depth x (shows.word ∷ []) m) 0 got.0 behind got.1.3 got.1.0 got.1.1 got.1.2))
@@ -359,7 +364,7 @@ module _ (t : Turn) (settled : IsSettled (typing t).table) (own_law : OwnsByShap
   through_gets : (b : Bool) (x y u d : ℕ) (path : TypedTree) (facts : List Fact) → Observes x y u d path → Good v facts t.state
       → sees_only s x ≡ true → sees_only s y ≡ true → may x y → Allows facts (act.Observe x (name_of y path) b)
       → Gets x y d (name_of y path) (effect (act.Observe x (name_of y path) b) facts)
-  through_gets b x y u d path facts observes good looks from mine allowed w z named called is typed lifted = by_word z is typed lifted
+  through_gets b x y u d path facts observes good looks from mine allowed w r z named called is typed lifted = by_word z is typed lifted
     where
       anonymous : (a b c f : Bool) → (a && c) || f ≡ true → (b || c) || f ≡ true
       anonymous true true c f e = refl
@@ -371,7 +376,7 @@ module _ (t : Turn) (settled : IsSettled (typing t).table) (own_law : OwnsByShap
       view_y : is_view s y ≡ true
       view_y = anonymous (is_variable (object_at s y).kind) (is_borrowing (view_of s y)) (is_observing (view_of s y)) (is_view_formal s y) from
 
-      nothing : (z : machine.Word) → ((k : ℕ) → z ≡ machine.Cell k → ⊥) → IsDesignated v (seen s m hands t.state.leaks) w z
+      nothing : (z : machine.Word) → ((k : ℕ) → z ≡ machine.Cell k → ⊥) → IsReached v (seen s m hands t.state.leaks) (on (All w) r) z
           → ((k : ℕ) → z ≡ machine.Cell k → IsCell s m d k) → (views : Views) × Got views x z (effect (act.Observe x (name_of y path) b) facts)
       nothing z null is typed =
           let views : Views = with_view v x (way_from z w) w w (number_in z) in
@@ -383,22 +388,22 @@ module _ (t : Turn) (settled : IsSettled (typing t).table) (own_law : OwnsByShap
           (clear_observe (sees_only s) facts good.viewed.clear x (name_of y path) b allowed) in
           (views, (got.sound, got.words_kept, got.views_held, taken_none views x z w w w (effect a facts) (becomes_with v x (way_from z w) w w (number_in z)) null))
 
-      by_word : (z : machine.Word) → IsDesignated v (seen s m hands t.state.leaks) w z → ((k : ℕ) → z ≡ machine.Cell k → IsCell s m d k)
-          → (is_view s y ≡ true → (k : ℕ) → z ≡ machine.Cell k → (l : Lifted v (All w)) × (l.object ≡ y))
+      by_word : (z : machine.Word) → IsReached v (seen s m hands t.state.leaks) (on (All w) r) z → ((k : ℕ) → z ≡ machine.Cell k → IsCell s m d k)
+          → (is_view s y ≡ true → (k : ℕ) → z ≡ machine.Cell k → (l : Lifted v (on (All w) r)) × (l.object ≡ y))
           → (views : Views) × Got views x z (effect (act.Observe x (name_of y path) b) facts)
       by_word (machine.Cell k) is typed lifted =
           let z : machine.Word = machine.Cell k in
           let l = lifted view_y k refl in
-          let views : Views = with_view v x (way_from z (expand v (All w))) (v.loan l.0.object) (next_of v (All w) l.0) (number_in z) in
+          let views : Views = with_view v x (way_from z (expand v (on (All w) r))) (v.loan l.0.object) (next_of v (on (All w) r) l.0) (number_in z) in
           let got = observer_again s settled depth other v views m hands t.state.leaks facts good.viewed good.kept good.holds x z observes.mine observes.anonymous
-          (one_word x y u d path observes) (of_type x y u d path observes z typed) w l.0 (ap (sees_only s) l.1 ∙ from)
-          (becomes_with v x (way_from z (expand v (All w))) (v.loan l.0.object) (next_of v (All w) l.0) (number_in z)) looks named is
-          b (subst (λ n. Allows facts (act.Observe x n b)) (sym called) allowed) in
-          let turned : Turned_here views (effect (act.Observe x (ways.name_of w) b) facts) =
-          taken_again views x y z w l.0 (effect (act.Observe x (ways.name_of w) b) facts)
-          (becomes_with v x (way_from z (expand v (All w))) (v.loan l.0.object) (next_of v (All w) l.0) (number_in z)) mine
-          (ap (λ (n : PlaceName). n.root) called) (λ observes. from) in
-          (views, subst (λ n. Got views x z (effect (act.Observe x n b) facts)) called (got.sound, got.words_kept, got.views_held, turned))
+          (one_word x y u d path observes) (of_type x y u d path observes z typed) (name_of y path) (on (All w) r) l.0 (ap (sees_only s) l.1 ∙ from)
+          (becomes_with v x (way_from z (expand v (on (All w) r))) (v.loan l.0.object) (next_of v (on (All w) r) l.0) (number_in z)) looks
+          (named_on (home s depth) (All w) r named) is b allowed in
+          let turned : Turned_here views (effect (act.Observe x (name_of y path) b) facts) =
+          taken_again views x y z (on (All w) r) l.0 (effect (act.Observe x (name_of y path) b) facts)
+          (becomes_with v x (way_from z (expand v (on (All w) r))) (v.loan l.0.object) (next_of v (on (All w) r) l.0) (number_in z)) mine
+          (root_on (All w) r ∙ ap (λ (n : PlaceName). n.root) called) (λ observes. from) in
+          (views, (got.sound, got.words_kept, got.views_held, turned))
       by_word (machine.Int k) is typed lifted = nothing (machine.Int k) (λ q e. cc) is typed
       by_word (machine.Enumerated k) is typed lifted = nothing (machine.Enumerated k) (λ q e. cc) is typed
       by_word machine.Null is typed lifted = nothing machine.Null (λ q e. cc) is typed
@@ -489,7 +494,7 @@ module _ (t : Turn) (settled : IsSettled (typing t).table) (own_law : OwnsByShap
   then_put : (pos q : Pos) (x y u w d : ℕ) (path : TypedTree) (name : PlaceName) (facts behind : List Fact) (good : Good v facts t.state) → Observes x y u d path
       → Gets x y d name behind → (e : Evaluated (List machine.Word)) → Quiet now (Shown facts good y d name) e → Leads_here behind (Puts pos q x w e)
   then_put pos q x y u w d path name facts behind good observes gets (Done ws n) (same, (r, named, called, shows)) =
-      let got = gets r shows.word named called shows.designated shows.typed shows.lifted in
+      let got = gets r [] shows.word named called shows.designated shows.typed shows.lifted in
       let k : Place = run.variable_place (here t) x in
       let is = stored_is x y u d path facts observes good shows.word in
       subst (Leads_here behind) (sym (put_at pos q x w ws n))
@@ -523,7 +528,7 @@ module _ (t : Turn) (settled : IsSettled (typing t).table) (own_law : OwnsByShap
   reborrow_gets : (x u d : ℕ) (path : TypedTree) (facts : List Fact) → Observes x x u d path → Good v facts t.state
       → sees_only s x ≡ false → may x x → Allows facts (act.Reborrow x (name_of x path))
       → Gets x x d (name_of x path) (effect (act.Reborrow x (name_of x path)) facts)
-  reborrow_gets x u d path facts observes good borrows mine allowed w z named called is typed lifted = by_word z is typed lifted
+  reborrow_gets x u d path facts observes good borrows mine allowed w r z named called is typed lifted = by_word z is typed lifted
     where
       nothing : (z : machine.Word) → ((k : ℕ) → z ≡ machine.Cell k → ⊥) → ((k : ℕ) → z ≡ machine.Cell k → IsCell s m d k)
           → (views : Views) × Got views x z (effect (act.Reborrow x (name_of x path)) facts)
@@ -537,22 +542,22 @@ module _ (t : Turn) (settled : IsSettled (typing t).table) (own_law : OwnsByShap
           (clear_same (sees_only s) facts good.viewed.clear a refl) in
           (views, (got.sound, got.words_kept, got.views_held, taken_none views x z w w w (effect a facts) (becomes_with v x (way_from z w) w w (number_in z)) null))
 
-      by_word : (z : machine.Word) → IsDesignated v (seen s m hands t.state.leaks) w z → ((k : ℕ) → z ≡ machine.Cell k → IsCell s m d k)
-          → (is_view s x ≡ true → (k : ℕ) → z ≡ machine.Cell k → (l : Lifted v (All w)) × (l.object ≡ x))
+      by_word : (z : machine.Word) → IsReached v (seen s m hands t.state.leaks) (on (All w) r) z → ((k : ℕ) → z ≡ machine.Cell k → IsCell s m d k)
+          → (is_view s x ≡ true → (k : ℕ) → z ≡ machine.Cell k → (l : Lifted v (on (All w) r)) × (l.object ≡ x))
           → (views : Views) × Got views x z (effect (act.Reborrow x (name_of x path)) facts)
       by_word (machine.Cell k) is typed lifted =
           let z : machine.Word = machine.Cell k in
           let l = lifted (ap (λ b. b || is_view_formal s x) observes.anonymous) k refl in
-          let views : Views = with_view v x (way_from z (expand v (All w))) (v.loan l.0.object) (next_of v (All w) l.0) (number_in z) in
+          let views : Views = with_view v x (way_from z (expand v (on (All w) r))) (v.loan l.0.object) (next_of v (on (All w) r) l.0) (number_in z) in
           let got = borrower_stored s settled depth other v views m hands t.state.leaks facts good.viewed good.kept good.holds x z observes.mine observes.anonymous
-          (one_word x x u d path observes) (of_type x x u d path observes z typed) w l.0 l.1
-          (becomes_with v x (way_from z (expand v (All w))) (v.loan l.0.object) (next_of v (All w) l.0) (number_in z)) borrows named is
-          (subst (λ n. Allows facts (act.Reborrow x n)) (sym called) allowed) in
-          let turned : Turned_here views (effect (act.Reborrow x (ways.name_of w)) facts) =
-          taken_again views x x z w l.0 (effect (act.Reborrow x (ways.name_of w)) facts)
-          (becomes_with v x (way_from z (expand v (All w))) (v.loan l.0.object) (next_of v (All w) l.0) (number_in z)) mine
-          (ap (λ (n : PlaceName). n.root) called) (λ observes. observes) in
-          (views, subst (λ n. Got views x z (effect (act.Reborrow x n) facts)) called (got.sound, got.words_kept, got.views_held, turned))
+          (one_word x x u d path observes) (of_type x x u d path observes z typed) (name_of x path) (on (All w) r) l.0 l.1
+          (becomes_with v x (way_from z (expand v (on (All w) r))) (v.loan l.0.object) (next_of v (on (All w) r) l.0) (number_in z)) borrows
+          (named_on (home s depth) (All w) r named) is allowed in
+          let turned : Turned_here views (effect (act.Reborrow x (name_of x path)) facts) =
+          taken_again views x x z (on (All w) r) l.0 (effect (act.Reborrow x (name_of x path)) facts)
+          (becomes_with v x (way_from z (expand v (on (All w) r))) (v.loan l.0.object) (next_of v (on (All w) r) l.0) (number_in z)) mine
+          (root_on (All w) r ∙ ap (λ (n : PlaceName). n.root) called) (λ observes. observes) in
+          (views, (got.sound, got.words_kept, got.views_held, turned))
       by_word (machine.Int k) is typed lifted = nothing (machine.Int k) (λ q e. cc) typed
       by_word (machine.Enumerated k) is typed lifted = nothing (machine.Enumerated k) (λ q e. cc) typed
       by_word machine.Null is typed lifted = nothing machine.Null (λ q e. cc) typed

@@ -122,10 +122,11 @@ module _ (t : Turn) (settled : IsSettled (typing t).table) (own_law : OwnsByShap
 
   -- A view got its way from an object, or from the way of one that is a view itself.
   pub record Comes (views : Views) (facts : List Fact) (x y : ℕ) (w : Way) : Type 0 where
-    pub up : (number_of (views.up x) ≡ y) ⊎ ((k : Way) × (v.way y ≡ Some k) × (number_of (views.up x) ≡ number_of (v.up y)))
+    pub up : (number_of (views.up x) ≡ y)
+        ⊎ ((k : Way) × (v.way y ≡ Some k) × (number_of (views.up x) ≡ number_of (v.up y)) × (Named (home s depth) (views.up x) → Named (home s depth) (v.up y)))
     pub root : ((base_of w ≡ OfRoot (ways.OfVariable (home s depth y) y)) × (y ≡ x → ⊥)) ⊎ ((k : Way) × (v.way y ≡ Some k) × (base_of w ≡ base_of k))
     pub loan : sees_only s x ≡ true → (Has facts (Lent Observed x (ways.name_of (views.loan x))))
-        ⊎ ((k : Way) × (v.way y ≡ Some k) × (sees_only s y ≡ true) × (views.loan x ≡ v.loan y))
+        ⊎ ((k : Way) × (v.way y ≡ Some k) × (sees_only s y ≡ true) × (views.loan x ≡ v.loan y) × (Named (home s depth) (views.up x) → Named (home s depth) (v.up y)))
 
   -- Each view has what it had, or got its way from an object that it may have it from.
   abbrev pub Turned : Views → List Fact → Type 0

@@ -24,8 +24,8 @@ use Rattle.soundness.proofs.Contents.{word_no}
 use Rattle.soundness.proofs.Joined.{trunk_trunk, not_inside}
 use Rattle.soundness.proofs.Memories.{put_same, put_other}
 use Rattle.soundness.proofs.Steps.{plain_end}
-use Rattle.owned_loans.specs.Views.{Around, Views, expand_root, expand, ExcusedBy, Viewed, Becomes, Unused, AreClear}
-use Rattle.owned_loans.proofs.Ways.{Lifted, next_of}
+use Rattle.owned_loans.specs.Views.{Go, on, Around, Views, expand_root, expand, ExcusedBy, Viewed, Becomes, Unused, AreClear}
+use Rattle.owned_loans.proofs.Ways.{Lifted, next_of, root_on, named_on}
 use Rattle.owned_loans.proofs.Allowed.{LoansStay}
 use Rattle.owned_loans.proofs.Taken.{rebound, borrowed, observed, observed_again, reborrowed}
 use Rattle.owned_ways.proofs.Locations.{same_loc}
@@ -51,20 +51,23 @@ abbrev pub number_in : machine.Word → ℕ
 number_in (machine.Cell n) = n
 number_in z = 0
 
--- What a name with this word designates is reached.
-abbrev pub IsDesignated : Views → View → Way → machine.Word → Type 0
-IsDesignated v s u z = (n : ℕ) → z ≡ machine.Cell n → Reaches s (expand v (All u)) (OfCell n)
+-- The cell of a word is reached by what a name stands for; by what a name designates.
+abbrev pub IsReached : Views → View → Way → machine.Word → Type 0
+IsReached v s k z = (n : ℕ) → z ≡ machine.Cell n → Reaches s (expand v k) (OfCell n)
 
-pub designates : (v : Views) (s : View) (u : Way) (z : machine.Word) → IsDesignated v s u z
-    → (w : Way) → way_from z (expand v (All u)) ≡ Some w → (w ≡ expand v (All u)) × Reaches s w (OfCell (number_in z))
-designates v s u (machine.Cell n) is w e =
-    let same = same_some (expand v (All u)) w e in (sym same, subst (λ k. Reaches s k (OfCell n)) same (is n refl))
+abbrev pub IsDesignated : Views → View → Way → machine.Word → Type 0
+IsDesignated v s u z = IsReached v s (All u) z
+
+pub reached_by : (v : Views) (s : View) (k : Way) (z : machine.Word) → IsReached v s k z
+    → (w : Way) → way_from z (expand v k) ≡ Some w → (w ≡ expand v k) × Reaches s w (OfCell (number_in z))
+reached_by v s k (machine.Cell n) is w e =
+    let same = same_some (expand v k) w e in (sym same, subst (λ q. Reaches s q (OfCell n)) same (is n refl))
   where
     same_some : (a b : Way) → Some a ≡ Some b → a ≡ b
     same_some a b e = cc
-designates v s u (machine.Int k) is w e = cc
-designates v s u (machine.Enumerated k) is w e = cc
-designates v s u machine.Null is w e = cc
+reached_by v s k (machine.Int n) is w e = cc
+reached_by v s k (machine.Enumerated n) is w e = cc
+reached_by v s k machine.Null is w e = cc
 
 -- ---- names that have the number of a cell
 
@@ -269,9 +272,9 @@ module _ (s : Typing) (settled : IsSettled s.table) (frame : ℕ) (other : Aroun
   }
 
   -- the way that a view gets begins at an owner
-  owned_way : (u : Way) → Named (home s frame) u → (is_view_formal s (number_of u) ≡ false) ⊎ Lifted v (All u)
-      → (q : Way) → way_from z (expand v (All u)) ≡ Some q → IsOwners s q
-  owned_way u named plain q e = subst (IsOwners s) (of_word z (expand v (All u)) q e) (stands_owners s frame v m (All u) holds named plain)
+  owned_way : (k : Way) → Named (home s frame) k → (is_view_formal s (number_of k) ≡ false) ⊎ Lifted v k
+      → (q : Way) → way_from z (expand v k) ≡ Some q → IsOwners s q
+  owned_way k named plain q e = subst (IsOwners s) (of_word z (expand v k) q e) (stands_owners s frame v m k holds named plain)
     where
       of_word : (z : machine.Word) (w q : Way) → way_from z w ≡ Some q → w ≡ q
       of_word (machine.Cell n) w q e = cc
@@ -279,42 +282,46 @@ module _ (s : Typing) (settled : IsSettled s.table) (frame : ℕ) (other : Aroun
       of_word (machine.Enumerated k) w q e = cc
       of_word machine.Null w q e = cc
 
-  owned_plain : (u : Way) → Named (home s frame) u → sees_only s (number_of u) ≡ false
-      → (q : Way) → way_from z (expand v (All u)) ≡ Some q → IsOwners s q
-  owned_plain u named plain = owned_way u named (inl (neither (is_observer s (number_of u)) (is_view_formal s (number_of u)) plain).1)
+  owned_plain : (u : Way) (r : List Go) → Named (home s frame) u → sees_only s (number_of u) ≡ false
+      → (q : Way) → way_from z (expand v (on (All u) r)) ≡ Some q → IsOwners s q
+  owned_plain u r named plain =
+      owned_way (on (All u) r) (named_on (home s frame) (All u) r named)
+      (inl (ap (is_view_formal s) (root_on (All u) r) ∙ (neither (is_observer s (number_of u)) (is_view_formal s (number_of u)) plain).1))
 
-  pub borrower_declared : (u : Way) → Becomes v t x (way_from z (expand v (All u))) u (All u) (number_in z) → Unused (home s frame) other.lent v facts x → sees_only s x ≡ false
-      → Named (home s frame) u → sees_only s (number_of u) ≡ false → number_of u < x → IsDesignated v (seen s m hands leaks) u z
+  pub borrower_declared : (u : Way) (r : List Go) → Becomes v t x (way_from z (expand v (on (All u) r))) u (on (All u) r) (number_in z)
+      → Unused (home s frame) other.lent v facts x → sees_only s x ≡ false
+      → Named (home s frame) u → sees_only s (number_of u) ≡ false → number_of u < x → IsReached v (seen s m hands leaks) (on (All u) r) z
       → Allows facts (Borrow x (name_of u)) → Became (effect (Borrow x (name_of u)) facts)
-  borrower_declared u becomes unused borrows named plain older is allowed =
-      became (effect (Borrow x (name_of u)) facts) (expand v (All u)) u (All u) becomes (owned_plain u named plain)
-      (borrowed (home s frame) (sees_only s) other v t (seen s m hands leaks) facts viewed x (way_from z (expand v (All u))) u (number_in z) becomes unused borrows
-      named plain older (designates v (seen s m hands leaks) u z is) allowed)
+  borrower_declared u r becomes unused borrows named plain older is allowed =
+      became (effect (Borrow x (name_of u)) facts) (expand v (on (All u) r)) u (on (All u) r) becomes (owned_plain u r named plain)
+      (borrowed (home s frame) (sees_only s) other v t (seen s m hands leaks) facts viewed x (way_from z (expand v (on (All u) r))) u r (number_in z) becomes unused borrows
+      named plain older (reached_by v (seen s m hands leaks) (on (All u) r) z is) allowed)
 
-  pub observer_stored : (u : Way) → Becomes v t x (way_from z (expand v (All u))) u (All u) (number_in z) → sees_only s x ≡ true
-      → Named (home s frame) u → sees_only s (number_of u) ≡ false → IsDesignated v (seen s m hands leaks) u z
+  pub observer_stored : (u : Way) (r : List Go) → Becomes v t x (way_from z (expand v (on (All u) r))) u (on (All u) r) (number_in z) → sees_only s x ≡ true
+      → Named (home s frame) u → sees_only s (number_of u) ≡ false → IsReached v (seen s m hands leaks) (on (All u) r) z
       → Allows facts (Observe x (name_of u) false) → Became (effect (Observe x (name_of u) false) facts)
-  observer_stored u becomes observes named plain is allowed =
-      became (effect (Observe x (name_of u) false) facts) (expand v (All u)) u (All u) becomes (owned_plain u named plain)
-      (observed (home s frame) (sees_only s) other v t (seen s m hands leaks) facts viewed x (way_from z (expand v (All u))) u (number_in z) becomes observes
-      named plain (designates v (seen s m hands leaks) u z is) allowed)
+  observer_stored u r becomes observes named plain is allowed =
+      became (effect (Observe x (name_of u) false) facts) (expand v (on (All u) r)) u (on (All u) r) becomes (owned_plain u r named plain)
+      (observed (home s frame) (sees_only s) other v t (seen s m hands leaks) facts viewed x (way_from z (expand v (on (All u) r))) u r (number_in z) becomes observes
+      named plain (reached_by v (seen s m hands leaks) (on (All u) r) z is) allowed)
 
-  pub observer_again : (u : Way) (l : Lifted v (All u)) → sees_only s l.object ≡ true
-      → Becomes v t x (way_from z (expand v (All u))) (v.loan l.object) (next_of v (All u) l) (number_in z) → sees_only s x ≡ true
-      → Named (home s frame) u → IsDesignated v (seen s m hands leaks) u z → (b : Bool) → Allows facts (Observe x (name_of u) b)
-      → Became (effect (Observe x (name_of u) b) facts)
-  observer_again u l sees becomes observes named is b allowed =
-      became (effect (Observe x (name_of u) b) facts) (expand v (All u)) (v.loan l.object) (next_of v (All u) l) becomes (owned_way u named (inr l))
-      (observed_again (home s frame) (sees_only s) other v t (seen s m hands leaks) facts viewed x (way_from z (expand v (All u))) u (number_in z) l sees becomes observes
-      named (designates v (seen s m hands leaks) u z is) b allowed)
+  pub observer_again : (name : PlaceName) (k : Way) (l : Lifted v k) → sees_only s l.object ≡ true
+      → Becomes v t x (way_from z (expand v k)) (v.loan l.object) (next_of v k l) (number_in z) → sees_only s x ≡ true
+      → Named (home s frame) k → IsReached v (seen s m hands leaks) k z → (b : Bool) → Allows facts (Observe x name b)
+      → Became (effect (Observe x name b) facts)
+  observer_again name k l sees becomes observes named is b allowed =
+      became (effect (Observe x name b) facts) (expand v k) (v.loan l.object) (next_of v k l) becomes (owned_way k named (inr l))
+      (observed_again (home s frame) (sees_only s) other v t (seen s m hands leaks) facts viewed x (way_from z (expand v k)) name k (number_in z) l sees becomes observes
+      named (reached_by v (seen s m hands leaks) k z is) b allowed)
 
-  pub borrower_stored : (u : Way) (l : Lifted v (All u)) → l.object ≡ x
-      → Becomes v t x (way_from z (expand v (All u))) (v.loan l.object) (next_of v (All u) l) (number_in z) → sees_only s x ≡ false
-      → Named (home s frame) u → IsDesignated v (seen s m hands leaks) u z → Allows facts (Reborrow x (name_of u)) → Became (effect (Reborrow x (name_of u)) facts)
-  borrower_stored u l same becomes borrows named is allowed =
-      became (effect (Reborrow x (name_of u)) facts) (expand v (All u)) (v.loan l.object) (next_of v (All u) l) becomes (owned_way u named (inr l))
-      (reborrowed (home s frame) (sees_only s) other v t (seen s m hands leaks) facts viewed x (way_from z (expand v (All u))) u (number_in z) l same becomes borrows
-      named (designates v (seen s m hands leaks) u z is) allowed)
+  pub borrower_stored : (name : PlaceName) (k : Way) (l : Lifted v k) → l.object ≡ x
+      → Becomes v t x (way_from z (expand v k)) (v.loan l.object) (next_of v k l) (number_in z) → sees_only s x ≡ false
+      → Named (home s frame) k → IsReached v (seen s m hands leaks) k z → Allows facts (Reborrow x name)
+      → Became (effect (Reborrow x name) facts)
+  borrower_stored name k l same becomes borrows named is allowed =
+      became (effect (Reborrow x name) facts) (expand v k) (v.loan l.object) (next_of v k l) becomes (owned_way k named (inr l))
+      (reborrowed (home s frame) (sees_only s) other v t (seen s m hands leaks) facts viewed x (way_from z (expand v k)) name k (number_in z) l same becomes borrows
+      named (reached_by v (seen s m hands leaks) k z is) allowed)
 
   -- a view that becomes null
   pub view_emptied : (facts' : List Fact) (w loan up : Way) → Becomes v t x (way_from z w) loan up (number_in z) → ((k : ℕ) → z ≡ machine.Cell k → ⊥)

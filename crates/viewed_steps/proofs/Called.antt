@@ -508,6 +508,7 @@ module _ (h : Here) (settled : IsSettled h.typing.table) (hands : List Waiting) 
             way = is ∙ (λ j. along (Object (OfVariable (at_home j) y)) (sym steps_are j));
             base = base ∙ ap (λ z. memory.OfVariable z y) at_home;
             own = local;
+            owner = no_formals y;
             there = ap (λ z. has_part h.typing.table (content h.typing m hands z).of (steps_in l)) (sym b) ∙ spot.there;
             at = spot.at ∙ ap (λ z. offset_in h.typing.table (content h.typing m hands z).of (steps_in l)) b;
             of = subst (λ z. Matches h.typing.table k.of (type_in h.typing.table (content h.typing m hands z).of (steps_in l))) b spot.of;

@@ -45,15 +45,15 @@ use Rattle.soundness.proofs.Numbers.{index_law}
 use Rattle.soundness.proofs.Scalars.{acts}
 use Rattle.soundness.proofs.Taking.{Takes, takes_as, takes_zero, no_takes, nothing_more}
 use Rattle.owned_loans.specs.Views.{Around, Views, expand, ExcusedBy, Viewed, IsForeign, IsView, IsPassed}
-use Rattle.owned_loans.proofs.Ways.{lifts, lifted_way, root_on}
+use Rattle.owned_loans.proofs.Ways.{lifts, lifted_way, root_on, base_on}
 use Rattle.owned_loans.proofs.Moves.{as_sound, all_known, view_on, named_way, view_named}
 use Rattle.viewed_soundness.specs.Taken.{GivesPlainly}
 use Rattle.viewed_soundness.specs.Holds.{IsNamed, PartsAreNamed, Holds, AllKeep, sees_only, is_view}
-use Rattle.viewed_soundness.proofs.Names.{true_false}
+use Rattle.viewed_soundness.proofs.Names.{both_no, true_false}
 use Rattle.viewed_soundness.proofs.Moments.{hands_spared}
 use Rattle.viewed_soundness.proofs.Evaluated.{gives_plainly, Given, blank_ready, checked_given, evaluated_on}
 use Rattle.viewed_soundness.proofs.Outcomes.{named_plain, not_views, IsGood, Leads_on, raises, start_is, unturned, goes_to}
-use Rattle.viewed_steps.proofs.Views.{is_anonymous_view}
+use Rattle.viewed_steps.proofs.Views.{AreAccess, same_named}
 
 -- ---- a variable that had nothing gets a value
 
@@ -69,13 +69,13 @@ IsOff f x (Inside l i) = IsOff f x l
 
 -- An object of the frame isn't the root of a way.
 abbrev pub IsElsewhere : (ℕ → ℕ) → ℕ → ℕ → Way → Type 0
-IsElsewhere home f x w = home x ≡ f → number_of w ≡ x → ⊥
+IsElsewhere home f x w = Named home w → home x ≡ f → number_of w ≡ x → ⊥
 
 off_there : (home : ℕ → ℕ) (s : View) (f x : ℕ) (w : Way) (l : Loc) → Named home w → IsElsewhere home f x w → Reaches s w l → IsOff f x l
 off_there home s f x (Object (OfVariable g y)) l n off r =
     subst (IsOff f x) (sym r) (λ e. (
     let same = same_root f x g y e in
-    off (ap home same.1 ∙ sym n ∙ sym same.0) (sym same.1)))
+    off n (ap home same.1 ∙ sym n ∙ sym same.0) (sym same.1)))
 off_there home s f x (Object (OfHand h)) l n off r = absurd n
 off_there home s f x (Lost c) l n off r = absurd n
 off_there home s f x (Into w i) l n off (m, r, e) = subst (IsOff f x) (sym e) (off_there home s f x w m n off r)
@@ -175,10 +175,11 @@ module _ (s : Typing) (settled : IsSettled s.table) (home : ℕ → ℕ) (observ
           (λ e. far y w has passed.foreign (frame_of f x passed.foreign.0 passed.foreign.1 e)) passed.reaches
 
 -- the root of what a name stands for
-pub stands_root : (v : Views) (u : Way) → (number_of (expand v u) ≡ number_of u) ⊎ ((y : ℕ) × (k : Way) × (v.way y ≡ Some k) × (number_of (expand v u) ≡ number_of k))
+pub stands_root : (v : Views) (u : Way) → (number_of (expand v u) ≡ number_of u)
+    ⊎ ((y : ℕ) × (k : Way) × (v.way y ≡ Some k) × (number_of (expand v u) ≡ number_of k) × (base_of (expand v u) ≡ base_of k))
 stands_root v u = elim (lifts v u) [
   | inl e ↦ inl (ap number_of e)
-  | inr l ↦ inr (l.object, l.way, l.has, ap number_of (lifted_way v u l) ∙ root_on l.way l.rest)
+  | inr l ↦ inr (l.object, l.way, l.has, ap number_of (lifted_way v u l) ∙ root_on l.way l.rest, ap base_of (lifted_way v u l) ∙ base_on l.way l.rest)
 ]
 
 base_frame : (f x g y : ℕ) → OfRoot (OfVariable f x) ≡ OfRoot (OfVariable g y) → f ≡ g
@@ -201,7 +202,7 @@ OthersStay s m f x n =
 -- ---- the outcome
 
 module _ (t : Turn) (settled : IsSettled (typing t).table) (own_law : OwnsByShape (typing t).table) (other : Around (home (typing t) (length t.outer)))
-    (alone : (w : Way) → IsNear (length t.outer) w → other.gone w → ⊥) (no_formals : (x : ℕ) → is_view_formal (typing t) x ≡ false)
+    (alone : (w : Way) → IsNear (length t.outer) w → other.gone w → ⊥) (in_formals : AreAccess (typing t))
     (v : Views) (parts_named : PartsAreNamed (typing t).table) (may : ℕ → ℕ → Type 0)
     (frames : t.state.frames ≡ t.frame ∷ t.outer) (none : taken t.point.instr ≡ 0) where
   abbrev s : Typing
@@ -264,16 +265,18 @@ module _ (t : Turn) (settled : IsSettled (typing t).table) (own_law : OwnsByShap
       (moved.0, viewed.clear.owned (ways.name_of u) moved.1)) in
       elim (stands_root v u) [
         | inl e ↦ unmoved (ways.name_of u) moved.1 (sym e ∙ root) (in_home (home s depth) depth x p named)
-        | inr (y, k, has, e) ↦ (free.0 y k has).1 (sym (in_home (home s depth) depth x p named)) (sym e ∙ root)
+        | inr (y, k, has, e, base) ↦ (free.0 y k has).1
+            (same_named (home s depth) k (along (Object (OfVariable depth x)) p) (sym base ∙ ap base_of leads) named)
+            (sym (in_home (home s depth) depth x p named)) (sym e ∙ root)
       ]
 
-  blank_after : (x : ℕ) (facts : List Fact) (ws : List machine.Word) (n : Now) → Given_here (object_at s x).of facts (Done ws n)
+  blank_after : (x : ℕ) → is_view_formal s x ≡ false → (facts : List Fact) (ws : List machine.Word) (n : Now) → Given_here (object_at s x).of facts (Done ws n)
       → FadesTo (here t) {A = List machine.Word} m (Done ws n) → IsBlank x m → IsUnmoved x facts → IsFree x → IsBlank x n.memory
-  blank_after x facts ws n (ready, long, same) faint new unmoved free p = elim (bool_cases (is_leaf s.table (object_at s x).of p)) [
+  blank_after x owner facts ws n (ready, long, same) faint new unmoved free p = elim (bool_cases (is_leaf s.table (object_at s x).of p)) [
     | inr isnt ↦ word_no s.table (content s n.memory [] (OfRoot (OfVariable depth x))) p isnt
     | inl leaf ↦ (
         let one = faint depth x (offset_in s.table (object_at s x).of p) in
-        let own : not (is_view_formal s x) ≡ true = ap not (no_formals x) in
+        let own : not (is_view_formal s x) ≡ true = ap not owner in
         let old : Slot = get_or (variable_slots s depth x m.variables) (offset_in s.table (object_at s x).of p) no_slot in
         let now_there : Slot = get_or (variable_slots s depth x n.memory.variables) (offset_in s.table (object_at s x).of p) no_slot in
         let root : Root = OfVariable depth x in
@@ -330,8 +333,8 @@ module _ (t : Turn) (settled : IsSettled (typing t).table) (own_law : OwnsByShap
   first_given ws u e named gives calls takes facts good allowed keep = absurd gives
 
   -- the variables of views stay
-  holds_beside : (n : Memory) (x : ℕ) (ws : List machine.Word) → IsNamed s.table (object_at s x).of → Holds s depth v n → Holds s depth v (declared depth x ws n)
-  holds_beside n x ws named holds = record {
+  holds_beside : (n : Memory) (x : ℕ) (ws : List machine.Word) → IsNamed s.table (object_at s x).of → is_view_formal s x ≡ false → Holds s depth v n → Holds s depth v (declared depth x ws n)
+  holds_beside n x ws named owner holds = record {
     held = λ y k view e. holds.held y k view
         (sym (ap (λ z. (get_or z 0 no_slot).word) (put_other s depth x (home s depth y) y (off y view) (fresh ws) n.variables)) ∙ e);
     only = holds.only;
@@ -342,57 +345,57 @@ module _ (t : Turn) (settled : IsSettled (typing t).table) (own_law : OwnsByShap
       off : (y : ℕ) → is_view s y ≡ true → OfVariable depth x ≡ OfVariable (home s depth y) y → ⊥
       off y view e =
           let same = same_root depth x (home s depth y) y e in
-          true_false (is_anonymous (view_of s y)) (is_anonymous_view s no_formals y view)
-          (ap (λ z. is_anonymous (view_of s z)) (sym same.1) ∙ named_plain s.table (object_at s x).of named)
+          true_false (is_view s y) view
+          (ap (is_view s) (sym same.1) ∙ both_no (is_anonymous (view_of s x)) (is_view_formal s x) (named_plain s.table (object_at s x).of named) owner)
 
   -- with this value
-  pub declared_goes : (x : ℕ) (facts : List Fact) → IsNamed s.table (object_at s x).of → (ws : List machine.Word) (n : Now)
+  pub declared_goes : (x : ℕ) (facts : List Fact) → IsNamed s.table (object_at s x).of → is_view_formal s x ≡ false → (ws : List machine.Word) (n : Now)
       → Given_here (object_at s x).of facts (Done ws n) → FadesTo (here t) {A = List machine.Word} m (Done ws n) → IsBlank x m → IsUnmoved x facts → IsFree x
       → IsApart (home s depth) other depth x → LeadsHere facts (goes t (declared depth x ws n.memory) 0)
-  declared_goes x facts named ws n (ready, long, same) faint new unmoved free apart =
+  declared_goes x facts named owner ws n (ready, long, same) faint new unmoved free apart =
       goes_to t settled own_law other alone v parts_named may frames none (declared depth x ws n.memory) 0 v facts
       (unturned t settled own_law other alone v parts_named may frames none facts)
       (declared_viewed s settled (home s depth) (sees_only s) other v n.memory (record { of = (object_at s x).of; words = ws }) hands t.state.leaks facts depth x
-      ready.viewed (λ h w under o. alone w (near_under depth (Object (OfHand h)) w under tt) o) ready.kept (blank_after x facts ws n (ready, long, same) faint new unmoved free) (no_formals x) long
+      ready.viewed (λ h w under o. alone w (near_under depth (Object (OfHand h)) w under tt) o) ready.kept (blank_after x owner facts ws n (ready, long, same) faint new unmoved free) owner long
       (alike s.table settled (object_at s x).of (object_at s x).of (inl refl))
       (λ y w has. (free.0 y w has).0) (λ y w has. (free.0 y w has).1) apart)
       (declared_kept s settled n.memory depth x (record { of = (object_at s x).of; words = ws }) hands ready.kept long (inl refl))
-      (holds_beside n.memory x ws named ready.holds)
+      (holds_beside n.memory x ws named owner ready.holds)
 
   then_declared : ((n : Memory) → WellOwned s (counted (record t.state { memory = given_up t.state.memory n }))) → (x : ℕ) (facts : List Fact)
-      → IsNamed s.table (object_at s x).of → (y : Evaluated (List machine.Word)) → Given_here (object_at s x).of facts y
+      → IsNamed s.table (object_at s x).of → is_view_formal s x ≡ false → (y : Evaluated (List machine.Word)) → Given_here (object_at s x).of facts y
       → FadesTo (here t) m y → IsBlank x m → IsUnmoved x facts → IsFree x → IsApart (home s depth) other depth x
       → LeadsHere facts (steps.evaluated t y (λ ws n. goes t (declared depth x ws n) 0))
-  then_declared well x facts named (Done ws n) given faint new unmoved free apart = declared_goes x facts named ws n given faint new unmoved free apart
-  then_declared well x facts named (Raises e n) given faint new unmoved free apart = (λ trap. trap, well n.memory)
-  then_declared well x facts named (Traps e n) never faint new unmoved free apart = absurd never
+  then_declared well x facts named owner (Done ws n) given faint new unmoved free apart = declared_goes x facts named owner ws n given faint new unmoved free apart
+  then_declared well x facts named owner (Raises e n) given faint new unmoved free apart = (λ trap. trap, well n.memory)
+  then_declared well x facts named owner (Traps e n) never faint new unmoved free apart = absurd never
 
   -- An object is declared. It has nothing yet, and no fact after the evaluation names it.
-  pub declare_on : (ws : List (List machine.Word)) (x : ℕ) (e : TypedTree) → IsNamed s.table (object_at s x).of → FirstSource s (object_at s x).of e
+  pub declare_on : (ws : List (List machine.Word)) (x : ℕ) (e : TypedTree) → IsNamed s.table (object_at s x).of → is_view_formal s x ≡ false → FirstSource s (object_at s x).of e
       → GivesPlainly s e → Takes (waits_in e) ws [] → (facts : List Fact)
       → Good facts → AllowsAll facts (acts (declared_acts s x e)) → AllKeep (sees_only s) (acts (declared_acts s x e))
       → IsBlank x m → IsUnmoved x (after (acts (declared_acts s x e)) facts) → IsFree x → IsApart (home s depth) other depth x
       → LeadsHere (after (acts (declared_acts s x e)) facts) (steps.evaluated t (first_value t (object_at s x).of e (at ws)) (λ ws n. goes t (declared depth x ws n) 0))
-  declare_on ws x e named gives calls takes facts good allowed keep new unmoved free apart =
+  declare_on ws x e named owner gives calls takes facts good allowed keep new unmoved free apart =
       let kinds = not_views s x named in
       let same : declared_acts s x e ≡ acts_in s e =
       ap (λ b. if b then source_acts s (first e) (act.Borrow x) else
       (if is_observer s x then source_acts s (first e) (observe s x) else acts_in s e)) kinds.0
       ∙ ap (λ b. if b then source_acts s (first e) (observe s x) else acts_in s e) kinds.1 in
       subst (λ z. LeadsHere (after (acts z) facts) (steps.evaluated t (first_value t (object_at s x).of e (at ws)) (λ ws n. goes t (declared depth x ws n) 0))) (sym same)
-      (then_declared (raises t settled own_law other alone v parts_named may frames none facts good) x (after (acts (acts_in s e)) facts) named
+      (then_declared (raises t settled own_law other alone v parts_named may frames none facts good) x (after (acts (acts_in s e)) facts) named owner
       (first_value t (object_at s x).of e (at ws))
       (first_given ws (object_at s x).of e named gives calls takes facts good (subst (λ z. AllowsAll facts (acts z)) same allowed) (subst (λ z. AllKeep (sees_only s) (acts z)) same keep))
       (first_fades ws (object_at s x).of e gives) new (subst (λ z. IsUnmoved x (after (acts z) facts)) same unmoved) free apart)
 
-  pub declare_leads : (x : ℕ) (e : TypedTree) → IsNamed s.table (object_at s x).of → FirstSource s (object_at s x).of e → has_call e ≡ false → (facts : List Fact)
+  pub declare_leads : (x : ℕ) (e : TypedTree) → IsNamed s.table (object_at s x).of → is_view_formal s x ≡ false → FirstSource s (object_at s x).of e → has_call e ≡ false → (facts : List Fact)
       → Good facts → AllowsAll facts (acts (declared_acts s x e)) → AllKeep (sees_only s) (acts (declared_acts s x e))
       → IsBlank x m → IsUnmoved x (after (acts (declared_acts s x e)) facts) → IsFree x → IsApart (home s depth) other depth x
       → LeadsHere (after (acts (declared_acts s x e)) facts) (declare t x e)
-  declare_leads x e named gives calls facts good allowed keep new unmoved free apart =
+  declare_leads x e named owner gives calls facts good allowed keep new unmoved free apart =
       subst (λ z. LeadsHere (after (acts (declared_acts s x e)) facts) (steps.evaluated t (first_value t (object_at s x).of e z) (λ ws n. goes t (declared depth x ws n) 0)))
       (sym (start_is t settled own_law other alone v parts_named may frames none))
-      (declare_on [] x e named gives (gives_plainly s e (inl calls)) (no_takes e calls []) facts good allowed keep new unmoved free apart)
+      (declare_on [] x e named owner gives (gives_plainly s e (inl calls)) (no_takes e calls []) facts good allowed keep new unmoved free apart)
 
   -- ---- variables of other objects
 

@@ -105,7 +105,9 @@ module _ (table : Table) (typed : TypedProgram) (effects : Effects) (input : Lis
         held = λ x n lasts view e. absurd (empty_word s (home s 0 x) x n e);
         within = λ x n view e. absurd (empty_word s (home s 0 x) x n e);
         only = λ x w has. absurd (none_some w has);
-        named = λ x w has. absurd (none_some w has);
+        lies = λ x w has. absurd (none_some w has);
+        owners = λ x w has. absurd (none_some w has);
+        passed = λ x w has. absurd (none_some w has);
       };
       placed = λ x w has. absurd (none_some w has);
       none_above = λ f x n less view e. empty_word s f x n e;
@@ -144,7 +146,9 @@ module _ (table : Table) (typed : TypedProgram) (effects : Effects) (input : Lis
         held = λ x n lasts view e. absurd (empty_word s (home s 1 x) x n e);
         within = λ x n view e. absurd (empty_word s (home s 1 x) x n e);
         only = λ x w has. absurd (none_some w has);
-        named = λ x w has. absurd (none_some w has);
+        lies = λ x w has. absurd (none_some w has);
+        owners = λ x w has. absurd (none_some w has);
+        passed = λ x w has. absurd (none_some w has);
       };
       placed = λ x w has. absurd (none_some w has);
       none_above = λ f x n less view e. empty_word s f x n e;

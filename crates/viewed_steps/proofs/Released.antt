@@ -14,7 +14,7 @@ use Rattle.place_names.specs.Facts.{effect}
 use Rattle.type_definitions.specs.declared.table.Shape.TheVariants as shape
 use Rattle.type_definitions.specs.Types.{Table, shape_of, words, words_of as words_of_shape, view_of as view_of_shape}
 use Rattle.typed_tree.specs.Trees.{TypedTree, Name}
-use Rattle.flow_paths.specs.Objects.{Typing, object_at, designated, designated_of}
+use Rattle.flow_paths.specs.Objects.{is_observer, Typing, object_at, designated, designated_of}
 use Rattle.flow_paths.specs.Names.{waiting as waits_in, name_of}
 use Rattle.flow_paths.specs.Scopes.{taken}
 use Rattle.flow_paths.specs.Acts.{acts_in, source_acts}
@@ -31,7 +31,7 @@ use Rattle.owned_ways.specs.Ways.{OfVariable, Loc, OfCell, Inside, Way, Object, 
 use Rattle.owned_ways.specs.Ways as ways
 use Rattle.owned_ways.proofs.Locations.{under_itself, depth as depth_of}
 use Rattle.owned_ways.proofs.Named.{under_leads, covered_under}
-use Rattle.owned_ways.proofs.Assigned.{either_left, kept_fact, is_false, named_rooted}
+use Rattle.owned_ways.proofs.Assigned.{either_left, kept_fact, is_false}
 use Rattle.part_offsets.specs.Parts.{type_in, offset_in, has_part, owns_one, is_leaf, IsSettled}
 use Rattle.part_offsets.proofs.Ranges.{leaf_end, leaf_part}
 use Rattle.soundness.specs.Seen.{IsNear, is_view_formal, Content, content, trunk, steps_in, owner_at, owner_word, seen, home}
@@ -63,11 +63,11 @@ use Rattle.owned_loans.proofs.Others.{below_through}
 use Rattle.owned_loans.proofs.Moves.{IsPlace, named_way, view_on, own_loan, lends_on, expand_under, reached}
 use Rattle.owned_loans.proofs.Freed as view
 use Rattle.viewed_soundness.specs.Holds.{IsNamed, PartsAreNamed, Holds, sees_only, IsOwners}
-use Rattle.viewed_soundness.proofs.Names.{is_place}
+use Rattle.viewed_soundness.proofs.Names.{neither, is_place, stands_owners}
 use Rattle.viewed_soundness.proofs.Stays.{Goes, steps_taking, name_quiet}
 use Rattle.viewed_soundness.proofs.Stored.{holds_stored, no_view_place}
 use Rattle.viewed_soundness.proofs.Outcomes.{IsGood, Leads_on, raises, unturned, goes_to, goes_on, live}
-use Rattle.viewed_steps.proofs.Views.{all_owners}
+use Rattle.viewed_steps.proofs.Views.{AreAccess}
 
 -- ---- facts at a release
 
@@ -181,7 +181,7 @@ module _ (home : ℕ → ℕ) (observer : ℕ → Bool) (other : Around home) (v
 -- ---- the outcome
 
 module _ (t : Turn) (settled : IsSettled (typing t).table) (own_law : OwnsByShape (typing t).table) (other : Around (home (typing t) (length t.outer)))
-    (alone : (w : Way) → IsNear (length t.outer) w → other.gone w → ⊥) (no_formals : (x : ℕ) → is_view_formal (typing t) x ≡ false)
+    (alone : (w : Way) → IsNear (length t.outer) w → other.gone w → ⊥) (in_formals : AreAccess (typing t))
     (v : Views) (parts_named : PartsAreNamed (typing t).table) (may : ℕ → ℕ → Type 0)
     (frames : t.state.frames ≡ t.frame ∷ t.outer) (none : taken t.point.instr ≡ 0) where
   abbrev s : Typing
@@ -315,7 +315,7 @@ module _ (t : Turn) (settled : IsSettled (typing t).table) (own_law : OwnsByShap
           named_way (home s depth) (sees_only s) other v seen_here facts good.viewed.views (suc (number_of w)) w (omega arith) name
 
       rooted : IsOwners s (expand v w)
-      rooted = all_owners s no_formals (expand v w) (named_rooted (home s depth) (expand v w) stands)
+      rooted = stands_owners s depth v m w good.holds named (inl (neither (is_observer s (number_of w)) (is_view_formal s (number_of w)) plain).1)
 
       clean : excused (expand v w) → ⊥
       clean (inl moved) = free_clean (home s depth) (sees_only s) other v seen_here facts good.viewed w named plain allowed moved
@@ -388,7 +388,7 @@ module _ (t : Turn) (settled : IsSettled (typing t).table) (own_law : OwnsByShap
         subst (λ (z : Now). LeadsHere (effect (act.Free (name_of x path)) facts) (steps.evaluated t (walked s way (variable_place (here t) x) z) f)) (sym same)
         (subst (λ z. LeadsHere (effect (act.Free z) facts) (steps.evaluated t (walked s way (variable_place (here t) x) now) f)) called
         (released_at w named (ap (sees_only s) (number_along way (Object (OfVariable (home s depth x) x))) ∙ plain)
-        (is_place s v (home s depth x) x u way goes.lead (named_type s.table u d access) (no_formals x) good.holds.only) frees
+        (is_place s v (home s depth x) x u way goes.lead (named_type s.table u d access) (neither (is_observer s x) (is_view_formal s x) plain).1 good.holds.only) frees
         (walked s way (variable_place (here t) x) now)
         (name_quiet (here t) settled hands t.state.leaks m [] other facts v good.kept good.viewed good.holds alone alive_trunk index_law own_law parts_named x path u way goes
         (λ q q_named q_called. free_open facts q (subst (λ z. Allows facts (act.Free z)) (sym q_called) allowed)))))
