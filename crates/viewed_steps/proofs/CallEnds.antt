@@ -44,7 +44,7 @@ use Rattle.viewed_soundness.proofs.Names.{both_no, true_false}
 use Rattle.viewed_soundness.proofs.Outcomes.{named_plain}
 use Rattle.viewed_steps.specs.Awaited.{AreFor, AreValues, temporaries_of, lasting_of, awaited, AreAwaited}
 use Rattle.viewed_steps.proofs.Waited.{others_only, lasting_within}
-use Rattle.viewed_steps.specs.Sound.{HoldsAt, ArePlaced, NoneAbove, ViewStage, stages_of, GoneElsewhere, IsWaiting, AreWaiting, ends_one, LeadsAlong, IsResting, IsKindOfFormal}
+use Rattle.viewed_steps.specs.Sound.{ArePast, HoldsAt, ArePlaced, NoneAbove, ViewStage, stages_of, GoneElsewhere, IsWaiting, AreWaiting, ends_one, LeadsAlong, IsResting, IsKindOfFormal}
 use Rattle.viewed_steps.specs.Ready.{IsReady}
 use Rattle.viewed_steps.proofs.Read.{scalar_named}
 use Rattle.viewed_steps.proofs.Waiting.{StandsBetween, all_between, handed, all_on, gone_low, kept_low, far}
@@ -101,7 +101,7 @@ module _ (table : Table) (typed : TypedProgram) (effects : Effects) (input : Lis
       (viewed_before : Viewed (home s (suc (length rest))) (sees_only s) (known_gone (home s (suc (length rest))) (GoneElsewhere program effects (below ∷ more_frames))) views
       (view_here s state) (facts_of program effects top))
       (kept : Kept s state.memory (waiting_in state)) (scope : InScope s state.memory (suc (length rest)) (lasting_of s p.scope)) (holds : HoldsAt s (suc (length rest)) views state.memory p)
-      (placed_before : ArePlaced program (suc (length rest)) (facts_of program effects top) views p.scope) (above : NoneAbove s (suc (length rest)) state.memory) where
+      (placed_before : ArePlaced program (suc (length rest)) (facts_of program effects top) views p.scope × ArePast s (suc (length rest)) views (below ∷ more_frames)) (above : NoneAbove s (suc (length rest)) state.memory) where
     abbrev outer : List Frame
     outer = below.stage.frame ∷ rest
 
@@ -354,6 +354,7 @@ module _ (table : Table) (typed : TypedProgram) (effects : Effects) (input : Lis
         clear = waits.clear;
         views = waits.views;
         whole = whole_away;
+        past = λ x w has given plain k n none. absurd none;
         lends = λ l n none. absurd none;
         far = λ w n none. absurd none;
       }
@@ -456,6 +457,7 @@ module _ (table : Table) (typed : TypedProgram) (effects : Effects) (input : Lis
               (reach_left s mid depth (waiting_in state) state.leaks nothing_mid w (ways.OfCell (below.views.cell x))
               (reached (home s low) (sees_only s) (known_gone (home s low) (λ z. ⊥)) below.views mid_view (facts_of program effects below.stage) x w (on.viewed.views x w has)));
           whole = λ x w z has foreign gone meets. waiting.2 x w z has foreign gone meets;
+          past = λ x w has given plain k n none. absurd none;
           lends = λ l n none. absurd none;
           far = λ w n none. absurd none;
         }
@@ -468,6 +470,7 @@ module _ (table : Table) (typed : TypedProgram) (effects : Effects) (input : Lis
           lies = waits.holds.lies;
           owners = waits.holds.owners;
           passed = waits.holds.passed;
+          own = waits.holds.own;
         }
           where
             word_there : (x n : ℕ) → is_view s x ≡ true
@@ -532,6 +535,7 @@ module _ (table : Table) (typed : TypedProgram) (effects : Effects) (input : Lis
             scope = scope_left;
             holds = holds_there;
             placed = waits.placed;
+            past = waiting.3;
             none_above = above_left;
           },
           ends_one (ap (λ z. below ∷ z) same_more) left_carried,

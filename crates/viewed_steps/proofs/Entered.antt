@@ -39,7 +39,8 @@ use Rattle.viewed_steps.proofs.Carried.{trunk_is, carried_gone, carried_cells, i
 use Rattle.viewed_steps.proofs.Outs.{Out, HasStill, places_apart}
 use Rattle.viewed_steps.proofs.Beside.{put_beside}
 use Rattle.viewed_steps.proofs.Declared.{declared_viewed, declared_low}
-use Rattle.viewed_steps.proofs.Views.{AreAccess, AreFar, view_cases, sees_not, apart_by_base}
+use Rattle.viewed_steps.proofs.Views.{AreAccess, AreFar, view_cases, apart_by_base}
+use Rattle.viewed_soundness.proofs.Names.{borrower_sees}
 
 named_part : (home : ℕ → ℕ) (w : Way) (p : List Step) → Named home w → Named home (along w p)
 named_part home w [] n = n
@@ -207,7 +208,7 @@ module _ (s : Typing) (settled : IsSettled s.table) (own_law : OwnsByShape s.tab
     spot = inside_spot s depth k to passed.inside m hands
 
     plain_name : sees_only s (number_of to) ≡ false
-    plain_name = ap (sees_only s) (inside_number s settled depth k to passed.inside) ∙ sees_not s (passed.inside).object (not_observing s (passed.inside).object (inside_plain s settled depth k to passed.inside)) (passed.inside).owner
+    plain_name = ap (sees_only s) (inside_number s settled depth k to passed.inside) ∙ borrower_sees s (passed.inside).object (not_observing s (passed.inside).object (inside_plain s settled depth k to passed.inside)) (passed.inside).owner
 
     itself : expand v to ≡ to
     itself = inside_itself s settled depth k to passed.inside v

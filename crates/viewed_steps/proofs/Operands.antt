@@ -78,7 +78,7 @@ module _ (t : Turn) (settled : IsSettled (typing t).table) (own_law : OwnsByShap
         record {
           viewed = subst (λ z. Viewed (home s depth) (sees_only s) other v (seen s m z t.state.leaks) facts) (sym waits_behind) viewed;
           kept = subst (Kept s m) (sym waits_behind) kept;
-          holds = record { held = holds.held; only = holds.only; owners = holds.owners; access = holds.access };
+          holds = record { held = holds.held; only = holds.only; owners = holds.owners; access = holds.access; own = holds.own };
         },
       )
 

@@ -134,7 +134,7 @@ module _ (t : Turn) (settled : IsSettled (typing t).table) (own_law : OwnsByShap
       let on = stays_here facts good 0 in
       subst (λ (z : Now). LeadsHere facts (Goes (record (behind t (waiting t) z.memory 0) {
         output = t.state.output ++ a ++ (if line then 10 ∷ [] else []);
-      }))) (sym same) (on.0, on.1, record { viewed = on.2.viewed; kept = on.2.kept; holds = record { held = on.2.holds.held; only = on.2.holds.only; owners = on.2.holds.owners; access = on.2.holds.access } })
+      }))) (sym same) (on.0, on.1, record { viewed = on.2.viewed; kept = on.2.kept; holds = record { held = on.2.holds.held; only = on.2.holds.only; owners = on.2.holds.owners; access = on.2.holds.access; own = on.2.holds.own } })
   then_written facts good line (Raises e n) is = raised_here facts good e n.memory
   then_written facts good line (Traps e n) never = absurd never
 
@@ -173,7 +173,7 @@ module _ (t : Turn) (settled : IsSettled (typing t).table) (own_law : OwnsByShap
     record {
       viewed = subst (λ z. Viewed (home s depth) (sees_only s) other v (seen s n z t.state.leaks) facts) (sym (turn_waits loops k)) viewed;
       kept = subst (Kept s n) (sym (turn_waits loops k)) kept;
-      holds = record { held = holds.held; only = holds.only; owners = holds.owners; access = holds.access };
+      holds = record { held = holds.held; only = holds.only; owners = holds.owners; access = holds.access; own = holds.own };
     },
   )
 
@@ -207,6 +207,7 @@ module _ (t : Turn) (settled : IsSettled (typing t).table) (own_law : OwnsByShap
         only = good.holds.only;
         owners = good.holds.owners;
         access = good.holds.access;
+        own = good.holds.own;
       })
   next_by x scalar facts good ws None =
       let next : Memory = undeclared depth x m in
@@ -220,6 +221,7 @@ module _ (t : Turn) (settled : IsSettled (typing t).table) (own_law : OwnsByShap
         only = good.holds.only;
         owners = good.holds.owners;
         access = good.holds.access;
+        own = good.holds.own;
       })
 
   -- the parameter of a loop gets its next value, or leaves scope
@@ -275,6 +277,7 @@ module _ (t : Turn) (settled : IsSettled (typing t).table) (own_law : OwnsByShap
               only = good.holds.only;
               owners = good.holds.owners;
               access = good.holds.access;
+              own = good.holds.own;
             };
           },
         )

@@ -22,7 +22,7 @@ use Rattle.soundness.specs.Sound.{Accepted, IsNamedSub, IsAtPoint, IsProcedure, 
 use Rattle.soundness.specs.Ready.{root_of, stored_at, AreScoped, AreNew, AreElaborated, AreReturning}
 use Rattle.typed_laws.specs.Needed.{Matches, Stays, IsPlace}
 use Rattle.soundness.specs.Seen.{is_view_formal}
-use Rattle.viewed_soundness.specs.Holds.{sees_only, AllKeep}
+use Rattle.viewed_soundness.specs.Holds.{sees_only, is_fixed, AllKeep}
 use Rattle.viewed_steps.specs.Awaited.{is_held, IsTaken, FillsTyped}
 use Rattle.viewed_steps.specs.Sound.{IsScalarObject, IsViewClass, Lasts}
 
@@ -144,7 +144,7 @@ pub record ViewsAreOrderly (table : Table) (typed : TypedProgram) : Type 0 where
       → AreOrderly (flow_program table typed) p (λ q. (n : ℕ) × Has (map (number_in sub.points) p.next) n × IsAtPoint sub.points n q)
   -- nothing is moved, written or freed through an observer, or through a formal that owns nothing
   pub kept : (sub : FlowSub) → Has (flow_program table typed).subs sub → (p : FlowPoint) → Has sub.points p
-      → AllKeep (sees_only (flow_typing (flow_program table typed))) (map (λ (a : Placed). a.act) p.acts)
+      → AllKeep (is_fixed (flow_typing (flow_program table typed))) (map (λ (a : Placed). a.act) p.acts)
 
 -- ---- all of it
 
