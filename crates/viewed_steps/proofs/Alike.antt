@@ -2,8 +2,8 @@
 -- copied back.
 use Rattle.std.proofs.Common.{◌≡◌, refl, sym, ap, ◌∙◌, subst, inl, ℕ, ◌+◌, Bool, true, false, List, [], ◌∷◌, ◌++◌, take, drop, length, get_or, if◌then◌else◌}
 use Rattle.std.proofs.lemmas.List.{length-map}
-use Rattle.type_definitions.specs.Types.{shape_of, words, full, is_scalar}
-use Rattle.flow_paths.specs.Objects.{Typing, object_at, is_anonymous, view_of}
+use Rattle.type_definitions.specs.Types.{components_of, words, full, is_scalar}
+use Rattle.flow_paths.specs.Objects.{Typing, object_at}
 use Rattle.machine.specs.Words.{access_offsets, fits_type}
 use Rattle.machine.specs.Words as machine
 use Rattle.machine.specs.Memory.{Slot, Memory, Base, Place, fresh, no_slot, variable_slots, slots_at, slots_of, words_of, gone_at, with_slots, stored, moved_out, declared}
@@ -24,31 +24,29 @@ use Rattle.soundness.proofs.Loops.{same_word, scalar_same}
 use Rattle.soundness.proofs.Stays.{One}
 use Rattle.soundness.proofs.Passing.{IsLaid}
 use Rattle.soundness.proofs.Returning.{Backs}
-use Rattle.viewed_soundness.proofs.Names.{true_false, view_access}
-use Rattle.viewed_soundness.proofs.Outcomes.{named_plain}
-use Rattle.viewed_steps.proofs.Read.{scalar_named}
+use Rattle.viewed_soundness.specs.Holds.{is_view}
+use Rattle.viewed_steps.proofs.Views.{AreAccess, view_access, scalar_no_view}
 use Rattle.viewed_steps.proofs.Beside.{put_beside}
 
 -- ---- memories that owners see alike
 
 -- a scalar place isn't in the variable of a view
-no_view_fixed : (s : Typing) (settled : IsSettled s.table) (k : Place) → IsFixed s k → (g y : ℕ) → is_anonymous (view_of s y) ≡ true
+no_view_fixed : (s : Typing) (settled : IsSettled s.table) → AreAccess s → (k : Place) → IsFixed s k → (g y : ℕ) → is_view s y ≡ true
     → k.base ≡ memory.OfVariable g y → ⊥
-no_view_fixed s settled k fixed g y view base =
+no_view_fixed s settled in_formals k fixed g y view base =
     let same : fixed.object ≡ y = same_variable fixed.frame fixed.object g y (sym fixed.base ∙ base) in
-    let access = view_access (shape_of s.table (object_at s y).of) view in
+    let access = view_access s in_formals y view in
     let there : has_part s.table (object_at s y).of fixed.steps ≡ true = subst (λ z. has_part s.table (object_at s z).of fixed.steps ≡ true) same fixed.there in
-    let none = plain_end s.table settled (object_at s y).of access.0 access.1 fixed.steps there in
+    let none = plain_end s.table settled (object_at s y).of (ap components_of access.3) (ap machine.count_of access.3) fixed.steps there in
     let fits : Matches s.table k.of (object_at s y).of =
     subst (λ p. Matches s.table k.of (type_in s.table (object_at s y).of p)) none
     (subst (λ z. Matches s.table k.of (type_in s.table (object_at s z).of fixed.steps)) same fixed.of) in
-    true_false (is_anonymous (view_of s y)) view
-    (named_plain s.table (object_at s y).of (scalar_named s.table (object_at s y).of (matches_scalar s k.of (object_at s y).of fits fixed.scalar)))
+    scalar_no_view s in_formals y (matches_scalar s k.of (object_at s y).of fits fixed.scalar) view
   where
     same_variable : (f x g y : ℕ) → memory.OfVariable f x ≡ memory.OfVariable g y → x ≡ y
     same_variable f x g y e = cc
 
-module _ (s : Typing) (settled : IsSettled s.table) (own_law : OwnsByShape s.table) (hands : List Waiting) (leaks : List Leak) where
+module _ (s : Typing) (settled : IsSettled s.table) (own_law : OwnsByShape s.table) (in_formals : AreAccess s) (hands : List Waiting) (leaks : List Leak) where
   abbrev Scalar : ℕ → Type 0
   Scalar x = is_scalar (full s.table (object_at s x).of) ≡ true
 
@@ -57,7 +55,7 @@ module _ (s : Typing) (settled : IsSettled s.table) (own_law : OwnsByShape s.tab
     pub same : IsSame (seen s m hands leaks) (seen s n hands leaks)
     pub typed : Kept s n hands
     pub hold : (g y : ℕ) (p : List Step) → word_in s.table (content s n [] (OfRoot (OfVariable g y))) p ≡ word_in s.table (content s m [] (OfRoot (OfVariable g y))) p
-    pub views : (g y : ℕ) → is_anonymous (view_of s y) ≡ true
+    pub views : (g y : ℕ) → is_view s y ≡ true
         → (get_or (variable_slots s g y n.variables) 0 no_slot).word ≡ (get_or (variable_slots s g y m.variables) 0 no_slot).word
 
   pub nothing : (m : Memory) → Kept s m hands → Enters m m
@@ -95,7 +93,7 @@ module _ (s : Typing) (settled : IsSettled s.table) (own_law : OwnsByShape s.tab
         hold = λ g y p. put_word s settled m hands k l spot typed fixed.scalar slots long (OfRoot (OfVariable g y)) p refl;
         views = λ g y view. ap (λ z. (get_or z 0 no_slot).word)
             (put_beside s 0 k.base (take k.at (slots_at s m k.base) ++ slots ++ drop (k.at + length slots) (slots_at s m k.base)) m g y
-            (no_view_fixed s settled k fixed g y view));
+            (no_view_fixed s settled in_formals k fixed g y view));
       }
 
   pub moved_there : (k : Place) → IsFixed s k → (m : Memory) → Kept s m hands → Enters m (moved_out s k m)
@@ -132,8 +130,7 @@ module _ (s : Typing) (settled : IsSettled s.table) (own_law : OwnsByShape s.tab
         typed = declared_kept s settled m f x got hands (scalar s settled m got hands plain typed) long (inl refl);
         hold = λ g y p. same_word s settled m [] [] f x plain (declared f x ws m).variables others (OfRoot (OfVariable g y)) p refl;
         views = λ g y view. ap (λ z. (get_or z 0 no_slot).word) (others g y (λ e.
-            true_false (is_anonymous (view_of s y)) view
-            (ap (λ z. is_anonymous (view_of s z)) (sym (same_object f x g y e)) ∙ named_plain s.table u (scalar_named s.table u plain))));
+            scalar_no_view s in_formals x plain (subst (λ z. is_view s z ≡ true) (sym (same_object f x g y e)) view)));
       }
 
   pub with_one : (f x : ℕ) (a : Passed) (m : Memory) → Scalar x → IsLaid s a → Kept s m hands → Enters m (with_formal s f x a m)

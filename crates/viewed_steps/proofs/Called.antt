@@ -469,7 +469,8 @@ module _ (h : Here) (settled : IsSettled h.typing.table) (hands : List Waiting) 
       let named : Named (home h.typing h.frame) (way_along way root) = named_along (home h.typing h.frame) way root refl in
       from_walked on p x u path (way_along way root) plain named
       (λ j. record { root = number_along way root j; sels = goes.sels root j })
-      (is_place h.typing v (home h.typing h.frame x) x u way goes.lead (scalar_named h.typing.table u plain) (no_formals x) holds.only)
+      (is_place h.typing v (home h.typing h.frame x) x u way goes.lead (scalar_named h.typing.table u plain)
+      (λ formal none. true_false (is_view_formal h.typing x) formal (no_formals x)) holds.only)
       (direct_itself v way direct root refl)
       (walked h.typing way (variable_place h x) (at on))
       (walk h.typing settled hands leaks m on (ExcusedBy (home h.typing h.frame) v other facts) kept well.owned well.known live way (variable_place h x)
@@ -508,6 +509,7 @@ module _ (h : Here) (settled : IsSettled h.typing.table) (hands : List Waiting) 
             way = is ∙ (λ j. along (Object (OfVariable (at_home j) y)) (sym steps_are j));
             base = base ∙ ap (λ z. memory.OfVariable z y) at_home;
             own = local;
+            owner = no_formals y;
             there = ap (λ z. has_part h.typing.table (content h.typing m hands z).of (steps_in l)) (sym b) ∙ spot.there;
             at = spot.at ∙ ap (λ z. offset_in h.typing.table (content h.typing m hands z).of (steps_in l)) b;
             of = subst (λ z. Matches h.typing.table k.of (type_in h.typing.table (content h.typing m hands z).of (steps_in l))) b spot.of;
