@@ -17,3 +17,4 @@ pub mod Given
 pub mod Results
 pub mod Alone
 pub mod Followed
+pub mod Begun

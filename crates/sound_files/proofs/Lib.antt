@@ -5,6 +5,7 @@ pub mod Formless
 pub mod Kinded
 pub mod Formals
 pub mod Known
+pub mod Declared
 pub mod Flat
 pub mod Laws
 pub mod Main
