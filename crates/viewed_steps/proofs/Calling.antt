@@ -2,11 +2,11 @@
 use Rattle.typed_tree.specs.declared.object.ObjectKind.{ObjectKind}
 use Rattle.typed_tree.specs.declared.object.ObjectKind.TheVariants as object_kind
 use Rattle.place_names.specs.Facts.{adds}
-use Rattle.spark_base.proofs.Lists.{Has-map_from}
-use Rattle.std.proofs.Common.{◌≡◌, refl, sym, ap, ◌∙◌, subst, ◌⊎◌, inl, inr, ℕ, suc, ◌<◌, true, false, ◌==◌, List, [], ◌∷◌, ◌++◌, map, take, drop, length, get_or, arith, append-nil, Option, Some, None, if◌then◌else◌, is_some, Bool, not, ◌||◌, flat_map}
+use Rattle.spark_base.proofs.Lists.{Has-map_from, Has-append_left}
+use Rattle.std.proofs.Common.{◌≡◌, refl, sym, ap, ◌∙◌, subst, ◌⊎◌, inl, inr, ℕ, suc, ◌<◌, true, false, ◌==◌, List, [], ◌∷◌, ◌++◌, map, take, drop, length, get_or, arith, Option, Some, None, if◌then◌else◌, is_some, Bool, not, ◌||◌, flat_map, append-nil, ◌&&◌}
 use Rattle.std.specs.Prelude.{is_some}
 use Rattle.spark_base.specs.Lists.{Has}
-use Rattle.spark_base.proofs.Lists.{Has-append_left, Has-map_from}
+use Rattle.spark_base.proofs.Lists.{Has-map_from}
 use Rattle.place_names.specs.declared.act.Act.{Act}
 use Rattle.place_names.specs.declared.act.Act.TheVariants as act
 use Rattle.place_names.specs.declared.act.Placed.{Placed}
@@ -34,17 +34,18 @@ use Rattle.flow_paths.specs.Scopes.{taken, brought, scope_behind, is_within, Lea
 use Rattle.machine.specs.Words as machine
 use Rattle.machine.specs.Memory.{Memory, no_slot, variable_slots}
 use Rattle.machine.specs.Evaluate.{Now, Exception}
-use Rattle.machine.specs.States.{Frame, State, sub_of, frame_at_start, Outcome, Goes}
+use Rattle.machine.specs.States.{Frame, State, Leak, sub_of, frame_at_start, Outcome, Goes}
 use Rattle.machine.specs.Step.{Turn, turn, start, led, successor}
 use Rattle.machine.specs.Step as steps
 use Rattle.machine.specs.Typed.{successors}
-use Rattle.machine.specs.Calls.{Passed, all_passed, with_formals, returns_of}
-use Rattle.machine.specs.Owners.{waiting_in}
+use Rattle.machine.specs.Calls.{Passed, all_passed, with_formals, returns_of, out_checks}
+use Rattle.machine.specs.Owners.{is_in_formal, waiting_in}
+use Rattle.place_names.specs.declared.act.Mode.TheVariants as mode
 use Rattle.owned_ways.specs.Ways.{Step, Way, after, AllowsAll}
 use Rattle.owned_ways.specs.Ways as ways
 use Rattle.owned_ways.proofs.Locations.{reaches_along, named_along as rooted_along}
 use Rattle.soundness.specs.Seen.{IsNear, is_view_formal, content, seen, home, trunk, word_in}
-use Rattle.soundness.proofs.Contents.{word_root, word_no}
+use Rattle.soundness.proofs.Contents.{word_root}
 use Rattle.soundness.specs.Typed.{Kept}
 use Rattle.soundness.specs.Sound.{Stage, facts_of, AreStages, AreCopied, Uses, IsRunnable, returns_value, InScope, IsNamedSub, IsAtPoint, view_of as view_here}
 use Rattle.soundness.proofs.Stays.{Quiet}
@@ -62,31 +63,37 @@ use Rattle.soundness.proofs.Eased.{eased}
 use Rattle.soundness.proofs.Scoped.{Inside}
 use Rattle.soundness.proofs.Beginning.{one_named, one_point}
 use Rattle.soundness.proofs.Successors.{below_one, successor_there}
-use Rattle.owned_loans.specs.Views.{Around, known_gone, Views, IsMovedBy, AreClear, IsForeign, AreViews, Viewed}
+use Rattle.owned_loans.specs.Views.{Around, known_gone, Views, IsMovedBy, ExcusedBy, AreClear as FactsAreClear, IsForeign, AreViews, Viewed}
 use Rattle.owned_loans.proofs.Moves.{named_way}
 use Rattle.viewed_soundness.proofs.Names.{true_false}
+use Rattle.viewed_soundness.proofs.Outcomes.{named_plain}
 use Rattle.viewed_soundness.specs.Holds.{Holds, is_view, sees_only, IsOwners}
 use Rattle.viewed_soundness.proofs.Evaluated.{live_trunk}
 use Rattle.soundness.specs.Ready.{IsSupplied, Fills}
-use Rattle.viewed_steps.specs.Awaited.{AreFor, AreValuesBut, temporaries_of, lasting_of, awaited, WaitsAt, AreAwaited, AreScalar, FillsTyped, TakesScalars, IsTakenBy}
-use Rattle.viewed_steps.proofs.Waited.{temporary_first, leads_temporaries, within_lasting, lasting_more, Shares, plain_unheld}
-use Rattle.viewed_steps.specs.Sound.{AreUnmet, HoldsAt, ArePlaced, NoneAbove, ViewStage, stages_of, GoneElsewhere, Disturbs, IsWaiting, AreWaiting, calls_one, LeadsAlong, IsResting, IsKindOfFormal, IsScalarObject, AreReturned}
+use Rattle.viewed_steps.specs.Awaited.{AreValuesBut, temporaries_of, lasting_of, awaited, WaitsAt, AreAwaited, AreScalar, FillsTyped, TakesScalars, IsTakenBy}
+use Rattle.viewed_steps.proofs.Waited.{late_scope, within_lasting, lasting_more, Shares, plain_unheld}
+use Rattle.viewed_steps.specs.Sound.{IsCopiedBack, AreUnmet, HoldsAt, ArePlaced, NoneAbove, ViewStage, stages_of, GoneElsewhere, Disturbs, IsWaiting, AreWaiting, calls_one, LeadsAlong, IsResting, IsKindOfFormal, IsScalarObject, AreReturned}
 use Rattle.viewed_steps.specs.Ready.{IsReady, roots_passed, IsCalled}
 use Rattle.viewed_steps.specs.Taken.{TakenBy, AreTaken, AreCarried}
 use Rattle.viewed_steps.proofs.Lent.{Spare, spare_both, loans_stay}
 use Rattle.viewed_steps.proofs.Placed.{within_on, lasts_more, scope_on, placed_on}
 use Rattle.viewed_steps.proofs.Ended.{none_some}
-use Rattle.viewed_steps.proofs.Waiting.{StandsBetween, gone_low, kept_low, beside_them, handed, all_on}
-use Rattle.viewed_steps.proofs.Between.{gone_also, base_along, base_under, same_variable, not_named}
-use Rattle.viewed_steps.proofs.Called.{AreGiven, AreLaidOut, all_laid_out, all_given, all_acted, values_are_read, call_adds_none, passes_to, spare_reads, spare_copies}
-use Rattle.viewed_steps.proofs.Entered.{ArePassedOn, IsOpen, AreBlank, AreDeclared, Enter, not_above, passed_base, formals_of_returns, all_declared}
-use Rattle.viewed_steps.proofs.Passed.{IsNamedBy, no_call_reports, all_passed_on, no_out_checks, all_returned, call_goes}
+use Rattle.viewed_steps.proofs.Waiting.{StandsBetween, gone_low, kept_low, beside_them, handed, elsewhere_excused, all_on}
+use Rattle.viewed_steps.proofs.Between.{same_reaches, gone_also, more_gone, base_along, base_under, same_variable, not_named}
+use Rattle.viewed_steps.proofs.Called.{AreGiven, AreLaidOut, outs_of, all_laid_out, all_given, all_acted, values_are_read, call_adds_none, passes_to, spare_reads, spare_copies}
+use Rattle.viewed_steps.proofs.Outs.{Out, IsUnderOne, found_in}
+use Rattle.viewed_steps.proofs.Entered.{ArePassedOn, IsOpen, AreBlank, not_above, passed_base, outs_taken}
+use Rattle.viewed_steps.proofs.Entering.{none_emptied, none_taken_same, owns_there, AreDeclared, Enter, formals_of_returns, all_declared}
+use Rattle.viewed_steps.proofs.Passed.{passed_formal, IsNamedBy, apart_or_plain, all_passed_on, found_there, all_returned, call_goes}
 use Rattle.viewed_steps.proofs.Standing.{or_right}
 use Rattle.viewed_steps.proofs.Uses.{called_writes, lent_spared}
 use Rattle.viewed_steps.proofs.Standing as standing
 use Rattle.viewed_steps.proofs.Packages as packages
 use Rattle.viewed_steps.proofs.Innermost as innermost
-use Rattle.viewed_steps.proofs.Views.{AreAccess, AreFar, all_held, lies_far}
+use Rattle.viewed_steps.proofs.Views.{AreAccess, AreFar, apart_by_base, all_held, lies_far, formal_view, anonymous_view, scalar_no_view, view_cases}
+use Rattle.viewed_steps.proofs.Seeing.{AreClear}
+use Rattle.viewed_steps.proofs.Clear.{all_clear, none_clear}
+use Rattle.viewed_steps.proofs.Opening.{Opens, all_opened, opened_views, opened_whole, opened_lies, opened_held, opened_placed}
 
 module _ (table : Table) (typed : TypedProgram) (effects : Effects) (input : List ℕ) (ready : IsReady table typed effects) where
   abbrev program : FlowProgram
@@ -296,7 +303,7 @@ module _ (table : Table) (typed : TypedProgram) (effects : Effects) (input : Lis
           ∙ ap (λ z. flow.actual_values s z actuals ++ flow.actual_acts z actuals) ways_are
 
       pub reads_there : AreReads values
-      reads_there = values_are_read s ready.owns procedure formals actuals kinds called.actuals_stay
+      reads_there = values_are_read s ready.owns procedure formals actuals called.actuals_stay
 
       call_acts : standing.whole_acts table typed effects input ready state top older outer named p frames of_sub at_point p.instr ≡ acts (values ++ copies) ++ globals_of program effects n
       call_acts =
@@ -343,10 +350,39 @@ module _ (table : Table) (typed : TypedProgram) (effects : Effects) (input : Lis
           live_trunk (steps.here main_turn) ready.accepted.settled state.leaks [] other alone (keeps s ready.accepted.settled ready.owns) index_law
           ready.owns views ready.class.parts_named state.memory (waiting_in easy.state) ((viewed_easy plain_there.0).0).owned
 
+      -- formals of the frame see what belongs to frames below
+      pub formals_low : (x : ℕ) (w : Way) → views.way x ≡ Some w → is_view_formal s x ≡ true → (foreign : IsForeign (home s depth) w) × (foreign.0 < depth)
+      formals_low x w has formal = elim (viewed.views x w has) [
+        | inl view ↦ absurd (holds.passed x w has formal view.named)
+        | inr passed ↦ (passed.foreign, lies_far s depth views holds.lies x w has passed.foreign)
+      ]
+
+      -- a function has formals of mode `in` alone; a procedure has none that owns nothing
+      by_callee : (((x : ℕ) → Has formals x → (object_at s x).mode ≡ mode.In) × ((x : ℕ) → Has formals x → IsCopiedBack s x → ⊥))
+          ⊎ ((x : ℕ) → Has formals x → is_view_formal s x ≡ false)
+      by_callee = by_result (sub_of program n).result refl
+        where
+          there : (x : ℕ) → Has formals x → Has (sub_at s n).formals x
+          there x has = subst (λ z. Has z x) (sym (ap (λ (z : Signature). z.formals) (signature_is program n))) has
+
+          by_result : (r : Option ℕ) → (sub_of program n).result ≡ r
+              → (((x : ℕ) → Has formals x → (object_at s x).mode ≡ mode.In) × ((x : ℕ) → Has formals x → IsCopiedBack s x → ⊥))
+              ⊎ ((x : ℕ) → Has formals x → is_view_formal s x ≡ false)
+          by_result (Some of) is =
+              let modes : (x : ℕ) → Has formals x → (object_at s x).mode ≡ mode.In = (λ x has. (ready.class.functions n of (ap (λ (z : Signature). z.result) (signature_is program n) ∙ is) x (there x has) (called.formals x has)).0) in
+              inl (modes, λ x has back. back (modes x has))
+          by_result None is = inr (λ x has. ready.class.procedures n (ap (λ (z : Signature). z.result) (signature_is program n) ∙ is) x (there x has) (called.formals x has))
+
+      clear_there : AreClear s facts_now formals actuals
+      clear_there = elim by_callee [
+        | inl modes ↦ all_clear s procedure formals actuals facts_now modes.0 copies_allowed
+        | inr none ↦ none_clear s procedure formals actuals facts_now none
+      ]
+
       abbrev pub Given : List Passed → Type 0
       Given passed =
-          AreGiven (steps.here main_turn) ready.accepted.settled (waiting_in easy.state) state.leaks state.memory [] other facts_now views (viewed_easy plain_there.0).1 (viewed_easy plain_there.0).0 holds_now alone live_now (standing.no_in_formals table typed effects input ready)
-          index_law ready.owns ready.class.parts_named procedure formals actuals passed
+          AreGiven (steps.here main_turn) ready.accepted.settled (waiting_in easy.state) state.leaks state.memory [] other facts_now views (viewed_easy plain_there.0).1 (viewed_easy plain_there.0).0 holds_now alone live_now in_formals
+          index_law ready.owns ready.class.parts_named formals_low procedure formals actuals passed
 
       -- the values that the actuals take
       pub taken_there : (on : List (List machine.Word)) × TakesAll formals actuals given_words on
@@ -357,22 +393,13 @@ module _ (table : Table) (typed : TypedProgram) (effects : Effects) (input : Lis
 
       pub passed_quiet : Quiet then_now Given (all_passed (steps.here main_turn) ways_there formals actuals (start main_turn))
       passed_quiet =
-          all_given (steps.here main_turn) ready.accepted.settled (waiting_in easy.state) state.leaks state.memory [] other facts_now views (viewed_easy plain_there.0).1 (viewed_easy plain_there.0).0 holds_now alone live_now (standing.no_in_formals table typed effects input ready)
-          index_law ready.owns ready.class.parts_named procedure given_words taken_there.0 formals actuals kinds called.actuals_stay copied_there taken_there.1 values_allowed
+          all_given (steps.here main_turn) ready.accepted.settled (waiting_in easy.state) state.leaks state.memory [] other facts_now views (viewed_easy plain_there.0).1 (viewed_easy plain_there.0).0 holds_now alone live_now in_formals
+          index_law ready.owns ready.class.parts_named formals_low procedure given_words taken_there.0 formals actuals kinds called.actuals_stay clear_there copied_there taken_there.1 values_allowed
 
-      given_laid : (passed : List Passed) → Given passed → AreLaidOut s depth formals actuals passed
+      abbrev pub given_laid : (passed : List Passed) → Given passed → AreLaidOut s state.memory depth formals actuals passed
       given_laid passed given =
-          all_laid_out (steps.here main_turn) ready.accepted.settled (waiting_in easy.state) state.leaks state.memory [] other facts_now views (viewed_easy plain_there.0).1 (viewed_easy plain_there.0).0 holds_now alone live_now (standing.no_in_formals table typed effects input ready)
-          index_law ready.owns ready.class.parts_named procedure formals actuals passed given
-
-      -- the state is sound with views under the facts after the acts
-      acted_now : (passed : List Passed) → Given passed → Viewed (home s depth) (sees_only s) other views (view_here s easy.state) called_beside
-      acted_now passed given =
-          subst (Viewed (home s depth) (sees_only s) other views (view_here s easy.state))
-          (sym (ap (λ z. after z facts_now) (acts_append values copies) ∙ after_append (acts values) (acts copies) facts_now
-          ∙ ap (after (acts copies)) (reads_keep values reads_there facts_now)))
-          (all_acted (steps.here main_turn) ready.accepted.settled (waiting_in easy.state) state.leaks state.memory [] other facts_now views (viewed_easy plain_there.0).1 (viewed_easy plain_there.0).0 holds_now alone live_now (standing.no_in_formals table typed effects input ready)
-          index_law ready.owns ready.class.parts_named procedure formals actuals passed facts_now kinds given (viewed_easy plain_there.0).0)
+          all_laid_out (steps.here main_turn) ready.accepted.settled (waiting_in easy.state) state.leaks state.memory [] other facts_now views (viewed_easy plain_there.0).1 (viewed_easy plain_there.0).0 holds_now alone live_now in_formals
+          index_law ready.owns ready.class.parts_named formals_low procedure formals actuals passed given
 
       -- loans stay
       loans_called : (h : ℕ) (m : PlaceName) → Has own_facts (Lent Observed h m) → Has facts_called (Lent Observed h m)
@@ -408,7 +435,7 @@ module _ (table : Table) (typed : TypedProgram) (effects : Effects) (input : Lis
             | inl was ↦ was
             | inr (a, there, new) ↦ (
                 let from = Has-map_from (λ (z : Placed). z.act) (values ++ copies) a there in
-                absurd (call_adds_none s ready.owns procedure formals actuals kinds called.actuals_stay from.0 from.1 f (subst (λ z. Has (adds z) f) (sym from.2) new)))
+                absurd (call_adds_none s ready.owns procedure formals actuals called.actuals_stay from.0 from.1 f (subst (λ z. Has (adds z) f) (sym from.2) new)))
           ])
 
       -- what the callee uses isn't moved
@@ -457,16 +484,6 @@ module _ (table : Table) (typed : TypedProgram) (effects : Effects) (input : Lis
 
       -- ---- what waits, before the callee has returned
 
-      late_scope : (r : Option ℕ) → Fills s (Call n actuals r) left_scope → FillsTyped program (Call n actuals r) left_scope → (empty : Option ℕ)
-          → (sub_of program n).result ≡ empty → is_some empty ≡ is_some r → (b : List ℕ) → Leads s (brought (Call n actuals r) left_scope) b
-          → AreValuesBut s empty (steps.waiting main_turn) (temporaries_of s b)
-      late_scope None fills fits None is answers b leads = subst (AreFor s (steps.waiting main_turn)) (leads_temporaries s left_scope b leads) shared.left
-      late_scope None fills fits (Some of) is answers b leads = cc
-      late_scope (Some t) fills fits None is answers b leads = cc
-      late_scope (Some t) fills fits (Some of) is answers b leads =
-          subst (AreValuesBut s (Some of) (steps.waiting main_turn)) (sym (temporary_first s t left_scope fills) ∙ leads_temporaries s (t ∷ left_scope) b leads)
-          (fits of is, shared.left)
-
       abbrev late : Option ℕ
       late = awaited (sub_of program n) []
 
@@ -476,7 +493,7 @@ module _ (table : Table) (typed : TypedProgram) (effects : Effects) (input : Lis
           let same_point : at_successor.0 ≡ q =
           one_point named.points call_point.0 (at_successor.0) q at_successor.1 (subst (λ (z : NamedSub). IsAtPoint z.points call_point.0 q) same_sub at_q) in
           subst (λ (z : NamedPoint). AreValuesBut s late (steps.waiting main_turn) (temporaries_of s z.scope)) same_point
-          (late_scope result (subst (λ i. Fills s i left_scope) e supplied_here.1)
+          (late_scope program n actuals (steps.waiting main_turn) left_scope shared.left result (subst (λ i. Fills s i left_scope) e supplied_here.1)
           (subst (λ i. FillsTyped program i left_scope) e (ready.valued.fills named named_there p point_there_now)) late refl called.answers (at_successor.0).scope
           (subst (λ i. Leads s (brought i left_scope) (at_successor.0).scope) e at_successor.2))
 
@@ -493,31 +510,24 @@ module _ (table : Table) (typed : TypedProgram) (effects : Effects) (input : Lis
         pub far_views : AreFar (home s depth) views depth
         far_views = lies_far s depth views holds.lies
 
-        pub well_all : Viewed (home s depth) (sees_only s) other_all views (view_here s easy.state) facts_called
-        well_all = apart_from_them (acts (values ++ copies)) views (view_here s easy.state) holds.only (acted_now passed given)
+        abbrev laid : AreLaidOut s state.memory depth formals actuals passed
+        laid = given_laid passed given
+
+        -- the places that are emptied
+        abbrev pub outs : List Out
+        outs = outs_of s state.memory depth formals actuals passed (given_laid passed given)
+
+        well_before : Viewed (home s depth) (sees_only s) other_all views (view_here s easy.state) own_facts
+        well_before = apart_from_them [] views (view_here s easy.state) holds.only (viewed_easy plain_there.0).0
 
         -- what is taken
-        no_overlap : ((r : Report) → Has (overlap_reports s (alias.passed formals actuals)) r → ⊥) ⊎ ((x : ℕ) → Has formals x → IsScalarObject s x)
-        no_overlap = by_result (sub_of program n).result refl
-          where
-            reports_are : (o : Option ℕ) → is_some o ≡ false → call_reports s effects (Call n actuals o)
-                ≡ (if is_some (sub_at s n).result then [] else passed_reports s effects n (alias.passed (sub_at s n).formals actuals))
-            reports_are None none = refl
-            reports_are (Some of) none = cc
-
-            by_result : (o : Option ℕ) → (sub_of program n).result ≡ o
-                → ((r : Report) → Has (overlap_reports s (alias.passed formals actuals)) r → ⊥) ⊎ ((x : ℕ) → Has formals x → IsScalarObject s x)
-            by_result (Some of) answers = inr (λ x has. ready.class.functions n of
-                (ap (λ (z : Signature). z.result) (signature_is program n) ∙ answers) x (subst (λ z. Has z x) (sym (ap (λ (z : Signature). z.formals) (signature_is program n))) has) (called.formals x has))
-            by_result None none = inl (λ r has.
-                no_call_reports program effects ready.accepted.no_reports (flow_sub own named)
-                (standing.in_program table typed effects input ready state top older outer named p frames of_sub at_point) main_turn.point
-                (standing.in_sub table typed effects input ready state top older outer named p frames of_sub at_point) r
-                (subst (λ i. Has (call_reports s effects i) r) (sym e)
-                (subst (λ z. Has z r) (sym (reports_are result (sym called.answers ∙ ap is_some none)))
-                (subst (λ z. Has (if is_some z.result then [] else passed_reports s effects n (alias.passed z.formals actuals)) r) (sym (signature_is program n))
-                (subst (λ z. Has (if is_some z then [] else passed_reports s effects n (alias.passed formals actuals)) r) (sym none)
-                (Has-append_left (overlap_reports s (alias.passed formals actuals)) (flat_map (alias.global_reports s effects n) (alias.passed formals actuals)) r has))))))
+        no_overlap : ((r : Report) → Has (overlap_reports s (alias.passed formals actuals)) r → ⊥) ⊎ ((x : ℕ) → Has formals x → IsCopiedBack s x → IsScalarObject s x)
+        no_overlap =
+            apart_or_plain program effects ready.accepted.no_reports (flow_sub own named)
+            (standing.in_program table typed effects input ready state top older outer named p frames of_sub at_point) main_turn.point
+            (standing.in_sub table typed effects input ready state top older outer named p frames of_sub at_point) n actuals result e called.answers
+            (λ of answers x has back. absurd (back
+            (ready.class.functions n of answers x has (called.formals x (subst (λ z. Has z x) (ap (λ (z : Signature). z.formals) (signature_is program n)) has))).0))
 
         within_next : (y : ℕ) → Has (roots_passed actuals) y → is_package_object s y ≡ false → is_owning s.table (object_at s y).of ≡ true → is_within y next_there ≡ true
         within_next y has mine owns =
@@ -531,10 +541,10 @@ module _ (table : Table) (typed : TypedProgram) (effects : Effects) (input : Lis
             (ready.valued.passed named (standing.named_in table typed effects input ready state top older outer named p frames of_sub at_point) p
             (standing.point_in_named table typed effects input ready state top older outer named p frames of_sub at_point) n actuals result e y has)
 
-        pub all_passed_ways : (ways_taken : List Way) × ArePassedOn s depth facts_called next_there formals passed ways_taken
+        pub all_passed_ways : (ways_taken : List Way) × ArePassedOn s state.memory depth facts_called next_there formals passed ways_taken outs
             × ((k : Way) → Has ways_taken k → IsNamedBy s formals actuals k)
         all_passed_ways =
-            all_passed_on s ready.owns depth facts_called next_there procedure formals actuals passed own_facts (given_laid passed given) kinds
+            all_passed_on s ready.owns state.memory depth facts_called next_there procedure formals actuals passed own_facts laid kinds
             called.local called.differ
             within_next no_overlap
             (ap (λ z. after z own_facts) (acts_append values copies) ∙ after_append (acts values) (acts copies) own_facts
@@ -545,13 +555,40 @@ module _ (table : Table) (typed : TypedProgram) (effects : Effects) (input : Lis
         abbrev pub ways_taken : List Way
         ways_taken = all_passed_ways.0
 
-        pub open_there : IsOpen s ready.accepted.settled ready.owns in_formals (waiting_in easy.state) state.leaks depth views far_views facts_called next_there other_all ways_taken
+        out_base : (o : Out) → Has outs o → (y : ℕ) × (ways.base_of o.way ≡ ways.OfRoot (ways.OfVariable depth y))
+        out_base o has =
+            passed_base s state.memory depth facts_called next_there formals passed ways_taken outs all_passed_ways.1 o.way
+            (outs_taken s state.memory depth facts_called next_there formals passed ways_taken outs all_passed_ways.1 o has)
+
+        abbrev outs_gone : Way → Type 0
+        outs_gone w = GoneElsewhere program effects older w ⊎ IsUnderOne outs w
+
+        outs_apart : (y : ℕ) (w z : Way) → views.way y ≡ Some w → IsForeign (home s depth) w → outs_gone z → ways.Under z w ⊎ ways.Under w z → ⊥
+        outs_apart y w z has foreign (inl gone) meets = well_before.whole y w z has foreign gone meets
+        outs_apart y w z has foreign (inr (o, has_o, under)) meets =
+            apart_by_base w z foreign.0 foreign.1 depth (out_base o has_o).0 foreign.2 (base_under o.way z under ∙ (out_base o has_o).1)
+            (λ same. (let low = far_views y w has foreign in omega (arith, low, same))) meets
+
+        -- the state is sound with views under the facts after the acts, where what is to be emptied may be gone
+        abbrev around_outs : Around (home s depth)
+        around_outs = gone_also (home s depth) other_all outs_gone
+
+        pub well_all : Viewed (home s depth) (sees_only s) around_outs views (view_here s easy.state) facts_called
+        well_all =
+            subst (Viewed (home s depth) (sees_only s) around_outs views (view_here s easy.state))
+            (sym (ap (λ z. after z own_facts) (acts_append values copies) ∙ after_append (acts values) (acts copies) own_facts
+            ∙ ap (after (acts copies)) (reads_keep values reads_there own_facts)))
+            (all_acted (steps.here main_turn) ready.accepted.settled (waiting_in easy.state) state.leaks state.memory [] other facts_now views (viewed_easy plain_there.0).1 (viewed_easy plain_there.0).0 holds_now alone live_now in_formals
+            index_law ready.owns ready.class.parts_named formals_low procedure other_all outs_gone outs_apart formals actuals passed own_facts given (λ w under. inr under)
+            (more_gone (home s depth) (sees_only s) views other_all outs_gone outs_apart (view_here s easy.state) own_facts (λ w gone. inl gone) well_before))
+
+        pub open_there : IsOpen (home s depth) other_all ways_taken
         open_there = record {
           free = λ k w under gone. (let root = gone_low table typed effects unmoved_stage local state depth older between w gone in
               hand_base (sym (base_under (ways.Object (ways.OfHand k)) w under) ∙ root.2));
           whole = λ to has w under gone. (
               let root = gone_low table typed effects unmoved_stage local state depth older between w gone in
-              let base = passed_base s depth facts_called next_there formals passed ways_taken all_passed_ways.1 to has in
+              let base = passed_base s state.memory depth facts_called next_there formals passed ways_taken outs all_passed_ways.1 to has in
               let frames_same = (same_variable root.0 root.1 depth base.0 (sym root.2 ∙ base_under to w under ∙ base.1)).0 in
               let less = root.3 in omega (arith, frames_same, less));
           none = λ w k keeps_it. keeps_it;
@@ -561,7 +598,7 @@ module _ (table : Table) (typed : TypedProgram) (effects : Effects) (input : Lis
             hand_base is = cc
 
         -- the formals have nothing yet
-        pub blank_formals : AreBlank s ready.accepted.settled ready.owns in_formals (waiting_in easy.state) state.leaks depth views far_views facts_called next_there state.memory formals
+        pub blank_formals : AreBlank s depth state.memory formals
         blank_formals x has q = by_word (word_in s.table (content s state.memory [] (ways.OfRoot (ways.OfVariable (suc depth) x))) q) refl
           where
             by_word : (w : ways.Word) → word_in s.table (content s state.memory [] (ways.OfRoot (ways.OfVariable (suc depth) x))) q ≡ w
@@ -574,7 +611,7 @@ module _ (table : Table) (typed : TypedProgram) (effects : Effects) (input : Lis
             by_word ways.Gone is =
                 let root : ways.Root = ways.OfVariable (suc depth) x in
                 let w : Way = ways.along (ways.Object root) q in
-                absurd (elim (well_all.known w (ways.part (ways.OfRoot root) q) (rooted_along (ways.Object root) q tt)
+                absurd (elim (well_before.known w (ways.part (ways.OfRoot root) q) (rooted_along (ways.Object root) q tt)
                 (reaches_along (view_here s easy.state) (ways.Object root) (ways.OfRoot root) q refl)
                 (word_root s.table (content s state.memory (waiting_in easy.state)) root q ∙ is)) [
                   | inr gone ↦ (
@@ -585,25 +622,34 @@ module _ (table : Table) (typed : TypedProgram) (effects : Effects) (input : Lis
                   | inl (inl (u, moved, leads)) ↦ not_named (home s depth) (suc depth) x
                       (not_above s ready.accepted.settled ready.owns in_formals (waiting_in easy.state) state.leaks depth views far_views facts_called next_there) w
                       (subst (ways.Named (home s depth)) leads
-                      (named_way (home s depth) (sees_only s) other_all views (view_here s easy.state) facts_called well_all.views (suc (ways.number_of u)) u (omega arith)
-                      (moved.0, well_all.clear.owned (ways.name_of u) moved.1))) (base_along (ways.Object root) q)
+                      (named_way (home s depth) (sees_only s) other_all views (view_here s easy.state) own_facts well_before.views (suc (ways.number_of u)) u (omega arith)
+                      (moved.0, well_before.clear.owned (ways.name_of u) moved.1))) (base_along (ways.Object root) q)
                 ])
 
         abbrev with_all : Memory
         with_all = with_formals s (suc depth) formals passed state.memory
 
-        enters : Enter s ready.accepted.settled ready.owns in_formals (waiting_in easy.state) state.leaks depth views far_views facts_called next_there other_all formals passed ways_taken
+        abbrev checks_there : List (List Leak)
+        checks_there = out_checks s main_turn.point.pos state.memory passed actuals
+
+        abbrev leaks_then : List Leak
+        leaks_then = state.leaks ++ found_in s state.memory outs
+
+        leaks_same : leaks_then ≡ state.leaks ++ flat_map (λ (leaks : List Leak). leaks) checks_there
+        leaks_same = ap (λ z. state.leaks ++ z) (sym (found_there s ready.accepted.settled depth main_turn.point.pos state.memory formals actuals passed laid))
+
+        enters : Enter s ready.accepted.settled ready.owns in_formals (waiting_in easy.state) depth views far_views facts_called next_there other_all state.leaks leaks_then formals passed ways_taken
             state.memory with_all
         enters =
-            all_declared s ready.accepted.settled ready.owns in_formals (waiting_in easy.state) state.leaks depth views far_views facts_called next_there other_all formals passed ways_taken
-            state.memory all_passed_ways.1 open_there (viewed_easy plain_there.0).1 well_all blank_formals
+            all_declared s ready.accepted.settled ready.owns in_formals (waiting_in easy.state) depth views far_views facts_called next_there other_all state.leaks formals passed ways_taken outs
+            state.memory state.memory all_passed_ways.1 open_there (viewed_easy plain_there.0).1 (viewed_easy plain_there.0).1 well_all blank_formals (λ o has y q k is. refl) refl
 
-        abbrev declared_there : AreDeclared s ready.accepted.settled ready.owns in_formals (waiting_in easy.state) state.leaks depth views far_views facts_called next_there formals
+        abbrev declared_there : AreDeclared s ready.accepted.settled ready.owns in_formals (waiting_in easy.state) depth views far_views facts_called next_there formals passed state.leaks leaks_then
             state.memory with_all
         declared_there = enters.0
 
         abbrev after_call : State
-        after_call = steps.leaking [] (entered main_turn ready.accepted.settled n actuals passed)
+        after_call = steps.leaking checks_there (entered main_turn ready.accepted.settled n actuals passed)
 
         abbrev called_stage : Stage
         called_stage = record { frame = frame_at_start n (returns_of formals passed); depth = suc depth; before = []; returns = [] }
@@ -622,10 +668,10 @@ module _ (table : Table) (typed : TypedProgram) (effects : Effects) (input : Lis
         hands_there = led_waits main_turn (record top.frame { waits = steps.waiting main_turn }) (successor main_turn 0)
 
         abbrev called_view : ways.View
-        called_view = seen s with_all (waiting_in easy.state) state.leaks
+        called_view = seen s with_all (waiting_in easy.state) leaks_then
 
         view_called : called_view ≡ view_here s after_call
-        view_called = (λ j. seen s with_all (sym hands_there j) (sym (append-nil state.leaks) j))
+        view_called = (λ j. seen s with_all (sym hands_there j) (leaks_same j))
 
         abbrev around_taken : Around (home s depth)
         around_taken = gone_also (home s depth) other_all (λ w. GoneElsewhere program effects older w ⊎ TakenBy all_passed_ways.0 w)
@@ -637,11 +683,16 @@ module _ (table : Table) (typed : TypedProgram) (effects : Effects) (input : Lis
             → word_in s.table (content s state.memory [] (ways.OfRoot (ways.OfVariable f x))) q ≡ ways.Held k
         held_called f x q k off held = elim (declared_there.held f x q k held) [ inl before ↦ before | inr mine ↦ absurd (off mine.0) ]
 
+        not_up : (x : ℕ) → home s depth x ≡ suc depth → ⊥
+        not_up = not_above s ready.accepted.settled ready.owns in_formals (waiting_in easy.state) state.leaks depth views far_views facts_called next_there
+
         -- the variables of its views stay
         word_still : (x : ℕ) → is_view s x ≡ true
             → (get_or (variable_slots s (home s depth x) x with_all.variables) 0 no_slot).word ≡ (get_or (variable_slots s (home s depth x) x state.memory.variables) 0 no_slot).word
-        word_still x view = declared_there.views (home s depth x) x view (λ up formal has. not_above s ready.accepted.settled ready.owns in_formals
-            (waiting_in easy.state) state.leaks depth views far_views facts_called next_there x up)
+        word_still x view = elim (declared_there.views (home s depth x) x view) [
+          | inl same ↦ same
+          | inr shown ↦ absurd (not_up x shown.0)
+        ]
 
         is_waiting : IsWaiting table typed effects after_call n (returns_of formals passed) waits_there
         is_waiting = record {
@@ -665,7 +716,7 @@ module _ (table : Table) (typed : TypedProgram) (effects : Effects) (input : Lis
               main_turn.point (standing.in_sub table typed effects input ready state top older outer named p frames of_sub at_point) actuals result e x uses;
           writes = λ x written. called_writes program effects ready.accepted.effects_are top.frame.sub (flow_sub own named) sub_at_all sub_less n callee_less
               main_turn.point (standing.in_sub table typed effects input ready state top older outer named p frames of_sub at_point) actuals result e x written;
-          clear = subst (AreClear (sees_only s)) (sym facts_there) well_called.clear;
+          clear = subst (FactsAreClear (sees_only s)) (sym facts_there) well_called.clear;
           views = subst (λ z. AreViews (home s top.depth) (sees_only s) views (view_here s after_call) z) (sym facts_there)
               (subst (λ d. AreViews (home s d) (sees_only s) views (view_here s after_call) facts_called) (sym deep) well_called.views);
           holds = subst (λ d. HoldsAt s d views with_all at_successor.0) (sym deep) (record {
@@ -686,7 +737,10 @@ module _ (table : Table) (typed : TypedProgram) (effects : Effects) (input : Lis
         others_wait =
             all_on table typed effects unmoved_stage local state after_call depth
             (λ f x q k some less held. held_called f x q k (λ above_it. omega (arith, less, above_it)) held)
-            (λ f x some less view. declared_there.views f x view (λ up formal has. omega (arith, less, up)))
+            (λ f x some less view. elim (declared_there.views f x view) [
+              | inl same ↦ same
+              | inr shown ↦ (let up = shown.0 in absurd (omega (arith, less, up)))
+            ])
             top.frame.sub top.frame.returns older outer stages (omega arith)
             (λ g has x w is. (let root = kept_low table typed effects unmoved_stage local state depth older between w (g.views.cell x) (g, has, x, is, refl) in
             subst (λ z. ways.Reaches z w (ways.OfCell (g.views.cell x))) view_called
@@ -710,10 +764,10 @@ module _ (table : Table) (typed : TypedProgram) (effects : Effects) (input : Lis
 
         returned_there : AreReturned s (frame_at_start n (returns_of formals passed))
         returned_there = (
-          λ x has. all_returned s ready.accepted.settled depth formals actuals passed (given_laid passed given) called.actuals_stay kinds x
+          λ x has. all_returned s ready.accepted.settled depth state.memory formals actuals passed laid called.actuals_stay kinds x
               (subst (λ z. Has z x) (ap (λ (z : Signature). z.formals) (signature_is program n)) has),
           λ r has. called.formals r.formal
-              (formals_of_returns s ready.accepted.settled ready.owns in_formals (waiting_in easy.state) state.leaks depth views far_views facts_called next_there formals passed r has),
+              (formals_of_returns s ready.accepted.settled ready.owns in_formals (waiting_in easy.state) depth views far_views facts_called next_there formals passed r has),
         )
 
         -- nothing that is gone meets what its views see of others
@@ -722,11 +776,75 @@ module _ (table : Table) (typed : TypedProgram) (effects : Effects) (input : Lis
             subst (λ d. (x : ℕ) (w z : Way) → views.way x ≡ Some w → IsForeign (home s d) w → GoneElsewhere program effects older z → ways.Under z w ⊎ ways.Under w z → ⊥)
             (sym deep) viewed_before.whole
 
+        -- ---- the views of what is called
+
+        abbrev opened : Opens (steps.here main_turn) ready.accepted.settled (waiting_in easy.state) state.leaks state.memory [] other facts_now views (viewed_easy plain_there.0).1
+            (viewed_easy plain_there.0).0 holds_now alone live_now in_formals index_law ready.owns ready.class.parts_named formals_low procedure formals passed
+        opened =
+            all_opened (steps.here main_turn) ready.accepted.settled (waiting_in easy.state) state.leaks state.memory [] other facts_now views (viewed_easy plain_there.0).1
+            (viewed_easy plain_there.0).0 holds_now alone live_now in_formals index_law ready.owns ready.class.parts_named formals_low procedure formals actuals passed called.differ given
+
+        abbrev callee_views : Views
+        callee_views = opened.0
+
+        -- one that has a way is in a function
+        takes_none : (y : ℕ) (w : Way) → callee_views.way y ≡ Some w → all_passed_ways.0 ≡ []
+        takes_none y w has =
+            let found = opened.1.way y w has in
+            elim by_callee [
+              | inr none ↦ absurd (true_false (is_view_formal s y) found.0 (none y found.1))
+              | inl modes ↦ none_there all_passed_ways.0 (λ k k_has. (
+                  let by_name = all_passed_ways.2 k k_has in
+                  modes.1 (by_name.0).formal (passed_formal s formals actuals by_name.0 by_name.1) by_name.2))
+            ]
+          where
+            none_there : (ks : List Way) → ((k : Way) → Has ks k → ⊥) → ks ≡ []
+            none_there [] none = refl
+            none_there (k ∷ ks) none = absurd (none k (inl refl))
+
+        -- its way reaches what it reached
+        reach_called : (y : ℕ) (w : Way) (k : ℕ) → callee_views.way y ≡ Some w → ways.Reaches (seen s state.memory (waiting_in easy.state) state.leaks) w (ways.OfCell k)
+            → ways.Reaches (view_here s after_call) w (ways.OfCell k)
+        reach_called y w k has reach =
+            let are = subst (λ z. ArePassedOn s state.memory depth facts_called next_there formals passed z outs) (takes_none y w has) all_passed_ways.1 in
+            let empty = none_emptied s ready.accepted.settled ready.owns in_formals (waiting_in easy.state) depth views far_views facts_called next_there formals passed outs state.memory are in
+            let leaks_are : state.leaks ≡ leaks_then = sym (ap (λ z. state.leaks ++ found_in s state.memory z) empty ∙ append-nil state.leaks) in
+            subst (λ z. ways.Reaches z w (ways.OfCell k)) view_called
+            (subst (λ z. ways.Reaches (seen s with_all (waiting_in easy.state) z) w (ways.OfCell k)) leaks_are
+            (same_reaches (seen s state.memory (waiting_in easy.state) state.leaks) (seen s with_all (waiting_in easy.state) state.leaks)
+            (none_taken_same s ready.accepted.settled ready.owns in_formals (waiting_in easy.state) depth views far_views facts_called next_there state.leaks formals passed outs
+            state.memory state.memory are refl (viewed_easy plain_there.0).1) w (ways.OfCell k) reach))
+
+        -- what is gone for the caller and the frames around it is excused by its facts before the call
+        excused_called : all_passed_ways.0 ≡ [] → (z : Way) → GoneElsewhere program effects (waits_there ∷ older) z → ExcusedBy (home s depth) views other facts_now z
+        excused_called none z (g, inr has, what) =
+            elsewhere_excused table typed effects unmoved_stage local state depth older between views own_facts no_package_view z (g, has, what)
+          where
+            no_package_view : (x : ℕ) → is_package_object s x ≡ true → views.way x ≡ None
+            no_package_view x shared = by_way (views.way x) refl
+              where
+                by_way : (o : Option Way) → views.way x ≡ o → views.way x ≡ None
+                by_way None is = is
+                by_way (Some w) is = absurd (true_false (is_package_object s x) shared (local x (holds.only x w is)))
+        excused_called none z (g, inl same, what) = elim (subst (λ (y : ViewStage). IsMovedBy (home s y.stage.depth) y.views (facts_of program effects y.stage) z ⊎ TakenBy y.stage.returns z) (sym same) what) [
+          | inr taken ↦ absurd (subst (λ ks. Has ks taken.0) none taken.1)
+          | inl (u, moved, leads) ↦ inl (inl (
+            u,
+            (
+              subst (λ d. ways.Named (home s d) u) deep moved.0,
+              Has-append_left own_facts handed_on (Moved (ways.name_of u))
+                  (subst (λ fs. Has fs (Moved (ways.name_of u))) (standing.facts_are table typed effects input ready state top older outer named p frames of_sub at_point path)
+                  (none_new (Moved (ways.name_of u)) moved.1)),
+            ),
+            leads,
+          ))
+        ]
+
         entered_sound : Along (Goes after_call)
         entered_sound = (
           record {
             top = called_stage;
-            views = blank_views;
+            views = callee_views;
             older = waits_there ∷ older;
             stages = subst (AreStages (called_stage ∷ stages_of (waits_there ∷ older))) (sym frames_there) (refl, refl, (refl, deep, stages));
             running = (called.runs, returned_there, (is_waiting, others_wait, viewed_before_whole));
@@ -746,8 +864,13 @@ module _ (table : Table) (typed : TypedProgram) (effects : Effects) (input : Lis
                 seen = λ b h k m has there over. has;
                 owned = λ k has. absurd has;
               };
-              views = λ x w has. absurd (none_some w has);
-              whole = λ x w z has. absurd (none_some w has);
+              views = opened_views (steps.here main_turn) ready.accepted.settled (waiting_in easy.state) state.leaks state.memory [] other facts_now views (viewed_easy plain_there.0).1
+                  (viewed_easy plain_there.0).0 holds_now alone live_now in_formals index_law ready.owns ready.class.parts_named formals_low procedure formals passed callee_views opened.1
+                  (view_here s after_call) (facts_of program effects called_stage) reach_called;
+              whole = λ x w z has foreign gone meets.
+                  opened_whole (steps.here main_turn) ready.accepted.settled (waiting_in easy.state) state.leaks state.memory [] other facts_now views (viewed_easy plain_there.0).1
+                  (viewed_easy plain_there.0).0 holds_now alone live_now in_formals index_law ready.owns ready.class.parts_named formals_low procedure formals passed callee_views opened.1
+                  (GoneElsewhere program effects (waits_there ∷ older)) (λ y. excused_called (takes_none x w has) y) x w z has gone meets;
               lends = λ l k none. absurd none;
               far = λ w k none. absurd none;
             };
@@ -763,20 +886,24 @@ module _ (table : Table) (typed : TypedProgram) (effects : Effects) (input : Lis
               ]
               | inr mine ↦ inr (
                 mine.0,
-                within_lasting s x called.runs.point.scope (called.begins x mine.1 (owning_there f x q k held))
+                within_lasting s x called.runs.point.scope (called.begins x mine.1 (owns_there s ready.accepted.settled ready.owns with_all f x q k held))
                     (plain_unheld s x (formal_lasts (object_at s x).kind (called.formals x mine.1))),
               )
             ];
             holds = record {
-              held = λ x k lasts view at. absurd (no_view x k view at);
-              within = λ x k view at. absurd (no_view x k view at);
-              only = λ x w has. absurd (none_some w has);
-              lies = λ x w has. absurd (none_some w has);
-              owners = λ x w has. absurd (none_some w has);
-              passed = λ x w has. absurd (none_some w has);
+              held = λ x k lasts view at. callee_held x k view at;
+              within = λ x k view at. (let own_way = callee_held x k view at in (callee_placed x own_way.0 own_way.1).within);
+              only = λ x w has. formal_view s x (opened.1.way x w has).0;
+              lies = opened_lies (steps.here main_turn) ready.accepted.settled (waiting_in easy.state) state.leaks state.memory [] other facts_now views (viewed_easy plain_there.0).1
+                  (viewed_easy plain_there.0).0 holds_now alone live_now in_formals index_law ready.owns ready.class.parts_named formals_low procedure formals passed callee_views opened.1;
+              owners = λ x w has. (let found = opened.1.way x w has in subst (IsOwners s) found.3 ((found.2).1).owners);
+              passed = λ x w has formal at_home. subst (ways.Named (home s (suc depth))) (opened.1.ups x) at_home;
             };
-            placed = λ x w has. absurd (none_some w has);
-            none_above = λ f x k less view at. above f x k (omega (arith, less)) view (sym (declared_there.views f x view (λ up formal has. omega (arith, less, up))) ∙ at);
+            placed = callee_placed;
+            none_above = λ f x k less view at. elim (declared_there.views f x view) [
+              | inl same ↦ above f x k (omega (arith, less)) view (sym same ∙ at)
+              | inr shown ↦ (let up = shown.0 in omega (arith, less, up))
+            ];
           },
           calls_one waits_stage refl (refl, refl, refl) refl none_new (subst (λ d. AreCarried s (λ f. f ≡ suc d → ⊥) [] state.memory with_all) (sym deep) declared_there.carried),
         )
@@ -785,31 +912,37 @@ module _ (table : Table) (typed : TypedProgram) (effects : Effects) (input : Lis
             formal_lasts object_kind.Formal is = refl
             formal_lasts k is = cc
 
-            -- what has a number owns
-            owning_there : (f x : ℕ) (q : List Step) (k : ℕ) → word_in s.table (content s with_all [] (ways.OfRoot (ways.OfVariable f x))) q ≡ ways.Held k
-                → is_owning s.table (object_at s x).of ≡ true
-            owning_there f x q k held = by_type (is_owning s.table (object_at s x).of) refl
-              where
-                by_type : (b : Bool) → is_owning s.table (object_at s x).of ≡ b → b ≡ true
-                by_type true is = refl
-                by_type false is =
-                    let none = word_no s.table (content s with_all [] (ways.OfRoot (ways.OfVariable f x))) q
-                    ((keeps s ready.accepted.settled ready.owns).ownerless (object_at s x).of is q) in
-                    absurd (no_number (sym none ∙ held))
-                  where
-                    no_number : ways.Empty ≡ ways.Held k → ⊥
-                    no_number same_word = cc
+            second_true : (a b : Bool) → a && b ≡ true → b ≡ true
+            second_true true b is = is
+            second_true false b is = cc
 
-            no_view : (x k : ℕ) → is_view s x ≡ true
-                → (get_or (variable_slots s (home s (suc depth) x) x with_all.variables) 0 no_slot).word ≡ machine.Cell k → ⊥
-            no_view x k view at =
-                let up : home s (suc depth) x ≡ suc depth = ap (λ b. if b then 0 else suc depth) (local x view) in
-                above (home s (suc depth) x) x k (omega (arith, up)) view (sym (declared_there.views (home s (suc depth) x) x view
-                (λ same_depth formal has. (let none = standing.no_in_formals table typed effects input ready x in let no : true ≡ false = sym formal ∙ none in cc))) ∙ at)
+            -- no formal is of an anonymous type
+            formal_only : (x : ℕ) → Has formals x → is_view s x ≡ true → is_view_formal s x ≡ true
+            formal_only x has view = elim (view_cases s x view) [
+              | inr formal ↦ formal
+              | inl anonymous ↦ absurd (no_anonymous (kinds x has) anonymous)
+            ]
+              where
+                no_anonymous : IsKindOfFormal s x → is_anonymous (view_of s x) ≡ true → ⊥
+                no_anonymous (inl plain) anonymous = scalar_no_view s in_formals x plain (anonymous_view s x anonymous)
+                no_anonymous (inr (inl back)) anonymous = true_false (is_anonymous (view_of s x)) anonymous (named_plain s.table (object_at s x).of back.1)
+                no_anonymous (inr (inr shown)) anonymous = (in_formals x shown.0).1 anonymous
+
+            callee_held : (x k : ℕ) → is_view s x ≡ true → (get_or (variable_slots s (home s (suc depth) x) x with_all.variables) 0 no_slot).word ≡ machine.Cell k
+                → (w : Way) × (callee_views.way x ≡ Some w) × (callee_views.cell x ≡ k)
+            callee_held =
+                opened_held (steps.here main_turn) ready.accepted.settled (waiting_in easy.state) state.leaks state.memory [] other facts_now views (viewed_easy plain_there.0).1
+                (viewed_easy plain_there.0).0 holds_now alone live_now in_formals index_law ready.owns ready.class.parts_named formals_low procedure formals passed callee_views opened.1
+                with_all above local declared_there.views formal_only
+
+            callee_placed : ArePlaced program (suc depth) (facts_of program effects called_stage) callee_views called.runs.point.scope
+            callee_placed =
+                opened_placed (steps.here main_turn) ready.accepted.settled (waiting_in easy.state) state.leaks state.memory [] other facts_now views (viewed_easy plain_there.0).1
+                (viewed_easy plain_there.0).0 holds_now alone live_now in_formals index_law ready.owns ready.class.parts_named formals_low procedure formals passed callee_views opened.1
+                program (facts_of program effects called_stage) called.runs.point.scope refl
+                (λ y has formal. called.begins y has (second_true (is_in_formal s y) (is_owning s.table (object_at s y).of) formal))
 
       pub calls_it : Along (turn main_turn (Call n actuals result))
       calls_it =
-          call_goes main_turn ready.accepted.settled n actuals Along ends_raised Given
-          (λ passed given. no_out_checks s ready.accepted.settled depth main_turn.point.pos state.memory formals actuals passed (given_laid passed given))
-          entered_sound ways_there ways_are
+          call_goes main_turn ready.accepted.settled n actuals Along ends_raised Given entered_sound ways_there ways_are
           (start main_turn) then_now refl refl passed_quiet

@@ -16,11 +16,23 @@ pub mod Waiting
 pub mod Apart
 pub mod Left
 pub mod Between
+pub mod Emptied
+pub mod Vacated
 pub mod Carried
-pub mod Called
+pub mod Outs
 pub mod Waited
 pub mod Alike
 pub mod Entered
+pub mod Emptying
+-- formals that own nothing
+pub mod Shown
+pub mod Entering
+-- what formals are shown that own nothing
+pub mod Seeing
+pub mod Clear
+pub mod Called
+-- the views of what is called
+pub mod Opening
 pub mod Backed
 pub mod Whole
 pub mod Passed
