@@ -31,10 +31,11 @@ use Rattle.soundness.proofs.Steps.{matches_words, no_leaf, taken_slots, room}
 use Rattle.soundness.proofs.Lasting.{keeps, put_away}
 use Rattle.soundness.proofs.Fixed.{fixed_one}
 use Rattle.soundness.proofs.Returning.{Backs, copied_is, formal_fixed}
-use Rattle.owned_loans.specs.Views.{Around, Views, ExcusedBy, Viewed, IsForeign}
+use Rattle.owned_loans.specs.Views.{expand, Around, Views, ExcusedBy, Viewed, IsForeign}
 use Rattle.owned_loans.proofs.Safe.{off_view}
-use Rattle.owned_loans.proofs.Moves.{named_way, same_viewed}
-use Rattle.viewed_soundness.proofs.Names.{both_no, true_false}
+use Rattle.owned_loans.proofs.Moves.{same_viewed}
+use Rattle.owned_loans.proofs.Meeting.{stands}
+use Rattle.viewed_soundness.proofs.Names.{both_no, true_false, owner_sees}
 use Rattle.viewed_soundness.proofs.Evaluated.{matches_named}
 use Rattle.viewed_steps.proofs.Left.{cells_same}
 use Rattle.viewed_steps.specs.Taken.{AreCarried, TakenBy, IsInside, IsPassedOn, IsBare, IsTaken, IsApartFrom, IsAnother, AreTaken}
@@ -42,8 +43,8 @@ use Rattle.viewed_steps.proofs.Between.{carried_same, carried_then, taken_more, 
 use Rattle.viewed_steps.proofs.Carried.{trunk_is, carried_gone, carried_cells, carried_gone_to, carried_cells_to, inside_at, inside_spot, inside_reached, inside_base, inside_owns, inside_word, variable_clear, carried_bare, carried_held, carried_off, carried_off_low, carried_holds, carried_to, carried_to_low}
 use Rattle.viewed_steps.proofs.Beside.{put_beside}
 use Rattle.viewed_steps.proofs.Alike.{Enters, moved_there, stored_there, one_then, if_back, backs_on}
-use Rattle.viewed_steps.proofs.Entered.{matches_back, not_observing, inside_plain, inside_named, inside_number, inside_itself}
-use Rattle.viewed_steps.proofs.Views.{AreAccess, AreFar, sees_not, apart_by_base}
+use Rattle.viewed_steps.proofs.Entered.{matches_back, inside_plain, inside_named, inside_number, inside_itself}
+use Rattle.viewed_steps.proofs.Views.{AreAccess, AreFar, apart_by_base}
 
 same_names : {f x g y : ℕ} → memory.OfVariable f x ≡ memory.OfVariable g y → (f ≡ g) × (x ≡ y)
 same_names e = (cc, cc)
@@ -184,10 +185,14 @@ module _ (t : Turn) (settled : IsSettled (typing t).table) (own_law : OwnsByShap
         let t = first.through w gone_there in
         not_named (home s depth) (suc depth) r.formal not_above t.0 t.1 (sym (base_under t.0 w t.2) ∙ base_under root w under)
     clean w under (inl (inl (u, moved, same))) =
-        not_named (home s depth) (suc depth) r.formal not_above w
-        (subst (Named (home s depth)) same
-        (named_way (home s depth) observer first v (seen s m hands leaks) facts viewed.views (suc (number_of u)) u (omega arith) (moved.0, viewed.clear.owned (name_of u) moved.1)))
-        (base_under root w under)
+        elim (stands (home s depth) observer v (seen s m hands leaks) facts viewed.views u (moved.0, viewed.clear.owned (name_of u) moved.1)) [
+          | inl own ↦ not_named (home s depth) (suc depth) r.formal not_above w (subst (Named (home s depth)) same own.0) (base_under root w under)
+          | inr held ↦ (
+              let foreign = held.passed.foreign in
+              let low = far held.object held.way held.has foreign in
+              let at = sym foreign.2 ∙ sym (base_under held.way (expand v u) held.under) ∙ ap base_of same ∙ base_under root w under in
+              let frames = (same_variable foreign.0 foreign.1 (suc depth) r.formal at).0 in omega (arith, low, frames))
+        ]
     clean w under (inr (inl o)) = whole r.formal w (base_under root w under) o
     clean w under (inr (inr (inl (k, has, p, is)))) =
         let base = from_depth k has in
@@ -255,7 +260,7 @@ module _ (t : Turn) (settled : IsSettled (typing t).table) (own_law : OwnsByShap
     bare p c held = taken.1 p c (held_mid depth inside.object (p ++ inside.steps) c (sym (inside_word s depth r.to to inside mid (got ∷ hands) p) ∙ held))
 
     plain_name : observer (number_of to) ≡ false
-    plain_name = ap observer (inside_number s settled depth r.to to inside) ∙ sees_not s inside.object (not_observing s inside.object (inside_plain s settled depth r.to to inside)) inside.owner
+    plain_name = ap observer (inside_number s settled depth r.to to inside) ∙ owner_sees s inside.object (inside_plain s settled depth r.to to inside) inside.owner
 
     clear_to : IsClearOf (home s depth) observer v second (AwayBy rest ways) second_apart to
     clear_to = record {

@@ -44,7 +44,7 @@ use Rattle.viewed_soundness.proofs.Names.{both_no, neither, true_false}
 use Rattle.viewed_soundness.proofs.Outcomes.{named_plain}
 use Rattle.viewed_steps.specs.Awaited.{AreFor, AreValues, temporaries_of, lasting_of, awaited, AreAwaited}
 use Rattle.viewed_steps.proofs.Waited.{others_only, lasting_within}
-use Rattle.viewed_steps.specs.Sound.{HoldsAt, ArePlaced, NoneAbove, ViewStage, stages_of, GoneElsewhere, IsWaiting, AreWaiting, ends_one, LeadsAlong, IsResting, IsKindOfFormal}
+use Rattle.viewed_steps.specs.Sound.{ArePast, HoldsAt, ArePlaced, NoneAbove, ViewStage, stages_of, GoneElsewhere, IsWaiting, AreWaiting, ends_one, LeadsAlong, IsResting, IsKindOfFormal}
 use Rattle.viewed_steps.specs.Ready.{IsReady}
 use Rattle.viewed_steps.proofs.Read.{scalar_named}
 use Rattle.viewed_steps.proofs.Waiting.{StandsBetween, all_between, handed, all_on, gone_low, kept_low, far}
@@ -101,7 +101,7 @@ module _ (table : Table) (typed : TypedProgram) (effects : Effects) (input : Lis
       (viewed_before : Viewed (home s (suc (length rest))) (sees_only s) (known_gone (home s (suc (length rest))) (GoneElsewhere program effects (below ∷ more_frames))) views
       (view_here s state) (facts_of program effects top))
       (kept : Kept s state.memory (waiting_in state)) (scope : InScope s state.memory (suc (length rest)) (lasting_of s p.scope)) (holds : HoldsAt s (suc (length rest)) views state.memory p)
-      (placed_before : ArePlaced program (suc (length rest)) (facts_of program effects top) views p.scope) (above : NoneAbove s (suc (length rest)) state.memory) where
+      (placed_before : ArePlaced program (suc (length rest)) (facts_of program effects top) views p.scope × ArePast s (suc (length rest)) views (below ∷ more_frames)) (above : NoneAbove s (suc (length rest)) state.memory) where
     abbrev outer : List Frame
     outer = below.stage.frame ∷ rest
 
@@ -219,24 +219,14 @@ module _ (table : Table) (typed : TypedProgram) (effects : Effects) (input : Lis
             ap (λ z. if z then None else (sub_of program top.frame.sub).result)
             ((ready.returning top.frame.sub (running.0).entered (ap is_some e) top.before top.frame.next path).1 (instr_there ∙ is))
 
-    -- no view but a formal that owns nothing has a way then
-    pub no_view_left : p.instr ≡ Finish → (x : ℕ) → sees_only s x ≡ false → views.way x ≡ None
-    no_view_left is x sees_not = by_way (views.way x) refl
+    -- no view but a formal has a way then
+    pub no_view_left : p.instr ≡ Finish → (x : ℕ) → is_formal s x ≡ false → views.way x ≡ None
+    no_view_left is x no_formal = by_way (views.way x) refl
       where
-        owner : is_view_formal s x ≡ false
-        owner = (neither (is_observer s x) (is_view_formal s x) sees_not).1
-
-        named_formal : IsKindOfFormal s x → IsNamed s.table (object_at s x).of
-        named_formal (inl plain_type) = scalar_named s.table (object_at s x).of plain_type
-        named_formal (inr (inl (back, own_type))) = own_type
-        named_formal (inr (inr shown)) = absurd (true_false (is_view_formal s x) shown.0 owner)
-
         by_way : (o : Option Way) → views.way x ≡ o → views.way x ≡ None
         by_way None e = e
         by_way (Some w) e =
-            let formal = ready.scoped.finishes named named_there p point_there_now is x (placed x w e).within in
-            absurd (true_false (is_view s x) (holds.only x w e)
-            (both_no (is_anonymous (view_of s x)) (is_view_formal s x) (named_plain s.table (object_at s x).of (named_formal (ready.class.formals x formal))) owner))
+            absurd (true_false (is_formal s x) (ready.scoped.finishes named named_there p point_there_now is x (placed x w e).within) no_formal)
 
     -- no part of a formal or package object is moved then
     whole_roots : p.instr ≡ Finish → (name : PlaceName) → Has own_facts (Moved name) → is_formal s name.root || is_package_object s name.root ≡ true → ⊥
@@ -313,20 +303,21 @@ module _ (table : Table) (typed : TypedProgram) (effects : Effects) (input : Lis
         | inr (g, inl same_stage, inl moved) ↦ inl (inl (subst (λ (z : ViewStage). IsMovedBy (home s z.stage.depth) z.views (facts_of program effects z.stage) w) (sym same_stage) moved))
         | inr (g, inl same_stage, inr taken) ↦ inr (inr (inl (subst (λ (z : ViewStage). TakenBy z.stage.returns w) (sym same_stage) taken)))
         | inr (g, inr has, what) ↦ inr (inl (g, has, what))
-        | inl (inl (u, moved, leads)) ↦ (
-            let same_way : u ≡ w =
-            sym (stands_itself (home s depth) (sees_only s) (known_gone (home s depth) (λ z. ⊥)) views u moved.0 (no_view_left is (number_of u) (well.clear.owned (ways.name_of u) moved.1))) ∙ leads in
-            elim (bool_cases (is_formal s (number_of u) || is_package_object s (number_of u))) [
-              | inl shared ↦ absurd (whole_roots is (ways.name_of u) moved.1 shared)
-              | inr neither ↦ inr (inr (inr (
+        | inl (inl (u, moved, leads)) ↦ elim (bool_cases (is_formal s (number_of u) || is_package_object s (number_of u))) [
+          | inl shared ↦ absurd (whole_roots is (ways.name_of u) moved.1 shared)
+          | inr neither ↦ (
+              let same_way : u ≡ w =
+              sym (stands_itself (home s depth) (sees_only s) (known_gone (home s depth) (λ z. ⊥)) views u moved.0
+                  (no_view_left is (number_of u) (first (is_formal s (number_of u)) (is_package_object s (number_of u)) neither))) ∙ leads in
+              inr (inr (inr (
                 number_of w,
                 own_base w (subst (ways.Named (home s depth)) same_way moved.0)
                     (second (is_formal s (number_of w)) (is_package_object s (number_of w)) (ap (λ z. is_formal s (number_of z) || is_package_object s (number_of z)) (sym same_way) ∙ neither)),
                 λ r has formal. true_false (is_formal s r.formal) ((running.1).1 r has)
                     (ap (is_formal s) formal
                     ∙ first (is_formal s (number_of w)) (is_package_object s (number_of w)) (ap (λ z. is_formal s (number_of z) || is_package_object s (number_of z)) (sym same_way) ∙ neither)),
-              )))
-            ])
+              ))))
+        ]
       ]
         where
           first : (a b : Bool) → a || b ≡ false → a ≡ false
@@ -363,6 +354,7 @@ module _ (table : Table) (typed : TypedProgram) (effects : Effects) (input : Lis
         clear = waits.clear;
         views = waits.views;
         whole = whole_away;
+        past = λ x w has given plain k n none. absurd none;
         lends = λ l n none. absurd none;
         far = λ w n none. absurd none;
       }
@@ -465,6 +457,7 @@ module _ (table : Table) (typed : TypedProgram) (effects : Effects) (input : Lis
               (reach_left s mid depth (waiting_in state) state.leaks nothing_mid w (ways.OfCell (below.views.cell x))
               (reached (home s low) (sees_only s) (known_gone (home s low) (λ z. ⊥)) below.views mid_view (facts_of program effects below.stage) x w (on.viewed.views x w has)));
           whole = λ x w z has foreign gone meets. waiting.2 x w z has foreign gone meets;
+          past = λ x w has given plain k n none. absurd none;
           lends = λ l n none. absurd none;
           far = λ w n none. absurd none;
         }
@@ -477,6 +470,7 @@ module _ (table : Table) (typed : TypedProgram) (effects : Effects) (input : Lis
           lies = waits.holds.lies;
           owners = waits.holds.owners;
           passed = waits.holds.passed;
+          own = waits.holds.own;
         }
           where
             word_there : (x n : ℕ) → is_view s x ≡ true
@@ -541,6 +535,7 @@ module _ (table : Table) (typed : TypedProgram) (effects : Effects) (input : Lis
             scope = scope_left;
             holds = holds_there;
             placed = waits.placed;
+            past = waiting.3;
             none_above = above_left;
           },
           ends_one (ap (λ z. below ∷ z) same_more) left_carried,

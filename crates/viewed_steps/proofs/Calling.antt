@@ -20,7 +20,7 @@ use Rattle.typed_tree.specs.Trees.{TypedTree, Name, NoMore, More}
 use Rattle.typed_tree.specs.Programs.{TypedProgram}
 use Rattle.flow_paths.specs.declared.report.Effects.{Effects}
 use Rattle.flow_paths.specs.Instructions.{Instruction, Call, EndScope, Declare, Assign, Hold}
-use Rattle.flow_paths.specs.Objects.{Typing, object_at, sub_at, is_anonymous, is_package_object, view_of, traverses, passings, Passing, Signature, passing, is_formal_kind}
+use Rattle.flow_paths.specs.Objects.{Typing, object_at, sub_at, is_anonymous, is_package_object, view_of, traverses, passings, Passing, Signature, passing, is_formal_kind, is_observer}
 use Rattle.place_names.specs.Facts.{adds}
 use Rattle.place_names.specs.Reports.{Report}
 use Rattle.flow_paths.specs.Aliases.{overlap_reports, passed_reports, call_reports}
@@ -44,7 +44,7 @@ use Rattle.place_names.specs.declared.act.Mode.TheVariants as mode
 use Rattle.owned_ways.specs.Ways.{Step, Way, after, AllowsAll}
 use Rattle.owned_ways.specs.Ways as ways
 use Rattle.owned_ways.proofs.Locations.{reaches_along, named_along as rooted_along}
-use Rattle.soundness.specs.Seen.{IsNear, is_view_formal, content, seen, home, trunk, word_in}
+use Rattle.soundness.specs.Seen.{is_view_formal, IsNear, content, seen, home, trunk, word_in}
 use Rattle.soundness.proofs.Contents.{word_root}
 use Rattle.soundness.specs.Typed.{Kept}
 use Rattle.soundness.specs.Sound.{Stage, facts_of, AreStages, AreCopied, Uses, IsRunnable, returns_value, InScope, IsNamedSub, IsAtPoint, view_of as view_here}
@@ -63,16 +63,16 @@ use Rattle.soundness.proofs.Eased.{eased}
 use Rattle.soundness.proofs.Scoped.{Inside}
 use Rattle.soundness.proofs.Beginning.{one_named, one_point}
 use Rattle.soundness.proofs.Successors.{below_one, successor_there}
-use Rattle.owned_loans.specs.Views.{Around, known_gone, Views, IsMovedBy, ExcusedBy, AreClear as FactsAreClear, IsForeign, AreViews, Viewed}
-use Rattle.owned_loans.proofs.Moves.{named_way}
+use Rattle.owned_loans.specs.Views.{expand, Around, known_gone, Views, IsMovedBy, ExcusedBy, AreClear as FactsAreClear, IsForeign, AreViews, Viewed}
+use Rattle.owned_loans.proofs.Meeting.{stands}
 use Rattle.viewed_soundness.proofs.Names.{true_false}
 use Rattle.viewed_soundness.proofs.Outcomes.{named_plain}
-use Rattle.viewed_soundness.specs.Holds.{Holds, is_view, sees_only, IsOwners}
+use Rattle.viewed_soundness.specs.Holds.{Holds, is_view, sees_only, IsOwners, is_exclusive}
 use Rattle.viewed_soundness.proofs.Evaluated.{live_trunk}
 use Rattle.soundness.specs.Ready.{IsSupplied, Fills}
 use Rattle.viewed_steps.specs.Awaited.{AreValuesBut, temporaries_of, lasting_of, awaited, WaitsAt, AreAwaited, AreScalar, FillsTyped, TakesScalars, IsTakenBy}
 use Rattle.viewed_steps.proofs.Waited.{late_scope, within_lasting, lasting_more, Shares, plain_unheld}
-use Rattle.viewed_steps.specs.Sound.{IsCopiedBack, AreUnmet, HoldsAt, ArePlaced, NoneAbove, ViewStage, stages_of, GoneElsewhere, Disturbs, IsWaiting, AreWaiting, calls_one, LeadsAlong, IsResting, IsKindOfFormal, IsScalarObject, AreReturned}
+use Rattle.viewed_steps.specs.Sound.{IsCopiedBack, IsShown, ArePast, AreUnmet, HoldsAt, ArePlaced, NoneAbove, ViewStage, stages_of, GoneElsewhere, Disturbs, IsWaiting, AreWaiting, calls_one, LeadsAlong, IsResting, IsKindOfFormal, IsScalarObject, AreReturned}
 use Rattle.viewed_steps.specs.Ready.{IsReady, roots_passed, IsCalled}
 use Rattle.viewed_steps.specs.Taken.{TakenBy, AreTaken, AreCarried}
 use Rattle.viewed_steps.proofs.Lent.{Spare, spare_both, loans_stay}
@@ -90,7 +90,7 @@ use Rattle.viewed_steps.proofs.Uses.{called_writes, lent_spared}
 use Rattle.viewed_steps.proofs.Standing as standing
 use Rattle.viewed_steps.proofs.Packages as packages
 use Rattle.viewed_steps.proofs.Innermost as innermost
-use Rattle.viewed_steps.proofs.Views.{AreAccess, AreFar, apart_by_base, all_held, lies_far, formal_view, anonymous_view, scalar_no_view, view_cases}
+use Rattle.viewed_steps.proofs.Views.{AreAccess, AreFar, apart_by_base, all_held, lies_far, not_elsewhere, formal_view, anonymous_view, scalar_no_view, view_cases}
 use Rattle.viewed_steps.proofs.Seeing.{AreClear}
 use Rattle.viewed_steps.proofs.Clear.{all_clear, none_clear}
 use Rattle.viewed_steps.proofs.Opening.{Opens, all_opened, opened_views, opened_whole, opened_lies, opened_held, opened_placed}
@@ -131,7 +131,7 @@ module _ (table : Table) (typed : TypedProgram) (effects : Effects) (input : Lis
       (viewed_before : Viewed (home s (suc (length rest))) (sees_only s) (known_gone (home s (suc (length rest))) (GoneElsewhere program effects (below ∷ more_frames))) views
       (view_here s state) (facts_of program effects top))
       (kept : Kept s state.memory (waiting_in state)) (scope : InScope s state.memory (suc (length rest)) (lasting_of s p.scope)) (holds : HoldsAt s (suc (length rest)) views state.memory p)
-      (placed_before : ArePlaced program (suc (length rest)) (facts_of program effects top) views p.scope) (above : NoneAbove s (suc (length rest)) state.memory) where
+      (placed_before : ArePlaced program (suc (length rest)) (facts_of program effects top) views p.scope × ArePast s (suc (length rest)) views (below ∷ more_frames)) (above : NoneAbove s (suc (length rest)) state.memory) where
     abbrev outer : List Frame
     outer = below.stage.frame ∷ rest
 
@@ -342,7 +342,7 @@ module _ (table : Table) (typed : TypedProgram) (effects : Effects) (input : Lis
       not_end x is = (let no : Call n actuals result ≡ EndScope x = sym e ∙ is in cc)
 
       pub holds_now : Holds s depth views state.memory
-      holds_now = all_held s in_formals depth views state.memory (λ x k view at. holds.held x k (λ fading. not_end fading.0 fading.1) view at) holds.only holds.owners
+      holds_now = all_held s in_formals depth views state.memory (λ x k view at. holds.held x k (λ fading. not_end fading.0 fading.1) view at) holds.only holds.owners holds.own
 
       pub live_now : (w : Way) (l : ways.Loc) → IsOwners s w → ways.Reaches (seen s state.memory (waiting_in easy.state) state.leaks) w l
           → (content s state.memory (waiting_in easy.state) (trunk l)).owns ≡ true
@@ -351,26 +351,41 @@ module _ (table : Table) (typed : TypedProgram) (effects : Effects) (input : Lis
           ready.owns views ready.class.parts_named state.memory (waiting_in easy.state) ((viewed_easy plain_there.0).0).owned
 
       -- formals of the frame see what belongs to frames below
-      pub formals_low : (x : ℕ) (w : Way) → views.way x ≡ Some w → is_view_formal s x ≡ true → (foreign : IsForeign (home s depth) w) × (foreign.0 < depth)
+      pub formals_low : (x : ℕ) (w : Way) → views.way x ≡ Some w → is_view_formal s x ≡ true → (foreign : IsForeign (home s depth) w) × (foreign.0 < depth) × (0 < foreign.0)
       formals_low x w has formal = elim (viewed.views x w has) [
-        | inl view ↦ absurd (holds.passed x w has formal view.named)
-        | inr passed ↦ (passed.foreign, lies_far s depth views holds.lies x w has passed.foreign)
+        | inl view ↦ absurd (holds.passed x w has (ap (λ b. b || (is_in_formal s x && is_anonymous (view_of s x))) formal) view.named)
+        | inr passed ↦ elim (holds.lies x w has) [
+          | inl named ↦ absurd (not_elsewhere (home s depth) w named passed.foreign)
+          | inr far ↦ far
+        ]
       ]
 
       -- a function has formals of mode `in` alone; a procedure has none that owns nothing
-      by_callee : (((x : ℕ) → Has formals x → (object_at s x).mode ≡ mode.In) × ((x : ℕ) → Has formals x → IsCopiedBack s x → ⊥))
+      by_callee : (((x : ℕ) → Has formals x → (object_at s x).mode ≡ mode.In) × ((x : ℕ) → Has formals x → IsCopiedBack s x → ⊥)
+          × ((x : ℕ) → Has formals x → is_view_formal s x ≡ true → sees_only s x ≡ true))
           ⊎ ((x : ℕ) → Has formals x → is_view_formal s x ≡ false)
       by_callee = by_result (sub_of program n).result refl
         where
+          sees_shown : (a b c d : Bool) → b ≡ true → d ≡ false → a || ((b || c) && not d) ≡ true
+          sees_shown true b c d e f = refl
+          sees_shown false true c false e f = refl
+          sees_shown false true c true e f = cc
+          sees_shown false false c d e f = cc
+
           there : (x : ℕ) → Has formals x → Has (sub_at s n).formals x
           there x has = subst (λ z. Has z x) (sym (ap (λ (z : Signature). z.formals) (signature_is program n))) has
 
           by_result : (r : Option ℕ) → (sub_of program n).result ≡ r
-              → (((x : ℕ) → Has formals x → (object_at s x).mode ≡ mode.In) × ((x : ℕ) → Has formals x → IsCopiedBack s x → ⊥))
+              → (((x : ℕ) → Has formals x → (object_at s x).mode ≡ mode.In) × ((x : ℕ) → Has formals x → IsCopiedBack s x → ⊥)
+                  × ((x : ℕ) → Has formals x → is_view_formal s x ≡ true → sees_only s x ≡ true))
               ⊎ ((x : ℕ) → Has formals x → is_view_formal s x ≡ false)
           by_result (Some of) is =
-              let modes : (x : ℕ) → Has formals x → (object_at s x).mode ≡ mode.In = (λ x has. (ready.class.functions n of (ap (λ (z : Signature). z.result) (signature_is program n) ∙ is) x (there x has) (called.formals x has)).0) in
-              inl (modes, λ x has back. back (modes x has))
+              let kinds : (x : ℕ) → Has formals x → ((object_at s x).mode ≡ mode.In) × (IsScalarObject s x ⊎ (IsShown s x × (is_exclusive s x ≡ false))) =
+              λ x has. ready.class.functions n of (ap (λ (z : Signature). z.result) (signature_is program n) ∙ is) x (there x has) (called.formals x has) in
+              inl ((λ x has. (kinds x has).0), (λ x has back. back (kinds x has).0), λ x has formal. elim (kinds x has).1 [
+                | inl plain ↦ absurd (scalar_no_view s in_formals x plain (formal_view s x formal))
+                | inr shown ↦ sees_shown (is_observer s x) (is_view_formal s x) (is_in_formal s x && is_anonymous (view_of s x)) (is_exclusive s x) formal shown.1
+              ])
           by_result None is = inr (λ x has. ready.class.procedures n (ap (λ (z : Signature). z.result) (signature_is program n) ∙ is) x (there x has) (called.formals x has))
 
       clear_there : AreClear s facts_now formals actuals
@@ -619,11 +634,17 @@ module _ (table : Table) (typed : TypedProgram) (effects : Effects) (input : Lis
                       let frames_same = (same_variable there.0 there.1 (suc depth) x (sym there.2 ∙ base_along (ways.Object root) q)).0 in
                       let less = there.3 in omega (arith, frames_same, less))
                   | inl (inr none) ↦ absurd none
-                  | inl (inl (u, moved, leads)) ↦ not_named (home s depth) (suc depth) x
-                      (not_above s ready.accepted.settled ready.owns in_formals (waiting_in easy.state) state.leaks depth views far_views facts_called next_there) w
-                      (subst (ways.Named (home s depth)) leads
-                      (named_way (home s depth) (sees_only s) other_all views (view_here s easy.state) own_facts well_before.views (suc (ways.number_of u)) u (omega arith)
-                      (moved.0, well_before.clear.owned (ways.name_of u) moved.1))) (base_along (ways.Object root) q)
+                  | inl (inl (u, moved, leads)) ↦ elim (stands (home s depth) (sees_only s) views (view_here s easy.state) own_facts well_before.views u
+                      (moved.0, well_before.clear.owned (ways.name_of u) moved.1)) [
+                        | inl own ↦ not_named (home s depth) (suc depth) x
+                            (not_above s ready.accepted.settled ready.owns in_formals (waiting_in easy.state) state.leaks depth views far_views facts_called next_there) w
+                            (subst (ways.Named (home s depth)) leads own.0) (base_along (ways.Object root) q)
+                        | inr held_there ↦ (
+                            let foreign = held_there.passed.foreign in
+                            let low = far_views held_there.object held_there.way held_there.has foreign in
+                            let at = sym foreign.2 ∙ sym (base_under held_there.way (expand views u) held_there.under) ∙ ap ways.base_of leads ∙ base_along (ways.Object root) q in
+                            let frames_same = (same_variable foreign.0 foreign.1 (suc depth) x at).0 in omega (arith, low, frames_same))
+                      ]
                 ])
 
         abbrev with_all : Memory
@@ -726,6 +747,7 @@ module _ (table : Table) (typed : TypedProgram) (effects : Effects) (input : Lis
             lies = holds.lies;
             owners = holds.owners;
             passed = holds.passed;
+            own = holds.own;
           });
           placed = subst (λ d. ArePlaced program d (facts_of program effects (waits_with all_passed_ways.0)) views (at_successor.0).scope) (sym deep)
               (subst (λ z. ArePlaced program depth z views (at_successor.0).scope) (sym facts_there) next_placed);
@@ -802,6 +824,14 @@ module _ (table : Table) (typed : TypedProgram) (effects : Effects) (input : Lis
             none_there [] none = refl
             none_there (k ∷ ks) none = absurd (none k (inl refl))
 
+        callee_sees : (y : ℕ) (w : Way) → callee_views.way y ≡ Some w → sees_only s y ≡ true
+        callee_sees y w has =
+            let found = opened.1.way y w has in
+            elim by_callee [
+              | inl modes ↦ modes.2 y found.1 found.0
+              | inr none ↦ absurd (true_false (is_view_formal s y) found.0 (none y found.1))
+            ]
+
         -- its way reaches what it reached
         reach_called : (y : ℕ) (w : Way) (k : ℕ) → callee_views.way y ≡ Some w → ways.Reaches (seen s state.memory (waiting_in easy.state) state.leaks) w (ways.OfCell k)
             → ways.Reaches (view_here s after_call) w (ways.OfCell k)
@@ -847,7 +877,11 @@ module _ (table : Table) (typed : TypedProgram) (effects : Effects) (input : Lis
             views = callee_views;
             older = waits_there ∷ older;
             stages = subst (AreStages (called_stage ∷ stages_of (waits_there ∷ older))) (sym frames_there) (refl, refl, (refl, deep, stages));
-            running = (called.runs, returned_there, (is_waiting, others_wait, viewed_before_whole));
+            running = (
+              called.runs,
+              returned_there,
+              (is_waiting, others_wait, viewed_before_whole, subst (λ d. ArePast s d views older) (sym deep) placed_before.1),
+            );
             awaited = (
               packages.first_waits table typed effects input ready (suc depth) n (returns_of formals passed) called.runs.named called.runs.stands called.runs.point
                   called.runs.points called.runs.begins,
@@ -866,11 +900,12 @@ module _ (table : Table) (typed : TypedProgram) (effects : Effects) (input : Lis
               };
               views = opened_views (steps.here main_turn) ready.accepted.settled (waiting_in easy.state) state.leaks state.memory [] other facts_now views (viewed_easy plain_there.0).1
                   (viewed_easy plain_there.0).0 holds_now alone live_now in_formals index_law ready.owns ready.class.parts_named formals_low procedure formals passed callee_views opened.1
-                  (view_here s after_call) (facts_of program effects called_stage) reach_called;
+                  (view_here s after_call) (facts_of program effects called_stage) callee_sees reach_called;
               whole = λ x w z has foreign gone meets.
                   opened_whole (steps.here main_turn) ready.accepted.settled (waiting_in easy.state) state.leaks state.memory [] other facts_now views (viewed_easy plain_there.0).1
                   (viewed_easy plain_there.0).0 holds_now alone live_now in_formals index_law ready.owns ready.class.parts_named formals_low procedure formals passed callee_views opened.1
                   (GoneElsewhere program effects (waits_there ∷ older)) (λ y. excused_called (takes_none x w has) y) x w z has gone meets;
+              past = λ x w has named sees_not k m none. absurd none;
               lends = λ l k none. absurd none;
               far = λ w k none. absurd none;
             };
@@ -895,11 +930,13 @@ module _ (table : Table) (typed : TypedProgram) (effects : Effects) (input : Lis
               within = λ x k view at. (let own_way = callee_held x k view at in (callee_placed x own_way.0 own_way.1).within);
               only = λ x w has. formal_view s x (opened.1.way x w has).0;
               lies = opened_lies (steps.here main_turn) ready.accepted.settled (waiting_in easy.state) state.leaks state.memory [] other facts_now views (viewed_easy plain_there.0).1
-                  (viewed_easy plain_there.0).0 holds_now alone live_now in_formals index_law ready.owns ready.class.parts_named formals_low procedure formals passed callee_views opened.1;
+                  (viewed_easy plain_there.0).0 holds_now alone live_now in_formals index_law ready.owns ready.class.parts_named formals_low procedure formals passed callee_views opened.1 (omega (arith));
               owners = λ x w has. (let found = opened.1.way x w has in subst (IsOwners s) found.3 ((found.2).1).owners);
               passed = λ x w has formal at_home. subst (ways.Named (home s (suc depth))) (opened.1.ups x) at_home;
+              own = λ x w has sees_not. absurd (true_false (sees_only s x) (callee_sees x w has) sees_not);
             };
             placed = callee_placed;
+            past = λ x w has named sees_not. absurd (true_false (sees_only s x) (callee_sees x w has) sees_not);
             none_above = λ f x k less view at. elim (declared_there.views f x view) [
               | inl same ↦ above f x k (omega (arith, less)) view (sym same ∙ at)
               | inr shown ↦ (let up = shown.0 in omega (arith, less, up))

@@ -42,7 +42,7 @@ use Rattle.machine.specs.Owners.{WellOwned, waiting_in}
 use Rattle.owned_ways.specs.Ways.{Step, OfVariable, OfRoot, Way, Held, after, AllowsAll, along, number_of, Named}
 use Rattle.owned_ways.specs.Ways as ways
 use Rattle.owned_ways.proofs.Locations.{reaches_along, named_along as rooted_along}
-use Rattle.soundness.specs.Seen.{IsNear, is_view_formal, content, word_in, home}
+use Rattle.soundness.specs.Seen.{IsNear, content, word_in, home}
 use Rattle.soundness.specs.Typed.{Kept}
 use Rattle.typed_laws.specs.Needed.{IsFine, Stays, Source, FirstSource, FirstWrites, FirstStays, Returns}
 use Rattle.soundness.specs.Sound.{IsNoCall, Stage, facts_of, AreStages, IsRunnable, returns_value, InScope, IsNamedSub, IsAtPoint, view_of as view_here, is_temporary_object}
@@ -61,13 +61,13 @@ use Rattle.soundness.proofs.Eased.{eased, waits_same, goes_same, from_eased}
 use Rattle.soundness.proofs.Continued.{got_with, released_with, started_with, input_eased, release_eased, start_eased}
 use Rattle.soundness.proofs.Successors.{not_true, below_one, below_two, successor_there}
 use Rattle.owned_loans.specs.Views.{Around, known_gone, Views, Viewed, Unused, IsForeign}
-use Rattle.viewed_soundness.specs.Holds.{AllKeep, is_view, sees_only}
+use Rattle.viewed_soundness.specs.Holds.{AllKeep, is_view, sees_only, is_fixed, is_given}
 use Rattle.viewed_soundness.proofs.Names.{plain_named, true_false}
 use Rattle.viewed_soundness.proofs.Evaluated.{keep_both}
 use Rattle.viewed_soundness.proofs.Outcomes.{named_plain, IsGood, Leads_on, decides_on, choose_on, assign_on, Turned}
 use Rattle.viewed_steps.specs.Awaited.{AreValues, temporaries_of, is_held, lasting_of, awaited, AreAwaited, AreScalar, TakesScalars}
 use Rattle.viewed_steps.proofs.Waited.{lasting_within, within_lasting}
-use Rattle.viewed_steps.specs.Sound.{Lasts, HoldsAt, ArePlaced, NoneAbove, ViewStage, stages_of, GoneElsewhere, AreWaiting, IsStoredAt, AreTurned, steps_on, LeadsAlong, IsResting}
+use Rattle.viewed_steps.specs.Sound.{ArePast, Lasts, HoldsAt, ArePlaced, NoneAbove, ViewStage, stages_of, GoneElsewhere, AreWaiting, IsStoredAt, AreTurned, steps_on, LeadsAlong, IsResting}
 use Rattle.viewed_steps.specs.Ready.{AreOrderly, IsReady}
 use Rattle.viewed_steps.proofs.Declared.{IsElsewhere, not_gone, declare_on}
 use Rattle.viewed_steps.proofs.Released.{released_on}
@@ -76,7 +76,7 @@ use Rattle.viewed_steps.proofs.Rounds.{skip_leads, line_leads, next_leads, outpu
 use Rattle.viewed_steps.proofs.Lent.{Spare, loans_stay, spare_acts}
 use Rattle.viewed_steps.proofs.Placed.{brought_more, lasts_more, scope_on, placed_on, MayBe, turned_placed, turned_lies}
 use Rattle.owned_loans.proofs.Meeting.{named_view}
-use Rattle.viewed_steps.proofs.Sources.{leads_or, view_declared, view_assigned}
+use Rattle.viewed_steps.proofs.Sources.{leads_or, own_there, view_declared, view_assigned}
 use Rattle.viewed_steps.proofs.Beside.{IsOther, OthersKept, others_keep}
 use Rattle.viewed_steps.proofs.Waiting.{StandsBetween, KeptElsewhere, beside_them, handed, apart_elsewhere}
 use Rattle.viewed_steps.proofs.Standing.{or_right}
@@ -115,7 +115,7 @@ module _ (table : Table) (typed : TypedProgram) (effects : Effects) (input : Lis
       (viewed_before : Viewed (home s (suc (length rest))) (sees_only s) (known_gone (home s (suc (length rest))) (GoneElsewhere program effects (below ∷ more_frames))) views
       (view_here s state) (facts_of program effects top))
       (kept : Kept s state.memory (waiting_in state)) (scope : InScope s state.memory (suc (length rest)) (lasting_of s p.scope)) (holds : HoldsAt s (suc (length rest)) views state.memory p)
-      (placed_before : ArePlaced program (suc (length rest)) (facts_of program effects top) views p.scope) (above : NoneAbove s (suc (length rest)) state.memory) where
+      (placed_before : ArePlaced program (suc (length rest)) (facts_of program effects top) views p.scope × ArePast s (suc (length rest)) views (below ∷ more_frames)) (above : NoneAbove s (suc (length rest)) state.memory) where
     abbrev outer : List Frame
     outer = below.stage.frame ∷ rest
 
@@ -293,7 +293,7 @@ module _ (table : Table) (typed : TypedProgram) (effects : Effects) (input : Lis
       good plain = record {
         viewed = (viewed_easy plain).0;
         kept = (viewed_easy plain).1;
-        holds = all_held s in_formals depth views state.memory (λ x n view e. holds.held x n (λ fading. going fading.0 fading.1) view e) holds.only holds.owners;
+        holds = all_held s in_formals depth views state.memory (λ x n view e. holds.held x n (λ fading. going fading.0 fading.1) view e) holds.only holds.owners holds.own;
       }
 
       pub ends_so : (i : Instruction) (how : Exception) (m : Memory) → LeadsFrom i (steps.raised main_turn how m)
@@ -315,7 +315,7 @@ module _ (table : Table) (typed : TypedProgram) (effects : Effects) (input : Lis
         good_main = record {
           viewed = viewed;
           kept = kept;
-          holds = all_held s in_formals depth views state.memory (λ x n view e. holds.held x n (λ fading. going fading.0 fading.1) view e) holds.only holds.owners;
+          holds = all_held s in_formals depth views state.memory (λ x n view e. holds.held x n (λ fading. going fading.0 fading.1) view e) holds.only holds.owners holds.own;
         }
 
         to_easy : (fs : List Fact) (outcome : Outcome) → Leads_main fs outcome → Leads_on easy ready.accepted.settled ready.owns other alone views ready.class.parts_named may refl refl fs outcome
@@ -323,7 +323,7 @@ module _ (table : Table) (typed : TypedProgram) (effects : Effects) (input : Lis
           turned_views,
           λ x w e. elim (turned x w e) [
             | inl same_view ↦ inl (record { way = same_view.way; loan = same_view.loan; up = same_view.up })
-            | inr (y, from, comes) ↦ inr (y, from, record { up = comes.up; root = comes.root; loan = comes.loan })
+            | inr (y, from, comes) ↦ inr (y, from, record { up = comes.up; root = comes.root; loan = comes.loan; under = comes.under })
           ],
           record { viewed = well.viewed; kept = well.kept; holds = well.holds },
         )
@@ -370,7 +370,7 @@ module _ (table : Table) (typed : TypedProgram) (effects : Effects) (input : Lis
           | inr there ↦ (innermost.not_handed table typed effects input ready state top below more_frames rest named p frames deep stages running awaiting of_sub at_point path views viewed_before kept scope holds placed_before above) name there (ap (is_package_object s) root ∙ mine)
         ];
         unlent = (innermost.not_lent table typed effects input ready state top below more_frames rest named p frames deep stages running awaiting of_sub at_point path views viewed_before kept scope holds placed_before above) x mine;
-        untaken = λ z w has named_there off root. unrooted x v e (number_of (views.up z)) z mine ((placed z w has).up (up_named z w has named_there)) root;
+        untaken = λ z w has named_there off root. unrooted x v e (number_of (views.up z)) z mine ((placed z w has).up named_there) root;
       }
 
       pub unmoved_now : (x : ℕ) (v : TypedTree) → p.instr ≡ Declare x v → (name : PlaceName) → Has facts_now (Moved name) → name.root ≡ x → depth ≡ home s depth x → ⊥
@@ -416,7 +416,7 @@ module _ (table : Table) (typed : TypedProgram) (effects : Effects) (input : Lis
       ]
 
       declares : Plainly → (x : ℕ) (v : TypedTree) (e : p.instr ≡ Declare x v) → FirstSource s (object_at s x).of v
-          → AllowsAll facts_now (acts_of_main (Declare x v)) → AllKeep (sees_only s) (acts_of_main (Declare x v)) → LeadsFrom (Declare x v) (turn main_turn (Declare x v))
+          → AllowsAll facts_now (acts_of_main (Declare x v)) → AllKeep (is_fixed s) (acts_of_main (Declare x v)) → LeadsFrom (Declare x v) (turn main_turn (Declare x v))
       unfolding waits_in
       declares plain x v e text allowed_there keep = by_view (is_anonymous (view_of s x)) refl
         where
@@ -468,7 +468,7 @@ module _ (table : Table) (typed : TypedProgram) (effects : Effects) (input : Lis
           (goes_same main_turn (stored s st.place st.words m) 0) on) leads
 
       assigns : Plainly → (left : Left (steps.waiting main_turn)) (target e : TypedTree) (is : p.instr ≡ Assign target e) → IsFine s None (Assign target e)
-          → AllowsAll facts_now (acts_of_main (Assign target e)) → AllKeep (sees_only s) (acts_of_main (Assign target e)) → Both left (Assign target e)
+          → AllowsAll facts_now (acts_of_main (Assign target e)) → AllKeep (is_fixed s) (acts_of_main (Assign target e)) → Both left (Assign target e)
       unfolding has_call waits_in
       assigns plain left (Name q x steps u) e is (v, (leads, type), source) allowed_there keep =
           let source_there : Source s u e = subst (λ z. Source s z e) (sym type) source in (
@@ -578,7 +578,7 @@ module _ (table : Table) (typed : TypedProgram) (effects : Effects) (input : Lis
       reads plain left target is (v, never, scalar) allowed_there = absurd never
 
       releases : Plainly → (left : Left (steps.waiting main_turn)) (target : TypedTree) (is : p.instr ≡ Release target) → IsFine s None (Release target)
-          → AllowsAll facts_now (acts_of_main (Release target)) → AllKeep (sees_only s) (acts_of_main (Release target)) → Both left (Release target)
+          → AllowsAll facts_now (acts_of_main (Release target)) → AllKeep (is_fixed s) (acts_of_main (Release target)) → Both left (Release target)
       unfolding waits_in
       releases plain left (Name q x path u) is (v, d, (leads, type), access) allowed_there keep = (
         release_eased main_turn (LeadsFrom (Release (Name q x path u))) (ends_so (Release (Name q x path u))) (λ trap m on. on.0 tt)
@@ -595,10 +595,10 @@ module _ (table : Table) (typed : TypedProgram) (effects : Effects) (input : Lis
             (stored_there (Release (Name q x path u)) is x (inl refl)) (with_successors (Release (Name q x path u)) 0 is below_one),
       )
         where
-          last_kept : (before : List Placed) → AllKeep (sees_only s) (acts (before ++ record { pos = q; act = act.Free (name_of x path) } ∷ [])) → sees_only s x ≡ false
+          last_kept : (before : List Placed) → AllKeep (is_fixed s) (acts (before ++ record { pos = q; act = act.Free (name_of x path) } ∷ [])) → is_fixed s (name_of x path) ≡ false
           last_kept before keep =
-              (keep_both (sees_only s) (acts before) (act.Free (name_of x path) ∷ [])
-              (subst (AllKeep (sees_only s)) (acts_append before (record { pos = q; act = act.Free (name_of x path) } ∷ [])) keep)).1.0
+              (keep_both (is_fixed s) (acts before) (act.Free (name_of x path) ∷ [])
+              (subst (AllKeep (is_fixed s)) (acts_append before (record { pos = q; act = act.Free (name_of x path) } ∷ [])) keep)).1.0
       releases plain left target is (v, d, never, access) allowed_there keep = absurd never
 
       decides : Plainly → (i : Instruction) (is : p.instr ≡ i) (e : TypedTree) → taken i ≡ waits_in e → acts_of_main i ≡ acts (acts_in s e) → Stays s e
@@ -693,7 +693,7 @@ module _ (table : Table) (typed : TypedProgram) (effects : Effects) (input : Lis
       holds_nothing left v is other_one (Some of) result (value_of, same, source) = absurd (subst (λ z. IsOther (Hold z)) same other_one)
 
       each_instruction : Plainly → (left : Left (steps.waiting main_turn)) (i : Instruction) → p.instr ≡ i → IsOther i → IsFine s named.sub.result i → AllowsAll facts_now (acts_of_main i)
-          → AllKeep (sees_only s) (acts_of_main i) → Both left i
+          → AllKeep (is_fixed s) (acts_of_main i) → Both left i
       each_instruction plain left Skip is other_one text allowed_there keep = (
         skips_so (none_takes Skip is refl),
         stays_follows main_turn Left left IsOld (lasting_of s left_scope) (lasting_of s left_scope) inside_left same_scope (with_successors Skip 0 is below_one),
@@ -751,16 +751,16 @@ module _ (table : Table) (typed : TypedProgram) (effects : Effects) (input : Lis
           turned_views facts
       only_may turned_views facts turned x w has = elim (turned x w has) [
         | inl old ↦ inl (record { way = old.way; loan = old.loan; up = old.up })
-        | inr (y, from, comes) ↦ inr (y, from.0, record { up = comes.up; root = comes.root; loan = comes.loan })
+        | inr (y, from, comes) ↦ inr (y, from.0, record { up = comes.up; root = comes.root; loan = comes.loan; under = comes.under })
       ]
 
       -- formals have what they had
       passed_then : (turned_views : Views) (facts : List Fact)
           → Turned easy ready.accepted.settled ready.owns other alone views ready.class.parts_named may refl refl turned_views facts
-          → (x : ℕ) (w : Way) → turned_views.way x ≡ Some w → is_view_formal s x ≡ true → ways.Named (home s depth) (turned_views.up x) → ⊥
+          → (x : ℕ) (w : Way) → turned_views.way x ≡ Some w → is_given s x ≡ true → ways.Named (home s depth) (turned_views.up x) → ⊥
       passed_then turned_views facts turned x w has formal taken_up = elim (turned x w has) [
         | inl old ↦ holds.passed x w (sym old.way ∙ has) formal (subst (ways.Named (home s depth)) old.up taken_up)
-        | inr (y, from, comes) ↦ (in_formals x formal).1 (from.0).view
+        | inr (y, from, comes) ↦ true_false (is_given s x) formal (own_there s x (ready.orderly.local x (from.0).view).0)
       ]
 
       pub goes_there : sparing → (p.instr ≡ Finish → ⊥) → returns_value p.instr ≡ false → (after_step : State) (waits : List Waiting) (loops : List Loop) (k : ℕ)
@@ -790,8 +790,9 @@ module _ (table : Table) (typed : TypedProgram) (effects : Effects) (input : Lis
             lies = lies_then;
             owners = well.holds.owners;
             passed = passed_then turned_views (after (acts_of_main p.instr) facts_now) turned;
+            own = well.holds.own;
           })
-          ((innermost.placed_by table typed effects input ready state top below more_frames rest named p frames deep stages running awaiting of_sub at_point path views viewed_before kept scope holds placed_before above) (after (acts_of_main p.instr) facts_now) (after (acts_of_main p.instr) own_facts) turned_views (q.0).scope ((innermost.own_loans table typed effects input ready state top below more_frames rest named p frames deep stages running awaiting of_sub at_point path views viewed_before kept scope holds placed_before above) (acts_of_main p.instr)) placed_next)
+          (((innermost.placed_by table typed effects input ready state top below more_frames rest named p frames deep stages running awaiting of_sub at_point path views viewed_before kept scope holds placed_before above) (after (acts_of_main p.instr) facts_now) (after (acts_of_main p.instr) own_facts) turned_views (q.0).scope ((innermost.own_loans table typed effects input ready state top below more_frames rest named p frames deep stages running awaiting of_sub at_point path views viewed_before kept scope holds placed_before above) (acts_of_main p.instr)) placed_next), well.viewed.past)
           (still_above after_step.memory stay) views
           (steps_on no_calls end going (refl, refl, refl) (turned_so turned_views turned) refl)
 

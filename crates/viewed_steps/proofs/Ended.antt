@@ -30,14 +30,14 @@ use Rattle.soundness.proofs.Memories.{removed_same, removed_other}
 use Rattle.owned_loans.specs.Views.{Around, Views, Viewed, Unused, with_view}
 use Rattle.owned_loans.proofs.Safe.{root_before}
 use Rattle.owned_loans.proofs.Taken.{becomes_with, given_up}
-use Rattle.viewed_soundness.specs.Holds.{PartsAreNamed, is_view, sees_only}
-use Rattle.viewed_soundness.proofs.Names.{both_no, true_false}
+use Rattle.viewed_soundness.specs.Holds.{PartsAreNamed, is_view, sees_only, is_given}
+use Rattle.viewed_soundness.proofs.Names.{observer_sees, borrower_sees, both_no, true_false}
 use Rattle.viewed_soundness.proofs.Outcomes.{LeavesOthers, Is_left, scope_left, borrower_unmoved}
 use Rattle.viewed_steps.specs.Sound.{Lasts, IsFading, HoldsAt, ArePlaced}
 use Rattle.viewed_steps.proofs.Faded.{without, had_way, has_way, no_way, faded}
 use Rattle.viewed_steps.proofs.Placed.{lasts_on, within_on}
 use Rattle.owned_loans.proofs.Meeting.{named_view}
-use Rattle.viewed_steps.proofs.Views.{sees_not, view_ends}
+use Rattle.viewed_steps.proofs.Views.{view_ends}
 
 -- an object that isn't a borrower or observer has no anonymous type, if those that have one are
 -- variables
@@ -117,7 +117,7 @@ module _ (t : Turn) (settled : IsSettled (typing t).table) (own_law : OwnsByShap
 
   left_viewed : Viewed (home s depth) (sees_only s) other left (sound.view_of s t.state) facts
   left_viewed = faded (home s depth) (sees_only s) other v fades
-      (λ x e. ap (λ b. b || is_view_formal s x) (both_parts (is_observer s x) (scope_of s x == scope_of s y) e).0) (sound.view_of s t.state) facts viewed
+      (λ x e. observer_sees s x (both_parts (is_observer s x) (scope_of s x == scope_of s y) e).0) (sound.view_of s t.state) facts viewed
 
   abbrev Home : ℕ → ℕ
   Home = home s depth
@@ -126,7 +126,7 @@ module _ (t : Turn) (settled : IsSettled (typing t).table) (own_law : OwnsByShap
   older_of : (x : ℕ) (w : Way) → v.way x ≡ Some w → Named Home (v.up x) → sees_only s x ≡ false → number_of (v.up x) < x
   older_of x w has named e = elim (viewed.views x w has) [
     | inl own ↦ own.older e
-    | inr passed ↦ absurd (true_false (sees_only s x) passed.sees e)
+    | inr passed ↦ absurd (passed.given named)
   ]
 
   -- a view whose way is of the frame was taken from an object of the frame
@@ -135,14 +135,14 @@ module _ (t : Turn) (settled : IsSettled (typing t).table) (own_law : OwnsByShap
 
   -- nothing that another view goes by is the object
   other_root : (x : ℕ) → is_within x p.scope ≡ true → (x ≡ y → ⊥) → fades x ≡ false → (r : ℕ) → Lasts t.program p.scope r x
-      → (sees_only s x ≡ false → r < x) → (is_view_formal s x ≡ true → ⊥) → r ≡ y → ⊥
+      → (sees_only s x ≡ false → r < x) → (is_given s x ≡ true → ⊥) → r ≡ y → ⊥
   other_root x within off stays r (inl shared) older own same = true_false (is_package_object s y) (ap (is_package_object s) (sym same) ∙ shared) not_shared
   other_root x within off stays r (inr (there, end, around, plain)) older own same = by_kind (is_observer s x) refl
     where
       by_kind : (b : Bool) → is_observer s x ≡ b → ⊥
       by_kind false e =
           let less = (ended x within off).0 in
-          let low = older (sees_not s x e (refused (is_view_formal s x) own)) in
+          let low = older (borrower_sees s x e (refused (is_given s x) own)) in
           absurd (omega (arith, less, low, same))
       by_kind true e =
           let region = (ended x within off).1 (subst (λ z. encloses t.program.scopes (scope_of s z) (scope_of s x) ≡ true) same around) in
@@ -176,7 +176,7 @@ module _ (t : Turn) (settled : IsSettled (typing t).table) (own_law : OwnsByShap
 
   -- a borrower
   without_borrower : is_borrower s y ≡ true → is_observer s y ≡ false → Leaves_views (with_view left y None (left.loan y) (left.up y) 0)
-  without_borrower borrows sees_not =
+  without_borrower borrows borrower_sees =
       let views : Views = with_view left y None (left.loan y) (left.up y) 0 in
       let becomes = becomes_with left y None (left.loan y) (left.up y) 0 in
       let unused : Unused (home s depth) other.lent left facts y = record {
@@ -185,7 +185,7 @@ module _ (t : Turn) (settled : IsSettled (typing t).table) (own_law : OwnsByShap
         untaken = λ x w has named off root. (
             let old = had_way v fades x w has in
             let place = placed x w old.1 in
-            let taken = up_named x w old.1 named in
+            let taken : Named Home (v.up x) = named in
             other_root x place.within off old.0 (number_of (v.up x)) (place.up taken) (older_of x w old.1 taken) (λ formal. holds.passed x w old.1 formal taken) root);
       } in
       record {
@@ -230,7 +230,7 @@ module _ (t : Turn) (settled : IsSettled (typing t).table) (own_law : OwnsByShap
       let old = leaves.1.was x w has in
       let place = placed x w old.2 in
       other_root x place.within old.0 old.1 (number_of w) (place.root named)
-      (λ e. root_before Home (sees_only s) v (sound.view_of s t.state) facts viewed.views viewed.clear x w old.2 e)
+      (λ e. root_before Home (sees_only s) v (sound.view_of s t.state) facts viewed.views viewed.clear x w old.2 e named)
       (λ formal. holds.passed x w old.2 formal (up_named x w old.2 named))
 
   holder_left : (x : ℕ) (w : Way) → views_left.way x ≡ Some w → Named Home (v.up x) → sees_only s x ≡ true
@@ -256,7 +256,7 @@ module _ (t : Turn) (settled : IsSettled (typing t).table) (own_law : OwnsByShap
     no_value = leaves.1.no_value;
     roots = root_left;
     loans = λ x w has named sees. (
-        let h = holder_left x w has (up_named x w (leaves.1.was x w has).2 named) sees in (h.0, h.1, h.4));
+        let h = holder_left x w has (subst (Named Home) (leaves.1.ups x (leaves.1.was x w has).0) named) sees in (h.0, h.1, h.4));
     unlent = unlent;
   }
 
@@ -310,6 +310,7 @@ module _ (t : Turn) (settled : IsSettled (typing t).table) (own_law : OwnsByShap
     lies = λ x w has. (let old = leaves.1.was x w has in holds.lies x w old.2);
     owners = λ x w has. (let old = leaves.1.was x w has in holds.owners x w old.2);
     passed = λ x w has formal taken. (let old = leaves.1.was x w has in holds.passed x w old.2 formal (subst (Named Home) (leaves.1.ups x old.0) taken));
+    own = λ x w has sees none. (let old = leaves.1.was x w has in subst (Named Home) (sym (leaves.1.ups x old.0)) (holds.own x w old.2 sees none));
   }
     where
       within : (x : ℕ) → is_view s x ≡ true → (x ≡ y → ⊥) → is_within x p.scope ≡ true → is_within x q.scope ≡ true

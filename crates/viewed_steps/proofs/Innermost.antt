@@ -1,6 +1,6 @@
 -- The innermost frame of a run, beside those that wait: which acts its facts and theirs allow, where
 -- its variables own, and that the others wait still.
-use Rattle.viewed_soundness.specs.Holds.{is_view, sees_only}
+use Rattle.viewed_soundness.specs.Holds.{is_view, sees_only, is_given}
 use Rattle.soundness.proofs.Lasting.{ownerless}
 use Rattle.typed_tree.specs.declared.object.ObjectKind.{ObjectKind}
 use Rattle.typed_tree.specs.declared.object.ObjectKind.TheVariants as object_kind
@@ -37,7 +37,7 @@ use Rattle.machine.specs.Typed.{successors}
 use Rattle.machine.specs.Owners.{WellOwned, is_in, waiting_in}
 use Rattle.owned_ways.specs.Ways.{Step, OfVariable, OfRoot, Way, Held, after, AllowsAll, number_of}
 use Rattle.owned_ways.specs.Ways as ways
-use Rattle.soundness.specs.Seen.{IsNear, content, word_in, home, is_view_formal}
+use Rattle.soundness.specs.Seen.{IsNear, content, word_in, home}
 use Rattle.soundness.specs.Typed.{Kept}
 use Rattle.soundness.specs.Sound.{Stage, facts_of, AreStages, Uses, IsRunnable, is_temporary_object, returns_value, has_returned, InScope, IsNamedSub, IsAtPoint, view_of as view_here, IsPlainValue}
 use Rattle.soundness.specs.Ready.{stored_at, IsSupplied}
@@ -54,10 +54,10 @@ use Rattle.soundness.proofs.Waited.{within_left, FillsNone}
 use Rattle.soundness.proofs.Eased.{eased, takes_all}
 use Rattle.soundness.proofs.Raised.{raised_owned}
 use Rattle.owned_loans.specs.Views.{Around, known_gone, Views, Viewed}
-use Rattle.viewed_soundness.proofs.Names.{true_false}
+use Rattle.viewed_soundness.proofs.Names.{true_false, given_view}
 use Rattle.viewed_steps.specs.Awaited.{AreFor, AreValues, temporaries_of, is_held, lasting_of, awaited, AreAwaited, AreScalar, TakesScalars, IsTakenBy, IsTaken}
 use Rattle.viewed_steps.proofs.Waited.{plain_unheld, ended_held, lasting_within, within_lasting, lasting_more, brought_temporaries, Shares, shares, scalar_values}
-use Rattle.viewed_steps.specs.Sound.{HoldsAt, ArePlaced, NoneAbove, Lasts, ViewStage, stages_of, GoneElsewhere, Disturbs, AreWaiting, LeadsOn, IsResting}
+use Rattle.viewed_steps.specs.Sound.{ArePast, HoldsAt, ArePlaced, NoneAbove, Lasts, ViewStage, stages_of, GoneElsewhere, Disturbs, AreWaiting, LeadsOn, IsResting}
 use Rattle.viewed_steps.specs.Ready.{AreOrderly, IsReady}
 use Rattle.viewed_steps.proofs.Lent.{ends, Spare, spare_has}
 use Rattle.viewed_steps.proofs.Inherited.{after_more, apart_act, lending_uses, apart_borrowed, apart_seen}
@@ -69,7 +69,8 @@ use Rattle.viewed_steps.proofs.Eased.{eased_viewed}
 use Rattle.viewed_steps.proofs.Standing.{or_right}
 use Rattle.viewed_steps.proofs.Standing as standing
 use Rattle.viewed_steps.proofs.Packages as packages
-use Rattle.viewed_steps.proofs.Views.{view_cases, anonymous_view, sees_not, view_ends}
+use Rattle.viewed_steps.proofs.Views.{view_cases, anonymous_view, view_ends}
+use Rattle.viewed_soundness.proofs.Names.{borrower_sees}
 
 unless : (b : Bool) → (b ≡ true → ⊥) → b ≡ false
 unless true e = absurd (e refl)
@@ -120,7 +121,7 @@ module _ (table : Table) (typed : TypedProgram) (effects : Effects) (input : Lis
       (viewed_before : Viewed (home s (suc (length rest))) (sees_only s) (known_gone (home s (suc (length rest))) (GoneElsewhere program effects (below ∷ more_frames))) views
       (view_here s state) (facts_of program effects top))
       (kept : Kept s state.memory (waiting_in state)) (scope : InScope s state.memory (suc (length rest)) (lasting_of s p.scope)) (holds : HoldsAt s (suc (length rest)) views state.memory p)
-      (placed_before : ArePlaced program (suc (length rest)) (facts_of program effects top) views p.scope) (above : NoneAbove s (suc (length rest)) state.memory) where
+      (placed_before : ArePlaced program (suc (length rest)) (facts_of program effects top) views p.scope × ArePast s (suc (length rest)) views (below ∷ more_frames)) (above : NoneAbove s (suc (length rest)) state.memory) where
     abbrev pub outer : List Frame
     outer = below.stage.frame ∷ rest
 
@@ -286,8 +287,8 @@ module _ (table : Table) (typed : TypedProgram) (effects : Effects) (input : Lis
 
     pub package_owns : (x : ℕ) → is_package_object s x ≡ true → sees_only s x ≡ false
     package_owns x shared =
-        sees_not s x (package_plain x shared)
-        (unless (is_view_formal s x) (λ formal. true_false (is_package_object s x) shared (ready.orderly.passed x formal)))
+        borrower_sees s x (package_plain x shared)
+        (unless (is_given s x) (λ given. true_false (is_package_object s x) shared (local x (given_view s x given))))
 
     -- what is lent around is no part of an object of the frame
     pub not_lent : (x : ℕ) → is_package_object s x ≡ false → (l : Loan) (name : PlaceName) → other.lent l name → name.root ≡ x → ⊥
@@ -301,7 +302,7 @@ module _ (table : Table) (typed : TypedProgram) (effects : Effects) (input : Lis
     -- with the views of those that wait, and their facts on package objects
     pub viewed : Viewed (home s depth) (sees_only s) other views (view_here s state) facts_now
     viewed = with_them table typed effects unmoved_stage local state depth older between views (view_here s state) own_facts own_views package_owns apart
-        (λ w n keeps. far table typed effects unmoved_stage local state depth older between w n keeps) viewed_own
+        (λ w n keeps. far table typed effects unmoved_stage local state depth older between w n keeps) placed_before.1 viewed_own
 
     -- and without them
     pub apart_from_them : (done : List Act) (v : Views) (view : ways.View) → ((x : ℕ) (w : Way) → v.way x ≡ Some w → is_view s x ≡ true)
@@ -313,7 +314,7 @@ module _ (table : Table) (typed : TypedProgram) (effects : Effects) (input : Lis
         (after_splits done facts_now own_facts handed_on from_both) well
 
     pub placed_own : ArePlaced program (suc (length rest)) own_facts views p.scope
-    placed_own = subst (λ z. ArePlaced program depth z views p.scope) (standing.facts_are table typed effects input ready state top older outer named p frames of_sub at_point path) placed_before
+    placed_own = subst (λ z. ArePlaced program depth z views p.scope) (standing.facts_are table typed effects input ready state top older outer named p frames of_sub at_point path) placed_before.0
 
     pub placed_by : (some all : List Fact) (v : Views) (scope_there : List ℕ)
         → ((h : ℕ) (m : PlaceName) → sees_only s h ≡ true → Has some (Lent Observed h m) → Has all (Lent Observed h m))

@@ -6,7 +6,7 @@ use Rattle.place_names.specs.declared.act.Mode.TheVariants as mode
 use Rattle.place_names.specs.declared.fact.Fact.{Fact}
 use Rattle.type_definitions.specs.Types.{is_owning}
 use Rattle.typed_tree.specs.Trees.{TypedTree, More}
-use Rattle.flow_paths.specs.Objects.{Typing, object_at, is_observer, is_package_object}
+use Rattle.flow_paths.specs.Objects.{Typing, object_at, is_package_object}
 use Rattle.flow_paths.specs.Laid.{FlowProgram, flow_typing}
 use Rattle.flow_paths.specs.Scopes.{is_within}
 use Rattle.machine.specs.Words as machine
@@ -23,7 +23,7 @@ use Rattle.typed_laws.specs.Needed.{IndexLaw}
 use Rattle.owned_loans.specs.Views.{Around, Views, IsForeign, AreViews, ExcusedBy, Viewed, with_view}
 use Rattle.viewed_soundness.specs.Holds.{PartsAreNamed, is_view, sees_only, IsOwners, Holds}
 use Rattle.viewed_soundness.proofs.Given.{IsLow, foreign_there, low_there}
-use Rattle.viewed_soundness.proofs.Names.{either_true, true_false}
+use Rattle.viewed_soundness.proofs.Names.{true_false}
 use Rattle.viewed_steps.specs.Sound.{Lies, ArePlaced, NoneAbove}
 use Rattle.viewed_steps.specs.Ready.{AreDifferent}
 use Rattle.viewed_steps.proofs.Called.{IsGiven, AreGiven}
@@ -58,7 +58,7 @@ module _ (h : Here) (settled : IsSettled h.typing.table) (hands : List Waiting) 
     (index_law : IndexLaw)
     (own_law : OwnsByShape h.typing.table)
     (parts_named : PartsAreNamed h.typing.table)
-    (formals_low : (x : ℕ) (w : Way) → v.way x ≡ Some w → is_view_formal h.typing x ≡ true → (foreign : IsForeign (home h.typing h.frame) w) × (foreign.0 < h.frame))
+    (formals_low : (x : ℕ) (w : Way) → v.way x ≡ Some w → is_view_formal h.typing x ≡ true → (foreign : IsForeign (home h.typing h.frame) w) × (foreign.0 < h.frame) × (0 < foreign.0))
     (procedure : Bool) where
   abbrev s : Typing
   s = h.typing
@@ -203,13 +203,14 @@ module _ (h : Here) (settled : IsSettled h.typing.table) (hands : List Waiting) 
     pub low_of : (y : ℕ) (w : Way) → t.way y ≡ Some w → IsLow h.typing h.frame w
     low_of y w has = (let found = opened.way y w has in subst (IsLow s h.frame) found.3 ((found.2).1).low)
 
-    pub opened_views : (view : View) (at_first : List Fact) → ((y : ℕ) (w : Way) (n : ℕ) → t.way y ≡ Some w → Reaches (seen h.typing m hands leaks) w (OfCell n) → Reaches view w (OfCell n))
+    pub opened_views : (view : View) (at_first : List Fact) → ((y : ℕ) (w : Way) → t.way y ≡ Some w → sees_only h.typing y ≡ true) → ((y : ℕ) (w : Way) (n : ℕ) → t.way y ≡ Some w → Reaches (seen h.typing m hands leaks) w (OfCell n) → Reaches view w (OfCell n))
         → AreViews Next (sees_only h.typing) t view at_first
-    opened_views view at_first on y w has =
+    opened_views view at_first sees on y w has =
         let found = opened.way y w has in
         inr (record {
-          sees = either_true (is_observer s y) (is_view_formal s y) found.0;
           foreign = foreign_there s h.frame w (low_of y w has);
+          given = λ named. subst (Named Next) (opened.ups y) named;
+          alone = λ plain. absurd (true_false (sees_only s y) (sees y w has) plain);
           reaches = on y w (t.cell y) has (subst (λ z. Reaches (seen s m hands leaks) z (OfCell (t.cell y))) found.3 ((found.2).1).reaches);
         })
 
@@ -219,8 +220,8 @@ module _ (h : Here) (settled : IsSettled h.typing.table) (hands : List Waiting) 
         let found = opened.way y w has in
         ((found.2).1).whole z (excused z away) (subst (λ q. Under z q ⊎ Under q z) (sym found.3) meets)
 
-    pub opened_lies : (y : ℕ) (w : Way) → t.way y ≡ Some w → Lies h.typing (suc h.frame) w
-    opened_lies y w has = inr (foreign_there s h.frame w (low_of y w has), low_there s h.frame w (low_of y w has))
+    pub opened_lies : 0 < h.frame → (y : ℕ) (w : Way) → t.way y ≡ Some w → Lies h.typing (suc h.frame) w
+    opened_lies deep y w has = (let low = low_there s h.frame w deep (low_of y w has) in inr (foreign_there s h.frame w (low_of y w has), low.0, low.1))
 
     pub opened_held : (n : Memory) → NoneAbove h.typing h.frame m → ((x : ℕ) → is_view h.typing x ≡ true → is_package_object h.typing x ≡ false)
         → ((g y : ℕ) → is_view h.typing y ≡ true → ((get_or (variable_slots h.typing g y n.variables) 0 no_slot).word ≡ (get_or (variable_slots h.typing g y m.variables) 0 no_slot).word)

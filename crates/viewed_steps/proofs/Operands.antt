@@ -1,5 +1,5 @@
 -- The operand of a short circuit, whose value waits: it leads on where views are, too.
-use Rattle.std.proofs.Common.{◌≡◌, refl, sym, ap, ◌∙◌, subst, ℕ, true, false, List, [], ◌∷◌, ◌++◌, flat_map, drop, length, if◌then◌else◌}
+use Rattle.std.proofs.Common.{◌≡◌, refl, sym, ap, ◌∙◌, subst, ℕ, true, List, [], ◌∷◌, ◌++◌, flat_map, drop, length, if◌then◌else◌}
 use Rattle.place_names.specs.declared.fact.Fact.{Fact}
 use Rattle.type_definitions.specs.Entries.{boolean}
 use Rattle.type_definitions.specs.Types.{is_scalar, full}
@@ -78,7 +78,7 @@ module _ (t : Turn) (settled : IsSettled (typing t).table) (own_law : OwnsByShap
         record {
           viewed = subst (λ z. Viewed (home s depth) (sees_only s) other v (seen s m z t.state.leaks) facts) (sym waits_behind) viewed;
           kept = subst (Kept s m) (sym waits_behind) kept;
-          holds = record { held = holds.held; only = holds.only; owners = holds.owners; access = holds.access };
+          holds = record { held = holds.held; only = holds.only; owners = holds.owners; access = holds.access; own = holds.own };
         },
       )
 

@@ -47,7 +47,7 @@ use Rattle.soundness.proofs.Beginning.{one_named, one_point}
 use Rattle.soundness.proofs.Waits.{no_waits, drop_none}
 use Rattle.soundness.proofs.Successors.{not_true, successor_cases, unmoved_after}
 use Rattle.owned_loans.specs.Views.{Around, known_gone, Views, Viewed, IsForeign}
-use Rattle.viewed_soundness.specs.Holds.{AllKeep, is_view, sees_only}
+use Rattle.viewed_soundness.specs.Holds.{AllKeep, is_view, sees_only, is_fixed}
 use Rattle.viewed_soundness.proofs.Names.{plain_named, true_false}
 use Rattle.viewed_soundness.proofs.Outcomes.{IsGood, Turned, Leads_on}
 use Rattle.viewed_steps.specs.Awaited.{AreFor, temporaries_of, lasting_of, awaited, WaitsAt}
@@ -223,6 +223,7 @@ module _ (table : Table) (typed : TypedProgram) (effects : Effects) (input : Lis
         };
         views = λ x w has. no_views views none x w has;
         whole = λ x w z has. no_views views none x w has;
+        past = λ x w has. no_views views none x w has;
         lends = λ l n lent. absurd lent;
         far = λ w n keeps. absurd keeps;
       };
@@ -239,8 +240,10 @@ module _ (table : Table) (typed : TypedProgram) (effects : Effects) (input : Lis
         lies = λ x w has. no_views views none x w has;
         owners = λ x w has. no_views views none x w has;
         passed = λ x w has. no_views views none x w has;
+        own = λ x w has. no_views views none x w has;
       };
       placed = λ x w has. no_views views none x w has;
+      past = λ x w has. no_views views none x w has;
       none_above = λ f x n less view e. above f x n (omega (arith, less)) view e;
     }
 
@@ -342,7 +345,7 @@ module _ (table : Table) (typed : TypedProgram) (effects : Effects) (input : Lis
         viewed = viewed_first;
         kept = kept;
         holds = all_held s in_formals 0 views state.memory (λ y n view at. holds.held y n (λ fading. same_declare fading.0 x v (sym e ∙ fading.1)) view at)
-            holds.only holds.owners;
+            holds.only holds.owners holds.own;
       }
 
       abbrev LeadsFirst : Outcome → Type 0
@@ -356,7 +359,7 @@ module _ (table : Table) (typed : TypedProgram) (effects : Effects) (input : Lis
           x v (plain_named s.table (object_at s x).of owner) no_formal (subst (IsFine s named.sub.result) e (standing.fine table typed effects input ready state top [] [] named p frames of_sub at_point))
           no_call facts_first good_first
           (subst (λ i. AllowsAll facts_first (acts_first i)) e (standing.allowed table typed effects input ready state top [] [] named p frames of_sub at_point path (calls_plain x v e)))
-          (subst (λ i. AllKeep (sees_only s) (acts_first i)) e (standing.keeps_there table typed effects input ready state top [] [] named p frames of_sub at_point))
+          (subst (λ i. AllKeep (is_fixed s) (acts_first i)) e (standing.keeps_there table typed effects input ready state top [] [] named p frames of_sub at_point))
           (λ q. blank_first q (word_in s.table (content s state.memory [] (OfRoot (OfVariable 0 x))) q) refl)
           (λ name has root at_home. new_after state top [] [] named p frames of_sub at_point path x v e (calls_plain x v e) name
           (subst (λ i. Has (after (acts_first i) facts_first) (Moved name)) (sym e) has) root)
@@ -398,8 +401,9 @@ module _ (table : Table) (typed : TypedProgram) (effects : Effects) (input : Lis
                   lies = λ y w has. no_views turned_views none_now y w has;
                   owners = λ y w has. no_views turned_views none_now y w has;
                   passed = λ y w has. no_views turned_views none_now y w has;
+                  own = λ y w has. no_views turned_views none_now y w has;
                 })
-                (λ y w has. no_views turned_views none_now y w has) nones views
+                ((λ y w has. no_views turned_views none_now y w has), (λ y w has. no_views turned_views none_now y w has)) nones views
                 (steps_on (calls_plain x v e) (λ end. (let never : Declare x v ≡ Finish = sym e ∙ end in cc))
                 (λ y end. (let never : Declare x v ≡ EndScope y = sym e ∙ end in cc)) (refl, refl, refl) (λ y w has. no_views turned_views none_now y w has) refl))
             | inr none ↦ (

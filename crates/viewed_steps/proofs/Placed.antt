@@ -24,7 +24,7 @@ use Rattle.soundness.specs.Sound.{InScope}
 use Rattle.soundness.proofs.Contents.{word_no}
 use Rattle.soundness.proofs.Lasting.{ownerless}
 use Rattle.owned_loans.specs.Views.{Around, Views}
-use Rattle.viewed_soundness.specs.Holds.{PartsAreNamed, is_view, sees_only}
+use Rattle.viewed_soundness.specs.Holds.{PartsAreNamed, is_view}
 use Rattle.viewed_soundness.proofs.Names.{true_false}
 use Rattle.viewed_soundness.proofs.Outcomes.{Turned}
 use Rattle.viewed_steps.specs.Awaited.{is_held, lasting_of}

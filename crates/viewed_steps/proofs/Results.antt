@@ -15,7 +15,7 @@ use Rattle.typed_tree.specs.Trees.{TypedTree, NoMore, More, Name, Call as CallIn
 use Rattle.typed_tree.specs.Programs.{TypedProgram}
 use Rattle.flow_paths.specs.declared.report.Effects.{Effects}
 use Rattle.flow_paths.specs.Instructions.{Instruction, Call, Evaluate, Hold, EndScope, Finish, Declare, Assign}
-use Rattle.flow_paths.specs.Objects.{Typing, is_anonymous, is_package_object, is_observer, view_of, object_at}
+use Rattle.flow_paths.specs.Objects.{Typing, is_package_object, object_at}
 use Rattle.flow_paths.specs.Names.{waiting as waits_in}
 use Rattle.flow_paths.specs.Acts as flow
 use Rattle.flow_paths.specs.Acts.{acts_in}
@@ -36,7 +36,7 @@ use Rattle.machine.specs.Typed.{successors}
 use Rattle.machine.specs.Owners.{WellOwned, waiting_in}
 use Rattle.owned_ways.specs.Ways.{Step, OfVariable, OfRoot, Way, Held, after, AllowsAll, along, number_of}
 use Rattle.owned_ways.specs.Ways as ways
-use Rattle.soundness.specs.Seen.{IsNear, is_view_formal, content, word_in, home}
+use Rattle.soundness.specs.Seen.{IsNear, content, word_in, home}
 use Rattle.soundness.specs.Typed.{Kept}
 use Rattle.typed_laws.specs.Needed.{IsFine, Stays, Source, Returns}
 use Rattle.soundness.specs.Sound.{IsNoCall, Stage, facts_of, AreStages, IsRunnable, returns_value, InScope, IsNamedSub, IsAtPoint, view_of as view_here}
@@ -49,11 +49,11 @@ use Rattle.soundness.proofs.Waited.{FillsNone}
 use Rattle.soundness.proofs.Eased.{eased, waits_same}
 use Rattle.soundness.proofs.Successors.{below_one}
 use Rattle.owned_loans.specs.Views.{Around, known_gone, Views, Viewed}
-use Rattle.viewed_soundness.specs.Holds.{IsNamed, AllKeep, is_view, sees_only}
+use Rattle.viewed_soundness.specs.Holds.{IsNamed, AllKeep, is_view, sees_only, is_fixed}
 use Rattle.viewed_soundness.proofs.Outcomes.{named_plain, IsGood, Leads_on}
 use Rattle.viewed_steps.specs.Awaited.{AreFor, AreValues, AreValuesBut, temporaries_of, lasting_of, awaited, AreAwaited, AreScalar, FillsTyped, TakesScalars, IsTakenBy, TakesAlone}
 use Rattle.viewed_steps.proofs.Waited.{temporary_first, lasting_more, Shares}
-use Rattle.viewed_steps.specs.Sound.{HoldsAt, ArePlaced, NoneAbove, ViewStage, stages_of, GoneElsewhere, AreWaiting, IsStoredAt, returns_one, LeadsAlong, IsResting}
+use Rattle.viewed_steps.specs.Sound.{ArePast, HoldsAt, ArePlaced, NoneAbove, ViewStage, stages_of, GoneElsewhere, AreWaiting, IsStoredAt, returns_one, LeadsAlong, IsResting}
 use Rattle.viewed_steps.specs.Taken.{TakenBy}
 use Rattle.viewed_steps.specs.Ready.{IsReady}
 use Rattle.viewed_steps.proofs.Lent.{Spare, loans_stay}
@@ -128,7 +128,7 @@ module _ (table : Table) (typed : TypedProgram) (effects : Effects) (input : Lis
       (viewed_before : Viewed (home s (suc (length rest))) (sees_only s) (known_gone (home s (suc (length rest))) (GoneElsewhere program effects (below ∷ more_frames))) views
       (view_here s state) (facts_of program effects top))
       (kept : Kept s state.memory (waiting_in state)) (scope : InScope s state.memory (suc (length rest)) (lasting_of s p.scope)) (holds : HoldsAt s (suc (length rest)) views state.memory p)
-      (placed_before : ArePlaced program (suc (length rest)) (facts_of program effects top) views p.scope) (above : NoneAbove s (suc (length rest)) state.memory) where
+      (placed_before : ArePlaced program (suc (length rest)) (facts_of program effects top) views p.scope × ArePast s (suc (length rest)) views (below ∷ more_frames)) (above : NoneAbove s (suc (length rest)) state.memory) where
     abbrev outer : List Frame
     outer = below.stage.frame ∷ rest
 
@@ -461,8 +461,8 @@ module _ (table : Table) (typed : TypedProgram) (effects : Effects) (input : Lis
       allowed_value : AllowsAll facts_now (acts (acts_in s e))
       allowed_value = subst (AllowsAll facts_now) acts_then (allowed_now spare_value (standing.allowed table typed effects input ready state top older outer named p frames of_sub at_point path no_call_then))
 
-      keeps_value : AllKeep (sees_only s) (acts (acts_in s e))
-      keeps_value = subst (AllKeep (sees_only s)) acts_then (standing.keeps_there table typed effects input ready state top older outer named p frames of_sub at_point)
+      keeps_value : AllKeep (is_fixed s) (acts (acts_in s e))
+      keeps_value = subst (AllKeep (is_fixed s)) acts_then (standing.keeps_there table typed effects input ready state top older outer named p frames of_sub at_point)
 
       left_values : Left (steps.waiting main_turn)
       left_values = left_after (subst (FillsNone s) (sym is) tt)
@@ -539,7 +539,14 @@ module _ (table : Table) (typed : TypedProgram) (effects : Effects) (input : Lis
             },
             waits.1,
             waits.2,
+            waits.3,
           )
+
+      past_with : (v : Waiting) → ArePast s depth views (below ∷ more_frames) → ArePast s depth views (below_with v ∷ more_frames)
+      past_with v past x w has given sees k n (g, inr there, y, is, cell) goes = past x w has given sees k n (g, inr there, y, is, cell) goes
+      past_with v past x w has given sees k n (g, inl same, y, is, cell) goes =
+          past x w has given sees k n
+          (below, inl refl, y, ap (λ (z : ViewStage). z.views.way y) same ∙ is, ap (λ (z : ViewStage). z.views.cell y) same ∙ cell) goes
 
       elsewhere_from : (v : Waiting) (w : Way) → GoneElsewhere program effects (below_with v ∷ more_frames) w → GoneElsewhere program effects (below ∷ more_frames) w
       elsewhere_from v w (g, inr has, what) = (g, inr has, what)
@@ -630,6 +637,7 @@ module _ (table : Table) (typed : TypedProgram) (effects : Effects) (input : Lis
                     clear = well.clear;
                     views = well.views;
                     whole = λ x w z has foreign gone meets. well.whole x w z has foreign (elsewhere_from v z gone) meets;
+                    past = λ x w has given plain k n none. absurd none;
                     lends = well.lends;
                     far = λ w n none. absurd none;
                   })));
@@ -647,9 +655,11 @@ module _ (table : Table) (typed : TypedProgram) (effects : Effects) (input : Lis
                 lies = holds.lies;
                 owners = holds.owners;
                 passed = holds.passed;
+                own = holds.own;
               });
               placed = subst (λ d. ArePlaced program d (facts_of program effects top_then) views (found.0).scope) (sym deep) (subst (λ z. ArePlaced program depth z views (found.0).scope) (sym facts_there)
                   (placed_by (after (acts_of_main p.instr) facts_now) facts_then views (found.0).scope (own_loans (acts_of_main p.instr)) placed_next));
+              past = subst (λ d. ArePast s d views (below_with v ∷ more_frames)) (sym deep) (past_with v placed_before.1);
               none_above = subst (λ d. NoneAbove s d m) (sym deep) (still_above m stay);
             },
             returns_one no_call_then no_finish_then going_then below more_frames (v ∷ below.stage.frame.waits) refl (refl, refl, refl) (λ x w has. inl has) refl,

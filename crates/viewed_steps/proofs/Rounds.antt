@@ -4,7 +4,7 @@ use Rattle.place_names.specs.declared.fact.Fact.{Fact}
 use Rattle.type_definitions.specs.Types.{shape_of, words, is_scalar, full}
 use Rattle.typed_tree.specs.Trees.{TypedTree, Text, Parens, Image, Binary, NoMore, More}
 use Rattle.flow_paths.specs.Instructions.{Skip, Fall}
-use Rattle.flow_paths.specs.Objects.{Typing, object_at, is_anonymous, view_of}
+use Rattle.flow_paths.specs.Objects.{Typing, object_at}
 use Rattle.flow_paths.specs.Names.{waiting as waits_in}
 use Rattle.flow_paths.specs.Scopes.{taken}
 use Rattle.flow_paths.specs.Acts.{acts_in}
@@ -36,12 +36,10 @@ use Rattle.soundness.proofs.Waits.{waits_of, led_waits}
 use Rattle.owned_loans.specs.Views.{Around, Views, Viewed}
 use Rattle.owned_loans.proofs.Moves.{same_viewed}
 use Rattle.viewed_soundness.specs.Holds.{PartsAreNamed, Holds, sees_only, IsOwners, is_view}
-use Rattle.viewed_soundness.proofs.Names.{true_false}
 use Rattle.viewed_soundness.proofs.Stays.{taking}
 use Rattle.viewed_soundness.proofs.Evaluated.{scalar_given}
-use Rattle.viewed_soundness.proofs.Outcomes.{named_plain, IsGood, Leads_on, raises, start_is, hands_behind, unturned, goes_to, live}
+use Rattle.viewed_soundness.proofs.Outcomes.{IsGood, Leads_on, raises, start_is, hands_behind, unturned, goes_to, live}
 use Rattle.viewed_steps.proofs.Declared.{same_root}
-use Rattle.viewed_steps.proofs.Read.{scalar_named}
 use Rattle.viewed_steps.proofs.Views.{AreAccess, scalar_no_view}
 
 value_long : (ws : List machine.Word) (v : ℤ) → length (steps.parameter_words ws v) ≡ 1
@@ -136,7 +134,7 @@ module _ (t : Turn) (settled : IsSettled (typing t).table) (own_law : OwnsByShap
       let on = stays_here facts good 0 in
       subst (λ (z : Now). LeadsHere facts (Goes (record (behind t (waiting t) z.memory 0) {
         output = t.state.output ++ a ++ (if line then 10 ∷ [] else []);
-      }))) (sym same) (on.0, on.1, record { viewed = on.2.viewed; kept = on.2.kept; holds = record { held = on.2.holds.held; only = on.2.holds.only; owners = on.2.holds.owners; access = on.2.holds.access } })
+      }))) (sym same) (on.0, on.1, record { viewed = on.2.viewed; kept = on.2.kept; holds = record { held = on.2.holds.held; only = on.2.holds.only; owners = on.2.holds.owners; access = on.2.holds.access; own = on.2.holds.own } })
   then_written facts good line (Raises e n) is = raised_here facts good e n.memory
   then_written facts good line (Traps e n) never = absurd never
 
@@ -175,7 +173,7 @@ module _ (t : Turn) (settled : IsSettled (typing t).table) (own_law : OwnsByShap
     record {
       viewed = subst (λ z. Viewed (home s depth) (sees_only s) other v (seen s n z t.state.leaks) facts) (sym (turn_waits loops k)) viewed;
       kept = subst (Kept s n) (sym (turn_waits loops k)) kept;
-      holds = record { held = holds.held; only = holds.only; owners = holds.owners; access = holds.access };
+      holds = record { held = holds.held; only = holds.only; owners = holds.owners; access = holds.access; own = holds.own };
     },
   )
 
@@ -209,6 +207,7 @@ module _ (t : Turn) (settled : IsSettled (typing t).table) (own_law : OwnsByShap
         only = good.holds.only;
         owners = good.holds.owners;
         access = good.holds.access;
+        own = good.holds.own;
       })
   next_by x scalar facts good ws None =
       let next : Memory = undeclared depth x m in
@@ -222,6 +221,7 @@ module _ (t : Turn) (settled : IsSettled (typing t).table) (own_law : OwnsByShap
         only = good.holds.only;
         owners = good.holds.owners;
         access = good.holds.access;
+        own = good.holds.own;
       })
 
   -- the parameter of a loop gets its next value, or leaves scope
@@ -277,6 +277,7 @@ module _ (t : Turn) (settled : IsSettled (typing t).table) (own_law : OwnsByShap
               only = good.holds.only;
               owners = good.holds.owners;
               access = good.holds.access;
+              own = good.holds.own;
             };
           },
         )

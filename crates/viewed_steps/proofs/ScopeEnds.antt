@@ -14,7 +14,7 @@ use Rattle.type_definitions.specs.Types.{Table}
 use Rattle.typed_tree.specs.Programs.{TypedProgram}
 use Rattle.flow_paths.specs.declared.report.Effects.{Effects}
 use Rattle.flow_paths.specs.Instructions.{Instruction, Call, EndScope}
-use Rattle.flow_paths.specs.Objects.{Typing, is_anonymous, is_package_object, is_borrower, is_observer, view_of}
+use Rattle.flow_paths.specs.Objects.{Typing, is_package_object, is_borrower}
 use Rattle.flow_paths.specs.Points.{NamedPoint}
 use Rattle.flow_paths.specs.Laid.{FlowProgram, NamedSub, number_in, flow_typing, flow_program, flow_named}
 use Rattle.flow_paths.specs.Paths.{ControlPath}
@@ -29,7 +29,7 @@ use Rattle.machine.specs.Typed.{successors}
 use Rattle.machine.specs.Owners.{waiting_in}
 use Rattle.owned_ways.specs.Ways.{Step, OfVariable, OfRoot, Way, Held, after, AllowsAll}
 use Rattle.owned_ways.specs.Ways as ways
-use Rattle.soundness.specs.Seen.{IsNear, is_view_formal, content, word_in, home}
+use Rattle.soundness.specs.Seen.{IsNear, content, word_in, home}
 use Rattle.soundness.specs.Typed.{Kept}
 use Rattle.soundness.specs.Sound.{IsNoCall, Stage, facts_of, AreStages, IsRunnable, returns_value, InScope, IsNamedSub, IsAtPoint, view_of as view_here, is_temporary_object}
 use Rattle.soundness.proofs.Scoped.{Inside}
@@ -44,7 +44,7 @@ use Rattle.owned_loans.specs.Views.{Around, known_gone, Views, Viewed}
 use Rattle.viewed_soundness.proofs.Outcomes.{Is_left}
 use Rattle.viewed_steps.specs.Awaited.{AreValues, lasting_of, awaited, AreAwaited}
 use Rattle.viewed_steps.proofs.Waited.{plain_unheld, last_lasting, lasting_last}
-use Rattle.viewed_steps.specs.Sound.{HoldsAt, ArePlaced, NoneAbove, ViewStage, stages_of, GoneElsewhere, AreWaiting, AreLeft, leaves_scope, LeadsAlong, IsResting}
+use Rattle.viewed_steps.specs.Sound.{ArePast, HoldsAt, ArePlaced, NoneAbove, ViewStage, stages_of, GoneElsewhere, AreWaiting, AreLeft, leaves_scope, LeadsAlong, IsResting}
 use Rattle.viewed_steps.specs.Ready.{AreOrderly, IsReady}
 use Rattle.viewed_steps.proofs.Inherited.{apart_end, lent_end}
 use Rattle.viewed_steps.proofs.Placed.{scope_on}
@@ -82,7 +82,7 @@ module _ (table : Table) (typed : TypedProgram) (effects : Effects) (input : Lis
       (viewed_before : Viewed (home s (suc (length rest))) (sees_only s) (known_gone (home s (suc (length rest))) (GoneElsewhere program effects (below ∷ more_frames))) views
       (view_here s state) (facts_of program effects top))
       (kept : Kept s state.memory (waiting_in state)) (scope : InScope s state.memory (suc (length rest)) (lasting_of s p.scope)) (holds : HoldsAt s (suc (length rest)) views state.memory p)
-      (placed_before : ArePlaced program (suc (length rest)) (facts_of program effects top) views p.scope) (above : NoneAbove s (suc (length rest)) state.memory) where
+      (placed_before : ArePlaced program (suc (length rest)) (facts_of program effects top) views p.scope × ArePast s (suc (length rest)) views (below ∷ more_frames)) (above : NoneAbove s (suc (length rest)) state.memory) where
     abbrev outer : List Frame
     outer = below.stage.frame ∷ rest
 
@@ -299,13 +299,15 @@ module _ (table : Table) (typed : TypedProgram) (effects : Effects) (input : Lis
           (apart_from_them (acts_of_main p.instr) left_views (view_here s after_step) still_holds.only
           (subst (Viewed (home s depth) (sees_only s) other left_views (view_here s after_step)) facts_are_there still_viewed)) still_kept
           (scope_on s ready.owns after_step.memory depth (drop 1 p.scope) (at_next_point.0).scope (subst (InScope s after_step.memory depth) (sym lasting_left) (in_scope after_step.memory (drop 1 (lasting_of s p.scope)) on.inside)) lead)
-          still_holds
-          (placed_by (after (acts_of_main p.instr) facts_now) (after (acts_of_main p.instr) own_facts) left_views (at_next_point.0).scope (own_loans (acts_of_main p.instr))
-          (subst (λ z. ArePlaced program depth z left_views (at_next_point.0).scope) facts_are_there
-          (placed_left main_turn ready.accepted.settled ready.owns other alone views ready.class.parts_named no_source frames nothing_taken
-          p at_next_point.0 y is (home_frame y not_shared) not_shared (orderly.over y is) (ready_there (EndScope y) is) ready.orderly.local (λ x within off. orderly.ended y x is within off)
-          (λ x within sees region. orderly.followed y x is at_next_point.0 (next_point.0, next_point.2, at_next_point.1) within sees region)
-          lead facts_now end_allowed.0 viewed kept holds placed (not_lent y not_shared)))) (still_above after_step.memory stay) views
+          still_holds (
+            (placed_by (after (acts_of_main p.instr) facts_now) (after (acts_of_main p.instr) own_facts) left_views (at_next_point.0).scope (own_loans (acts_of_main p.instr))
+                (subst (λ z. ArePlaced program depth z left_views (at_next_point.0).scope) facts_are_there
+                (placed_left main_turn ready.accepted.settled ready.owns other alone views ready.class.parts_named no_source frames nothing_taken
+                p at_next_point.0 y is (home_frame y not_shared) not_shared (orderly.over y is) (ready_there (EndScope y) is) ready.orderly.local (λ x within off. orderly.ended y x is within off)
+                (λ x within sees region. orderly.followed y x is at_next_point.0 (next_point.0, next_point.2, at_next_point.1) within sees region)
+                lead facts_now end_allowed.0 viewed kept holds placed (not_lent y not_shared)))),
+            still_viewed.past,
+          ) (still_above after_step.memory stay) views
           (leaves_scope y is (refl, refl, refl) were_left refl)
 
       pub ends_scope : Along (turn main_turn (EndScope y))

@@ -56,7 +56,7 @@ module _ (h : Here) (settled : IsSettled h.typing.table) (hands : List Waiting) 
     (index_law : IndexLaw)
     (own_law : OwnsByShape h.typing.table)
     (parts_named : PartsAreNamed h.typing.table)
-    (formals_low : (x : ℕ) (w : Way) → v.way x ≡ Some w → is_view_formal h.typing x ≡ true → (foreign : IsForeign (home h.typing h.frame) w) × (foreign.0 < h.frame)) where
+    (formals_low : (x : ℕ) (w : Way) → v.way x ≡ Some w → is_view_formal h.typing x ≡ true → (foreign : IsForeign (home h.typing h.frame) w) × (foreign.0 < h.frame) × (0 < foreign.0)) where
   abbrev s : Typing
   s = h.typing
 
@@ -135,8 +135,8 @@ module _ (h : Here) (settled : IsSettled h.typing.table) (hands : List Waiting) 
           leads = refl;
           owners = stands_owners s h.frame v m (All w) holds named (inr l.0);
           reaches = reaches;
-          low = inr (((far.0).0, (far.0).1, base ∙ (far.0).2, (far.0).3), (let less = far.1 in omega (arith, less)));
-          whole = seen_whole s h.frame other v (seen s m hands leaks) facts well alone w named l.0 (ap (sees_only s) l.1 ∙ either_true _ (is_view_formal s y) formal);
+          low = inr (((far.0).0, (far.0).1, base ∙ (far.0).2, (far.0).3), (let less = far.1 in omega (arith, less)), far.2);
+          whole = seen_whole s h.frame other v (seen s m hands leaks) facts well alone w named l.0 (ap (sees_only s) l.1 ∙ showable.2 formal);
         }
 
     pub sees_it : Sees e n

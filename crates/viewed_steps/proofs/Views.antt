@@ -3,7 +3,7 @@ use Rattle.std.proofs.Common.{◌≡◌, refl, sym, ap, ◌∙◌, subst, ◌⊎
 use Rattle.type_definitions.specs.declared.table.Shape.{Shape}
 use Rattle.type_definitions.specs.declared.table.Shape.TheVariants as shape
 use Rattle.type_definitions.specs.Types.{shape_of, full, is_scalar, is_owning, view_of as view_of_shape}
-use Rattle.flow_paths.specs.Objects.{Typing, object_at, is_anonymous, is_observer, has_scope_end, view_of}
+use Rattle.flow_paths.specs.Objects.{Typing, object_at, is_anonymous, has_scope_end, view_of}
 use Rattle.machine.specs.Words.{Cell}
 use Rattle.machine.specs.Memory.{Memory, variable_slots, no_slot}
 use Rattle.machine.specs.Owners.{is_in_formal}
@@ -12,8 +12,7 @@ use Rattle.owned_ways.proofs.Dropped.{named_base}
 use Rattle.owned_ways.proofs.Named.{longer}
 use Rattle.soundness.specs.Seen.{home, is_view_formal}
 use Rattle.owned_loans.specs.Views.{Views, IsForeign}
-use Rattle.viewed_soundness.specs.Holds.{is_view, sees_only, IsOwners, IsAccess, Holds}
-use Rattle.viewed_soundness.proofs.Names.{both_no}
+use Rattle.viewed_soundness.specs.Holds.{is_view, sees_only, IsOwners, IsAccess, Holds, is_given}
 use Rattle.viewed_steps.specs.Sound.{Lies}
 
 access_of : (sh : Shape) → is_anonymous (view_of_shape sh) ≡ true → (d : ℕ) × (c : Bool) × (n : Bool) × (sh ≡ shape.Access d c n)
@@ -64,12 +63,12 @@ same_named at_home w k is named = base_named at_home w _ (is ∙ named_base at_h
 -- or lies where it does
 pub same_lies : (s : Typing) (frame : ℕ) (w k : Way) → base_of w ≡ base_of k → Lies s frame k → Lies s frame w
 same_lies s frame w k is (inl named) = inl (same_named (home s frame) w k is named)
-same_lies s frame w k is (inr (foreign, low)) = inr ((foreign.0, foreign.1, is ∙ foreign.2, foreign.3), low)
+same_lies s frame w k is (inr (foreign, low, some)) = inr ((foreign.0, foreign.1, is ∙ foreign.2, foreign.3), low, some)
 
 pub lies_far : (s : Typing) (frame : ℕ) (v : Views) → ((x : ℕ) (w : Way) → v.way x ≡ Some w → Lies s frame w) → AreFar (home s frame) v frame
 lies_far s frame v lies x w has foreign = elim (lies x w has) [
   | inl named ↦ absurd (not_elsewhere (home s frame) w named foreign)
-  | inr (other, low) ↦ (let same = frames_are foreign.0 foreign.1 other.0 other.1 (sym foreign.2 ∙ other.2) in subst (λ f. f < frame) (sym same) low)
+  | inr (other, low, some) ↦ (let same = frames_are foreign.0 foreign.1 other.0 other.1 (sym foreign.2 ∙ other.2) in subst (λ f. f < frame) (sym same) low)
 ]
   where
     frames_are : (f x g y : ℕ) → OfRoot (OfVariable f x) ≡ OfRoot (OfVariable g y) → f ≡ g
@@ -97,12 +96,6 @@ anonymous_view s x e = ap (λ b. b || is_view_formal s x) e
 
 pub formal_view : (s : Typing) (x : ℕ) → is_view_formal s x ≡ true → is_view s x ≡ true
 formal_view s x e = or_true (is_anonymous (view_of s x)) (is_view_formal s x) e
-
-pub observer_sees : (s : Typing) (x : ℕ) → is_observer s x ≡ true → sees_only s x ≡ true
-observer_sees s x e = ap (λ b. b || is_view_formal s x) e
-
-pub sees_not : (s : Typing) (x : ℕ) → is_observer s x ≡ false → is_view_formal s x ≡ false → sees_only s x ≡ false
-sees_not s x e own = both_no (is_observer s x) (is_view_formal s x) e own
 
 -- the scope of a view has an end of its own
 pub view_ends : (s : Typing) (x : ℕ) → is_view s x ≡ true → has_scope_end s x ≡ true
@@ -136,5 +129,6 @@ module _ (s : Typing) (in_formals : AreAccess s) where
       → ((x n : ℕ) → is_view s x ≡ true → (get_or (variable_slots s (home s frame x) x m.variables) 0 no_slot).word ≡ Cell n
       → (w : Way) × (v.way x ≡ Some w) × (v.cell x ≡ n))
       → ((x : ℕ) (w : Way) → v.way x ≡ Some w → is_view s x ≡ true)
-      → ((x : ℕ) (w : Way) → v.way x ≡ Some w → IsOwners s w) → Holds s frame v m
-  all_held frame v m held only owners = record { held = held; only = only; owners = owners; access = view_access }
+      → ((x : ℕ) (w : Way) → v.way x ≡ Some w → IsOwners s w)
+      → ((x : ℕ) (w : Way) → v.way x ≡ Some w → sees_only s x ≡ false → is_given s x ≡ false → Named (home s frame) (v.up x)) → Holds s frame v m
+  all_held frame v m held only owners own = record { held = held; only = only; owners = owners; access = view_access; own = own }

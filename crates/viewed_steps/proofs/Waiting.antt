@@ -1,7 +1,7 @@
 -- Frames that wait for a call to end, with views: what they keep concerns the innermost frame as ways
 -- of others, and they wait still after its steps.
 use Rattle.viewed_soundness.specs.Holds.{is_view, sees_only}
-use Rattle.std.proofs.Common.{◌≡◌, refl, sym, ap, ◌∙◌, subst, ◌⊎◌, inl, inr, ℕ, suc, ◌<◌, ◌≤◌, Bool, true, false, ◌&&◌, ◌==◌, eqb-true, nat_lt, ltb-true, lt-ltb, List, [], ◌∷◌, ◌++◌, length, get_or, arith, Option, Some, None, if◌then◌else◌}
+use Rattle.std.proofs.Common.{◌≡◌, refl, sym, ap, ◌∙◌, subst, ◌⊎◌, inl, inr, ℕ, ◌<◌, ◌≤◌, Bool, true, false, ◌&&◌, ◌==◌, eqb-true, nat_lt, ltb-true, lt-ltb, List, [], ◌∷◌, ◌++◌, length, get_or, arith, Option, Some, None, if◌then◌else◌}
 use Rattle.std.specs.Prelude.{flat_map}
 use Rattle.spark_base.specs.Lists.{Has}
 use Rattle.spark_base.proofs.Lists.{Has-append_left, Has-append_right, Has-append_cases, Has-map, Has-map_from}
@@ -28,14 +28,15 @@ use Rattle.soundness.proofs.Contents.{bool_cases}
 use Rattle.soundness.proofs.Inherited.{Splits}
 use Rattle.owned_loans.specs.Views.{on, Around, known_gone, Views, expand, IsThrough, IsMovedBy, ExcusedBy, HasLoan, IsForeign, Viewed}
 use Rattle.owned_loans.proofs.Ended.{stands_itself}
-use Rattle.owned_loans.proofs.Ways.{under_on, on_under, lifts, lifted_root, lifted_way}
-use Rattle.owned_loans.proofs.Moves.{named_way, view_on, own_loan, reached}
+use Rattle.owned_loans.proofs.Ways.{under_on, on_under, on_named, lifts, lifted_root, lifted_way}
+use Rattle.owned_loans.proofs.Meeting.{stands}
+use Rattle.owned_loans.proofs.Moves.{view_on, own_loan, reached}
 use Rattle.viewed_steps.specs.Taken.{TakenBy}
 use Rattle.viewed_steps.proofs.Between.{taken_from as words_taken, taken_base, still_taken, near_base}
 use Rattle.viewed_steps.proofs.Roots.{borrower_goes, view_goes}
 use Rattle.viewed_steps.specs.Awaited.{lasting_of}
-use Rattle.viewed_steps.specs.Sound.{ViewStage, stages_of, Lies, GoneElsewhere, IsWaiting, IsFirst, AreWaiting}
-use Rattle.viewed_steps.proofs.Views.{base_named}
+use Rattle.viewed_steps.specs.Sound.{KeptBy, ArePast, ViewStage, stages_of, Lies, GoneElsewhere, IsWaiting, IsFirst, AreWaiting}
+use Rattle.viewed_steps.proofs.Views.{base_named, same_lies}
 
 -- ---- near ways
 
@@ -122,7 +123,7 @@ module _ (table : Table) (typed : TypedProgram) (effects : Effects)
 
   -- The ways of the views of others, with their cells.
   abbrev pub KeptElsewhere : List ViewStage → Way → ℕ → Type 0
-  KeptElsewhere older w n = (g : ViewStage) × Has older g × (x : ℕ) × (g.views.way x ≡ Some w) × (g.views.cell x ≡ n)
+  KeptElsewhere older w n = KeptBy older w n
 
   -- The loans on package objects among facts, as ones that the objects hold themselves.
   loans_of : List Fact → List Fact
@@ -254,7 +255,7 @@ module _ (table : Table) (typed : TypedProgram) (effects : Effects)
 
     way_begins : (callee : ℕ) (backs : List Return) (g : ViewStage) → Has older g → 0 < g.stage.depth → g.stage.depth < depth
         → IsWaiting table typed effects state callee backs g → (x : ℕ) (w : Way) → g.views.way x ≡ Some w → Lies s g.stage.depth w → Begins w
-    way_begins callee backs g has some less waits x w is (inr (foreign, low)) = record {
+    way_begins callee backs g has some less waits x w is (inr (foreign, low, above)) = record {
       frame = foreign.0;
       object = foreign.1;
       base = foreign.2;
@@ -300,6 +301,17 @@ module _ (table : Table) (typed : TypedProgram) (effects : Effects)
     pub kept_low : (w : Way) (n : ℕ) → KeptElsewhere older w n → (f : ℕ) × (x : ℕ) × (base_of w ≡ OfRoot (OfVariable f x)) × (f < depth)
     kept_low w n kept = (let b = begins_there w n kept in (b.frame, b.object, b.base, b.low))
 
+    -- what a moved name of a frame stands for lies there
+    stood : (callee : ℕ) (backs : List Return) (g : ViewStage) → IsWaiting table typed effects state callee backs g → (u : Way)
+        → IsMoved (home s g.stage.depth) (facts_of program effects g.stage) u → Lies s g.stage.depth (expand g.views u)
+    stood callee backs g waits u moved =
+        elim (stands (home s g.stage.depth) (sees_only s) g.views (view_here s state) (facts_of program effects g.stage) waits.views u
+        (moved.0, waits.clear.owned (name_of u) moved.1)) [
+          | inl own ↦ inl own.0
+          | inr held ↦ same_lies s g.stage.depth (expand g.views u) held.way (longer held.way (expand g.views u) held.under).base
+              (waits.holds.lies held.object held.way held.has)
+        ]
+
     -- and so does what is gone for them
     pub gone_low : (w : Way) → GoneElsewhere program effects older w → (f : ℕ) × (x : ℕ) × (base_of w ≡ OfRoot (OfVariable f x)) × (f < depth)
     gone_low w (g, has, inr taken) = elim (between g has) [
@@ -312,15 +324,16 @@ module _ (table : Table) (typed : TypedProgram) (effects : Effects)
     gone_low w (g, has, inl (u, moved, leads)) = elim (between g has) [
       | inl first ↦ absurd (unmoved g.stage first.0 (name_of u) moved.1)
       | inr (some, less, callee, backs, waits) ↦ (
-          let named : Named (home s g.stage.depth) w =
-          subst (Named (home s g.stage.depth)) leads
-          (named_way (home s g.stage.depth) (sees_only s) (known_gone (home s g.stage.depth) (λ z. ⊥)) g.views (view_here s state) (facts_of program effects g.stage)
-          waits.views (suc (number_of u)) u (omega arith) (moved.0, waits.clear.owned (name_of u) moved.1)) in (
-            home s g.stage.depth (number_of w),
-            number_of w,
-            named_base (home s g.stage.depth) w named,
-            low_home (is_package_object s (number_of w)) g.stage.depth less,
-          ))
+          elim (stood callee backs g waits u moved) [
+            | inr (foreign, low, above) ↦ (foreign.0, foreign.1, ap base_of (sym leads) ∙ foreign.2, omega (arith, low, less))
+            | inl there ↦ (
+                let named : Named (home s g.stage.depth) w = subst (Named (home s g.stage.depth)) leads there in (
+                  home s g.stage.depth (number_of w),
+                  number_of w,
+                  named_base (home s g.stage.depth) w named,
+                  low_home (is_package_object s (number_of w)) g.stage.depth less,
+                ))
+          ])
     ]
 
     -- what is near and gone elsewhere is a part of a package object that a fact says was moved, or
@@ -345,18 +358,23 @@ module _ (table : Table) (typed : TypedProgram) (effects : Effects)
             let here : IsMoved (home s g.stage.depth) (facts_of program effects g.stage) w =
             subst (IsMoved (home s g.stage.depth) (facts_of program effects g.stage)) (sym e ∙ leads) moved in
             inl (near_package s g.stage.depth depth some less w here.0 near, g, has, here))
-        | inr l ↦ (
-            let plain : sees_only s (number_of u) ≡ false = waits.clear.owned (name_of u) moved.1 in
-            let goes = borrower_goes (home s g.stage.depth) (sees_only s) g.views (view_here s state) (facts_of program effects g.stage) waits.views l.object l.way
-            (ap (sees_only s) (sym (lifted_root g.views u l)) ∙ plain) l.has in
-            let stands : w ≡ on l.way l.rest = sym leads ∙ lifted_way g.views u l in
-            let named : Named (home s g.stage.depth) w =
-            subst (Named (home s g.stage.depth)) leads
-            (named_way (home s g.stage.depth) (sees_only s) (known_gone (home s g.stage.depth) (λ z. ⊥)) g.views (view_here s state) (facts_of program effects g.stage)
-            waits.views (suc (number_of u)) u (omega arith) (moved.0, plain)) in
-            inr (lent_for g has some Borrowed goes.0 goes.1 w goes.2 goes.3
-            (subst (Under goes.1) (sym stands) (under_on goes.1 l.way (on l.way l.rest) goes.4 (on_under l.way l.rest)))
-            (near_package s g.stage.depth depth some less w named near)))
+        | inr l ↦ elim (stood callee backs g waits u moved) [
+          | inr (foreign, low, above) ↦ absurd (elim (near_base depth w foreign.0 foreign.1 near (ap base_of (sym leads) ∙ foreign.2)) [
+            | inl none ↦ omega (arith, above, none)
+            | inr same ↦ omega (arith, low, less, same)
+          ])
+          | inl there ↦ (
+              let plain : sees_only s (number_of u) ≡ false = waits.clear.owned (name_of u) moved.1 in
+              let front : Named (home s g.stage.depth) l.way = on_named (home s g.stage.depth) l.way l.rest
+              (subst (Named (home s g.stage.depth)) (lifted_way g.views u l) there) in
+              let goes = borrower_goes (home s g.stage.depth) (sees_only s) g.views (view_here s state) (facts_of program effects g.stage) waits.views l.object l.way
+              (ap (sees_only s) (sym (lifted_root g.views u l)) ∙ plain) l.has front in
+              let same : w ≡ on l.way l.rest = sym leads ∙ lifted_way g.views u l in
+              let named : Named (home s g.stage.depth) w = subst (Named (home s g.stage.depth)) leads there in
+              inr (lent_for g has some Borrowed goes.0 goes.1 w goes.2 goes.3
+              (subst (Under goes.1) (sym same) (under_on goes.1 l.way (on l.way l.rest) goes.4 (on_under l.way l.rest)))
+              (near_package s g.stage.depth depth some less w named near)))
+        ]
       ]
     ]
 
@@ -498,10 +516,10 @@ module _ (table : Table) (typed : TypedProgram) (effects : Effects)
     -- with them
     pub with_them : (v : Views) (view : View) (facts : List Fact) → ((x : ℕ) (w : Way) → v.way x ≡ Some w → is_package_object s x ≡ false)
         → ((x : ℕ) → is_package_object s x ≡ true → sees_only s x ≡ false) → AreApart facts
-        → ((w : Way) (n : ℕ) → KeptElsewhere older w n → Reaches view w (OfCell n))
+        → ((w : Way) (n : ℕ) → KeptElsewhere older w n → Reaches view w (OfCell n)) → ArePast s depth v older
         → Viewed (home s depth) (sees_only s) (known_gone (home s depth) (GoneElsewhere program effects older)) v view facts
         → Viewed (home s depth) (sees_only s) beside_them v view (facts ++ handed)
-    with_them v view facts only plain apart reach well = record {
+    with_them v view facts only plain apart reach past well = record {
       owned = well.owned;
       covered = well.covered;
       known = λ w l rooted r gone. elim (well.known w l rooted r gone) [
@@ -551,6 +569,7 @@ module _ (table : Table) (typed : TypedProgram) (effects : Effects)
           (λ b n loan. own_loan (sees_only s) facts (facts ++ handed) (λ l h m own. Has-append_left facts handed (Lent l h m) own) b x n loan)
           (reached (home s depth) (sees_only s) beside_them v view facts x w (well.views x w has));
       whole = λ x w z has foreign gone meets. well.whole x w z has foreign gone.1 meets;
+      past = past;
       lends = λ l n lent. record {
         has = Has-append_right facts handed (Lent l n.root n) (Has-append_right moved_there (loans_there older) (Lent l n.root n) (loans_has older l n lent));
         none = none_there n.root lent.5;
@@ -596,6 +615,7 @@ module _ (table : Table) (typed : TypedProgram) (effects : Effects)
         owned = λ n has. well.clear.owned n (part (Moved n) has);
       };
       whole = λ x w z has foreign gone meets. well.whole x w z has foreign (far_met w z foreign gone meets) meets;
+      past = λ x w has given plain k n none. absurd none;
       views = λ x w has.
           view_on (home s depth) (sees_only s) beside_them v view view all facts x w (well.views x w has) (λ b n loan. loan_kept x w has b n loan)
           (reached (home s depth) (sees_only s) beside_them v view all x w (well.views x w has));
@@ -671,6 +691,7 @@ module _ (table : Table) (typed : TypedProgram) (effects : Effects)
         lies = waits.holds.lies;
         owners = waits.holds.owners;
         passed = waits.holds.passed;
+        own = waits.holds.own;
       };
       placed = waits.placed;
       taken = still_taken s state.memory next.memory g.stage.depth (facts_of program effects g.stage) (lasting_of s waits.point.scope)
@@ -698,6 +719,7 @@ module _ (table : Table) (typed : TypedProgram) (effects : Effects)
           waits_on callee backs g (omega (arith, some, deep)) (omega (arith, less, deep)) (reach g (inl refl)) waiting.0,
           all_on g.stage.frame.sub g.stage.frame.returns (h ∷ older) outer stages.2 (omega (arith, less)) (λ k has. reach k (inr has)) waiting.1,
           waiting.2,
+          waiting.3,
         )
 
     -- where owners see the same

@@ -23,7 +23,7 @@ use Rattle.soundness.specs.Sound.{Accepted, IsNamedSub, IsAtPoint, IsProcedure, 
 use Rattle.soundness.specs.Ready.{root_of, stored_at, AreScoped, AreNew, AreElaborated, AreReturning}
 use Rattle.typed_laws.specs.Needed.{Matches, Leads, Stays, IsPlace}
 use Rattle.soundness.specs.Seen.{is_view_formal}
-use Rattle.viewed_soundness.specs.Holds.{sees_only, AllKeep}
+use Rattle.viewed_soundness.specs.Holds.{sees_only, is_fixed, AllKeep}
 use Rattle.viewed_steps.specs.Awaited.{is_held, IsTaken, FillsTyped}
 use Rattle.viewed_steps.specs.Sound.{IsScalarObject, IsViewClass, Lasts}
 
@@ -66,7 +66,7 @@ IsOwnPlace s e = (y : ℕ) → Has (root_of e) y → (is_package_object s y ≡ 
 -- What a formal is shown that owns nothing: null, or what a name of its type designates that is rooted in an
 -- own variable of the frame, or in such a formal.
 abbrev pub IsShowable : Typing → ℕ → Type 0
-IsShowable s y = (is_package_object s y ≡ false) × (is_anonymous (view_of s y) ≡ false)
+IsShowable s y = (is_package_object s y ≡ false) × (is_anonymous (view_of s y) ≡ false) × (is_view_formal s y ≡ true → sees_only s y ≡ true)
 
 abbrev pub IsSeen : Typing → ℕ → TypedTree → Type 0
 IsSeen s x typed.Null = Unit {0}
@@ -157,7 +157,7 @@ pub record ViewsAreOrderly (table : Table) (typed : TypedProgram) : Type 0 where
       → AreOrderly (flow_program table typed) p (λ q. (n : ℕ) × Has (map (number_in sub.points) p.next) n × IsAtPoint sub.points n q)
   -- nothing is moved, written or freed through an observer, or through a formal that owns nothing
   pub kept : (sub : FlowSub) → Has (flow_program table typed).subs sub → (p : FlowPoint) → Has sub.points p
-      → AllKeep (sees_only (flow_typing (flow_program table typed))) (map (λ (a : Placed). a.act) p.acts)
+      → AllKeep (is_fixed (flow_typing (flow_program table typed))) (map (λ (a : Placed). a.act) p.acts)
 
 -- ---- all of it
 

@@ -16,7 +16,7 @@ use Rattle.typed_tree.specs.Trees.{TypedTree, Name, NoMore}
 use Rattle.typed_tree.specs.Programs.{TypedProgram}
 use Rattle.flow_paths.specs.declared.report.Effects.{Effects}
 use Rattle.flow_paths.specs.Instructions.{Instruction, Declare, Assign, Call, EndScope, Finish}
-use Rattle.flow_paths.specs.Objects.{Typing, object_at, sub_at, is_formal, is_anonymous, is_observer, is_package_object, has_scope_end, view_of}
+use Rattle.flow_paths.specs.Objects.{Typing, object_at, sub_at, is_formal, is_observer, is_package_object, has_scope_end}
 use Rattle.flow_paths.specs.Points.{NamedPoint, FlowPoint}
 use Rattle.flow_paths.specs.Laid.{FlowSub, FlowProgram, NamedSub, flow_typing, flow_program, flow_named}
 use Rattle.flow_paths.specs.Paths.{ControlPath}
@@ -28,13 +28,13 @@ use Rattle.machine.specs.Memory.{Memory, variable_slots, no_slot}
 use Rattle.machine.specs.States.{Return, Waiting, Frame, State, Outcome, Goes, Ends, sub_of}
 use Rattle.machine.specs.Owners.{WellOwned, waiting_in}
 use Rattle.machine.specs.Run.{step}
-use Rattle.owned_ways.specs.Ways.{Step, OfVariable, OfRoot, Held, Way, Named, Under, name_of, number_of}
+use Rattle.owned_ways.specs.Ways.{Step, OfVariable, OfRoot, Held, Way, Named, Under, Past, name_of, number_of}
 use Rattle.soundness.specs.Seen.{content, word_in, home, is_view_formal}
 use Rattle.soundness.specs.Typed.{Kept}
 use Rattle.soundness.specs.Sound.{AreCopied, is_temporary_object, IsNamedSub, IsAtPoint, IsRunnable, Stage, facts_of, AreStages, Uses, IsPlain, InScope, IsTrap}
 use Rattle.soundness.specs.Sound as owners
 use Rattle.owned_loans.specs.Views.{known_gone, Views, IsMovedBy, AreClear, IsForeign, AreViews, Viewed}
-use Rattle.viewed_soundness.specs.Holds.{IsNamed, IsAccess, PartsAreNamed, is_view, sees_only, IsOwners}
+use Rattle.viewed_soundness.specs.Holds.{IsNamed, IsAccess, PartsAreNamed, is_view, sees_only, IsOwners, is_given, is_exclusive}
 use Rattle.viewed_steps.specs.Awaited.{is_held, lasting_of, AreNamedResults, AreAwaited}
 use Rattle.viewed_steps.specs.Taken.{TakenBy, AreTaken, AreCarried}
 
@@ -62,7 +62,8 @@ pub record IsViewClass (program : FlowProgram) : Type 0 where
   pub results : AreNamedResults program
   pub formals : (x : ℕ) → is_formal (flow_typing program) x ≡ true → IsKindOfFormal (flow_typing program) x
   pub functions : (n t : ℕ) → (sub_at (flow_typing program) n).result ≡ Some t → (x : ℕ) → Has (sub_at (flow_typing program) n).formals x
-      → is_formal (flow_typing program) x ≡ true → ((object_at (flow_typing program) x).mode ≡ mode.In) × (IsScalarObject (flow_typing program) x ⊎ IsShown (flow_typing program) x)
+      → is_formal (flow_typing program) x ≡ true → ((object_at (flow_typing program) x).mode ≡ mode.In) 
+      × (IsScalarObject (flow_typing program) x ⊎ (IsShown (flow_typing program) x × (is_exclusive (flow_typing program) x ≡ false)))
   pub procedures : (n : ℕ) → (sub_at (flow_typing program) n).result ≡ None → (x : ℕ) → Has (sub_at (flow_typing program) n).formals x
       → is_formal (flow_typing program) x ≡ true → is_view_formal (flow_typing program) x ≡ false
   pub copied : (sub : FlowSub) → Has program.subs sub → (p : FlowPoint) → Has sub.points p → (n : ℕ) (actuals : TypedTree) (result : Option ℕ)
@@ -88,9 +89,9 @@ IsFading s p x = (z : ℕ) × (p.instr ≡ EndScope z) × (is_observer s x ≡ t
 
 -- ---- views at a point
 
--- A way is of a frame, or begins at a variable of a frame below.
+-- A way is of a frame, or begins at a variable of a frame below, which isn't that of the package objects.
 abbrev pub Lies : Typing → ℕ → Way → Type 0
-Lies s frame w = Named (home s frame) w ⊎ ((foreign : IsForeign (home s frame) w) × (foreign.0 < frame))
+Lies s frame w = Named (home s frame) w ⊎ ((foreign : IsForeign (home s frame) w) × (foreign.0 < frame) × (0 < foreign.0))
 
 -- The objects of a frame that hold the number of a cell are views with a value, but for those that
 -- fade.
@@ -103,8 +104,9 @@ pub record HoldsAt (s : Typing) (frame : ℕ) (v : Views) (m : Memory) (p : Name
   pub only : (x : ℕ) (w : Way) → v.way x ≡ Some w → is_view s x ≡ true
   pub lies : (x : ℕ) (w : Way) → v.way x ≡ Some w → Lies s frame w
   pub owners : (x : ℕ) (w : Way) → v.way x ≡ Some w → IsOwners s w
-  -- what a formal sees was taken from no object of the frame
-  pub passed : (x : ℕ) (w : Way) → v.way x ≡ Some w → is_view_formal s x ≡ true → Named (home s frame) (v.up x) → ⊥
+  -- what a formal sees was taken from no object of the frame, and what a borrower leads to was
+  pub passed : (x : ℕ) (w : Way) → v.way x ≡ Some w → is_given s x ≡ true → Named (home s frame) (v.up x) → ⊥
+  pub own : (x : ℕ) (w : Way) → v.way x ≡ Some w → sees_only s x ≡ false → is_given s x ≡ false → Named (home s frame) (v.up x)
 
 -- A view is in scope. The roots of its way and of what it was taken from last, and so does the one
 -- that holds the loan of an observer, if these are of the frame.
@@ -196,13 +198,22 @@ AreUnmet program effects g older =
     (x : ℕ) (w z : Way) → g.views.way x ≡ Some w → IsForeign (home (flow_typing program) g.stage.depth) w → GoneElsewhere program effects older z
     → Under z w ⊎ Under w z → ⊥
 
+-- The ways of views of some frames, with their cells.
+abbrev pub KeptBy : List ViewStage → Way → ℕ → Type 0
+KeptBy older w n = (g : ViewStage) × Has older g × (x : ℕ) × (g.views.way x ≡ Some w) × (g.views.cell x ≡ n)
+
+-- None of the frames around goes past what a view of a frame changes that belongs to them.
+abbrev pub ArePast : Typing → ℕ → Views → List ViewStage → Type 0
+ArePast s depth v older =
+    (x : ℕ) (w : Way) → v.way x ≡ Some w → (Named (home s depth) (v.up x) → ⊥) → sees_only s x ≡ false → (k : Way) (n : ℕ) → KeptBy older k n → Past w k → ⊥
+
 -- The frames around one that runs a subprogram and copies formals back.
 abbrev pub AreWaiting : Table → TypedProgram → Effects → State → ℕ → List Return → List ViewStage → Type 0
 AreWaiting table typed effects state callee backs [] = ⊥
 AreWaiting table typed effects state callee backs (e ∷ []) = IsFirst e × (backs ≡ [])
 AreWaiting table typed effects state callee backs (g ∷ (h ∷ older)) =
     IsWaiting table typed effects state callee backs g × AreWaiting table typed effects state g.stage.frame.sub g.stage.frame.returns (h ∷ older)
-    × AreUnmet (flow_program table typed) effects g (h ∷ older)
+    × AreUnmet (flow_program table typed) effects g (h ∷ older) × ArePast (flow_typing (flow_program table typed)) g.stage.depth g.views (h ∷ older)
 
 -- ---- a state
 
@@ -237,6 +248,7 @@ pub record IsSound (table : Table) (typed : TypedProgram) (effects : Effects) (s
   pub scope : InScope (flow_typing (flow_program table typed)) state.memory top.depth (lasting_of (flow_typing (flow_program table typed)) point.scope)
   pub holds : HoldsAt (flow_typing (flow_program table typed)) top.depth views state.memory point
   pub placed : ArePlaced (flow_program table typed) top.depth (facts_of (flow_program table typed) effects top) views point.scope
+  pub past : ArePast (flow_typing (flow_program table typed)) top.depth views older
   pub none_above : NoneAbove (flow_typing (flow_program table typed)) top.depth state.memory
 
 -- ---- where the frames come from
