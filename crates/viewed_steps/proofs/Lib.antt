@@ -32,6 +32,7 @@ pub mod Called
 pub mod Backed
 pub mod Whole
 pub mod Passed
+pub mod Globals
 pub mod Eased
 pub mod Blank
 pub mod Standing
