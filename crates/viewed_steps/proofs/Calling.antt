@@ -51,7 +51,7 @@ use Rattle.soundness.proofs.Numbers.{index_law}
 use Rattle.soundness.proofs.Lasting.{keeps}
 use Rattle.soundness.proofs.Passing.{AreReads, reads_keep, entered, TakesAll, takes_each, signature_is}
 use Rattle.soundness.proofs.Scalars.{acts, acts_append, after_append, allows_both}
-use Rattle.soundness.proofs.Points.{sub_in_range, path_there}
+use Rattle.soundness.proofs.Points.{sub_in_range, path_there, one_named, one_point}
 use Rattle.soundness.proofs.Inherited.{AreGlobal, global_after, global_allowed, global_apart}
 use Rattle.soundness.proofs.Used.{called_used, used_global, called_are, globals_are, added_after}
 use Rattle.soundness.proofs.Around.{IsFar}
@@ -59,7 +59,6 @@ use Rattle.soundness.proofs.Waits.{led_waits}
 use Rattle.soundness.proofs.Taking.{Takes}
 use Rattle.soundness.proofs.Eased.{eased}
 use Rattle.soundness.proofs.Scoped.{Inside}
-use Rattle.soundness.proofs.Beginning.{one_named, one_point}
 use Rattle.soundness.proofs.Successors.{below_one, successor_there}
 use Rattle.owned_loans.specs.Views.{expand, Around, known_gone, Views, IsMovedBy, AreClear, IsForeign, AreViews, Viewed}
 use Rattle.owned_loans.proofs.Meeting.{stands}
