@@ -1,7 +1,7 @@
 -- A point that takes what a function gave, alone: the last temporary in scope is that of the call, which another point of
 -- the subprogram fills.
 use Rattle.std.proofs.Common.{◌≡◌, refl, sym, ap, ◌∙◌, subst, ◌⊎◌, inl, inr, ℕ, suc, Bool, true, false, ◌||◌, List, [], ◌∷◌, ◌++◌, drop, Some, None, if◌then◌else◌}
-use Rattle.std.specs.Prelude.{flat_map, is_some, reverse}
+use Rattle.std.specs.Prelude.{flat_map, is_some}
 use Rattle.spark_base.specs.declared.position.Pos.{Pos}
 use Rattle.spark_base.specs.Lists.{Has}
 use Rattle.spark_base.proofs.Lists.{Has-append_left, Has-append_right, Has-append_cases}
@@ -13,7 +13,7 @@ use Rattle.flow_paths.specs.Instructions as instruction
 use Rattle.flow_paths.specs.Names.{has_call}
 use Rattle.flow_paths.specs.Points.{Place, PointName, row_at, NamedPoint, point, entry}
 use Rattle.flow_paths.specs.Prep.{Setting, held, with_held, prep}
-use Rattle.flow_paths.specs.Layout.{Around, within_loop, within_block, with_scope, declared, from, ending, ends, closing, uses, uses_both, uses_second_first, laid, laid_branches, laid_branch, laid_whens, laid_when}
+use Rattle.flow_paths.specs.Layout.{Around, within_loop, within_block, with_scope, declared, from, ending, ends, uses, uses_both, uses_second_first, laid, laid_branches, laid_branch, laid_whens, laid_when}
 use Rattle.flow_paths.specs.Laid.{around_body, scope_at_end, procedure_end, function_end, sub_points}
 
 -- An object is declared with this alone, or it is assigned or returned.
