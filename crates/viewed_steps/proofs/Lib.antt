@@ -30,6 +30,7 @@ pub mod Called
 pub mod Backed
 pub mod Whole
 pub mod Passed
+pub mod Lending
 pub mod Eased
 pub mod Standing
 pub mod Packages
