@@ -35,7 +35,7 @@ use Rattle.owned_loans.specs.Views.{expand, Around, Views, ExcusedBy, Viewed, Is
 use Rattle.owned_loans.proofs.Safe.{off_view}
 use Rattle.owned_loans.proofs.Moves.{same_viewed}
 use Rattle.owned_loans.proofs.Meeting.{stands}
-use Rattle.viewed_soundness.proofs.Names.{both_no, true_false}
+use Rattle.viewed_soundness.proofs.Names.{both_no, true_false, owner_sees}
 use Rattle.viewed_soundness.proofs.Evaluated.{matches_named}
 use Rattle.viewed_steps.proofs.Left.{cells_same}
 use Rattle.viewed_steps.specs.Taken.{AreCarried, TakenBy, IsInside, IsPassedOn, IsBare, IsTaken, IsApartFrom, IsAnother, AreTaken}
@@ -43,9 +43,8 @@ use Rattle.viewed_steps.proofs.Between.{carried_same, carried_then, taken_more, 
 use Rattle.viewed_steps.proofs.Carried.{trunk_is, carried_gone, carried_cells, carried_gone_to, carried_cells_to, inside_at, inside_spot, inside_reached, inside_base, inside_owns, inside_word, variable_clear, carried_bare, carried_held, carried_off, carried_off_low, carried_holds, carried_to, carried_to_low}
 use Rattle.viewed_steps.proofs.Beside.{put_beside}
 use Rattle.viewed_steps.proofs.Alike.{Enters, moved_there, stored_there, one_then, if_back, backs_on}
-use Rattle.viewed_steps.proofs.Entered.{matches_back, not_observing, inside_plain, inside_named, inside_number, inside_itself}
+use Rattle.viewed_steps.proofs.Entered.{matches_back, inside_plain, inside_named, inside_number, inside_itself}
 use Rattle.viewed_steps.proofs.Views.{AreAccess, AreFar, apart_by_base}
-use Rattle.viewed_soundness.proofs.Names.{borrower_sees}
 
 same_names : {f x g y : ℕ} → memory.OfVariable f x ≡ memory.OfVariable g y → (f ≡ g) × (x ≡ y)
 same_names e = (cc, cc)
@@ -261,7 +260,7 @@ module _ (t : Turn) (settled : IsSettled (typing t).table) (own_law : OwnsByShap
     bare p c held = taken.1 p c (held_mid depth inside.object (p ++ inside.steps) c (sym (inside_word s depth r.to to inside mid (got ∷ hands) p) ∙ held))
 
     plain_name : observer (number_of to) ≡ false
-    plain_name = ap observer (inside_number s settled depth r.to to inside) ∙ borrower_sees s inside.object (not_observing s inside.object (inside_plain s settled depth r.to to inside)) inside.owner
+    plain_name = ap observer (inside_number s settled depth r.to to inside) ∙ owner_sees s inside.object (inside_plain s settled depth r.to to inside) inside.owner
 
     clear_to : IsClearOf (home s depth) observer v second (AwayBy rest ways) second_apart to
     clear_to = record {

@@ -42,7 +42,7 @@ use Rattle.machine.specs.Owners.{WellOwned, waiting_in}
 use Rattle.owned_ways.specs.Ways.{Step, OfVariable, OfRoot, Way, Held, after, AllowsAll, along, number_of, Named}
 use Rattle.owned_ways.specs.Ways as ways
 use Rattle.owned_ways.proofs.Locations.{reaches_along, named_along as rooted_along}
-use Rattle.soundness.specs.Seen.{IsNear, is_view_formal, content, word_in, home}
+use Rattle.soundness.specs.Seen.{IsNear, content, word_in, home}
 use Rattle.soundness.specs.Typed.{Kept}
 use Rattle.typed_laws.specs.Needed.{IsFine, Stays, Source, FirstSource, FirstWrites, FirstStays, Returns}
 use Rattle.soundness.specs.Sound.{IsNoCall, Stage, facts_of, AreStages, IsRunnable, returns_value, InScope, IsNamedSub, IsAtPoint, view_of as view_here, is_temporary_object}
@@ -61,7 +61,7 @@ use Rattle.soundness.proofs.Eased.{eased, waits_same, goes_same, from_eased}
 use Rattle.soundness.proofs.Continued.{got_with, released_with, started_with, input_eased, release_eased, start_eased}
 use Rattle.soundness.proofs.Successors.{not_true, below_one, below_two, successor_there}
 use Rattle.owned_loans.specs.Views.{Around, known_gone, Views, Viewed, Unused, IsForeign}
-use Rattle.viewed_soundness.specs.Holds.{AllKeep, is_view, sees_only, is_fixed}
+use Rattle.viewed_soundness.specs.Holds.{AllKeep, is_view, sees_only, is_fixed, is_given}
 use Rattle.viewed_soundness.proofs.Names.{plain_named, true_false}
 use Rattle.viewed_soundness.proofs.Evaluated.{keep_both}
 use Rattle.viewed_soundness.proofs.Outcomes.{named_plain, IsGood, Leads_on, decides_on, choose_on, assign_on, Turned}
@@ -76,7 +76,7 @@ use Rattle.viewed_steps.proofs.Rounds.{skip_leads, line_leads, next_leads, outpu
 use Rattle.viewed_steps.proofs.Lent.{Spare, loans_stay, spare_acts}
 use Rattle.viewed_steps.proofs.Placed.{brought_more, lasts_more, scope_on, placed_on, MayBe, turned_placed, turned_lies}
 use Rattle.owned_loans.proofs.Meeting.{named_view}
-use Rattle.viewed_steps.proofs.Sources.{leads_or, view_declared, view_assigned}
+use Rattle.viewed_steps.proofs.Sources.{leads_or, own_there, view_declared, view_assigned}
 use Rattle.viewed_steps.proofs.Beside.{IsOther, OthersKept, others_keep}
 use Rattle.viewed_steps.proofs.Waiting.{StandsBetween, KeptElsewhere, beside_them, handed, apart_elsewhere}
 use Rattle.viewed_steps.proofs.Standing.{or_right}
@@ -757,10 +757,10 @@ module _ (table : Table) (typed : TypedProgram) (effects : Effects) (input : Lis
       -- formals have what they had
       passed_then : (turned_views : Views) (facts : List Fact)
           → Turned easy ready.accepted.settled ready.owns other alone views ready.class.parts_named may refl refl turned_views facts
-          → (x : ℕ) (w : Way) → turned_views.way x ≡ Some w → is_view_formal s x ≡ true → ways.Named (home s depth) (turned_views.up x) → ⊥
+          → (x : ℕ) (w : Way) → turned_views.way x ≡ Some w → is_given s x ≡ true → ways.Named (home s depth) (turned_views.up x) → ⊥
       passed_then turned_views facts turned x w has formal taken_up = elim (turned x w has) [
         | inl old ↦ holds.passed x w (sym old.way ∙ has) formal (subst (ways.Named (home s depth)) old.up taken_up)
-        | inr (y, from, comes) ↦ (in_formals x formal).1 (from.0).view
+        | inr (y, from, comes) ↦ true_false (is_given s x) formal (own_there s x (ready.orderly.local x (from.0).view).0)
       ]
 
       pub goes_there : sparing → (p.instr ≡ Finish → ⊥) → returns_value p.instr ≡ false → (after_step : State) (waits : List Waiting) (loops : List Loop) (k : ℕ)

@@ -31,7 +31,7 @@ use Rattle.owned_loans.specs.Views.{Around, Views, expand, ExcusedBy, Viewed, Is
 use Rattle.owned_loans.proofs.Safe.{off_view}
 use Rattle.owned_loans.proofs.Others.{clean_away}
 use Rattle.owned_loans.proofs.Moves.{expand_along}
-use Rattle.viewed_soundness.proofs.Names.{both_no, true_false, view_access, not_view}
+use Rattle.viewed_soundness.proofs.Names.{both_no, true_false, view_access, not_view, owner_sees}
 use Rattle.viewed_soundness.proofs.Evaluated.{matches_named}
 use Rattle.viewed_steps.specs.Taken.{AreCarried, IsInside, IsPassedOn, IsBare, IsApartFrom}
 use Rattle.viewed_steps.proofs.Between.{gone_also, IsClearOf, base_along, base_under, same_variable}
@@ -40,7 +40,6 @@ use Rattle.viewed_steps.proofs.Outs.{Out, HasStill, places_apart}
 use Rattle.viewed_steps.proofs.Beside.{put_beside}
 use Rattle.viewed_steps.proofs.Declared.{declared_viewed, declared_low}
 use Rattle.viewed_steps.proofs.Views.{AreAccess, AreFar, view_cases, apart_by_base}
-use Rattle.viewed_soundness.proofs.Names.{borrower_sees}
 
 named_part : (home : ℕ → ℕ) (w : Way) (p : List Step) → Named home w → Named home (along w p)
 named_part home w [] n = n
@@ -208,7 +207,7 @@ module _ (s : Typing) (settled : IsSettled s.table) (own_law : OwnsByShape s.tab
     spot = inside_spot s depth k to passed.inside m hands
 
     plain_name : sees_only s (number_of to) ≡ false
-    plain_name = ap (sees_only s) (inside_number s settled depth k to passed.inside) ∙ borrower_sees s (passed.inside).object (not_observing s (passed.inside).object (inside_plain s settled depth k to passed.inside)) (passed.inside).owner
+    plain_name = ap (sees_only s) (inside_number s settled depth k to passed.inside) ∙ owner_sees s (passed.inside).object (inside_plain s settled depth k to passed.inside) (passed.inside).owner
 
     itself : expand v to ≡ to
     itself = inside_itself s settled depth k to passed.inside v

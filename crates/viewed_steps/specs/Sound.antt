@@ -29,12 +29,12 @@ use Rattle.machine.specs.States.{Return, Waiting, Frame, State, Outcome, Goes, E
 use Rattle.machine.specs.Owners.{WellOwned, waiting_in}
 use Rattle.machine.specs.Run.{step}
 use Rattle.owned_ways.specs.Ways.{Step, OfVariable, OfRoot, Held, Way, Named, Under, Past, name_of, number_of}
-use Rattle.soundness.specs.Seen.{content, word_in, home, is_view_formal}
+use Rattle.soundness.specs.Seen.{content, word_in, home}
 use Rattle.soundness.specs.Typed.{Kept}
 use Rattle.soundness.specs.Sound.{AreCopied, is_temporary_object, IsNamedSub, IsAtPoint, IsRunnable, Stage, facts_of, AreStages, Uses, IsPlain, InScope, IsTrap}
 use Rattle.soundness.specs.Sound as owners
 use Rattle.owned_loans.specs.Views.{known_gone, Views, IsMovedBy, AreClear, IsForeign, AreViews, Viewed}
-use Rattle.viewed_soundness.specs.Holds.{IsNamed, PartsAreNamed, is_view, sees_only, IsOwners}
+use Rattle.viewed_soundness.specs.Holds.{IsNamed, PartsAreNamed, is_view, sees_only, IsOwners, is_given}
 use Rattle.viewed_steps.specs.Awaited.{is_held, lasting_of, AreNamedResults, AreAwaited}
 use Rattle.viewed_steps.specs.Taken.{TakenBy, AreTaken, AreCarried}
 
@@ -98,8 +98,8 @@ pub record HoldsAt (s : Typing) (frame : ℕ) (v : Views) (m : Memory) (p : Name
   pub lies : (x : ℕ) (w : Way) → v.way x ≡ Some w → Lies s frame w
   pub owners : (x : ℕ) (w : Way) → v.way x ≡ Some w → IsOwners s w
   -- what a formal sees was taken from no object of the frame, and what a borrower leads to was
-  pub passed : (x : ℕ) (w : Way) → v.way x ≡ Some w → is_view_formal s x ≡ true → Named (home s frame) (v.up x) → ⊥
-  pub own : (x : ℕ) (w : Way) → v.way x ≡ Some w → sees_only s x ≡ false → is_view_formal s x ≡ false → Named (home s frame) (v.up x)
+  pub passed : (x : ℕ) (w : Way) → v.way x ≡ Some w → is_given s x ≡ true → Named (home s frame) (v.up x) → ⊥
+  pub own : (x : ℕ) (w : Way) → v.way x ≡ Some w → sees_only s x ≡ false → is_given s x ≡ false → Named (home s frame) (v.up x)
 
 -- A view is in scope. The roots of its way and of what it was taken from last, and so does the one
 -- that holds the loan of an observer, if these are of the frame.
