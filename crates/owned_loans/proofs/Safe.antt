@@ -73,6 +73,9 @@ unlent_below facts u unlent l h n has over = unlent l h n has (designated_over n
 pub unborrowed_below : (facts : List Fact) (u : Way) → Unborrowed facts u → Unborrowed facts (All u)
 unborrowed_below facts u unborrowed h n has over = unborrowed h n has (designated_over n u over)
 
+pub unmoved_below : (facts : List Fact) (u : Way) → Unmoved facts u → Unmoved facts (All u)
+unmoved_below facts u unmoved n has over = unmoved n has (designated_over n u over)
+
 pub over_below : (u y : Way) → overlaps (name_of (All u)) (name_of (All y)) ≡ true → overlaps (name_of u) (name_of y) ≡ true
 over_below u y e =
     overlaps-sym (name_of u) (name_of y)

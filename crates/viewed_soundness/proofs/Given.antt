@@ -11,7 +11,7 @@ use Rattle.owned_loans.specs.Views.{on, Around, Views, expand, ExcusedBy, IsFore
 use Rattle.owned_loans.proofs.Ways.{Meet, meets_front, beginnings, under_on, on_under, Lifted, lifted_way, next_of}
 use Rattle.owned_loans.proofs.Meeting.{next}
 use Rattle.place_names.specs.Names.{overlaps}
-use Rattle.owned_loans.proofs.Safe.{Unlent, Unborrowed, unlent_below, unborrowed_below, over_below, apart_names, off_view}
+use Rattle.owned_loans.proofs.Safe.{Unlent, Unborrowed, unlent_below, unborrowed_below, unmoved_below, over_below, apart_names, off_view}
 use Rattle.owned_loans.proofs.Allowed.{Cleared, cleared_whole}
 use Rattle.owned_loans.proofs.Others.{off_kept, above_away, clean_away, seen_above_away, seen_away_below}
 use Rattle.owned_loans.proofs.Moves.{IsPlace}
@@ -41,6 +41,21 @@ module _ (s : Typing) (frame : ℕ) (other : Around (home s frame)) (v : Views) 
           (subst (Under (expand v u)) (sym same) (inr (under_itself (expand v u)))) away
       by_case (inl away) (inl (inr above)) =
           above_away (home s frame) (sees_only s) other v view facts viewed u z (named, plain) (cleared_whole facts u clear) above away
+
+  -- by the way of what is designated, of a formal itself, too
+  pub lent_whole : (u : Way) → Named (home s frame) u → sees_only s (number_of u) ≡ false → Cleared facts u
+      → (z : Way) → ExcusedBy (home s frame) v other facts z → Meets z (expand v (All u)) → ⊥
+  lent_whole u named plain clear z excused meets = by_case excused meets
+    where
+      clear_below : Cleared facts (All u)
+      clear_below = (unborrowed_below facts u clear.0, unmoved_below facts u clear.1)
+
+      by_case : ExcusedBy (home s frame) v other facts z → Meets z (expand v (All u)) → ⊥
+      by_case (inr gone) met = gone_off s frame other v view facts viewed alone (All u) z named plain met gone
+      by_case (inl away) (inr below) =
+          clean_away (home s frame) (sees_only s) other v view facts viewed (All u) z (named, plain) clear_below.0 clear_below.1 below away
+      by_case (inl away) (inl above) =
+          above_away (home s frame) (sees_only s) other v view facts viewed (All u) z (named, plain) (cleared_whole facts (All u) clear_below) above away
 
   -- through an observer or another formal
   pub seen_whole : (u : Way) → Named (home s frame) u → (l : Lifted v (All u)) → sees_only s l.object ≡ true
