@@ -442,6 +442,7 @@ module _ (table : Table) (typed : TypedProgram) (effects : Effects) (input : Lis
           placed_on program depth facts_called views (scope_behind p) (at_successor.0).scope holds.only at_successor.2
           (λ x w has. (let own_place = placed_left own_facts placed_own x w has in record {
             within = more x own_place.within;
+            plain = own_place.plain;
             up = λ up_named. lasts_more program left_scope (scope_behind p) (ways.number_of (views.up x)) x more (own_place.up up_named);
             root = λ at_home. lasts_more program left_scope (scope_behind p) (ways.number_of w) x more (own_place.root at_home);
             holder = λ up_named sees. (let h = own_place.holder up_named sees in

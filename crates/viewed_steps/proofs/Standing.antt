@@ -91,7 +91,7 @@ module _ (table : Table) (typed : TypedProgram) (effects : Effects) (input : Lis
   laid named has = ready.scoped.goes named has
 
   pub local : (x : ℕ) → is_view s x ≡ true → is_package_object s x ≡ false
-  local x view = elim (view_cases s x view) [ inl anonymous ↦ (ready.orderly.local x anonymous).1 | inr formal ↦ ready.orderly.passed x formal ]
+  local x view = elim (view_cases s x view) [ inl anonymous ↦ ready.orderly.local x anonymous | inr formal ↦ ready.orderly.passed x formal ]
 
   -- ---- a point
 

@@ -101,10 +101,11 @@ pub record HoldsAt (s : Typing) (frame : ℕ) (v : Views) (m : Memory) (p : Name
   pub passed : (x : ℕ) (w : Way) → v.way x ≡ Some w → is_given s x ≡ true → Named (home s frame) (v.up x) → ⊥
   pub own : (x : ℕ) (w : Way) → v.way x ≡ Some w → sees_only s x ≡ false → is_given s x ≡ false → Named (home s frame) (v.up x)
 
--- A view is in scope. The roots of its way and of what it was taken from last, and so does the one
+-- A view is in scope, and no temporary. The roots of its way and of what it was taken from last, and so does the one
 -- that holds the loan of an observer, if these are of the frame.
 pub record IsPlaced (program : FlowProgram) (frame : ℕ) (facts : List Fact) (v : Views) (scope : List ℕ) (x : ℕ) (w : Way) : Type 0 where
   pub within : is_within x scope ≡ true
+  pub plain : is_held (flow_typing program) x ≡ false
   pub up : Named (home (flow_typing program) frame) (v.up x) → Lasts program scope (number_of (v.up x)) x
   pub root : Named (home (flow_typing program) frame) w → Lasts program scope (number_of w) x
   pub holder : Named (home (flow_typing program) frame) (v.up x) → sees_only (flow_typing program) x ≡ true
