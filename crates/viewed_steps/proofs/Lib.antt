@@ -39,6 +39,7 @@ pub mod Opening
 pub mod Backed
 pub mod Whole
 pub mod Passed
+pub mod Lending
 pub mod Globals
 pub mod Eased
 pub mod Blank

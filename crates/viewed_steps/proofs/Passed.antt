@@ -99,7 +99,7 @@ none_of : {A : Type 0} (xs : List A) → ((x : A) → Has xs x → ⊥) → xs �
 none_of [] none = refl
 none_of (x ∷ xs) none = absurd (none x (inl refl))
 
-flat_has : {A B : Type 0} (f : A → List B) (xs : List A) (x : A) (y : B) → Has xs x → Has (f x) y → Has (flat_map f xs) y
+pub flat_has : {A B : Type 0} (f : A → List B) (xs : List A) (x : A) (y : B) → Has xs x → Has (f x) y → Has (flat_map f xs) y
 flat_has f [] x y h k = absurd h
 flat_has f (z ∷ xs) x y h k = elim h [
   | inl e ↦ Has-append_left (f z) (flat_map f xs) y (subst (λ w. Has (f w) y) (sym e) k)
