@@ -1,10 +1,12 @@
--- What code declares is known as no formal.
-use Rattle.std.proofs.Common.{◌≡◌, refl, sym, ap, ◌∙◌, subst, ◌⊎◌, inl, inr, ℕ, suc, ◌+◌, Bool, true, false, List, [], ◌∷◌, ◌++◌, map, flat_map, get_or, nat_eq, arith, None}
-use Rattle.std.specs.List.{position_or_len}
+-- What code declares is known as no formal, and formals belong to no package.
+use Rattle.std.proofs.Common.{◌≡◌, refl, sym, ap, ◌∙◌, subst, ◌⊎◌, inl, inr, ℕ, zero, suc, ◌+◌, Bool, true, false, not, ◌&&◌, List, [], ◌∷◌, ◌++◌, map, flat_map, get_or, nat_eq, arith, None, is_some}
+use Rattle.std.specs.List.{position_or_len, AllByRecursion}
 use Rattle.spark_base.specs.Lists.{Has}
 use Rattle.spark_base.specs.declared.position.Pos.{Pos}
+use Rattle.place_names.specs.declared.act.Mode.{Mode}
+use Rattle.place_names.specs.declared.act.Mode.TheVariants as mode
 use Rattle.spark_base.proofs.Lists.{Has-append_cases, Has-append_left, Has-append_right}
-use Rattle.resolved_tree.specs.Trees.{Tree, Named, Code, Objects, Numbers, SubBody, Package, PackageBody, If, Branch, Case, When, Loop, While, For, Block, Call, More, Program, code_items}
+use Rattle.resolved_tree.specs.Trees.{Tree, Named, Code, Objects, Numbers, Formals, SubBody, Package, PackageBody, If, Branch, Case, When, Loop, While, For, Block, Call, More, Program, code_items}
 use Rattle.type_definitions.specs.declared.table.Entry.{Entry}
 use Rattle.type_definitions.specs.declared.table.Entry.TheVariants as entry
 use Rattle.type_definitions.specs.declared.table.Kind.{Kind}
@@ -12,16 +14,18 @@ use Rattle.type_definitions.specs.declared.table.Predefined.TheVariants as prede
 use Rattle.type_definitions.specs.declared.table.Known.{Known}
 use Rattle.type_definitions.specs.Entries.{entry_of}
 use Rattle.type_definitions.specs.Names.{Context}
-use Rattle.type_definitions.specs.Gathered.{declared_number, object_kind, in_subprogram, in_visible, in_hidden}
+use Rattle.type_definitions.specs.Gathered.{declared_number, declared_text, object_kind, in_subprogram, in_visible, in_hidden}
 use Rattle.type_definitions.specs.Whole.{outside, known_of}
+use Rattle.typed_tree.specs.declared.object.ObjectKind.{ObjectKind}
 use Rattle.typed_tree.specs.Trees.{TypedTree, TypedCode, typed_code_list}
 use Rattle.typed_tree.specs.Expressions.{Site, object_number}
 use Rattle.typed_tree.specs.Statements.{scope_count, statements, typed_object, typed_call, call_of}
-use Rattle.typed_tree.specs.Programs.{kind_of, entry_kind, TypedSub, DeclaredObject, program_objects, text_io, placed, subs_in, over_units, elaborated, site_of, typed_program}
+use Rattle.typed_tree.specs.Programs.{kind_of, entry_kind, TypedSub, DeclaredObject, Home, object_of, formals_of, front_formals, objects_in, local, in_package, package_text, program_objects, text_io, placed, subs_in, over_units, elaborated, site_of, typed_program}
 use Rattle.flow_paths.specs.Laid.{declared_within}
-use Rattle.flow_paths.specs.Objects.{is_formal, is_formal_kind}
+use Rattle.flow_paths.specs.Objects.{object_at, is_formal, is_formal_kind, is_state, is_package_object}
 use Rattle.meant_files.specs.Typed.{IsOf, AreIndicated, AreIntegers, AreTyped}
 use Rattle.meant_files.proofs.Objects.{object_numbers, units_same}
+use Rattle.scope_laws.proofs.Lists.{all_both}
 use Rattle.order_laws.specs.Orderly.{typed_of, typing_in}
 use Rattle.sound_files.proofs.Kinded.{program_kinded}
 use Rattle.sound_files.proofs.Known.{kind_at}
@@ -188,6 +192,97 @@ module _ (made : ℕ → Type 0) where
       both_found s c.known (object_numbers u) (flat_map object_numbers rest) (elaborated s n u) (over_units (elaborated s) (n + scope_count u) rest)
       (unit_found s n c u (typed u (inl refl))) (all_found s (n + scope_count u) c rest (λ v there. typed v (inr there))) x has
 
+-- ---- packages
+
+-- A formal belongs to no package.
+abbrev IsSorted : DeclaredObject → Type 0
+IsSorted o = is_formal_kind o.object.kind ≡ true → o.object.«package» ≡ None
+
+no_formal : (k : ObjectKind) → is_formal_kind k ≡ false → is_formal_kind k ≡ true → ⊥
+no_formal k none is = (let no : false ≡ true = sym none ∙ is in cc)
+
+module _ (units : List Code) (made : ℕ → Type 0) where
+  abbrev AreSorted : List DeclaredObject → Type 0
+  AreSorted os = AllByRecursion IsSorted os
+
+  both : (xs ys : List DeclaredObject) → AreSorted xs → AreSorted ys → AreSorted (xs ++ ys)
+  both xs ys h g = all_both IsSorted xs ys h g
+
+  other_sorted : (h : Home) (known : Known) → h.known ≡ known → (a : ℕ) (m : Mode) (d : Code) → is_formal_kind (entry_kind (entry_of known (declared_number d))) ≡ false
+      → IsSorted (object_of h a m d)
+  other_sorted h known same a m d none is =
+      absurd (no_formal (entry_kind (entry_of h.known (declared_number d))) (ap (λ (k : Known). is_formal_kind (entry_kind (entry_of k (declared_number d)))) same ∙ none) is)
+
+  ids_sorted : (h : Home) (known : Known) → h.known ≡ known → (a : ℕ) (constant : Bool) (i ids : Code) → AreIndicated known made constant i ids
+      → AreSorted (map (object_of h a mode.In) (code_items ids))
+  ids_sorted h known same a constant i (More d rest) typed =
+      (other_sorted h known same a mode.In d (not_formal known (declared_number d) _ _ typed.0 (either_kind constant)), ids_sorted h known same a constant i rest typed.2)
+  ids_sorted h known same a constant i ids typed = tt
+
+  numbers_sorted : (h : Home) (known : Known) → h.known ≡ known → (a : ℕ) (ids : Code) → AreIntegers known ids → AreSorted (map (object_of h a mode.In) (code_items ids))
+  numbers_sorted h known same a (More d rest) typed =
+      (other_sorted h known same a mode.In d (not_formal known (declared_number d) _ _ typed.0 refl), numbers_sorted h known same a rest typed.1)
+  numbers_sorted h known same a ids typed = tt
+
+  -- formals stand within a subprogram
+  items_sorted : (h : Home) → h.identifier ≡ None → (a : ℕ) (m : Mode) (ds : List Code) → AreSorted (map (object_of h a m) ds)
+  items_sorted h outside a m [] = tt
+  items_sorted h outside a m (d ∷ ds) = ((λ is. outside), items_sorted h outside a m ds)
+
+  formals_sorted : (h : Home) → h.identifier ≡ None → (a : ℕ) (groups : List Code) → AreSorted (flat_map (formals_of h a) groups)
+  formals_sorted h outside a [] = tt
+  formals_sorted h outside a (g ∷ groups) =
+      both (formals_of h a g) (flat_map (formals_of h a) groups) (group g) (formals_sorted h outside a groups)
+    where
+      group : (g : Code) → AreSorted (formals_of h a g)
+      group (Formals ids m of) = items_sorted h outside a m (code_items ids)
+      group g = tt
+
+  objects_sorted : (h : Home) (c : Context) → h.known ≡ c.known → (a n : ℕ) (code : Code) → AreTyped made c code → AreSorted (objects_in units h a n code)
+  unfolding objects_in AreTyped
+  objects_sorted h c same a n (Objects ids constant i v) typed = ids_sorted h c.known same a constant i ids typed
+  objects_sorted h c same a n (Numbers ids e) typed = numbers_sorted h c.known same a ids typed
+  objects_sorted h c same a n (SubBody front items stmts end) typed =
+      let fs : List DeclaredObject = flat_map (formals_of (local h) n) (front_formals front) in
+      let first : List DeclaredObject = objects_in units (local h) n (n + 1) items in
+      let second : List DeclaredObject = objects_in units (local h) n (n + 1 + scope_count items) stmts in
+      both (fs ++ first) second
+      (both fs first (formals_sorted (local h) refl n (front_formals front)) (objects_sorted (local h) (in_subprogram front c) same n (n + 1) items typed.1))
+      (objects_sorted (local h) (in_subprogram front c) same n (n + 1 + scope_count items) stmts typed.2)
+  objects_sorted h c same a n (Package d visible hidden) typed =
+      both (objects_in units (in_package (declared_text d) h) a n visible) (objects_in units (in_package (declared_text d) h) a (n + scope_count visible) hidden)
+      (objects_sorted (in_package (declared_text d) h) (in_visible (declared_number d) c) same a n visible typed.0)
+      (objects_sorted (in_package (declared_text d) h) (in_hidden (declared_number d) c) same a (n + scope_count visible) hidden typed.1)
+  objects_sorted h c same a n (PackageBody d parts) typed =
+      objects_sorted (in_package (package_text units (declared_number d)) h) (in_hidden (declared_number d) c) same a n parts typed
+  objects_sorted h c same a n (If p x y) typed =
+      both (objects_in units h a n x) (objects_in units h a (n + scope_count x) y) (objects_sorted h c same a n x typed.0) (objects_sorted h c same a (n + scope_count x) y typed.1)
+  objects_sorted h c same a n (Branch p e x) typed = objects_sorted h c same a n x typed
+  objects_sorted h c same a n (Case p e x) typed = objects_sorted h c same a n x typed
+  objects_sorted h c same a n (When choices x) typed = objects_sorted h c same a n x typed
+  objects_sorted h c same a n (Loop p x) typed = objects_sorted h c same a n x typed
+  objects_sorted h c same a n (While p e x) typed = objects_sorted h c same a n x typed
+  objects_sorted h c same a n (For p d reversed range x) typed =
+      (other_sorted h c.known same n mode.In d (not_formal c.known (declared_number d) _ _ typed.0 refl), objects_sorted h c same n (n + 1) x typed.1)
+  objects_sorted h c same a n (Block p x y end) typed =
+      both (objects_in units h n (n + 1) x) (objects_in units h n (n + 1 + scope_count x) y) (objects_sorted h c same n (n + 1) x typed.0)
+      (objects_sorted h c same n (n + 1 + scope_count x) y typed.1)
+  objects_sorted h c same a n (More x y) typed =
+      both (objects_in units h a n x) (objects_in units h a (n + scope_count x) y) (objects_sorted h c same a n x typed.0) (objects_sorted h c same a (n + scope_count x) y typed.1)
+  objects_sorted h c same a n _ typed = tt
+
+  units_sorted : (h : Home) (c : Context) → h.known ≡ c.known → (n : ℕ) (us : List Code) → ((u : Code) → Has us u → AreTyped made c u) → AreSorted (over_units (objects_in units h 0) n us)
+  units_sorted h c same n [] typed = tt
+  units_sorted h c same n (u ∷ us) typed =
+      both (objects_in units h 0 n u) (over_units (objects_in units h 0) (n + scope_count u) us) (objects_sorted h c same 0 n u (typed u (inl refl)))
+      (units_sorted h c same (n + scope_count u) us (λ v there. typed v (inr there)))
+
+sorted_at : (os : List DeclaredObject) → AllByRecursion IsSorted os → (x : ℕ) → is_formal_kind (get_or (map (λ (o : DeclaredObject). o.object) os) x text_io).kind ≡ true
+    → (get_or (map (λ (o : DeclaredObject). o.object) os) x text_io).«package» ≡ None
+sorted_at [] all x is = (let no : false ≡ true = is in cc)
+sorted_at (o ∷ os) all zero is = all.0 is
+sorted_at (o ∷ os) all (suc x) is = sorted_at os all.1 x is
+
 -- ---- the program
 
 module _ (p : Program) where
@@ -212,3 +307,13 @@ module _ (p : Program) where
   declared_known made typed sub (inr among) x has =
       let f = units_found made (site_of (known_of p) p.units) 1 (outside (known_of p)) p.units sub typed among x has in
       subst (λ y. is_formal (typing_in p) y ≡ false) (sym f.1) (known_other f.0 f.2 f.3)
+
+  -- A formal belongs to no package.
+  pub formals_apart : (made : ℕ → Type 0) → ((u : Code) → Has p.units u → AreTyped made (outside (known_of p)) u) → (x : ℕ) → is_formal (typing_in p) x ≡ true
+      → is_package_object (typing_in p) x ≡ false
+  unfolding typed_program
+  formals_apart made typed zero is = (let no : false ≡ true = is in cc)
+  formals_apart made typed (suc x) is =
+      let os : List DeclaredObject = program_objects (known_of p) p.units in
+      let none = sorted_at os (units_sorted p.units made (record { known = known_of p; identifier = None }) (outside (known_of p)) refl 1 p.units typed) x is in
+      ap (λ z. is_some z && not (is_state (object_at (typing_in p) (suc x)).kind)) none
