@@ -232,7 +232,7 @@ module _ (table : Table) (typed : TypedProgram) (effects : Effects) (input : Lis
 
     -- where it leads, and how the frames come from those before
     abbrev Along : Outcome → Type 0
-    Along outcome = LeadsAlong table typed effects p.instr state.memory (record { stage = top; views = views }) (below ∷ more_frames) outcome
+    Along outcome = LeadsAlong table typed effects p.instr state.memory (record { stage = top; views = views; cells = [] }) (below ∷ more_frames) outcome
 
     abbrev ends_raised : (how : Exception) (m : Memory) → Along (steps.raised main_turn how m)
     ends_raised = innermost.ends_raised table typed effects input ready state top below more_frames rest named p frames deep stages running awaiting of_sub at_point path views viewed_before kept scope holds placed_before above
@@ -613,7 +613,7 @@ module _ (table : Table) (typed : TypedProgram) (effects : Effects) (input : Lis
         waits_stage = waits_with all_passed_ways.0
 
         abbrev waits_there : ViewStage
-        waits_there = record { stage = waits_with all_passed_ways.0; views = views }
+        waits_there = record { stage = waits_with all_passed_ways.0; views = views; cells = [] }
 
         frames_there : after_call.frames ≡ frame_at_start n (returns_of formals passed) ∷ (waits_stage.frame ∷ outer)
         frames_there =

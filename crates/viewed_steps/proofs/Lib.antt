@@ -16,6 +16,7 @@ pub mod Waiting
 pub mod Apart
 pub mod Left
 pub mod Between
+pub mod Lodged
 pub mod Carried
 pub mod Called
 pub mod Waited

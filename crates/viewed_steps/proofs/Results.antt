@@ -258,7 +258,7 @@ module _ (table : Table) (typed : TypedProgram) (effects : Effects) (input : Lis
 
     -- where it leads, and how the frames come from those before
     abbrev Along : Outcome → Type 0
-    Along outcome = LeadsAlong table typed effects p.instr state.memory (record { stage = top; views = views }) (below ∷ more_frames) outcome
+    Along outcome = LeadsAlong table typed effects p.instr state.memory (record { stage = top; views = views; cells = [] }) (below ∷ more_frames) outcome
 
     abbrev may : ℕ → ℕ → Type 0
     may x y = MayBe program (scope_behind p) x y × IsStoredAt p.instr x
@@ -536,6 +536,13 @@ module _ (table : Table) (typed : TypedProgram) (effects : Effects) (input : Lis
               views = was.views;
               holds = was.holds;
               placed = was.placed;
+              kept = λ c has. record {
+                named = (was.kept c has).named;
+                own = (was.kept c has).own;
+                leads = (was.kept c has).leads;
+                reaches = (was.kept c has).reaches;
+                aside = (was.kept c has).aside;
+              };
               taken = was.taken;
             },
             waits.1,

@@ -28,15 +28,15 @@ use Rattle.machine.specs.Memory.{Memory, variable_slots, no_slot}
 use Rattle.machine.specs.States.{Return, Waiting, Frame, State, Outcome, Goes, Ends, sub_of}
 use Rattle.machine.specs.Owners.{WellOwned, waiting_in}
 use Rattle.machine.specs.Run.{step}
-use Rattle.owned_ways.specs.Ways.{Step, OfVariable, OfRoot, Held, Way, Named, name_of, number_of}
+use Rattle.owned_ways.specs.Ways.{Step, OfVariable, OfRoot, OfCell, Held, Way, Named, Reaches, Past, name_of, number_of}
 use Rattle.soundness.specs.Seen.{content, word_in, home}
 use Rattle.soundness.specs.Typed.{Kept}
 use Rattle.soundness.specs.Sound.{AreCopied, is_temporary_object, IsNamedSub, IsAtPoint, IsRunnable, Stage, facts_of, AreStages, Uses, IsPlain, InScope, IsTrap}
 use Rattle.soundness.specs.Sound as owners
-use Rattle.owned_loans.specs.Views.{known_gone, Views, IsMovedBy, AreClear, AreViews, Viewed}
+use Rattle.owned_loans.specs.Views.{known_gone, Views, expand, IsMovedBy, AreClear, AreViews, Viewed}
 use Rattle.viewed_soundness.specs.Holds.{IsNamed, PartsAreNamed, sees_only}
 use Rattle.viewed_steps.specs.Awaited.{is_held, lasting_of, AreNamedResults, AreAwaited}
-use Rattle.viewed_steps.specs.Taken.{TakenBy, AreTaken, AreCarried}
+use Rattle.viewed_steps.specs.Taken.{TakenBy, Lodge, AreTaken, AreCarried}
 
 -- ---- the class
 
@@ -119,10 +119,12 @@ AreReturned s f =
 abbrev pub IsResting : Typing → Stage → Type 0
 IsResting s g = AreReturned s g.frame
 
--- A frame with its executed points and the ways of its views.
+-- A frame with its executed points and the ways of its views, and the cells in which places stand that what
+-- it called copies back to.
 pub record ViewStage : Type 0 where
   pub stage : Stage
   pub views : Views
+  pub cells : List Lodge
 
 abbrev pub stages_of : List ViewStage → List Stage
 stages_of older = map (λ (g : ViewStage). g.stage) older
@@ -139,6 +141,15 @@ GoneElsewhere program effects older w =
 abbrev pub Disturbs : Effects → Loan → ℕ → ℕ → Type 0
 Disturbs effects Borrowed n x = Uses effects n x
 Disturbs effects Observed n x = Has (written_by effects n) x
+
+-- A cell of a place that is copied back to is there: it is named by the frame, by a variable of its own or a
+-- view, and no way that was taken goes before the name's way.
+pub record IsKept (s : Typing) (state : State) (g : ViewStage) (c : Lodge) : Type 0 where
+  pub named : Named (home s g.stage.depth) c.name
+  pub own : is_package_object s (number_of c.name) ≡ false
+  pub leads : expand g.views c.name ≡ c.way
+  pub reaches : Reaches (owners.view_of s state) c.way (OfCell c.cell)
+  pub aside : (to : Way) → Has g.stage.returns to → Past to c.way → ⊥
 
 -- A frame that waits for a call to end. The points that it has executed form a control path to its
 -- next point. What it owns is in scope there, and so are its views, which have their ways still. The
@@ -167,12 +178,13 @@ pub record IsWaiting (table : Table) (typed : TypedProgram) (effects : Effects) 
       (owners.view_of (flow_typing (flow_program table typed)) state) (facts_of (flow_program table typed) effects g.stage)
   pub holds : HoldsAt (flow_typing (flow_program table typed)) g.stage.depth g.views state.memory point
   pub placed : ArePlaced (flow_program table typed) (facts_of (flow_program table typed) effects g.stage) g.views point.scope
-  pub taken : AreTaken (flow_typing (flow_program table typed)) state.memory g.stage.depth (facts_of (flow_program table typed) effects g.stage)
+  pub kept : (c : Lodge) → Has g.cells c → IsKept (flow_typing (flow_program table typed)) state g c
+  pub taken : AreTaken (flow_typing (flow_program table typed)) g.cells state.memory g.stage.depth (facts_of (flow_program table typed) effects g.stage)
       (lasting_of (flow_typing (flow_program table typed)) point.scope) backs g.stage.returns
 
 -- The frame of the package objects has no views, and nothing waits in it.
 abbrev pub IsFirst : ViewStage → Type 0
-IsFirst e = (e.stage.frame.sub ≡ 0) × IsPlain e.stage × ((x : ℕ) → e.views.way x ≡ None) × (e.stage.depth ≡ 0)
+IsFirst e = (e.stage.frame.sub ≡ 0) × IsPlain e.stage × ((x : ℕ) → e.views.way x ≡ None) × (e.stage.depth ≡ 0) × (e.cells ≡ [])
 
 -- The frames around one that runs a subprogram and copies formals back.
 abbrev pub AreWaiting : Table → TypedProgram → Effects → State → ℕ → List Return → List ViewStage → Type 0
@@ -196,7 +208,7 @@ pub record IsSound (table : Table) (typed : TypedProgram) (effects : Effects) (s
   pub views : Views
   pub older : List ViewStage
   pub stages : AreStages (top ∷ stages_of older) state.frames
-  pub running : IsRunning table typed effects state (record { stage = top; views = views }) older
+  pub running : IsRunning table typed effects state (record { stage = top; views = views; cells = [] }) older
   -- what waits is what is in scope
   pub awaited : AreAwaited table typed None (top ∷ stages_of older)
   pub path : ControlPath (path_points (flow_program table typed) effects (sub_of (flow_program table typed) top.frame.sub)) top.before top.frame.next
@@ -245,10 +257,10 @@ pub data Follows (program : FlowProgram) (effects : Effects) (i : Instruction) (
       → older ≡ below ∷ more → owners.IsOnward top.stage next.stage → AreTurned i top.views next.views
       → around ≡ record below { stage = record below.stage { frame = record below.stage.frame { waits = waits } } } ∷ more
       → Follows program effects i m top older n next around
-  calls_one : (waits : Stage) → around ≡ record { stage = waits; views = top.views } ∷ older → owners.IsOnward top.stage waits → next.stage.before ≡ []
+  calls_one : (waits : Stage) (cells : List Lodge) → around ≡ record { stage = waits; views = top.views; cells = cells } ∷ older → owners.IsOnward top.stage waits → next.stage.before ≡ []
       → ((f : Fact) → Has (facts_of program effects waits) f → Has (facts_of program effects top.stage) f)
       → AreCarried (flow_typing program) (λ f. f ≡ suc top.stage.depth → ⊥) [] m n → Follows program effects i m top older n next around
-  ends_one : older ≡ next ∷ around
+  ends_one : (cells : List Lodge) → older ≡ record { stage = next.stage; views = next.views; cells = cells } ∷ around
       → AreCarried (flow_typing program) (λ f. f ≡ top.stage.depth → ⊥) next.stage.returns m n
       → Follows program effects i m top older n next around
 
@@ -256,14 +268,14 @@ pub data Follows (program : FlowProgram) (effects : Effects) (i : Instruction) (
 abbrev pub LeadsAlong : Table → TypedProgram → Effects → Instruction → Memory → ViewStage → List ViewStage → Outcome → Type 0
 LeadsAlong table typed effects i m top older (Goes state) =
     (next : IsSound table typed effects state)
-    × Follows (flow_program table typed) effects i m top older state.memory (record { stage = next.top; views = next.views }) next.older
+    × Follows (flow_program table typed) effects i m top older state.memory (record { stage = next.top; views = next.views; cells = [] }) next.older
 LeadsAlong table typed effects i m top older (Ends e state) = (IsTrap e → ⊥) × WellOwned (flow_typing (flow_program table typed)) state
 
 -- So it is of each step.
 abbrev pub StepsLeadAlong : Table → TypedProgram → Effects → List ℕ → Type 0
 StepsLeadAlong table typed effects input =
     (state : State) (sound : IsSound table typed effects state)
-    → LeadsAlong table typed effects sound.point.instr state.memory (record { stage = sound.top; views = sound.views }) sound.older
+    → LeadsAlong table typed effects sound.point.instr state.memory (record { stage = sound.top; views = sound.views; cells = [] }) sound.older
     (step (flow_program table typed) input state)
 
 -- ---- what is to be proved
