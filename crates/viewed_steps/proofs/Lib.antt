@@ -17,6 +17,8 @@ pub mod Apart
 pub mod Left
 pub mod Between
 pub mod Lodged
+pub mod Aside
+pub mod Opened
 pub mod Carried
 pub mod Called
 pub mod Waited
