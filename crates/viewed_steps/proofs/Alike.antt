@@ -1,7 +1,8 @@
 -- Scalar places and formals of scalar types: owners see nothing of what is put into them, nor of what is
 -- copied back.
-use Rattle.std.proofs.Common.{◌≡◌, refl, sym, ap, ◌∙◌, subst, inl, ℕ, ◌+◌, Bool, true, false, List, [], ◌∷◌, ◌++◌, take, drop, length, get_or, if◌then◌else◌}
+use Rattle.std.proofs.Common.{◌≡◌, refl, sym, ap, ◌∙◌, subst, ◌⊎◌, inl, inr, ℕ, ◌+◌, Bool, true, false, List, [], ◌∷◌, ◌++◌, take, drop, length, get_or, if◌then◌else◌}
 use Rattle.std.proofs.lemmas.List.{length-map}
+use Rattle.spark_base.specs.Lists.{Has}
 use Rattle.type_definitions.specs.Types.{shape_of, words, full, is_scalar}
 use Rattle.flow_paths.specs.Objects.{Typing, object_at, is_anonymous, view_of}
 use Rattle.machine.specs.Words.{access_offsets, fits_type}
@@ -26,7 +27,7 @@ use Rattle.soundness.proofs.Returning.{Backs}
 use Rattle.viewed_soundness.proofs.Names.{true_false, view_access}
 use Rattle.viewed_soundness.proofs.Outcomes.{named_plain}
 use Rattle.viewed_steps.proofs.Read.{scalar_named}
-use Rattle.viewed_steps.specs.Taken.{Lodge, IsLodged}
+use Rattle.viewed_steps.specs.Taken.{Lodge, IsLodged, IsPlainPlace}
 use Rattle.viewed_steps.proofs.Beside.{put_beside}
 use Rattle.viewed_steps.proofs.Lodged.{lodged_spot}
 
@@ -110,6 +111,14 @@ module _ (s : Typing) (settled : IsSettled s.table) (own_law : OwnsByShape s.tab
     where
       no_cell : (n g y : ℕ) → memory.OfCell n ≡ memory.OfVariable g y → ⊥
       no_cell n g y e = cc
+
+  -- one in a variable, or in one of these cells, which are there
+  pub plain_place : (f : ℕ) (cells : List Lodge) → ((c : Lodge) → Has cells c → (g : ℕ) × (y : ℕ) × (base_of c.way ≡ OfRoot (OfVariable g y)) × (g ≡ f → ⊥))
+      → (m : Memory) (k : Place) → IsPlainPlace s cells k → Kept s m hands → ((c : Lodge) → Has cells c → Reaches (seen s m hands leaks) c.way (OfCell c.cell))
+      → IsPlainSpot m k
+  plain_place f cells begins m k (inl fixed) typed there = fixed_plain k fixed m
+  plain_place f cells begins m k (inr (c, has, lodged, plain)) typed there =
+      let begin = begins c has in lodged_plain k c lodged plain begin.0 begin.1 begin.2 m typed (there c has)
 
   -- one word stands there
   pub one_there : (m : Memory) (k : Place) → IsPlainSpot m k → Kept s m hands → length (words_of s m k) ≡ 1

@@ -39,6 +39,7 @@ pub record IsNameOfCell (v : Views) (s : View) (w : Way) (n : ℕ) : Type 0 wher
   pub name : Way
   pub rest : List Step
   pub is : w ≡ along name rest
+  pub deep : (r : Root) → name ≡ Object r → ⊥
   pub reaches : Reaches s (expand v name) (OfCell n)
 
 pub cell_name : (v : Views) (s : View) → ((x : ℕ) (w : Way) → v.way x ≡ Some w → Reaches s w (OfCell (v.cell x))) → (w : Way) (l : Loc) (n : ℕ)
@@ -49,6 +50,7 @@ cell_name v s views (Lost c) l n reach base = record {
   name = Lost c;
   rest = [];
   is = refl;
+  deep = λ r e. cc;
   reaches = (reach.0, sym base ∙ ap trunk reach.1);
 }
 cell_name v s views (Into w i) l n (m, reach, is) base =
@@ -56,12 +58,14 @@ cell_name v s views (Into w i) l n (m, reach, is) base =
       name = there.name;
       rest = i ∷ there.rest;
       is = ap (λ z. Into z i) there.is;
+      deep = there.deep;
       reaches = there.reaches;
     }
 cell_name v s views (All w) l n reach base = record {
   name = All w;
   rest = [];
   is = refl;
+  deep = λ r e. cc;
   reaches = subst (Reaches s (expand v (All w))) (at_cell w reach) reach;
 }
   where

@@ -39,7 +39,7 @@ use Rattle.viewed_steps.specs.Taken.{Lodge, IsLodged, IsPlainPlace, IsCopiedTo, 
 use Rattle.viewed_steps.proofs.Between.{carried_same, carried_then, taken_more, same_reaches, gone_also, more_gone, IsClearOf, base_along, base_under, same_variable, not_named, taken_less}
 use Rattle.viewed_steps.proofs.Carried.{trunk_is, carried_gone, carried_cells, carried_gone_to, carried_cells_to, inside_at, inside_spot, inside_reached, inside_base, inside_owns, inside_word, variable_clear, carried_bare, carried_held, carried_off, carried_off_stays, carried_holds, carried_to, carried_to_stays, past_other}
 use Rattle.viewed_steps.proofs.Beside.{put_beside}
-use Rattle.viewed_steps.proofs.Alike.{Enters, IsPlainSpot, fixed_plain, lodged_plain, one_there, moved_there, stored_there, one_then, if_back, backs_on}
+use Rattle.viewed_steps.proofs.Alike.{Enters, IsPlainSpot, fixed_plain, plain_place, one_there, moved_there, stored_there, one_then, if_back, backs_on}
 use Rattle.viewed_steps.proofs.Lodged.{cell_live}
 use Rattle.viewed_steps.proofs.Entered.{matches_back, not_observing, inside_plain, inside_named, inside_number, inside_itself}
 use Rattle.viewed_steps.proofs.Views.{observes_not, AreFar, apart_by_base}
@@ -460,12 +460,6 @@ module _ (t : Turn) (settled : IsSettled (typing t).table) (own_law : OwnsByShap
   }
 
   -- a scalar place that is copied back to
-  plain_spot : (m : Memory) (k : Place) → IsPlainPlace s cells k → Kept s m hands → ((c : Lodge) → Has cells c → Reaches (seen s m hands leaks) c.way (OfCell c.cell))
-      → IsPlainSpot s settled own_law hands leaks m k
-  plain_spot m k (inl fixed) typed there = fixed_plain s settled own_law hands leaks k fixed m
-  plain_spot m k (inr (c, has, lodged, plain)) typed there =
-      let begin = begins c has in lodged_plain s settled own_law hands leaks k c lodged plain begin.0 begin.1 begin.2 m typed (there c has)
-
   place_there : (m : Memory) (k : Place) → IsPlainPlace s cells k → Kept s m hands → Owned (seen s m hands leaks)
       → ((c : Lodge) → Has cells c → Reaches (seen s m hands leaks) c.way (OfCell c.cell)) → IsThere m k.base
   place_there m k (inl fixed) typed owned there = subst (IsThere m) (sym fixed.base) tt
@@ -485,7 +479,7 @@ module _ (t : Turn) (settled : IsSettled (typing t).table) (own_law : OwnsByShap
       let next : Memory = stored s r.to ws mid in
       let first = moved_there s settled own_law hands leaks formal begun.memory fixed typed in
       let second = stored_there s settled own_law hands leaks r.to mid
-      (plain_spot mid r.to copied.1 first.typed (λ c has. same_reaches (seen s begun.memory hands leaks) (seen s mid hands leaks) first.same c.way (OfCell c.cell) (cells_there c has).0))
+      (plain_place s settled own_law hands leaks (suc depth) cells begins mid r.to copied.1 first.typed (λ c has. same_reaches (seen s begun.memory hands leaks) (seen s mid hands leaks) first.same c.way (OfCell c.cell) (cells_there c has).0))
       ws (one_there s settled own_law hands leaks begun.memory formal fixed typed) first.typed in
       let on : Enters s settled own_law hands leaks begun.memory next = one_then s settled own_law hands leaks begun.memory mid next first second in
       subst (GivenBack (r ∷ rest) ways begun.memory) (sym (place_is t r rest begun r.to.base refl (place_there begun.memory r.to copied.1 typed viewed.owned (λ c has. (cells_there c has).0))))

@@ -17,6 +17,7 @@ use Rattle.flow_paths.specs.Laid.{FlowSub, FlowProgram, NamedSub, number_in, flo
 use Rattle.flow_paths.specs.Scopes.{taken, is_within}
 use Rattle.flow_paths.specs.Views.{encloses, scope_of}
 use Rattle.machine.specs.States.{sub_of}
+use Rattle.machine.specs.Owners.{is_in}
 use Rattle.soundness.specs.Typed.{OwnsByShape}
 use Rattle.soundness.specs.Sound.{Accepted, IsNamedSub, IsAtPoint, IsProcedure, IsRunnable}
 use Rattle.soundness.specs.Ready.{root_of, stored_at, AreScoped, AreNew, AreElaborated, AreReturning}
@@ -56,15 +57,14 @@ pub record AreValued (table : Table) (typed : TypedProgram) : Type 0 where
   pub fills : (sub : NamedSub) → Has (flow_named table typed) sub → (p : NamedPoint) → Has sub.points p
       → FillsTyped (flow_program table typed) p.instr (drop (taken p.instr) p.scope)
 
--- What is passed stays within what it names. One that is copied back to is a name: of a scalar type; or,
--- of mode `in out`, of a place of the type of the formal in an object that belongs to no package.
+-- What is passed stays within what it names. One that is copied back to is a name of a place of the type of
+-- the formal: of a scalar type, or in an object that belongs to no package.
 abbrev pub IsOwnPlace : Typing → TypedTree → Type 0
 IsOwnPlace s e = (y : ℕ) → Has (root_of e) y → is_package_object s y ≡ false
 
 abbrev pub IsActualTo : Typing → ℕ → Mode → TypedTree → Type 0
 IsActualTo s x mode.In e = Stays s e
-IsActualTo s x mode.Out e = (t : ℕ) × IsPlace s e t × (is_scalar (full s.table t) ≡ true)
-IsActualTo s x mode.InOut e =
+IsActualTo s x m e =
     (t : ℕ) × IsPlace s e t × Matches s.table t (object_at s x).of × ((is_scalar (full s.table t) ≡ true) ⊎ IsOwnPlace s e)
 
 -- So is each that there is a formal for; each formal that isn't of a scalar type has an actual.
@@ -108,11 +108,19 @@ IsNewSource program scope x e =
     × (is_observer (flow_typing program) x ≡ true → Lasts program scope y x)
     × (is_observer (flow_typing program) x ≡ false → y ≡ x)
 
+-- What is copied back to is rooted in no observer.
+abbrev pub AreUnobserved : Typing → List ℕ → TypedTree → Type 0
+AreUnobserved s (x ∷ formals) (More e rest) =
+    (is_in (object_at s x).mode ≡ false → (y : ℕ) → Has (root_of e) y → is_observer s y ≡ false) × AreUnobserved s formals rest
+AreUnobserved s formals actuals = Unit {0}
+
 -- Views at a point with its successors.
 pub record AreOrderly (program : FlowProgram) (p : NamedPoint) (next : NamedPoint → Type 0) : Type 0 where
   pub declared : (x : ℕ) (e : TypedTree) → p.instr ≡ Declare x e → is_anonymous (view_of (flow_typing program) x) ≡ true → IsSource program p.scope x e
   pub assigned : (q : Pos) (x w : ℕ) (e : TypedTree) → p.instr ≡ Assign (Name q x NoMore w) e → is_anonymous (view_of (flow_typing program) x) ≡ true
       → IsNewSource program p.scope x e
+  pub copied : (n : ℕ) (actuals : TypedTree) (result : Option ℕ) → p.instr ≡ Call n actuals result
+      → AreUnobserved (flow_typing program) (sub_of program n).formals actuals
   pub read : (q : Pos) (x w : ℕ) (path : TypedTree) → p.instr ≡ Input (Name q x path w) → is_observer (flow_typing program) x ≡ false
   -- where a scope ends: objects of greater numbers have ended before; and of the objects in scope,
   -- what its scope encloses is of the same region, and ends at the points that follow

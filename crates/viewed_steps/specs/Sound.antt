@@ -12,7 +12,7 @@ use Rattle.place_names.specs.declared.rule.Loan.{Loan}
 use Rattle.place_names.specs.declared.rule.Loan.TheVariants.{Borrowed, Observed}
 use Rattle.place_names.specs.Names.{Name as PlaceName}
 use Rattle.type_definitions.specs.Types.{Table, full, is_scalar}
-use Rattle.typed_tree.specs.Trees.{TypedTree, Name, NoMore}
+use Rattle.typed_tree.specs.Trees.{TypedTree, Name, NoMore, More}
 use Rattle.typed_tree.specs.Programs.{TypedProgram}
 use Rattle.flow_paths.specs.declared.report.Effects.{Effects}
 use Rattle.flow_paths.specs.Instructions.{Instruction, Declare, Assign, Call, EndScope, Finish}
@@ -26,13 +26,14 @@ use Rattle.flow_paths.specs.Views.{encloses, scope_of}
 use Rattle.machine.specs.Words.{Cell}
 use Rattle.machine.specs.Memory.{Memory, variable_slots, no_slot}
 use Rattle.machine.specs.States.{Return, Waiting, Frame, State, Outcome, Goes, Ends, sub_of}
-use Rattle.machine.specs.Owners.{WellOwned, waiting_in}
+use Rattle.machine.specs.Owners.{is_in, WellOwned, waiting_in}
 use Rattle.machine.specs.Run.{step}
 use Rattle.owned_ways.specs.Ways.{Step, OfVariable, OfRoot, OfCell, Held, Way, Named, Reaches, Past, name_of, number_of}
 use Rattle.soundness.specs.Seen.{content, word_in, home}
 use Rattle.soundness.specs.Typed.{Kept}
-use Rattle.soundness.specs.Sound.{AreCopied, is_temporary_object, IsNamedSub, IsAtPoint, IsRunnable, Stage, facts_of, AreStages, Uses, IsPlain, InScope, IsTrap}
+use Rattle.soundness.specs.Sound.{goes_through_none, is_temporary_object, IsNamedSub, IsAtPoint, IsRunnable, Stage, facts_of, AreStages, Uses, IsPlain, InScope, IsTrap}
 use Rattle.soundness.specs.Sound as owners
+use Rattle.soundness.specs.Ready.{root_of}
 use Rattle.owned_loans.specs.Views.{known_gone, Views, expand, IsMovedBy, AreClear, AreViews, Viewed}
 use Rattle.viewed_soundness.specs.Holds.{IsNamed, PartsAreNamed, sees_only}
 use Rattle.viewed_steps.specs.Awaited.{is_held, lasting_of, AreNamedResults, AreAwaited}
@@ -40,25 +41,38 @@ use Rattle.viewed_steps.specs.Taken.{TakenBy, Lodge, AreTaken, AreCarried}
 
 -- ---- the class
 
--- A formal of a scalar type, or of mode `in out` and of no anonymous access type.
+-- A formal of a scalar type, or of mode `out` or `in out` and of no anonymous access type.
 abbrev pub IsScalarObject : Typing → ℕ → Type 0
 IsScalarObject s x = is_scalar (full s.table (object_at s x).of) ≡ true
 
+abbrev pub IsCopiedBack : Typing → ℕ → Type 0
+IsCopiedBack s x = (object_at s x).mode ≡ mode.In → ⊥
+
 abbrev pub IsKindOfFormal : Typing → ℕ → Type 0
-IsKindOfFormal s x = IsScalarObject s x ⊎ (((object_at s x).mode ≡ mode.InOut) × IsNamed s.table (object_at s x).of)
+IsKindOfFormal s x = IsScalarObject s x ⊎ (IsCopiedBack s x × IsNamed s.table (object_at s x).of)
+
+-- Actuals that are copied back to go through no access value; or they are for formals of scalar types, and are
+-- rooted in objects that belong to no package.
+abbrev pub AreKeptPlaces : Typing → List ℕ → TypedTree → Type 0
+AreKeptPlaces s (x ∷ formals) (More e rest) =
+    (is_in (object_at s x).mode ≡ false → (goes_through_none e ≡ true)
+    ⊎ (IsScalarObject s x × ((y : ℕ) → Has (root_of e) y → is_package_object s y ≡ false))) × AreKeptPlaces s formals rest
+AreKeptPlaces s formals actuals = Unit {0}
 
 -- Anonymous access types are those of objects alone, and functions that are called have no results of
--- such types; formals are such, those of functions of scalar types, and actuals that are copied back to
--- go through no access value.
+-- such types; formals are such, those of functions of scalar types and of mode `in`, and actuals are copied
+-- back to as above.
 pub record IsViewClass (program : FlowProgram) : Type 0 where
   pub parts_named : PartsAreNamed program.table
   pub results : AreNamedResults program
   pub formals : (x : ℕ) → is_formal (flow_typing program) x ≡ true → IsKindOfFormal (flow_typing program) x
   pub functions : (n t : ℕ) → (sub_at (flow_typing program) n).result ≡ Some t → (x : ℕ) → Has (sub_at (flow_typing program) n).formals x
       → is_formal (flow_typing program) x ≡ true → IsScalarObject (flow_typing program) x
+  pub modes : (n t : ℕ) → (sub_at (flow_typing program) n).result ≡ Some t → (x : ℕ) → Has (sub_at (flow_typing program) n).formals x
+      → (object_at (flow_typing program) x).mode ≡ mode.In
   pub copied : (sub : FlowSub) → Has program.subs sub → (p : FlowPoint) → Has sub.points p → (n : ℕ) (actuals : TypedTree) (result : Option ℕ)
       → p.instr ≡ Call n actuals result → ((x : ℕ) → Has (sub_of program n).formals x → is_formal (flow_typing program) x ≡ true)
-      → AreCopied (flow_typing program) (sub_of program n).formals actuals
+      → AreKeptPlaces (flow_typing program) (sub_of program n).formals actuals
 
 -- ---- where objects last
 
