@@ -3,7 +3,7 @@
 use Rattle.std.proofs.Common.{◌≡◌, refl, sym, ap, ◌∙◌, subst, ◌⊎◌, inl, inr, ℕ, ◌+◌, Bool, true, false, List, [], ◌∷◌, ◌++◌, take, drop, length, get_or, if◌then◌else◌}
 use Rattle.std.proofs.lemmas.List.{length-map}
 use Rattle.spark_base.specs.Lists.{Has}
-use Rattle.type_definitions.specs.Types.{shape_of, words, full, is_scalar}
+use Rattle.type_definitions.specs.Types.{shape_of, words, full, is_scalar, components_of}
 use Rattle.flow_paths.specs.Objects.{Typing, object_at, is_anonymous, view_of}
 use Rattle.machine.specs.Words.{access_offsets, fits_type}
 use Rattle.machine.specs.Words as machine
@@ -24,33 +24,31 @@ use Rattle.soundness.proofs.Fixed.{matches_scalar, plain_word, fixed_at, fixed_s
 use Rattle.soundness.proofs.Loops.{same_word, scalar_same}
 use Rattle.soundness.proofs.Stays.{One}
 use Rattle.soundness.proofs.Returning.{Backs}
-use Rattle.viewed_soundness.proofs.Names.{true_false, view_access}
-use Rattle.viewed_soundness.proofs.Outcomes.{named_plain}
-use Rattle.viewed_steps.proofs.Read.{scalar_named}
 use Rattle.viewed_steps.specs.Taken.{Lodge, IsLodged, IsPlainPlace}
+use Rattle.viewed_soundness.specs.Holds.{is_view}
+use Rattle.viewed_steps.proofs.Views.{AreAccess, view_access, scalar_no_view}
 use Rattle.viewed_steps.proofs.Beside.{put_beside}
 use Rattle.viewed_steps.proofs.Lodged.{lodged_spot}
 
 -- ---- memories that owners see alike
 
 -- a scalar place isn't in the variable of a view
-no_view_fixed : (s : Typing) (settled : IsSettled s.table) (k : Place) → IsFixed s k → (g y : ℕ) → is_anonymous (view_of s y) ≡ true
+no_view_fixed : (s : Typing) (settled : IsSettled s.table) → AreAccess s → (k : Place) → IsFixed s k → (g y : ℕ) → is_view s y ≡ true
     → k.base ≡ memory.OfVariable g y → ⊥
-no_view_fixed s settled k fixed g y view base =
+no_view_fixed s settled in_formals k fixed g y view base =
     let same : fixed.object ≡ y = same_variable fixed.frame fixed.object g y (sym fixed.base ∙ base) in
-    let access = view_access (shape_of s.table (object_at s y).of) view in
+    let access = view_access s in_formals y view in
     let there : has_part s.table (object_at s y).of fixed.steps ≡ true = subst (λ z. has_part s.table (object_at s z).of fixed.steps ≡ true) same fixed.there in
-    let none = plain_end s.table settled (object_at s y).of access.0 access.1 fixed.steps there in
+    let none = plain_end s.table settled (object_at s y).of (ap components_of access.3) (ap machine.count_of access.3) fixed.steps there in
     let fits : Matches s.table k.of (object_at s y).of =
     subst (λ p. Matches s.table k.of (type_in s.table (object_at s y).of p)) none
     (subst (λ z. Matches s.table k.of (type_in s.table (object_at s z).of fixed.steps)) same fixed.of) in
-    true_false (is_anonymous (view_of s y)) view
-    (named_plain s.table (object_at s y).of (scalar_named s.table (object_at s y).of (matches_scalar s k.of (object_at s y).of fits fixed.scalar)))
+    scalar_no_view s in_formals y (matches_scalar s k.of (object_at s y).of fits fixed.scalar) view
   where
     same_variable : (f x g y : ℕ) → memory.OfVariable f x ≡ memory.OfVariable g y → x ≡ y
     same_variable f x g y e = cc
 
-module _ (s : Typing) (settled : IsSettled s.table) (own_law : OwnsByShape s.table) (hands : List Waiting) (leaks : List Leak) where
+module _ (s : Typing) (settled : IsSettled s.table) (own_law : OwnsByShape s.table) (in_formals : AreAccess s) (hands : List Waiting) (leaks : List Leak) where
   abbrev Scalar : ℕ → Type 0
   Scalar x = is_scalar (full s.table (object_at s x).of) ≡ true
 
@@ -59,7 +57,7 @@ module _ (s : Typing) (settled : IsSettled s.table) (own_law : OwnsByShape s.tab
     pub same : IsSame (seen s m hands leaks) (seen s n hands leaks)
     pub typed : Kept s n hands
     pub hold : (g y : ℕ) (p : List Step) → word_in s.table (content s n [] (OfRoot (OfVariable g y))) p ≡ word_in s.table (content s m [] (OfRoot (OfVariable g y))) p
-    pub views : (g y : ℕ) → is_anonymous (view_of s y) ≡ true
+    pub views : (g y : ℕ) → is_view s y ≡ true
         → (get_or (variable_slots s g y n.variables) 0 no_slot).word ≡ (get_or (variable_slots s g y m.variables) 0 no_slot).word
 
   pub nothing : (m : Memory) → Kept s m hands → Enters m m
@@ -90,14 +88,14 @@ module _ (s : Typing) (settled : IsSettled s.table) (own_law : OwnsByShape s.tab
     pub loc : Loc
     pub spot : Spot s m hands k loc
     pub scalar : is_scalar (full s.table k.of) ≡ true
-    pub off : (g y : ℕ) → is_anonymous (view_of s y) ≡ true → k.base ≡ memory.OfVariable g y → ⊥
+    pub off : (g y : ℕ) → is_view s y ≡ true → k.base ≡ memory.OfVariable g y → ⊥
 
   pub fixed_plain : (k : Place) → IsFixed s k → (m : Memory) → IsPlainSpot m k
   fixed_plain k fixed m = record {
     loc = fixed_at s settled k fixed;
     spot = fixed_spot s settled k fixed m hands;
     scalar = fixed.scalar;
-    off = no_view_fixed s settled k fixed;
+    off = no_view_fixed s settled in_formals k fixed;
   }
 
   pub lodged_plain : (k : Place) (c : Lodge) → IsLodged s k c → is_scalar (full s.table k.of) ≡ true → (f x : ℕ) → base_of c.way ≡ OfRoot (OfVariable f x)
@@ -182,8 +180,7 @@ module _ (s : Typing) (settled : IsSettled s.table) (own_law : OwnsByShape s.tab
         typed = declared_kept s settled m f x got hands (scalar s settled m got hands plain typed) long (inl refl);
         hold = λ g y p. same_word s settled m [] [] f x plain (declared f x ws m).variables others (OfRoot (OfVariable g y)) p refl;
         views = λ g y view. ap (λ z. (get_or z 0 no_slot).word) (others g y (λ e.
-            true_false (is_anonymous (view_of s y)) view
-            (ap (λ z. is_anonymous (view_of s z)) (sym (same_object f x g y e)) ∙ named_plain s.table u (scalar_named s.table u plain))));
+            scalar_no_view s in_formals x plain (subst (λ z. is_view s z ≡ true) (sym (same_object f x g y e)) view)));
       }
 
   -- What is passed for a formal of a scalar type: a value, or a scalar place.

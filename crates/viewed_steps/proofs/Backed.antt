@@ -2,7 +2,7 @@
 --
 -- All of it is seen from the frame of the caller: what is gone in the variables of the frame that ends is
 -- known as such.
-use Rattle.viewed_soundness.specs.Holds.{sees_only}
+use Rattle.viewed_soundness.specs.Holds.{is_view, sees_only}
 use Rattle.std.proofs.Common.{◌≡◌, refl, sym, ap, ◌∙◌, subst, ◌⊎◌, inl, inr, ℕ, suc, ◌<◌, ◌+◌, Bool, true, false, not, List, [], ◌∷◌, ◌++◌, take, drop, length, get_or, arith, append-nil, if◌then◌else◌, Some}
 use Rattle.std.proofs.lemmas.List.{length-map}
 use Rattle.spark_base.specs.Lists.{Has}
@@ -28,11 +28,13 @@ use Rattle.soundness.proofs.Joined.{trunk_part}
 use Rattle.soundness.proofs.Contents.{word_no}
 use Rattle.soundness.proofs.Steps.{matches_words, no_leaf, taken_slots, room}
 use Rattle.soundness.proofs.Lasting.{keeps, put_away}
-use Rattle.soundness.proofs.Returning.{Backs, formal_fixed}
-use Rattle.owned_loans.specs.Views.{Around, Views, ExcusedBy, Viewed, IsForeign}
+use Rattle.soundness.proofs.Returning.{Backs, formal_fixed, copied_is}
+use Rattle.owned_loans.specs.Views.{Around, Views, ExcusedBy, Viewed, IsForeign, expand}
+use Rattle.soundness.proofs.Fixed.{fixed_one}
 use Rattle.owned_loans.proofs.Safe.{off_view}
-use Rattle.owned_loans.proofs.Moves.{named_way, same_viewed}
-use Rattle.viewed_soundness.proofs.Names.{true_false}
+use Rattle.owned_loans.proofs.Moves.{same_viewed}
+use Rattle.owned_loans.proofs.Meeting.{stands}
+use Rattle.viewed_soundness.proofs.Names.{both_no, true_false, borrower_sees}
 use Rattle.viewed_soundness.proofs.Evaluated.{matches_named}
 use Rattle.viewed_steps.proofs.Left.{cells_same}
 use Rattle.viewed_steps.specs.Taken.{Lodge, IsLodged, IsPlainPlace, IsCopiedTo, AreCarried, TakenBy, IsInside, IsPassedOn, IsBare, IsTaken, IsApartFrom, IsAnother, AreTaken}
@@ -42,7 +44,7 @@ use Rattle.viewed_steps.proofs.Beside.{put_beside}
 use Rattle.viewed_steps.proofs.Alike.{Enters, IsPlainSpot, fixed_plain, plain_place, one_there, moved_there, stored_there, one_then, if_back, backs_on}
 use Rattle.viewed_steps.proofs.Lodged.{cell_live}
 use Rattle.viewed_steps.proofs.Entered.{matches_back, not_observing, inside_plain, inside_named, inside_number, inside_itself}
-use Rattle.viewed_steps.proofs.Views.{observes_not, AreFar, apart_by_base}
+use Rattle.viewed_steps.proofs.Views.{AreAccess, AreFar, apart_by_base}
 
 same_names : {f x g y : ℕ} → memory.OfVariable f x ≡ memory.OfVariable g y → (f ≡ g) × (x ≡ y)
 same_names e = (cc, cc)
@@ -63,7 +65,7 @@ pub given_is : (t : Turn) (r : Return) (rest : List Return) (begun : Now) (f x :
     (λ ws n. copied_back t rest (record n { memory = stored (typing t) r.to ws (moved_out (typing t) (variable_place (here t) r.formal) n.memory) }))
 given_is t r rest begun f x base = rw base refl
 
-module _ (t : Turn) (settled : IsSettled (typing t).table) (own_law : OwnsByShape (typing t).table) (no_formals : (x : ℕ) → is_view_formal (typing t) x ≡ false)
+module _ (t : Turn) (settled : IsSettled (typing t).table) (own_law : OwnsByShape (typing t).table) (in_formals : AreAccess (typing t))
     (hands : List Waiting) (leaks : List Leak) (depth : ℕ) (deep : length t.outer ≡ suc depth) (v : Views)
     (far : AreFar (home (typing t) depth) v depth) (facts : List Fact) (scope : List ℕ)
     (other : Around (home (typing t) depth))
@@ -101,7 +103,7 @@ module _ (t : Turn) (settled : IsSettled (typing t).table) (own_law : OwnsByShap
         → (word_in (typing t).table (content (typing t) m [] (OfRoot (OfVariable g y))) p ≡ Held c) ⊎ ((g ≡ depth) × (is_within y scope ≡ true))
     pub empty : (r : Return) → Has returns r → (p : List Step) (c : ℕ)
         → word_in (typing t).table (content (typing t) n [] (OfRoot (OfVariable (suc depth) r.formal))) p ≡ Held c → ⊥
-    pub views : (g y : ℕ) → is_anonymous (view_of (typing t) y) ≡ true
+    pub views : (g y : ℕ) → is_view (typing t) y ≡ true
         → (get_or (variable_slots (typing t) g y n.variables) 0 no_slot).word ≡ (get_or (variable_slots (typing t) g y m.variables) 0 no_slot).word
     pub carried : AreCarried (typing t) (λ g. g ≡ suc depth → ⊥) ways m n
     -- ways from the variables of other frames that don't go on after a place reach what they reached
@@ -165,6 +167,7 @@ module _ (t : Turn) (settled : IsSettled (typing t).table) (own_law : OwnsByShap
       way = refl;
       base = ap (λ z. memory.OfVariable z r.formal) (ap (λ b. if b then 0 else length t.outer) passed.formal ∙ deep);
       own = passed.formal;
+      owner = passed.owner;
       there = refl;
       at = refl;
       of = inl refl;
@@ -176,7 +179,7 @@ module _ (t : Turn) (settled : IsSettled (typing t).table) (own_law : OwnsByShap
     spot = inside_spot s (suc depth) formal root formal_inside m hands
 
     owns : (content s m hands (OfRoot (OfVariable (suc depth) r.formal))).owns ≡ true
-    owns = ap not (no_formals r.formal)
+    owns = ap not passed.owner
 
     first_apart : (y : ℕ) (w z : Way) → v.way y ≡ Some w → IsForeign (home s depth) w → AwayBy rest (to ∷ ways) z → Under z w ⊎ Under w z → ⊥
     first_apart = apart_by (r ∷ rest) rest (to ∷ ways) m viewed
@@ -197,10 +200,14 @@ module _ (t : Turn) (settled : IsSettled (typing t).table) (own_law : OwnsByShap
         let t = first.through w gone_there in
         not_named (home s depth) (suc depth) r.formal not_above t.0 t.1 (sym (base_under t.0 w t.2) ∙ base_under root w under)
     clean w under (inl (inl (u, moved, same))) =
-        not_named (home s depth) (suc depth) r.formal not_above w
-        (subst (Named (home s depth)) same
-        (named_way (home s depth) observer first v (seen s m hands leaks) facts viewed.views (suc (number_of u)) u (omega arith) (moved.0, viewed.clear.owned (name_of u) moved.1)))
-        (base_under root w under)
+        elim (stands (home s depth) observer v (seen s m hands leaks) facts viewed.views u (moved.0, viewed.clear.owned (name_of u) moved.1)) [
+          | inl own ↦ not_named (home s depth) (suc depth) r.formal not_above w (subst (Named (home s depth)) same own.0) (base_under root w under)
+          | inr held ↦ (
+              let foreign = held.passed.foreign in
+              let low = far held.object held.way held.has foreign in
+              let at = sym foreign.2 ∙ sym (base_under held.way (expand v u) held.under) ∙ ap base_of same ∙ base_under root w under in
+              let frames = (same_variable foreign.0 foreign.1 (suc depth) r.formal at).0 in omega (arith, low, frames))
+        ]
     clean w under (inr (inl o)) = whole r.formal w (base_under root w under) o
     clean w under (inr (inr (inl (k, has, p, is)))) =
         let base = from_depth k has in
@@ -253,7 +260,7 @@ module _ (t : Turn) (settled : IsSettled (typing t).table) (own_law : OwnsByShap
     reached = inside_reached s depth r.to to inside (seen s mid (got ∷ hands) leaks)
 
     owns_to : (content s mid (got ∷ hands) (trunk at)).owns ≡ true
-    owns_to = inside_owns s depth r.to to inside mid (got ∷ hands) (no_formals inside.object)
+    owns_to = inside_owns s depth r.to to inside mid (got ∷ hands) inside.owner
 
     long : length got.words ≡ words s.table r.to.of
     long =
@@ -268,7 +275,7 @@ module _ (t : Turn) (settled : IsSettled (typing t).table) (own_law : OwnsByShap
     bare p c held = taken.1 p c (held_mid depth inside.object (p ++ inside.steps) c (sym (inside_word s depth r.to to inside mid (got ∷ hands) p) ∙ held))
 
     plain_name : observer (number_of to) ≡ false
-    plain_name = ap observer (inside_number s settled depth r.to to inside) ∙ observes_not s no_formals inside.object (not_observing s inside.object (inside_plain s settled depth r.to to inside))
+    plain_name = ap observer (inside_number s settled depth r.to to inside) ∙ borrower_sees s inside.object (not_observing s inside.object (inside_plain s settled depth r.to to inside)) inside.owner
 
     clear_to : IsClearOf (home s depth) observer v second (AwayBy rest ways) second_apart to
     clear_to = record {
@@ -395,18 +402,18 @@ module _ (t : Turn) (settled : IsSettled (typing t).table) (own_law : OwnsByShap
         (carried_off_stays s settled (home s depth) observer v first (AwayBy rest (to ∷ ways)) first_apart m hands leaks facts formal
         (OfRoot (OfVariable (suc depth) r.formal)) root viewed typed spot tt refl owns clean (suc depth) r.formal refl w g y base (past_other root w (suc depth) r.formal g y refl base off) c reach)
 
-    pub one_views : (g y : ℕ) → is_anonymous (view_of s y) ≡ true
+    pub one_views : (g y : ℕ) → is_view s y ≡ true
         → (get_or (variable_slots s g y next.variables) 0 no_slot).word ≡ (get_or (variable_slots s g y m.variables) 0 no_slot).word
     unfolding formal_inside
     one_views g y view =
         ap (λ z. (get_or z 0 no_slot).word)
         (put_beside s 0 r.to.base (take r.to.at (slots_at s mid r.to.base) ++ fresh (words_of s m formal) ++ drop (r.to.at + length (fresh (words_of s m formal))) (slots_at s mid r.to.base)) mid g y
-        (λ e. no_view inside.object (inside_plain s settled depth r.to to inside) (same_names (sym inside.base ∙ e)).1)
+        (λ e. no_view inside.object (inside_plain s settled depth r.to to inside) inside.owner (same_names (sym inside.base ∙ e)).1)
         ∙ put_beside s 0 formal.base (take 0 (slots_at s m formal.base) ++ marks ++ drop (0 + length marks) (slots_at s m formal.base)) m g y
-        (λ e. no_view r.formal (inside_plain s settled (suc depth) formal root formal_inside) (same_names (sym formal_inside.base ∙ e)).1))
+        (λ e. no_view r.formal (inside_plain s settled (suc depth) formal root formal_inside) passed.owner (same_names (sym formal_inside.base ∙ e)).1))
       where
-        no_view : (x : ℕ) → is_anonymous (view_of s x) ≡ false → x ≡ y → ⊥
-        no_view x plain same = true_false (is_anonymous (view_of s y)) view (ap (λ z. is_anonymous (view_of s z)) (sym same) ∙ plain)
+        no_view : (x : ℕ) → is_anonymous (view_of s x) ≡ false → is_view_formal s x ≡ false → x ≡ y → ⊥
+        no_view x plain owner same = true_false (is_view s y) view (ap (is_view s) (sym same) ∙ both_no (is_anonymous (view_of s x)) (is_view_formal s x) plain owner)
 
         marks : List Slot
         marks = gone_at (access_offsets s.table (object_at s r.formal).of) (slots_of s m formal)
@@ -443,7 +450,7 @@ module _ (t : Turn) (settled : IsSettled (typing t).table) (own_law : OwnsByShap
       no_number : {c : ℕ} → Empty ≡ Held c → ⊥
       no_number e = cc
 
-  copied_then : (r : Return) (rest : List Return) (ways : List Way) (m later : Memory) → IsCopiedTo s cells r → Enters s settled own_law hands leaks m later → (n : Memory)
+  copied_then : (r : Return) (rest : List Return) (ways : List Way) (m later : Memory) → IsCopiedTo s cells r → Enters s settled own_law in_formals hands leaks m later → (n : Memory)
       → IsBack rest ways later n → IsBack (r ∷ rest) ways m n
   copied_then r rest ways m later copied on n back = record {
     typed = back.typed;
@@ -474,14 +481,14 @@ module _ (t : Turn) (settled : IsSettled (typing t).table) (own_law : OwnsByShap
   copied_first r rest ways begun copied cells_there typed viewed taken more =
       let formal : Place = variable_place (here t) r.formal in
       let ws : List machine.Word = words_of s begun.memory formal in
-      let fixed : IsPlainSpot s settled own_law hands leaks begun.memory formal = fixed_plain s settled own_law hands leaks formal (formal_fixed t r.formal copied.0) begun.memory in
+      let fixed : IsPlainSpot s settled own_law in_formals hands leaks begun.memory formal = fixed_plain s settled own_law in_formals hands leaks formal (formal_fixed t r.formal copied.0) begun.memory in
       let mid : Memory = moved_out s formal begun.memory in
       let next : Memory = stored s r.to ws mid in
-      let first = moved_there s settled own_law hands leaks formal begun.memory fixed typed in
-      let second = stored_there s settled own_law hands leaks r.to mid
-      (plain_place s settled own_law hands leaks (suc depth) cells begins mid r.to copied.1 first.typed (λ c has. same_reaches (seen s begun.memory hands leaks) (seen s mid hands leaks) first.same c.way (OfCell c.cell) (cells_there c has).0))
-      ws (one_there s settled own_law hands leaks begun.memory formal fixed typed) first.typed in
-      let on : Enters s settled own_law hands leaks begun.memory next = one_then s settled own_law hands leaks begun.memory mid next first second in
+      let first = moved_there s settled own_law in_formals hands leaks formal begun.memory fixed typed in
+      let second = stored_there s settled own_law in_formals hands leaks r.to mid
+      (plain_place s settled own_law in_formals hands leaks (suc depth) cells begins mid r.to copied.1 first.typed (λ c has. same_reaches (seen s begun.memory hands leaks) (seen s mid hands leaks) first.same c.way (OfCell c.cell) (cells_there c has).0))
+      ws (one_there s settled own_law in_formals hands leaks begun.memory formal fixed typed) first.typed in
+      let on : Enters s settled own_law in_formals hands leaks begun.memory next = one_then s settled own_law in_formals hands leaks begun.memory mid next first second in
       subst (GivenBack (r ∷ rest) ways begun.memory) (sym (place_is t r rest begun r.to.base refl (place_there begun.memory r.to copied.1 typed viewed.owned (λ c has. (cells_there c has).0))))
       (if_back (λ n. IsBack (r ∷ rest) ways begun.memory n) (fits_type s.table r.to.of ws) ws begun
       (λ us n. copied_back t rest (record n { memory = stored s r.to us (moved_out s formal n.memory) }))

@@ -49,6 +49,7 @@ module _ (home : ℕ → ℕ) (observer : ℕ → Bool) (v : Views) (other : Aro
     views = λ x w has. view_on home observer other v s s facts facts x w (viewed.views x w has) (λ seen n loan. loan)
         (reached home observer other v s facts x w (viewed.views x w has));
     whole = apart;
+    past = viewed.past;
     lends = viewed.lends;
     far = viewed.far;
   }
@@ -74,6 +75,7 @@ module _ (home : ℕ → ℕ) (observer : ℕ → Bool) (v : Views) (other : Aro
         view_on home observer other v s t facts facts x w view (λ seen n loan. loan)
         (keeps s t f k from to given w (OfCell (v.cell x)) (reached home observer other v s facts x w view) (λ p. off.own x w has p) (λ p. away.own x w has p)));
     whole = apart;
+    past = viewed.past;
     lends = viewed.lends;
     far = λ w n held. keeps s t f k from to given w (OfCell n) (viewed.far w n held) (λ p. off.far w n held p) (λ p. away.far w n held p);
   }

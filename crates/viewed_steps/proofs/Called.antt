@@ -1,6 +1,6 @@
 -- Calls: what the actuals are, and how they are passed. Each is a value of one word, a scalar place in a
 -- variable, or another place in a variable of the caller.
-use Rattle.std.proofs.Common.{◌≡◌, refl, ◌&&◌, ◌||◌, not, is_some, sym, ap, ◌∙◌, subst, ◌⊎◌, inl, inr, ℕ, suc, ◌<◌, arith, append-nil, Bool, true, false, List, [], ◌∷◌, ◌++◌, map, Option, Some, None, if◌then◌else◌}
+use Rattle.std.proofs.Common.{◌≡◌, refl, ◌&&◌, ◌||◌, not, is_some, sym, ap, ◌∙◌, subst, ◌⊎◌, inl, inr, ℕ, append-nil, Bool, true, false, List, [], ◌∷◌, ◌++◌, map, Option, Some, None, if◌then◌else◌}
 use Rattle.spark_base.specs.Lists.{Has}
 use Rattle.spark_base.proofs.Lists.{Has-append_cases, Has-append_left, Has-append_right}
 use Rattle.spark_base.specs.declared.position.Pos.{Pos}
@@ -31,7 +31,6 @@ use Rattle.machine.specs.States.{Waiting, Leak, sub_of}
 use Rattle.machine.specs.Owners.{is_in}
 use Rattle.owned_ways.specs.Ways.{Step, Root, Component, OfVariable, Loc, OfRoot, Way, Object, Into, Empty, Named, Past, Under, IsRooted, Reaches, IsSame, AllowsAll, after, part, along}
 use Rattle.owned_ways.specs.Ways as ways
-use Rattle.owned_ways.proofs.Dropped.{named_base}
 use Rattle.owned_ways.proofs.Locations.{under_along, under_itself}
 use Rattle.part_offsets.specs.Parts.{type_in, offset_in, has_part, IsSettled}
 use Rattle.soundness.specs.Seen.{IsNear, Content, content, trunk, steps_in, seen, home, is_view_formal}
@@ -49,7 +48,8 @@ use Rattle.soundness.proofs.Walks.{Lead, way_along, Walked}
 use Rattle.viewed_soundness.proofs.Walks.{walk}
 use Rattle.soundness.proofs.Passing.{IsRead, AreReads, AddNone, IsValue, TakesAll, plain_type, reads_keep, read_adds_none, signature_is}
 use Rattle.owned_loans.specs.Views.{Around, Views, expand, ExcusedBy, Viewed, IsForeign}
-use Rattle.owned_loans.proofs.Moves.{IsPlace, expand_along, named_way, reached}
+use Rattle.owned_loans.proofs.Moves.{IsPlace, expand_along, reached}
+use Rattle.owned_loans.proofs.Meeting.{stands_base}
 use Rattle.owned_loans.proofs.Safe.{Open}
 use Rattle.owned_loans.proofs.Ended.{stands_itself}
 use Rattle.viewed_soundness.specs.Holds.{IsNamed, PartsAreNamed, Holds, sees_only, is_view, IsOwners}
@@ -351,13 +351,8 @@ module _ (h : Here) (settled : IsSettled h.typing.table) (hands : List Waiting) 
       scalar_there = ap (λ z. is_scalar (full h.typing.table z)) of ∙ plain
 
       home_base : (f : ℕ) × (y : ℕ) × (ways.base_of (expand v w) ≡ OfRoot (OfVariable f y))
-      home_base = (
-        home h.typing h.frame (ways.number_of (expand v w)),
-        ways.number_of (expand v w),
-        named_base (home h.typing h.frame) (expand v w)
-            (named_way (home h.typing h.frame) (sees_only h.typing) other v (seen h.typing m hands leaks) facts well.views (suc (ways.number_of w)) w (omega arith)
-            (named, ap (sees_only h.typing) root ∙ sees)),
-      )
+      home_base =
+          stands_base (home h.typing h.frame) (sees_only h.typing) v (seen h.typing m hands leaks) facts well.views w (named, ap (sees_only h.typing) root ∙ sees)
 
       by_base : (b : Base) → k.base ≡ b → IsPlainAt h.typing h.frame v (seen h.typing m hands leaks) (Name p x path u) k
       by_base (memory.OfVariable f y) base = inl (fixed_there k l f y spot base scalar_there)
@@ -406,7 +401,8 @@ module _ (h : Here) (settled : IsSettled h.typing.table) (hands : List Waiting) 
       let named : Named (home h.typing h.frame) (way_along way root) = named_along (home h.typing h.frame) way root refl in
       from_walked on p x u path (way_along way root) plain named
       (λ j. record { root = number_along way root j; sels = goes.sels root j })
-      (is_place h.typing v (home h.typing h.frame x) x u way goes.lead (scalar_named h.typing.table u plain) (no_formals x) holds.only)
+      (is_place h.typing v (home h.typing h.frame x) x u way goes.lead (scalar_named h.typing.table u plain)
+      (λ formal none. true_false (is_view_formal h.typing x) formal (no_formals x)) holds.only)
       (direct_itself v way direct root refl)
       (walked h.typing way (variable_place h x) (at on))
       (walk h.typing settled hands leaks m on (ExcusedBy (home h.typing h.frame) v other facts) kept well.owned well.known live way (variable_place h x)
@@ -439,7 +435,8 @@ module _ (h : Here) (settled : IsSettled h.typing.table) (hands : List Waiting) 
       let root : Way = Object (OfVariable (home h.typing h.frame x) x) in
       through_walked on p x u path (way_along way root) plain_there (named_along (home h.typing h.frame) way root refl) (number_along way root)
       (λ j. record { root = number_along way root j; sels = goes.sels root j })
-      (is_place h.typing v (home h.typing h.frame x) x u way goes.lead (scalar_named h.typing.table u plain_there) (no_formals x) holds.only) local sees
+      (is_place h.typing v (home h.typing h.frame x) x u way goes.lead (scalar_named h.typing.table u plain_there)
+      (λ formal none. true_false (is_view_formal h.typing x) formal (no_formals x)) holds.only) local sees
       (walked h.typing way (variable_place h x) (at on))
       (name_quiet h settled hands leaks m on other facts v kept well holds alone live index_law own_law parts_named x path u way goes opens))
   through_given before on e t place plain takes opens allowed = absurd place
@@ -463,6 +460,7 @@ module _ (h : Here) (settled : IsSettled h.typing.table) (hands : List Waiting) 
             way = is ∙ (λ j. along (Object (OfVariable (at_home j) y)) (sym steps_are j));
             base = base ∙ ap (λ z. memory.OfVariable z y) at_home;
             own = local;
+            owner = no_formals y;
             there = ap (λ z. has_part h.typing.table (content h.typing m hands z).of (steps_in l)) (sym b) ∙ spot.there;
             at = spot.at ∙ ap (λ z. offset_in h.typing.table (content h.typing m hands z).of (steps_in l)) b;
             of = subst (λ z. Matches h.typing.table k.of (type_in h.typing.table (content h.typing m hands z).of (steps_in l))) b spot.of;

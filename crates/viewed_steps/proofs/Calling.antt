@@ -6,7 +6,6 @@ use Rattle.spark_base.proofs.Lists.{Has-map_from}
 use Rattle.std.proofs.Common.{◌≡◌, refl, sym, ap, ◌∙◌, subst, ◌⊎◌, inl, inr, ℕ, suc, ◌<◌, true, false, ◌==◌, List, [], ◌∷◌, ◌++◌, map, take, drop, length, get_or, arith, Option, Some, None, if◌then◌else◌, is_some, Bool, not, ◌||◌, flat_map}
 use Rattle.std.specs.Prelude.{is_some}
 use Rattle.spark_base.specs.Lists.{Has}
-use Rattle.spark_base.proofs.Lists.{Has-map_from}
 use Rattle.place_names.specs.declared.act.Act.{Act}
 use Rattle.place_names.specs.declared.act.Act.TheVariants as act
 use Rattle.place_names.specs.declared.act.Placed.{Placed}
@@ -22,7 +21,6 @@ use Rattle.typed_tree.specs.Programs.{TypedProgram}
 use Rattle.flow_paths.specs.declared.report.Effects.{Effects}
 use Rattle.flow_paths.specs.Instructions.{Instruction, Call, EndScope, Declare, Assign, Hold}
 use Rattle.flow_paths.specs.Objects.{Typing, object_at, sub_at, is_anonymous, is_package_object, view_of, traverses, passings, Passing, Signature, passing, is_formal_kind}
-use Rattle.place_names.specs.Facts.{adds}
 use Rattle.place_names.specs.Reports.{Report}
 use Rattle.flow_paths.specs.Aliases.{overlap_reports, passed_reports, call_reports}
 use Rattle.flow_paths.specs.Aliases as alias
@@ -67,14 +65,16 @@ use Rattle.soundness.proofs.Beginning.{one_named, one_point}
 use Rattle.soundness.proofs.Successors.{below_one, successor_there}
 use Rattle.owned_loans.specs.Views.{expand, Around, known_gone, Views, IsMovedBy, AreClear, AreViews, Viewed, IsForeign}
 use Rattle.owned_loans.proofs.Ways.{under_on}
-use Rattle.owned_loans.proofs.Moves.{expand_under, named_way}
-use Rattle.viewed_soundness.proofs.Names.{true_false}
-use Rattle.viewed_soundness.specs.Holds.{Holds, sees_only, IsOwners}
+use Rattle.owned_loans.proofs.Meeting.{stands}
+use Rattle.owned_loans.proofs.Moves.{expand_under}
+use Rattle.owned_loans.proofs.Meeting.{stands}
+use Rattle.viewed_soundness.proofs.Names.{true_false, borrower_sees}
+use Rattle.viewed_soundness.specs.Holds.{Holds, is_view, sees_only, IsOwners}
 use Rattle.viewed_soundness.proofs.Evaluated.{live_trunk}
 use Rattle.soundness.specs.Ready.{IsSupplied, Fills}
 use Rattle.viewed_steps.specs.Awaited.{AreValuesBut, temporaries_of, lasting_of, awaited, WaitsAt, AreAwaited, AreScalar, FillsTyped, TakesScalars, IsTakenBy}
 use Rattle.viewed_steps.proofs.Waited.{late_scope, within_lasting, lasting_more, Shares, plain_unheld}
-use Rattle.viewed_steps.specs.Sound.{HoldsAt, ArePlaced, NoneAbove, ViewStage, stages_of, GoneElsewhere, Disturbs, IsWaiting, AreWaiting, calls_one, LeadsAlong, IsResting, IsKindOfFormal, IsScalarObject, AreReturned}
+use Rattle.viewed_steps.specs.Sound.{ArePast, AreUnmet, HoldsAt, ArePlaced, NoneAbove, ViewStage, stages_of, GoneElsewhere, Disturbs, IsWaiting, AreWaiting, calls_one, LeadsAlong, IsResting, IsKindOfFormal, IsScalarObject, AreReturned}
 use Rattle.viewed_steps.specs.Ready.{IsReady, roots_passed, IsCalled}
 use Rattle.viewed_steps.specs.Taken.{TakenBy, Lodge, AreTaken, AreCarried}
 use Rattle.viewed_steps.proofs.Lent.{Spare, spare_both, loans_stay}
@@ -96,7 +96,7 @@ use Rattle.viewed_steps.proofs.Uses.{called_writes, lent_spared}
 use Rattle.viewed_steps.proofs.Standing as standing
 use Rattle.viewed_steps.proofs.Packages as packages
 use Rattle.viewed_steps.proofs.Innermost as innermost
-use Rattle.viewed_steps.proofs.Views.{observes_not, all_held, anonymous_is_view, AreFar, apart_by_base, not_elsewhere}
+use Rattle.viewed_steps.proofs.Views.{all_held, AreFar, apart_by_base, AreAccess, lies_far}
 
 module _ (table : Table) (typed : TypedProgram) (effects : Effects) (input : List ℕ) (ready : IsReady table typed effects) where
   abbrev program : FlowProgram
@@ -108,10 +108,10 @@ module _ (table : Table) (typed : TypedProgram) (effects : Effects) (input : Lis
   abbrev own : Typing
   own = typing_of table typed
 
-  abbrev no_in_formals : (x : ℕ) → is_view_formal s x ≡ false
-  no_in_formals = standing.no_in_formals table typed effects input ready
+  abbrev in_formals : AreAccess s
+  in_formals = standing.in_formals table typed effects input ready
 
-  abbrev local : (x : ℕ) → is_anonymous (view_of s x) ≡ true → is_package_object s x ≡ false
+  abbrev local : (x : ℕ) → is_view s x ≡ true → is_package_object s x ≡ false
   local = standing.local table typed effects input ready
 
   abbrev unmoved_stage : (e : Stage) → e.frame.sub ≡ 0 → (name : PlaceName) → Has (facts_of program effects e) (Moved name) → ⊥
@@ -134,7 +134,7 @@ module _ (table : Table) (typed : TypedProgram) (effects : Effects) (input : Lis
       (viewed_before : Viewed (home s (suc (length rest))) (sees_only s) (known_gone (home s (suc (length rest))) (GoneElsewhere program effects (below ∷ more_frames))) views
       (view_here s state) (facts_of program effects top))
       (kept : Kept s state.memory (waiting_in state)) (scope : InScope s state.memory (suc (length rest)) (lasting_of s p.scope)) (holds : HoldsAt s (suc (length rest)) views state.memory p)
-      (placed_before : ArePlaced program (facts_of program effects top) views p.scope) (above : NoneAbove s (suc (length rest)) state.memory) where
+      (placed_before : ArePlaced program (suc (length rest)) (facts_of program effects top) views p.scope × ArePast s (suc (length rest)) views (below ∷ more_frames)) (above : NoneAbove s (suc (length rest)) state.memory) where
     abbrev outer : List Frame
     outer = below.stage.frame ∷ rest
 
@@ -181,13 +181,12 @@ module _ (table : Table) (typed : TypedProgram) (effects : Effects) (input : Lis
     abbrev viewed : Viewed (home s depth) (sees_only s) other views (view_here s state) facts_now
     viewed = innermost.viewed table typed effects input ready state top below more_frames rest named p frames deep stages running awaiting of_sub at_point path views viewed_before kept scope holds placed_before above
 
-    abbrev apart_from_them : (done : List Act) (v : Views) (view : ways.View) → ((x : ℕ) (w : Way) → v.way x ≡ Some w → is_anonymous (view_of s x) ≡ true)
-        → ((x : ℕ) (w : Way) → v.way x ≡ Some w → ways.Named (home s depth) w)
+    abbrev apart_from_them : (done : List Act) (v : Views) (view : ways.View) → ((x : ℕ) (w : Way) → v.way x ≡ Some w → is_view s x ≡ true)
         → Viewed (home s depth) (sees_only s) other v view (after done facts_now)
         → Viewed (home s depth) (sees_only s) (known_gone (home s depth) (GoneElsewhere program effects older)) v view (after done own_facts)
     apart_from_them = innermost.apart_from_them table typed effects input ready state top below more_frames rest named p frames deep stages running awaiting of_sub at_point path views viewed_before kept scope holds placed_before above
 
-    abbrev placed_own : ArePlaced program own_facts views p.scope
+    abbrev placed_own : ArePlaced program (suc (length rest)) own_facts views p.scope
     placed_own = innermost.placed_own table typed effects input ready state top below more_frames rest named p frames deep stages running awaiting of_sub at_point path views viewed_before kept scope holds placed_before above
 
     abbrev left_scope : List ℕ
@@ -223,7 +222,7 @@ module _ (table : Table) (typed : TypedProgram) (effects : Effects) (input : Lis
     abbrev viewed_easy : Plain → Viewed (home s depth) (sees_only s) other views (view_here s easy.state) facts_now × Kept s state.memory (waiting_in easy.state)
     viewed_easy = innermost.viewed_easy table typed effects input ready state top below more_frames rest named p frames deep stages running awaiting of_sub at_point path views viewed_before kept scope holds placed_before above
 
-    abbrev placed_left : (facts : List Fact) → ArePlaced program facts views p.scope → ArePlaced program facts views left_scope
+    abbrev placed_left : (facts : List Fact) → ArePlaced program (suc (length rest)) facts views p.scope → ArePlaced program (suc (length rest)) facts views left_scope
     placed_left = innermost.placed_left table typed effects input ready state top below more_frames rest named p frames deep stages running awaiting of_sub at_point path views viewed_before kept scope holds placed_before above
 
     abbrev IsOld : ℕ → ℕ → Type 0
@@ -342,7 +341,7 @@ module _ (table : Table) (typed : TypedProgram) (effects : Effects) (input : Lis
       copied_there = elim modes_there [
         | inr modes ↦ all_in s ready.owns depth facts_now procedure formals actuals modes
         | inl none ↦ all_open s ready.owns depth facts_now procedure formals actuals facts_now []
-            (are_kept s (λ y plain. observes_not s no_in_formals y plain) formals actuals
+            (are_kept s formals actuals
             (ready.class.copied (flow_sub own named) (standing.in_program table typed effects input ready state top older outer named p frames of_sub at_point) main_turn.point
             (standing.in_sub table typed effects input ready state top older outer named p frames of_sub at_point) n actuals result e called.formals)
             ((ready.orderly.points named named_there p point_there_now).copied n actuals result e))
@@ -360,7 +359,7 @@ module _ (table : Table) (typed : TypedProgram) (effects : Effects) (input : Lis
       not_end x is = (let no : Call n actuals result ≡ EndScope x = sym e ∙ is in cc)
 
       pub holds_now : Holds s depth views state.memory
-      holds_now = all_held s no_in_formals depth views state.memory (λ x k view at. holds.held x k (λ fading. not_end fading.0 fading.1) view at) holds.only holds.named
+      holds_now = all_held s in_formals depth views state.memory (λ x k view at. holds.held x k (λ fading. not_end fading.0 fading.1) view at) holds.only holds.owners holds.own
 
       pub live_now : (w : Way) (l : ways.Loc) → IsOwners s w → ways.Reaches (seen s state.memory (waiting_in easy.state) state.leaks) w l
           → (content s state.memory (waiting_in easy.state) (trunk l)).owns ≡ true
@@ -370,7 +369,7 @@ module _ (table : Table) (typed : TypedProgram) (effects : Effects) (input : Lis
 
       abbrev pub Given : List Passed → Type 0
       Given passed =
-          AreGiven (steps.here main_turn) ready.accepted.settled (waiting_in easy.state) state.leaks state.memory [] other facts_now views (viewed_easy plain_there.0).1 (viewed_easy plain_there.0).0 holds_now alone live_now no_in_formals
+          AreGiven (steps.here main_turn) ready.accepted.settled (waiting_in easy.state) state.leaks state.memory [] other facts_now views (viewed_easy plain_there.0).1 (viewed_easy plain_there.0).0 holds_now alone live_now (standing.no_in_formals table typed effects input ready)
           index_law ready.owns ready.class.parts_named procedure formals actuals passed
 
       -- the values that the actuals take
@@ -382,7 +381,7 @@ module _ (table : Table) (typed : TypedProgram) (effects : Effects) (input : Lis
 
       pub passed_quiet : Quiet then_now Given (all_passed (steps.here main_turn) ways_there formals actuals (start main_turn))
       passed_quiet =
-          all_given (steps.here main_turn) ready.accepted.settled (waiting_in easy.state) state.leaks state.memory [] other facts_now views (viewed_easy plain_there.0).1 (viewed_easy plain_there.0).0 holds_now alone live_now no_in_formals
+          all_given (steps.here main_turn) ready.accepted.settled (waiting_in easy.state) state.leaks state.memory [] other facts_now views (viewed_easy plain_there.0).1 (viewed_easy plain_there.0).0 holds_now alone live_now (standing.no_in_formals table typed effects input ready)
           index_law ready.owns ready.class.parts_named procedure given_words taken_there.0 formals actuals kinds called.actuals_stay copied_there taken_there.1 values_allowed
 
       abbrev pub view_now : ways.View
@@ -390,7 +389,7 @@ module _ (table : Table) (typed : TypedProgram) (effects : Effects) (input : Lis
 
       abbrev pub given_laid : (passed : List Passed) → Given passed → AreLaidOut s depth views view_now formals actuals passed
       given_laid passed given =
-          all_laid_out (steps.here main_turn) ready.accepted.settled (waiting_in easy.state) state.leaks state.memory [] other facts_now views (viewed_easy plain_there.0).1 (viewed_easy plain_there.0).0 holds_now alone live_now no_in_formals
+          all_laid_out (steps.here main_turn) ready.accepted.settled (waiting_in easy.state) state.leaks state.memory [] other facts_now views (viewed_easy plain_there.0).1 (viewed_easy plain_there.0).0 holds_now alone live_now (standing.no_in_formals table typed effects input ready)
           index_law ready.owns ready.class.parts_named procedure formals actuals passed given
 
       -- loans stay
@@ -463,14 +462,14 @@ module _ (table : Table) (typed : TypedProgram) (effects : Effects) (input : Lis
       next_scope : InScope s state.memory depth (lasting_of s (at_successor.0).scope)
       next_scope = scope_on s ready.owns state.memory depth (scope_behind p) (at_successor.0).scope behind_scope at_successor.2
 
-      next_placed : ArePlaced program facts_called views (at_successor.0).scope
+      next_placed : ArePlaced program (suc (length rest)) facts_called views (at_successor.0).scope
       next_placed =
-          placed_on program facts_called views (scope_behind p) (at_successor.0).scope holds.only at_successor.2
+          placed_on program depth facts_called views (scope_behind p) (at_successor.0).scope holds.only at_successor.2
           (λ x w has. (let own_place = placed_left own_facts placed_own x w has in record {
             within = more x own_place.within;
-            up = lasts_more program left_scope (scope_behind p) (ways.number_of (views.up x)) x more own_place.up;
-            root = lasts_more program left_scope (scope_behind p) (ways.number_of w) x more own_place.root;
-            holder = λ sees. (let h = own_place.holder sees in
+            up = λ up_named. lasts_more program left_scope (scope_behind p) (ways.number_of (views.up x)) x more (own_place.up up_named);
+            root = λ at_home. lasts_more program left_scope (scope_behind p) (ways.number_of w) x more (own_place.root at_home);
+            holder = λ up_named sees. (let h = own_place.holder up_named sees in
                 (h.0, loans_called h.0 (ways.name_of (views.loan x)) h.1, lasts_more program left_scope (scope_behind p) h.0 x more h.2, h.3));
           }))
 
@@ -500,7 +499,7 @@ module _ (table : Table) (typed : TypedProgram) (effects : Effects) (input : Lis
         other_all = known_gone (home s depth) (GoneElsewhere program effects older)
 
         pub far_views : AreFar (home s depth) views depth
-        far_views x w has foreign = absurd (not_elsewhere (home s depth) w (holds.named x w has) foreign)
+        far_views = lies_far s depth views holds.lies
 
         abbrev laid : AreLaidOut s depth views view_now formals actuals passed
         laid = given_laid passed given
@@ -514,7 +513,7 @@ module _ (table : Table) (typed : TypedProgram) (effects : Effects) (input : Lis
         cells = cells_of s depth views view_now formals actuals passed (given_laid passed given)
 
         well_before : Viewed (home s depth) (sees_only s) other_all views (view_here s easy.state) own_facts
-        well_before = apart_from_them [] views (view_here s easy.state) holds.only holds.named (viewed_easy plain_there.0).0
+        well_before = apart_from_them [] views (view_here s easy.state) holds.only (viewed_easy plain_there.0).0
 
         -- what is taken
         no_overlap : ((r : Report) → Has (overlap_reports s (alias.passed formals actuals)) r → ⊥) ⊎ ((x : ℕ) → Has formals x → IsScalarObject s x)
@@ -579,7 +578,7 @@ module _ (table : Table) (typed : TypedProgram) (effects : Effects) (input : Lis
             subst (Viewed (home s depth) (sees_only s) around_outs views (view_here s easy.state))
             (sym (ap (λ z. after z own_facts) (acts_append values copies) ∙ after_append (acts values) (acts copies) own_facts
             ∙ ap (after (acts copies)) (reads_keep values reads_there own_facts)))
-            (all_acted (steps.here main_turn) ready.accepted.settled (waiting_in easy.state) state.leaks state.memory [] other facts_now views (viewed_easy plain_there.0).1 (viewed_easy plain_there.0).0 holds_now alone live_now no_in_formals
+            (all_acted (steps.here main_turn) ready.accepted.settled (waiting_in easy.state) state.leaks state.memory [] other facts_now views (viewed_easy plain_there.0).1 (viewed_easy plain_there.0).0 holds_now alone live_now (standing.no_in_formals table typed effects input ready)
             index_law ready.owns ready.class.parts_named procedure other_all outs_gone outs_apart formals actuals passed own_facts kinds given (λ w under. inr under)
             (more_gone (home s depth) (sees_only s) views other_all outs_gone outs_apart (view_here s easy.state) own_facts (λ w gone. inl gone) well_before))
 
@@ -599,14 +598,22 @@ module _ (table : Table) (typed : TypedProgram) (effects : Effects) (input : Lis
         -- their ways begin at variables of the frame, or of package objects
         pub cell_begins : (c : Lodge) → Has cells c → (g : ℕ) × (y : ℕ) × (ways.base_of c.way ≡ ways.OfRoot (ways.OfVariable g y)) × (g ≡ suc depth → ⊥)
         cell_begins c has =
-            let named_there : ways.Named (home s depth) c.way =
-            subst (ways.Named (home s depth)) (named_cell c has).leads
-            (named_way (home s depth) (sees_only s) around_outs views (view_here s easy.state) facts_called well_all.views (suc (ways.number_of c.name)) c.name (omega arith) (cell_plain c has)) in (
-              home s depth (ways.number_of c.way),
-              ways.number_of c.way,
-              named_base (home s depth) c.way named_there,
-              not_above s ready.accepted.settled ready.owns no_in_formals (waiting_in easy.state) state.leaks depth views far_views facts_called next_there (ways.number_of c.way),
-            )
+            elim (stands (home s depth) (sees_only s) views (view_here s easy.state) facts_called well_all.views c.name (cell_plain c has)) [
+              | inl own ↦ (
+                  let named_there : ways.Named (home s depth) c.way = subst (ways.Named (home s depth)) (named_cell c has).leads own.0 in (
+                    home s depth (ways.number_of c.way),
+                    ways.number_of c.way,
+                    named_base (home s depth) c.way named_there,
+                    not_above s ready.accepted.settled ready.owns in_formals (waiting_in easy.state) state.leaks depth views far_views facts_called next_there (ways.number_of c.way),
+                  ))
+              | inr held_there ↦ (
+                  let foreign = held_there.passed.foreign in (
+                    foreign.0,
+                    foreign.1,
+                    ap ways.base_of (sym (named_cell c has).leads) ∙ base_under held_there.way (expand views c.name) held_there.under ∙ foreign.2,
+                    (λ same. (let low = far_views held_there.object held_there.way held_there.has foreign in omega (arith, low, same))),
+                  ))
+            ]
 
         -- no place that is taken goes before one
         pub cell_aside : (c : Lodge) → Has cells c → (to : Way) → Has ways_taken to → ways.Past to c.way → ⊥
@@ -616,7 +623,7 @@ module _ (table : Table) (typed : TypedProgram) (effects : Effects) (input : Lis
             let itself : expand views to ≡ to = inside_itself s ready.accepted.settled depth one.1 to inside views in
             let plain_to : sees_only s (ways.number_of to) ≡ false =
             ap (sees_only s) (inside_number s ready.accepted.settled depth one.1 to inside)
-            ∙ observes_not s no_in_formals inside.object (not_observing s inside.object (inside_plain s ready.accepted.settled depth one.1 to inside)) in
+            ∙ borrower_sees s inside.object (not_observing s inside.object (inside_plain s ready.accepted.settled depth one.1 to inside)) inside.owner in
             let cell = named_cell c has in
             let below : ways.Under c.way (expand views cell.whole) =
             subst (λ z. ways.Under z (expand views cell.whole)) cell.leads (expand_under views c.name cell.whole (λ r is. absurd (cell.deep r is)) cell.begins) in
@@ -673,11 +680,17 @@ module _ (table : Table) (typed : TypedProgram) (effects : Effects) (input : Lis
                       let frames_same = (same_variable there.0 there.1 (suc depth) x (sym there.2 ∙ base_along (ways.Object root) q)).0 in
                       let less = there.3 in omega (arith, frames_same, less))
                   | inl (inr none) ↦ absurd none
-                  | inl (inl (u, moved, leads)) ↦ not_named (home s depth) (suc depth) x
-                      (not_above s ready.accepted.settled ready.owns no_in_formals (waiting_in easy.state) state.leaks depth views far_views facts_called next_there) w
-                      (subst (ways.Named (home s depth)) leads
-                      (named_way (home s depth) (sees_only s) other_all views (view_here s easy.state) own_facts well_before.views (suc (ways.number_of u)) u (omega arith)
-                      (moved.0, well_before.clear.owned (ways.name_of u) moved.1))) (base_along (ways.Object root) q)
+                  | inl (inl (u, moved, leads)) ↦ elim (stands (home s depth) (sees_only s) views (view_here s easy.state) own_facts well_before.views u
+                      (moved.0, well_before.clear.owned (ways.name_of u) moved.1)) [
+                        | inl own ↦ not_named (home s depth) (suc depth) x
+                            (not_above s ready.accepted.settled ready.owns in_formals (waiting_in easy.state) state.leaks depth views far_views facts_called next_there) w
+                            (subst (ways.Named (home s depth)) leads own.0) (base_along (ways.Object root) q)
+                        | inr held_there ↦ (
+                            let foreign = held_there.passed.foreign in
+                            let low = far_views held_there.object held_there.way held_there.has foreign in
+                            let at = sym foreign.2 ∙ sym (base_under held_there.way (expand views u) held_there.under) ∙ ap ways.base_of leads ∙ base_along (ways.Object root) q in
+                            let frames_same = (same_variable foreign.0 foreign.1 (suc depth) x at).0 in omega (arith, low, frames_same))
+                      ]
                 ])
 
         abbrev with_all : Memory
@@ -692,14 +705,14 @@ module _ (table : Table) (typed : TypedProgram) (effects : Effects) (input : Lis
         leaks_same : leaks_then ≡ state.leaks ++ flat_map (λ (leaks : List Leak). leaks) checks_there
         leaks_same = ap (λ z. state.leaks ++ z) (sym (found_there s ready.accepted.settled depth views view_now main_turn.point.pos state.memory formals actuals passed laid))
 
-        enters : Enter s ready.accepted.settled ready.owns no_in_formals (waiting_in easy.state) depth views far_views facts_called next_there cells cell_begins other_all state.leaks leaks_then formals passed ways_taken
+        enters : Enter s ready.accepted.settled ready.owns in_formals (waiting_in easy.state) depth views far_views facts_called next_there cells cell_begins other_all state.leaks leaks_then formals passed ways_taken
             state.memory with_all
         enters =
-            all_declared s ready.accepted.settled ready.owns no_in_formals (waiting_in easy.state) depth views far_views facts_called next_there cells cell_begins other_all state.leaks formals passed ways_taken outs
+            all_declared s ready.accepted.settled ready.owns in_formals (waiting_in easy.state) depth views far_views facts_called next_there cells cell_begins other_all state.leaks formals passed ways_taken outs
             state.memory state.memory all_passed_ways.1 open_there (viewed_easy plain_there.0).1 (viewed_easy plain_there.0).1
             (λ c has. ((named_cell c has).reaches, cell_aside c has)) well_all blank_formals (λ o has y q k is. refl)
 
-        abbrev declared_there : AreDeclared s ready.accepted.settled ready.owns no_in_formals (waiting_in easy.state) depth views far_views facts_called next_there cells cell_begins formals ways_taken state.leaks leaks_then
+        abbrev declared_there : AreDeclared s ready.accepted.settled ready.owns in_formals (waiting_in easy.state) depth views far_views facts_called next_there cells cell_begins formals ways_taken state.leaks leaks_then
             state.memory with_all
         declared_there = enters.0
 
@@ -738,6 +751,12 @@ module _ (table : Table) (typed : TypedProgram) (effects : Effects) (input : Lis
             → word_in s.table (content s state.memory [] (ways.OfRoot (ways.OfVariable f x))) q ≡ ways.Held k
         held_called f x q k off held = elim (declared_there.held f x q k held) [ inl before ↦ before | inr mine ↦ absurd (off mine.0) ]
 
+        -- the variables of its views stay
+        word_still : (x : ℕ) → is_view s x ≡ true
+            → (get_or (variable_slots s (home s depth x) x with_all.variables) 0 no_slot).word ≡ (get_or (variable_slots s (home s depth x) x state.memory.variables) 0 no_slot).word
+        word_still x view = declared_there.views (home s depth x) x view (λ up formal has. not_above s ready.accepted.settled ready.owns in_formals
+            (waiting_in easy.state) state.leaks depth views far_views facts_called next_there x up)
+
         is_waiting : IsWaiting table typed effects after_call n (returns_of formals passed) waits_there
         is_waiting = record {
           runs = running.0;
@@ -764,12 +783,16 @@ module _ (table : Table) (typed : TypedProgram) (effects : Effects) (input : Lis
           views = subst (λ z. AreViews (home s top.depth) (sees_only s) views (view_here s after_call) z) (sym facts_there)
               (subst (λ d. AreViews (home s d) (sees_only s) views (view_here s after_call) facts_called) (sym deep) well_called.views);
           holds = subst (λ d. HoldsAt s d views with_all at_successor.0) (sym deep) (record {
-            held = λ x k lasts view at. holds_now.held x k (anonymous_is_view s no_in_formals x view) (sym (declared_there.views (home s depth x) x view) ∙ at);
-            within = λ x k view at. (let own_way = holds_now.held x k (anonymous_is_view s no_in_formals x view) (sym (declared_there.views (home s depth x) x view) ∙ at) in (next_placed x own_way.0 own_way.1).within);
+            held = λ x k lasts view at. holds_now.held x k view (sym (word_still x view) ∙ at);
+            within = λ x k view at. (let own_way = holds_now.held x k view (sym (word_still x view) ∙ at) in (next_placed x own_way.0 own_way.1).within);
             only = holds.only;
-            named = holds.named;
+            lies = holds.lies;
+            owners = holds.owners;
+            passed = holds.passed;
+            own = holds.own;
           });
-          placed = subst (λ z. ArePlaced program z views (at_successor.0).scope) (sym facts_there) next_placed;
+          placed = subst (λ d. ArePlaced program d (facts_of program effects (waits_with all_passed_ways.0)) views (at_successor.0).scope) (sym deep)
+              (subst (λ z. ArePlaced program depth z views (at_successor.0).scope) (sym facts_there) next_placed);
           kept = λ c has. record {
             named = subst (λ d. ways.Named (home s d) c.name) (sym deep) (cell_plain c has).0;
             own = ap (is_package_object s) (cell_root c has) ∙ (named_cell c has).own;
@@ -787,7 +810,7 @@ module _ (table : Table) (typed : TypedProgram) (effects : Effects) (input : Lis
         others_wait =
             all_on table typed effects unmoved_stage local state after_call depth
             (λ f x q k some less held. held_called f x q k (λ above_it. omega (arith, less, above_it)) held)
-            (λ f x some less view. declared_there.views f x view)
+            (λ f x some less view. declared_there.views f x view (λ up formal has. omega (arith, less, up)))
             top.frame.sub top.frame.returns older outer stages (omega arith)
             (λ w k keeps_it. (let root = kept_low table typed effects unmoved_stage local state depth older between w k keeps_it in
             subst (λ z. ways.Reaches z w (ways.OfCell k)) view_called
@@ -817,8 +840,14 @@ module _ (table : Table) (typed : TypedProgram) (effects : Effects) (input : Lis
           λ x has. all_returned s ready.accepted.settled depth views view_now formals actuals passed laid called.actuals_stay kinds x
               (subst (λ z. Has z x) (ap (λ (z : Signature). z.formals) (signature_is program n)) has),
           λ r has. called.formals r.formal
-              (formals_of_returns s ready.accepted.settled ready.owns no_in_formals (waiting_in easy.state) depth views far_views facts_called next_there cells cell_begins formals passed r has),
+              (formals_of_returns s ready.accepted.settled ready.owns in_formals (waiting_in easy.state) depth views far_views facts_called next_there cells cell_begins formals passed r has),
         )
+
+        -- nothing that is gone meets what its views see of others
+        viewed_before_whole : AreUnmet program effects waits_there older
+        viewed_before_whole =
+            subst (λ d. (x : ℕ) (w z : Way) → views.way x ≡ Some w → IsForeign (home s d) w → GoneElsewhere program effects older z → ways.Under z w ⊎ ways.Under w z → ⊥)
+            (sym deep) viewed_before.whole
 
         entered_sound : Along (Goes after_call)
         entered_sound = (
@@ -827,7 +856,11 @@ module _ (table : Table) (typed : TypedProgram) (effects : Effects) (input : Lis
             views = blank_views;
             older = waits_there ∷ older;
             stages = subst (AreStages (called_stage ∷ stages_of (waits_there ∷ older))) (sym frames_there) (refl, refl, (refl, deep, stages));
-            running = (called.runs, returned_there, (is_waiting, others_wait));
+            running = (
+              called.runs,
+              returned_there,
+              (is_waiting, others_wait, viewed_before_whole, subst (λ d. ArePast s d views older) (sym deep) placed_before.1),
+            );
             awaited = (
               packages.first_waits table typed effects input ready (suc depth) n (returns_of formals passed) called.runs.named called.runs.stands called.runs.point
                   called.runs.points called.runs.begins,
@@ -846,6 +879,7 @@ module _ (table : Table) (typed : TypedProgram) (effects : Effects) (input : Lis
               };
               views = λ x w has. absurd (none_some w has);
               whole = λ x w z has. absurd (none_some w has);
+              past = λ x w has. absurd (none_some w has);
               lends = λ l k none. absurd none;
               far = λ w k none. absurd none;
             };
@@ -869,10 +903,14 @@ module _ (table : Table) (typed : TypedProgram) (effects : Effects) (input : Lis
               held = λ x k lasts view at. absurd (no_view x k view at);
               within = λ x k view at. absurd (no_view x k view at);
               only = λ x w has. absurd (none_some w has);
-              named = λ x w has. absurd (none_some w has);
+              lies = λ x w has. absurd (none_some w has);
+              owners = λ x w has. absurd (none_some w has);
+              passed = λ x w has. absurd (none_some w has);
+              own = λ x w has. absurd (none_some w has);
             };
             placed = λ x w has. absurd (none_some w has);
-            none_above = λ f x k less view at. above f x k (omega (arith, less)) view (sym (declared_there.views f x view) ∙ at);
+            past = λ x w has. absurd (none_some w has);
+            none_above = λ f x k less view at. above f x k (omega (arith, less)) view (sym (declared_there.views f x view (λ up formal has. omega (arith, less, up))) ∙ at);
           },
           calls_one waits_stage cells refl (refl, refl, refl) refl none_new (subst (λ d. AreCarried s (λ f. f ≡ suc d → ⊥) [] state.memory with_all) (sym deep) declared_there.carried),
         )
@@ -881,11 +919,12 @@ module _ (table : Table) (typed : TypedProgram) (effects : Effects) (input : Lis
             formal_lasts object_kind.Formal is = refl
             formal_lasts k is = cc
 
-            no_view : (x k : ℕ) → is_anonymous (view_of s x) ≡ true
+            no_view : (x k : ℕ) → is_view s x ≡ true
                 → (get_or (variable_slots s (home s (suc depth) x) x with_all.variables) 0 no_slot).word ≡ machine.Cell k → ⊥
             no_view x k view at =
                 let up : home s (suc depth) x ≡ suc depth = ap (λ b. if b then 0 else suc depth) (local x view) in
-                above (home s (suc depth) x) x k (omega (arith, up)) view (sym (declared_there.views (home s (suc depth) x) x view) ∙ at)
+                above (home s (suc depth) x) x k (omega (arith, up)) view (sym (declared_there.views (home s (suc depth) x) x view
+                (λ same_depth formal has. (let none = standing.no_in_formals table typed effects input ready x in let no : true ≡ false = sym formal ∙ none in cc))) ∙ at)
 
       pub calls_it : Along (turn main_turn (Call n actuals result))
       calls_it =

@@ -20,7 +20,7 @@ use Rattle.soundness.proofs.Joined.{trunk_part, steps_part}
 use Rattle.soundness.proofs.Contents.{bool_cases, word_yes, word_part, word_root, stored_step, stored_whole, taken_step}
 use Rattle.soundness.proofs.Steps.{put_count, put_freed, stores, takes}
 use Rattle.owned_loans.specs.Views.{Around, Views, ExcusedBy, Viewed, IsForeign}
-use Rattle.owned_loans.proofs.Moves.{no_hand, view_named, view_rooted}
+use Rattle.owned_loans.proofs.Moves.{no_hand, view_rooted}
 use Rattle.viewed_steps.specs.Taken.{IsInside}
 use Rattle.viewed_steps.proofs.Between.{gone_also, IsClearOf, moved_between, base_under, base_along, same_variable, not_named}
 use Rattle.viewed_steps.proofs.Views.{AreFar}
@@ -111,11 +111,11 @@ module _ (home : ℕ → ℕ) (observer : ℕ → Bool) (v : Views) (other : Aro
   variable_clear e x elsewhere far apart = record {
     own = λ y w has past. (
         let base = base_under (Object (OfVariable e x)) w (past_under (Object (OfVariable e x)) w past) in
-        elim (viewed.views y w has) [
-          | inl own ↦ not_named home e x elsewhere w (view_named home observer other v s facts viewed.views y w own) base
-          | inr passed ↦ (
-              let low = far y w has passed.foreign in
-              let same = frame_of passed.foreign.0 passed.foreign.1 e x (sym passed.foreign.2 ∙ base) in omega (arith, low, same))
+        elim (view_rooted home observer other v s facts viewed.views y w has).3 [
+          | inl named ↦ not_named home e x elsewhere w named base
+          | inr foreign ↦ (
+              let low = far y w has foreign in
+              let same = frame_of foreign.0 foreign.1 e x (sym foreign.2 ∙ base) in omega (arith, low, same))
         ]);
     far = λ w n keeps past. apart w n keeps (base_under (Object (OfVariable e x)) w (past_under (Object (OfVariable e x)) w past));
   }

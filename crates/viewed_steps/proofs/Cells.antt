@@ -20,7 +20,7 @@ use Rattle.place_names.specs.Reports.{Report}
 use Rattle.place_names.proofs.Names.{both_parts, both_true}
 use Rattle.type_definitions.specs.Types.{full, is_scalar, is_owning}
 use Rattle.typed_tree.specs.Trees.{TypedTree, Name, More}
-use Rattle.flow_paths.specs.Objects.{Typing, object_at, is_observer, is_package_object, is_named_access, view_of, Passing, passing, passing_by}
+use Rattle.flow_paths.specs.Objects.{Typing, object_at, is_package_object, is_named_access, view_of, Passing, passing, passing_by}
 use Rattle.flow_paths.specs.Names.{Written, written, name_of}
 use Rattle.flow_paths.specs.Acts.{naming, actual_act, actual_acts}
 use Rattle.flow_paths.specs.Aliases as alias
@@ -131,17 +131,17 @@ AreKept s (x ∷ formals) (More e rest) =
     ⊎ (IsScalarObject s x × ((y : ℕ) → Has (root_of e) y → (is_package_object s y ≡ false) × (sees_only s y ≡ false)))) × AreKept s formals rest
 AreKept s formals actuals = Unit {0}
 
-pub are_kept : (s : Typing) → ((y : ℕ) → is_observer s y ≡ false → sees_only s y ≡ false) → (formals : List ℕ) (actuals : TypedTree) → AreKeptPlaces s formals actuals
+pub are_kept : (s : Typing) (formals : List ℕ) (actuals : TypedTree) → AreKeptPlaces s formals actuals
     → AreUnobserved s formals actuals → AreKept s formals actuals
-are_kept s sees [] actuals places unobserved = tt
-are_kept s sees (x ∷ formals) (More e rest) places unobserved = (
+are_kept s [] actuals places unobserved = tt
+are_kept s (x ∷ formals) (More e rest) places unobserved = (
   λ other. elim (places.0 other) [
     | inl direct ↦ inl direct
-    | inr (scalar, own) ↦ inr (scalar, λ y has. (own y has, sees y (unobserved.0 other y has)))
+    | inr (scalar, own) ↦ inr (scalar, λ y has. (own y has, unobserved.0 other y has))
   ],
-  are_kept s sees formals rest places.1 unobserved.1,
+  are_kept s formals rest places.1 unobserved.1,
 )
-are_kept s sees (x ∷ formals) actuals places unobserved = tt
+are_kept s (x ∷ formals) actuals places unobserved = tt
 
 not_in : (m : Mode) → is_in m ≡ false → m ≡ mode.In → ⊥
 not_in mode.In e is = cc

@@ -1,7 +1,7 @@
 -- What a call takes for formals: a scalar value, a scalar place, or another place in a variable of its
 -- caller. A formal of mode `in out` has what its actual had; the place of the actual is gone meanwhile, and
 -- has no number.
-use Rattle.viewed_soundness.specs.Holds.{sees_only}
+use Rattle.viewed_soundness.specs.Holds.{is_view, sees_only}
 use Rattle.std.proofs.Common.{◌≡◌, refl, sym, ap, ◌∙◌, subst, ◌⊎◌, inl, inr, ℕ, suc, ◌<◌, ◌+◌, Bool, true, false, not, ◌&&◌, ◌||◌, List, [], ◌∷◌, ◌++◌, take, drop, length, get_or, arith, if◌then◌else◌, Some}
 use Rattle.std.proofs.lemmas.List.{length-map}
 use Rattle.spark_base.specs.Lists.{Has}
@@ -31,7 +31,7 @@ use Rattle.owned_loans.specs.Views.{Around, Views, expand, ExcusedBy, Viewed, Is
 use Rattle.owned_loans.proofs.Safe.{off_view}
 use Rattle.owned_loans.proofs.Others.{clean_away}
 use Rattle.owned_loans.proofs.Moves.{expand_along}
-use Rattle.viewed_soundness.proofs.Names.{true_false, view_access, not_view}
+use Rattle.viewed_soundness.proofs.Names.{both_no, true_false, view_access, not_view, borrower_sees}
 use Rattle.viewed_soundness.proofs.Evaluated.{matches_named}
 use Rattle.viewed_steps.specs.Taken.{Lodge, IsPlainPlace, AreCarried, IsInside, IsPassedOn, IsBare, IsApartFrom}
 use Rattle.viewed_steps.proofs.Between.{gone_also, IsClearOf, base_along, base_under, same_variable}
@@ -39,7 +39,7 @@ use Rattle.viewed_steps.proofs.Carried.{trunk_is, carried_gone, carried_cells, i
 use Rattle.viewed_steps.proofs.Outs.{Out, HasStill, places_apart}
 use Rattle.viewed_steps.proofs.Beside.{put_beside}
 use Rattle.viewed_steps.proofs.Declared.{declared_viewed, declared_low}
-use Rattle.viewed_steps.proofs.Views.{observes_not, AreFar, apart_by_base}
+use Rattle.viewed_steps.proofs.Views.{AreAccess, AreFar, view_cases, apart_by_base}
 
 named_part : (home : ℕ → ℕ) (w : Way) (p : List Step) → Named home w → Named home (along w p)
 named_part home w [] n = n
@@ -171,7 +171,7 @@ AreBlank s depth m formals =
 
 -- ---- what the formals have then
 
-module _ (s : Typing) (settled : IsSettled s.table) (own_law : OwnsByShape s.table) (no_formals : (x : ℕ) → is_view_formal s x ≡ false)
+module _ (s : Typing) (settled : IsSettled s.table) (own_law : OwnsByShape s.table) (in_formals : AreAccess s)
     (hands : List Waiting) (leaks : List Leak) (depth : ℕ) (v : Views) (far : AreFar (home s depth) v depth) (facts : List Fact) (scope : List ℕ) where
   abbrev Home : ℕ → ℕ
   Home = home s depth
@@ -224,7 +224,7 @@ module _ (s : Typing) (settled : IsSettled s.table) (own_law : OwnsByShape s.tab
     spot = inside_spot s depth k to passed.inside m hands
 
     plain_name : sees_only s (number_of to) ≡ false
-    plain_name = ap (sees_only s) (inside_number s settled depth k to passed.inside) ∙ observes_not s no_formals (passed.inside).object (not_observing s (passed.inside).object (inside_plain s settled depth k to passed.inside))
+    plain_name = ap (sees_only s) (inside_number s settled depth k to passed.inside) ∙ borrower_sees s (passed.inside).object (not_observing s (passed.inside).object (inside_plain s settled depth k to passed.inside)) (passed.inside).owner
 
     itself : expand v to ≡ to
     itself = inside_itself s settled depth k to passed.inside v
@@ -250,7 +250,7 @@ module _ (s : Typing) (settled : IsSettled s.table) (own_law : OwnsByShape s.tab
     viewed_mid =
         carried_off s settled (home s depth) (sees_only s) v other with_it.gone with_apart m hands leaks facts k at to viewed typed spot
         (inside_rooted s depth k to passed.inside) (inside_reached s depth k to passed.inside (seen s m hands leaks))
-        (inside_owns s depth k to passed.inside m hands (no_formals (passed.inside).object)) clean
+        (inside_owns s depth k to passed.inside m hands (passed.inside).owner) clean
         depth (passed.inside).object (inside_base s depth k to passed.inside) clear_to (λ w o. inl o) (λ p. inr (p, refl))
 
     kept_mid : Kept s mid (got ∷ hands)
@@ -287,8 +287,8 @@ module _ (s : Typing) (settled : IsSettled s.table) (own_law : OwnsByShape s.tab
         (λ h w under o. elim o [
           | inl away ↦ open_there.free h w under away
           | inr (p, is) ↦ hand_base (sym (base_under (Object (OfHand h)) w under) ∙ ap base_of is ∙ base_along to p ∙ inside_base s depth k to passed.inside)
-        ]) kept_mid blank_mid (no_formals x) long (alike s.table settled k.of (object_at s x).of passed.fits)
-        (λ y w has foreign same. (let low = far y w has foreign in omega (arith, low, same))) (λ y w has at_home root. not_above x at_home) (λ w n keeps_it base. open_there.none w n keeps_it)
+        ]) kept_mid blank_mid passed.owner long (alike s.table settled k.of (object_at s x).of passed.fits)
+        (λ y w has foreign same. (let low = far y w has foreign in omega (arith, low, same))) (λ y w has named at_home root. not_above x at_home) (λ w n keeps_it base. open_there.none w n keeps_it)
       where
         hand_base : {h f x : ℕ} → OfRoot (OfHand h) ≡ OfRoot (OfVariable f x) → ⊥
         hand_base e = cc
@@ -300,7 +300,7 @@ module _ (s : Typing) (settled : IsSettled s.table) (own_law : OwnsByShape s.tab
     bare_mid p c held =
         carried_bare s settled (home s depth) (sees_only s) v other with_it.gone with_apart m hands leaks facts k at to viewed typed spot
         (inside_rooted s depth k to passed.inside) (inside_reached s depth k to passed.inside (seen s m hands leaks))
-        (inside_owns s depth k to passed.inside m hands (no_formals (passed.inside).object)) clean p c
+        (inside_owns s depth k to passed.inside m hands (passed.inside).owner) clean p c
         (inside_word s depth k to passed.inside mid (got ∷ hands) p ∙ held)
 
     -- ---- what changed
@@ -317,7 +317,7 @@ module _ (s : Typing) (settled : IsSettled s.table) (own_law : OwnsByShape s.tab
     held_before g y p c held =
         carried_held s settled (home s depth) (sees_only s) v other with_it.gone with_apart m hands leaks facts k at to viewed typed spot
         (inside_rooted s depth k to passed.inside) (inside_reached s depth k to passed.inside (seen s m hands leaks))
-        (inside_owns s depth k to passed.inside m hands (no_formals (passed.inside).object)) clean g y p c held
+        (inside_owns s depth k to passed.inside m hands (passed.inside).owner) clean g y p c held
 
     pub one_held : (g y : ℕ) (p : List Step) (c : ℕ) → word_in s.table (content s next [] (OfRoot (OfVariable g y))) p ≡ Held c
         → (word_in s.table (content s m [] (OfRoot (OfVariable g y))) p ≡ Held c) ⊎ ((g ≡ suc depth) × (y ≡ x))
@@ -326,8 +326,11 @@ module _ (s : Typing) (settled : IsSettled s.table) (own_law : OwnsByShape s.tab
       | inr ne ↦ inl (held_before g y p c (sym (new_word g y (λ e. ne (ap OfRoot e)) p) ∙ held))
     ]
 
-    formal_plain : is_anonymous (view_of s x) ≡ true → ⊥
-    formal_plain view = not_view s.table (object_at s x).of view (matches_named s.table k.of (object_at s x).of passed.fits (passed.inside).named)
+    formal_plain : is_view s x ≡ true → ⊥
+    formal_plain view = elim (view_cases s x view) [
+      | inl anonymous ↦ not_view s.table (object_at s x).of anonymous (matches_named s.table k.of (object_at s x).of passed.fits (passed.inside).named)
+      | inr formal ↦ true_false (is_view_formal s x) formal passed.owner
+    ]
 
     -- what was gone stays so, but in the formal
     pub one_carried : AreCarried s (λ g. g ≡ suc depth → ⊥) [] m next
@@ -337,21 +340,22 @@ module _ (s : Typing) (settled : IsSettled s.table) (own_law : OwnsByShape s.tab
           new_word g y (frames_differ (suc depth) x g y (λ e. other_frame (sym e))) p
           ∙ carried_gone s settled (home s depth) (sees_only s) v other with_it.gone with_apart m hands leaks facts k at to viewed typed spot
           (inside_rooted s depth k to passed.inside) (inside_reached s depth k to passed.inside (seen s m hands leaks))
-          (inside_owns s depth k to passed.inside m hands (no_formals (passed.inside).object)) clean g y p gone;
+          (inside_owns s depth k to passed.inside m hands (passed.inside).owner) clean g y p gone;
       cells = λ c p.
           carried_cells s settled (home s depth) (sees_only s) v other with_it.gone with_apart m hands leaks facts k at to viewed typed spot
           (inside_rooted s depth k to passed.inside) (inside_reached s depth k to passed.inside (seen s m hands leaks))
-          (inside_owns s depth k to passed.inside m hands (no_formals (passed.inside).object)) clean
+          (inside_owns s depth k to passed.inside m hands (passed.inside).owner) clean
           depth (passed.inside).object (trunk_is s depth k to passed.inside) c p;
     }
 
-    pub one_views : (g y : ℕ) → is_anonymous (view_of s y) ≡ true
+    pub one_views : (g y : ℕ) → is_view s y ≡ true
         → (get_or (variable_slots s g y next.variables) 0 no_slot).word ≡ (get_or (variable_slots s g y m.variables) 0 no_slot).word
     one_views g y view =
         ap (λ z. (get_or z 0 no_slot).word)
-        (new_other g y (λ e. formal_plain (subst (λ z. is_anonymous (view_of s z) ≡ true) (sym (same_variable (suc depth) x g y (ap OfRoot e)).1) view))
-        ∙ other_base g y (λ e. true_false (is_anonymous (view_of s y)) view
-        (ap (λ z. is_anonymous (view_of s z)) (sym (same_variable depth (passed.inside).object g y (ap OfRoot e)).1) ∙ inside_plain s settled depth k to passed.inside)))
+        (new_other g y (λ e. formal_plain (subst (λ z. is_view s z ≡ true) (sym (same_variable (suc depth) x g y (ap OfRoot e)).1) view))
+        ∙ other_base g y (λ e. true_false (is_view s y) view
+        (ap (is_view s) (sym (same_variable depth (passed.inside).object g y (ap OfRoot e)).1)
+        ∙ both_no (is_anonymous (view_of s (passed.inside).object)) (is_view_formal s (passed.inside).object) (inside_plain s settled depth k to passed.inside) (passed.inside).owner)))
 
     pub one_bare : IsBare s depth k to next passed.inside
     one_bare p c held =
@@ -365,7 +369,7 @@ module _ (s : Typing) (settled : IsSettled s.table) (own_law : OwnsByShape s.tab
         declared_low s mid got hands leaks (suc depth) x w g y base (frames_differ (suc depth) x g y (λ e. other_frame (sym e))) c
         (carried_off_stays s settled (home s depth) (sees_only s) v other with_it.gone with_apart m hands leaks facts k at to viewed typed spot
         (inside_rooted s depth k to passed.inside) (inside_reached s depth k to passed.inside (seen s m hands leaks))
-        (inside_owns s depth k to passed.inside m hands (no_formals (passed.inside).object)) clean
+        (inside_owns s depth k to passed.inside m hands (passed.inside).owner) clean
         depth (passed.inside).object (inside_base s depth k to passed.inside) w g y base aside c reach)
 
     -- what is left to be declared has nothing still
@@ -382,6 +386,6 @@ module _ (s : Typing) (settled : IsSettled s.table) (own_law : OwnsByShape s.tab
         new_word depth y (frames_differ (suc depth) x depth y (λ e. omega (arith, e))) (p ++ q)
         ∙ carried_beside s settled (home s depth) (sees_only s) v other with_it.gone with_apart m hands leaks facts k at to viewed typed spot
         (inside_rooted s depth k to passed.inside) (inside_reached s depth k to passed.inside (seen s m hands leaks))
-        (inside_owns s depth k to passed.inside m hands (no_formals (passed.inside).object)) clean depth y (p ++ q)
+        (inside_owns s depth k to passed.inside m hands (passed.inside).owner) clean depth y (p ++ q)
         (places_apart (seen s m hands leaks) viewed.owned to at (inside_reached s depth k to passed.inside (seen s m hands leaks)) depth y q p
         (subst (λ w. (Under to w → ⊥) × (Under w to → ⊥)) is apart))

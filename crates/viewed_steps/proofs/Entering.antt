@@ -4,7 +4,7 @@ use Rattle.std.proofs.Common.{◌≡◌, refl, sym, ap, ◌∙◌, subst, ◌⊎
 use Rattle.spark_base.specs.Lists.{Has}
 use Rattle.spark_base.specs.declared.position.Pos.{Pos}
 use Rattle.place_names.specs.declared.fact.Fact.{Fact}
-use Rattle.flow_paths.specs.Objects.{Typing, object_at, is_anonymous, view_of}
+use Rattle.flow_paths.specs.Objects.{Typing, object_at}
 use Rattle.machine.specs.Words.{default}
 use Rattle.machine.specs.Memory.{Memory, Place, no_slot, variable_slots, words_of, moved_out, declared}
 use Rattle.machine.specs.Calls.{Passed, Value, From, To, with_formal, with_formals, returns_of}
@@ -21,13 +21,13 @@ use Rattle.soundness.specs.Typed.{OwnsByShape, Kept}
 use Rattle.owned_loans.specs.Views.{Around, Views, Viewed, IsForeign}
 use Rattle.owned_loans.proofs.Ways.{beginnings}
 use Rattle.owned_loans.proofs.Moves.{same_viewed}
-use Rattle.viewed_soundness.specs.Holds.{sees_only}
+use Rattle.viewed_soundness.specs.Holds.{sees_only, is_view}
 use Rattle.viewed_steps.specs.Taken.{Lodge, AreCarried, TakenBy, IsPassedOn, IsBare, IsApartFrom, AreTaken}
 use Rattle.viewed_steps.proofs.Left.{cells_same}
 use Rattle.viewed_steps.proofs.Between.{carried_same, carried_then, same_reaches, gone_also, more_gone, base_along, base_under, taken_more}
 use Rattle.viewed_steps.proofs.Carried.{inside_at, inside_spot, inside_base, inside_owns, inside_word}
 use Rattle.viewed_steps.proofs.Alike.{Enters, IsLaidIn, plain_place, with_one}
-use Rattle.viewed_steps.proofs.Views.{AreFar, apart_by_base}
+use Rattle.viewed_steps.proofs.Views.{AreFar, apart_by_base, AreAccess}
 use Rattle.viewed_steps.proofs.Vacated.{place_checks}
 use Rattle.viewed_steps.proofs.Outs.{Out, IsUnderOne, found_in, HasStill, HaveStill, still_then}
 use Rattle.viewed_steps.proofs.Entered.{IsPlainPassed, IsPlainOne, DiffersFrom, ArePassedOn, IsOpen, AreBlank, passed_base, outs_taken, viewed_next, kept_next, one_held, one_carried, one_views, one_bare, one_stays, one_blank, one_still}
@@ -46,7 +46,7 @@ owns_there s settled own_law m f x q k held = by_type (is_owning s.table (object
     by_type false is =
         absurd (no_number (sym (word_no s.table (content s m [] (OfRoot (OfVariable f x))) q ((keeps s settled own_law).ownerless (object_at s x).of is q)) ∙ held))
 
-module _ (s : Typing) (settled : IsSettled s.table) (own_law : OwnsByShape s.table) (no_formals : (x : ℕ) → is_view_formal s x ≡ false)
+module _ (s : Typing) (settled : IsSettled s.table) (own_law : OwnsByShape s.table) (in_formals : AreAccess s)
     (hands : List Waiting) (depth : ℕ) (v : Views) (far : AreFar (home s depth) v depth) (facts : List Fact) (scope : List ℕ)
     (cells : List Lodge) (begins : (c : Lodge) → Has cells c → (g : ℕ) × (y : ℕ) × (base_of c.way ≡ OfRoot (OfVariable g y)) × (g ≡ suc depth → ⊥)) where
   abbrev ViewedIn : Around (home s depth) → List Leak → Memory → Type 0
@@ -74,7 +74,7 @@ module _ (s : Typing) (settled : IsSettled s.table) (own_law : OwnsByShape s.tab
     pub typed : Kept s n hands
     pub held : (g y : ℕ) (p : List Step) (c : ℕ) → word_in s.table (content s n [] (OfRoot (OfVariable g y))) p ≡ Held c
         → (word_in s.table (content s m [] (OfRoot (OfVariable g y))) p ≡ Held c) ⊎ ((g ≡ suc depth) × Has formals y)
-    pub views : (g y : ℕ) → is_anonymous (view_of s y) ≡ true
+    pub views : (g y : ℕ) → is_view s y ≡ true → (g ≡ suc depth → is_view_formal s y ≡ true → Has formals y → ⊥)
         → (get_or (variable_slots s g y n.variables) 0 no_slot).word ≡ (get_or (variable_slots s g y m.variables) 0 no_slot).word
     pub carried : AreCarried s (λ g. g ≡ suc depth → ⊥) [] m n
     -- ways from the variables of other frames that don't go on after a place reach what they reached
@@ -106,7 +106,7 @@ module _ (s : Typing) (settled : IsSettled s.table) (own_law : OwnsByShape s.tab
   nothing_declared formals ways leaks m typed = record {
     typed = typed;
     held = λ g y p c held. inl held;
-    views = λ g y view. refl;
+    views = λ g y view off. refl;
     carried = carried_same s (λ g. g ≡ suc depth → ⊥) [] m m (λ g y p. refl) (λ c p. refl);
     stays = λ w g y base other_frame aside c reach. reach;
   }
@@ -130,7 +130,7 @@ module _ (s : Typing) (settled : IsSettled s.table) (own_law : OwnsByShape s.tab
 
   -- scalar ones change nothing that owners see
   plain_then : (other : Around (home s depth)) (leaks found : List Leak) (x : ℕ) (a : Passed) (formals : List ℕ) (passed : List Passed) (ways : List Way) (m then_m n : Memory)
-      → IsPlainOne s cells x a → Enters s settled own_law hands leaks m then_m → Enter other leaks found formals passed ways then_m n
+      → IsPlainOne s cells x a → Enters s settled own_law in_formals hands leaks m then_m → Enter other leaks found formals passed ways then_m n
       → Enter other leaks found (x ∷ formals) (a ∷ passed) ways m n
   plain_then other leaks found x a formals passed ways m then_m n plain on later = (
     record {
@@ -139,7 +139,7 @@ module _ (s : Typing) (settled : IsSettled s.table) (own_law : OwnsByShape s.tab
         | inl h ↦ inl (sym (on.hold g y p) ∙ h)
         | inr h ↦ inr (h.0, inr h.1)
       ];
-      views = λ g y view. later.0.views g y view ∙ on.views g y view;
+      views = λ g y view off. later.0.views g y view (λ up formal has. off up formal (inr has)) ∙ on.views g y view;
       carried = carried_then s (λ g. g ≡ suc depth → ⊥) [] [] [] m then_m n (λ w taken. taken) (λ w taken. taken)
           (carried_same s (λ g. g ≡ suc depth → ⊥) [] m then_m on.hold (λ c p. cells_same s m then_m hands leaks on.same c p)) later.0.carried;
       stays = λ w g y base other_frame aside c reach. later.0.stays w g y base other_frame aside c (same_reaches (seen s m hands leaks) (seen s then_m hands leaks) on.same w (OfCell c) reach);
@@ -153,7 +153,7 @@ module _ (s : Typing) (settled : IsSettled s.table) (own_law : OwnsByShape s.tab
       → (one : IsPassedOn s depth facts scope x k to) → IsApartFrom to ways → DiffersFrom x formals
       → ((g y : ℕ) (p : List Step) (c : ℕ) → word_in s.table (content s next [] (OfRoot (OfVariable g y))) p ≡ Held c
       → (word_in s.table (content s m [] (OfRoot (OfVariable g y))) p ≡ Held c) ⊎ ((g ≡ suc depth) × (y ≡ x)))
-      → ((g y : ℕ) → is_anonymous (view_of s y) ≡ true
+      → ((g y : ℕ) → is_view s y ≡ true
       → (get_or (variable_slots s g y next.variables) 0 no_slot).word ≡ (get_or (variable_slots s g y m.variables) 0 no_slot).word)
       → IsBare s depth k to next one.inside → AreCarried s (λ g. g ≡ suc depth → ⊥) [] m next
       → ((w : Way) (g y : ℕ) → base_of w ≡ OfRoot (OfVariable g y) → (g ≡ suc depth → ⊥) → (Past to w → ⊥) → (c : ℕ)
@@ -166,7 +166,7 @@ module _ (s : Typing) (settled : IsSettled s.table) (own_law : OwnsByShape s.tab
         | inr h ↦ inr (h.0, inr h.1)
         | inl h ↦ elim (held g y p c h) [ inl before ↦ inl before | inr mine ↦ inr (mine.0, inl (sym mine.1)) ]
       ];
-      views = λ g y view. later.0.views g y view ∙ views g y view;
+      views = λ g y view off. later.0.views g y view (λ up formal has. off up formal (inr has)) ∙ views g y view;
       carried = carried_then s (λ g. g ≡ suc depth → ⊥) [] [] [] m next n (λ w taken. taken) (λ w taken. taken) carried later.0.carried;
       stays = λ w g y base other_frame aside c reach. later.0.stays w g y base other_frame (λ z has. aside z (inr has)) c (one_stays w g y base other_frame (aside to (inl refl)) c reach);
     },
@@ -273,7 +273,7 @@ module _ (s : Typing) (settled : IsSettled s.table) (own_law : OwnsByShape s.tab
       let at : Loc = inside_at s depth k to one.inside in
       let first =
       place_checks s settled before hands leaks k at typed (inside_spot s depth k to one.inside before hands)
-      (inside_owns s depth k to one.inside before hands (no_formals (one.inside).object)) pos in
+      (inside_owns s depth k to one.inside before hands (one.inside).owner) pos in
       let same : (p : List Step) → word_in s.table (content s m hands (trunk at)) (p ++ steps_in at) ≡ word_in s.table (content s before hands (trunk at)) (p ++ steps_in at) =
       λ p. inside_word s depth k to one.inside m hands p ∙ still (one.inside).object (one.inside).steps p (one.inside).way
       ∙ sym (inside_word s depth k to one.inside before hands p) in
@@ -290,10 +290,10 @@ module _ (s : Typing) (settled : IsSettled s.table) (own_law : OwnsByShape s.tab
 
   -- what is passed for a formal of a scalar type
   laid_in : (leaks : List Leak) (m : Memory) (a : Passed) → IsPlainPassed s cells a → Kept s m hands
-      → ((c : Lodge) → Has cells c → Reaches (seen s m hands leaks) c.way (OfCell c.cell)) → IsLaidIn s settled own_law hands leaks m a
+      → ((c : Lodge) → Has cells c → Reaches (seen s m hands leaks) c.way (OfCell c.cell)) → IsLaidIn s settled own_law in_formals hands leaks m a
   laid_in leaks m (Value ws) plain typed there = plain
-  laid_in leaks m (From k) plain typed there = plain_place s settled own_law hands leaks (suc depth) cells begins m k plain typed there
-  laid_in leaks m (To k) plain typed there = plain_place s settled own_law hands leaks (suc depth) cells begins m k plain typed there
+  laid_in leaks m (From k) plain typed there = plain_place s settled own_law in_formals hands leaks (suc depth) cells begins m k plain typed there
+  laid_in leaks m (To k) plain typed there = plain_place s settled own_law in_formals hands leaks (suc depth) cells begins m k plain typed there
 
   pub all_declared : (other : Around (home s depth)) (leaks : List Leak) (formals : List ℕ) (passed : List Passed) (ways : List Way) (outs : List Out) (before m : Memory)
       → ArePassedOn s cells depth facts scope formals passed ways outs → IsOpen (home s depth) other ways → Kept s before hands → Kept s m hands
@@ -304,7 +304,7 @@ module _ (s : Typing) (settled : IsSettled s.table) (own_law : OwnsByShape s.tab
   all_declared other leaks (x ∷ formals) [] ways outs before m are open_there at_first typed cells_there viewed blank still =
       nothing_entered other leaks (x ∷ formals) [] ways outs before m refl are typed viewed
   all_declared other leaks (x ∷ formals) (a ∷ passed) [] outs before m are open_there at_first typed cells_there viewed blank still =
-      let on = with_one s settled own_law hands leaks (suc depth) x a m are.0.0 (laid_in leaks m a are.0.1 typed (λ c has. (cells_there c has).0)) typed in
+      let on = with_one s settled own_law in_formals hands leaks (suc depth) x a m are.0.0 (laid_in leaks m a are.0.1 typed (λ c has. (cells_there c has).0)) typed in
       let mid : Memory = with_formal s (suc depth) x a m in
       plain_then other leaks (leaks ++ found_in s before outs) x a formals passed [] m mid (with_formals s (suc depth) formals passed mid) are.0 on
       (all_declared other leaks formals passed [] outs before mid are.1 open_there at_first on.typed
@@ -313,7 +313,7 @@ module _ (s : Typing) (settled : IsSettled s.table) (own_law : OwnsByShape s.tab
       (λ y has p. on.hold (suc depth) y p ∙ blank y (inr has) p)
       (λ o has. still_then s depth before m mid o.way (still o has) (λ y q p is. on.hold depth y (p ++ q))))
   all_declared other leaks (x ∷ formals) (a ∷ passed) (to ∷ ways) outs before m (inl are) open_there at_first typed cells_there viewed blank still =
-      let on = with_one s settled own_law hands leaks (suc depth) x a m are.0.0 (laid_in leaks m a are.0.1 typed (λ c has. (cells_there c has).0)) typed in
+      let on = with_one s settled own_law in_formals hands leaks (suc depth) x a m are.0.0 (laid_in leaks m a are.0.1 typed (λ c has. (cells_there c has).0)) typed in
       let mid : Memory = with_formal s (suc depth) x a m in
       plain_then other leaks (leaks ++ found_in s before outs) x a formals passed (to ∷ ways) m mid (with_formals s (suc depth) formals passed mid) are.0 on
       (all_declared other leaks formals passed (to ∷ ways) outs before mid are.1 open_there at_first on.typed
@@ -332,23 +332,23 @@ module _ (s : Typing) (settled : IsSettled s.table) (own_law : OwnsByShape s.tab
       subst (λ z. Enter other leaks (leaks ++ found_in s before outs) (x ∷ formals) (z ∷ passed) (to ∷ ways) m (with_formals s (suc depth) (x ∷ formals) (z ∷ passed) m)) (sym is)
       (subst (λ z. Enter other leaks (leaks ++ found_in s before z) (x ∷ formals) (From k ∷ passed) (to ∷ ways) m (with_formals s (suc depth) (x ∷ formals) (From k ∷ passed) m)) (sym same)
       (taken_then other leaks leaks (leaks ++ found_in s before later) x k (From k) to formals passed ways m next (with_formals s (suc depth) formals passed next) refl one apart differ
-      (one_held s settled own_law no_formals hands leaks depth v far facts scope (outs_also other later) x k to one whole mine m typed here new)
-      (one_views s settled own_law no_formals hands leaks depth v far facts scope (outs_also other later) x k to one whole mine m typed here new)
-      (one_bare s settled own_law no_formals hands leaks depth v far facts scope (outs_also other later) x k to one whole mine m typed here new)
-      (one_carried s settled own_law no_formals hands leaks depth v far facts scope (outs_also other later) x k to one whole mine m typed here new)
-      (one_stays s settled own_law no_formals hands leaks depth v far facts scope (outs_also other later) x k to one whole mine m typed here new)
+      (one_held s settled own_law in_formals hands leaks depth v far facts scope (outs_also other later) x k to one whole mine m typed here new)
+      (one_views s settled own_law in_formals hands leaks depth v far facts scope (outs_also other later) x k to one whole mine m typed here new)
+      (one_bare s settled own_law in_formals hands leaks depth v far facts scope (outs_also other later) x k to one whole mine m typed here new)
+      (one_carried s settled own_law in_formals hands leaks depth v far facts scope (outs_also other later) x k to one whole mine m typed here new)
+      (one_stays s settled own_law in_formals hands leaks depth v far facts scope (outs_also other later) x k to one whole mine m typed here new)
       (all_declared (away other to) leaks formals passed ways later before next more (others_open other to ways root apart open_there) at_first
-      (kept_next s settled own_law no_formals hands leaks depth v far facts scope (outs_also other later) x k to one whole mine m typed here new)
+      (kept_next s settled own_law in_formals hands leaks depth v far facts scope (outs_also other later) x k to one whole mine m typed here new)
       (λ c has. (
         (let begin = begins c has in
-            one_stays s settled own_law no_formals hands leaks depth v far facts scope (outs_also other later) x k to one whole mine m typed here new
+            one_stays s settled own_law in_formals hands leaks depth v far facts scope (outs_also other later) x k to one whole mine m typed here new
             c.way begin.0 begin.1 begin.2 begin.3 ((cells_there c has).1 to (inl refl)) c.cell (cells_there c has).0),
         (λ z there. (cells_there c has).1 z (inr there)),
       ))
-      (beside_outs other to later leaks next (viewed_next s settled own_law no_formals hands leaks depth v far facts scope (outs_also other later) x k to one whole mine m typed here new))
-      (λ y has p. one_blank s settled own_law no_formals hands leaks depth v far facts scope (outs_also other later) x k to one whole mine m typed here new y (differ y has) p (blank y (inr has) p))
+      (beside_outs other to later leaks next (viewed_next s settled own_law in_formals hands leaks depth v far facts scope (outs_also other later) x k to one whole mine m typed here new))
+      (λ y has p. one_blank s settled own_law in_formals hands leaks depth v far facts scope (outs_also other later) x k to one whole mine m typed here new y (differ y has) p (blank y (inr has) p))
       (λ o has. still_then s depth before m next o.way (still o (subst (λ z. Has z o) (sym same) has))
-      (one_still s settled own_law no_formals hands leaks depth v far facts scope (outs_also other later) x k to one whole mine m typed here new o.way (apart o.way (among o has)))))))
+      (one_still s settled own_law in_formals hands leaks depth v far facts scope (outs_also other later) x k to one whole mine m typed here new o.way (apart o.way (among o has)))))))
   all_declared other leaks (x ∷ formals) (a ∷ passed) (to ∷ ways) outs before m (inr (k, later, inr (pos, is, same), one, apart, differ, more)) open_there at_first typed cells_there viewed blank still =
       let new = blank x (inl refl) in
       let next : Memory = declared (suc depth) x (default s.table (object_at s x).of) (moved_out s k m) in
@@ -371,26 +371,26 @@ module _ (s : Typing) (settled : IsSettled s.table) (own_law : OwnsByShape s.tab
       (subst (λ z. Enter other leaks (leaks ++ found_in s before z) (x ∷ formals) (To k ∷ passed) (to ∷ ways) m (with_formals s (suc depth) (x ∷ formals) (To k ∷ passed) m)) (sym same)
       (subst (λ z. Enter other leaks z (x ∷ formals) (To k ∷ passed) (to ∷ ways) m (with_formals s (suc depth) (x ∷ formals) (To k ∷ passed) m)) (append_assoc leaks (leaks_at s pos before k) (found_in s before later))
       (taken_then other leaks found (found ++ found_in s before later) x k (To k) to formals passed ways m next (with_formals s (suc depth) formals passed next) refl one apart differ
-      (λ g y p c held. inl (out_held s settled own_law no_formals hands leaks depth v facts scope (outs_also other (out ∷ later)) ((outs_also (away other to) later).gone) gone_apart x k to one
+      (λ g y p c held. inl (out_held s settled own_law in_formals hands leaks depth v facts scope (outs_also other (out ∷ later)) ((outs_also (away other to) later).gone) gone_apart x k to one
       open_there.none m typed here new found mine g y p c held))
-      (out_views s settled own_law no_formals hands leaks depth v facts scope (outs_also other (out ∷ later)) ((outs_also (away other to) later).gone) gone_apart x k to one
+      (out_views s settled own_law in_formals hands leaks depth v facts scope (outs_also other (out ∷ later)) ((outs_also (away other to) later).gone) gone_apart x k to one
       open_there.none m typed here new found)
-      (out_bare s settled own_law no_formals hands leaks depth v facts scope (outs_also other (out ∷ later)) ((outs_also (away other to) later).gone) gone_apart x k to one
+      (out_bare s settled own_law in_formals hands leaks depth v facts scope (outs_also other (out ∷ later)) ((outs_also (away other to) later).gone) gone_apart x k to one
       open_there.none m typed here new found mine)
-      (out_carried s settled own_law no_formals hands leaks depth v facts scope (outs_also other (out ∷ later)) ((outs_also (away other to) later).gone) gone_apart x k to one
+      (out_carried s settled own_law in_formals hands leaks depth v facts scope (outs_also other (out ∷ later)) ((outs_also (away other to) later).gone) gone_apart x k to one
       open_there.none m typed here new found mine)
       (λ w g y base other_frame aside c reach.
-      out_stays s settled own_law no_formals hands leaks depth v facts scope (outs_also other (out ∷ later)) ((outs_also (away other to) later).gone) gone_apart x k to one
+      out_stays s settled own_law in_formals hands leaks depth v facts scope (outs_also other (out ∷ later)) ((outs_also (away other to) later).gone) gone_apart x k to one
       open_there.none m typed here new found mine w aside c reach)
       (all_declared (away other to) found formals passed ways later before next more (others_open other to ways root apart open_there) at_first
-      (out_kept s settled own_law no_formals hands leaks depth v facts scope (outs_also other (out ∷ later)) ((outs_also (away other to) later).gone) gone_apart x k to one
+      (out_kept s settled own_law in_formals hands leaks depth v facts scope (outs_also other (out ∷ later)) ((outs_also (away other to) later).gone) gone_apart x k to one
       open_there.none m typed here new found)
       (λ c has. (
-        out_stays s settled own_law no_formals hands leaks depth v facts scope (outs_also other (out ∷ later)) ((outs_also (away other to) later).gone) gone_apart x k to one
+        out_stays s settled own_law in_formals hands leaks depth v facts scope (outs_also other (out ∷ later)) ((outs_also (away other to) later).gone) gone_apart x k to one
             open_there.none m typed here new found mine c.way ((cells_there c has).1 to (inl refl)) c.cell (cells_there c has).0,
         (λ z there. (cells_there c has).1 z (inr there)),
       ))
-      (out_viewed s settled own_law no_formals hands leaks depth v facts scope (outs_also other (out ∷ later)) ((outs_also (away other to) later).gone) gone_apart x k to one
+      (out_viewed s settled own_law in_formals hands leaks depth v facts scope (outs_also other (out ∷ later)) ((outs_also (away other to) later).gone) gone_apart x k to one
       open_there.none m typed here new found mine
       (λ w o off. elim o [
         | inl gone ↦ inl (inl gone)
@@ -399,8 +399,8 @@ module _ (s : Typing) (settled : IsSettled s.table) (own_law : OwnsByShape s.tab
           | inr rest ↦ inr (other_one, rest, under)
         ]
       ]) (λ p. inl (inr (p, refl))))
-      (λ y has p. out_blank s settled own_law no_formals hands leaks depth v facts scope (outs_also other (out ∷ later)) ((outs_also (away other to) later).gone) gone_apart x k to one
+      (λ y has p. out_blank s settled own_law in_formals hands leaks depth v facts scope (outs_also other (out ∷ later)) ((outs_also (away other to) later).gone) gone_apart x k to one
       open_there.none m typed here new found y (differ y has) p (blank y (inr has) p))
       (λ o has. still_then s depth before m next o.way (still o (subst (λ z. Has z o) (sym same) (inr has)))
-      (out_still s settled own_law no_formals hands leaks depth v facts scope (outs_also other (out ∷ later)) ((outs_also (away other to) later).gone) gone_apart x k to one
+      (out_still s settled own_law in_formals hands leaks depth v facts scope (outs_also other (out ∷ later)) ((outs_also (away other to) later).gone) gone_apart x k to one
       open_there.none m typed here new found mine o.way (apart o.way (among o has))))))))

@@ -1,6 +1,6 @@
 -- The innermost frame of a run, beside those that wait: which acts its facts and theirs allow, where
 -- its variables own, and that the others wait still.
-use Rattle.viewed_soundness.specs.Holds.{sees_only}
+use Rattle.viewed_soundness.specs.Holds.{is_view, sees_only}
 use Rattle.soundness.proofs.Lasting.{ownerless}
 use Rattle.typed_tree.specs.declared.object.ObjectKind.{ObjectKind}
 use Rattle.typed_tree.specs.declared.object.ObjectKind.TheVariants as object_kind
@@ -20,7 +20,7 @@ use Rattle.typed_tree.specs.Trees.{Call as CallIn, TypedTree}
 use Rattle.typed_tree.specs.Programs.{TypedProgram}
 use Rattle.flow_paths.specs.declared.report.Effects.{Effects}
 use Rattle.flow_paths.specs.Instructions.{Instruction, EndScope}
-use Rattle.flow_paths.specs.Objects.{Typing, traverses, object_at, is_anonymous, is_package_object, is_variable, is_borrower, is_observer, is_borrowing, is_observing, has_scope_end, view_of}
+use Rattle.flow_paths.specs.Objects.{Typing, traverses, object_at, is_anonymous, is_package_object, is_variable, is_borrower, is_observer, is_borrowing, is_observing, has_scope_end, is_formal_kind, view_of}
 use Rattle.flow_paths.specs.Points.{NamedPoint, FlowPoint}
 use Rattle.flow_paths.specs.Laid.{FlowSub, FlowProgram, NamedSub, number_in, flow_sub, typing_of, flow_typing, flow_program, flow_named}
 use Rattle.flow_paths.specs.Paths.{ControlPath}
@@ -34,10 +34,10 @@ use Rattle.machine.specs.States.{Waiting, Frame, State, sub_of}
 use Rattle.machine.specs.Step.{Turn, start}
 use Rattle.machine.specs.Step as steps
 use Rattle.machine.specs.Typed.{successors}
-use Rattle.machine.specs.Owners.{WellOwned, waiting_in}
+use Rattle.machine.specs.Owners.{WellOwned, is_in, waiting_in}
 use Rattle.owned_ways.specs.Ways.{Step, OfVariable, OfRoot, Way, Held, after, AllowsAll, number_of}
 use Rattle.owned_ways.specs.Ways as ways
-use Rattle.soundness.specs.Seen.{IsNear, content, word_in, home}
+use Rattle.soundness.specs.Seen.{IsNear, content, word_in, home, is_view_formal}
 use Rattle.soundness.specs.Typed.{Kept}
 use Rattle.soundness.specs.Sound.{Stage, facts_of, AreStages, Uses, IsRunnable, is_temporary_object, returns_value, has_returned, InScope, IsNamedSub, IsAtPoint, view_of as view_here, IsPlainValue}
 use Rattle.soundness.specs.Ready.{stored_at, IsSupplied}
@@ -57,7 +57,7 @@ use Rattle.owned_loans.specs.Views.{Around, known_gone, Views, Viewed}
 use Rattle.viewed_soundness.proofs.Names.{true_false}
 use Rattle.viewed_steps.specs.Awaited.{AreFor, AreValues, temporaries_of, is_held, lasting_of, awaited, AreAwaited, AreScalar, TakesScalars, IsTakenBy, IsTaken}
 use Rattle.viewed_steps.proofs.Waited.{plain_unheld, ended_held, lasting_within, within_lasting, lasting_more, brought_temporaries, Shares, shares, scalar_values}
-use Rattle.viewed_steps.specs.Sound.{HoldsAt, ArePlaced, NoneAbove, Lasts, ViewStage, stages_of, GoneElsewhere, Disturbs, AreWaiting, LeadsOn, IsResting}
+use Rattle.viewed_steps.specs.Sound.{ArePast, HoldsAt, ArePlaced, NoneAbove, Lasts, ViewStage, stages_of, GoneElsewhere, Disturbs, AreWaiting, LeadsOn, IsResting}
 use Rattle.viewed_steps.specs.Ready.{AreOrderly, IsReady}
 use Rattle.viewed_steps.proofs.Lent.{ends, Spare, spare_has}
 use Rattle.viewed_steps.proofs.Inherited.{after_more, apart_act, lending_uses, apart_borrowed, apart_seen}
@@ -66,11 +66,11 @@ use Rattle.viewed_steps.proofs.Waiting.{StandsBetween, all_between, KeptElsewher
 use Rattle.viewed_steps.proofs.Uses.{writes_there, borrowing_writes, moving_writes}
 use Rattle.viewed_steps.proofs.Apart.{spared_there, written_disturbs, moved_apart, seen_apart}
 use Rattle.viewed_steps.proofs.Eased.{eased_viewed}
-use Rattle.viewed_steps.proofs.Placed.{view_ends}
 use Rattle.viewed_steps.proofs.Standing.{or_right}
 use Rattle.viewed_steps.proofs.Standing as standing
 use Rattle.viewed_steps.proofs.Packages as packages
-use Rattle.viewed_steps.proofs.Views.{observes_not}
+use Rattle.viewed_steps.proofs.Views.{view_cases, anonymous_view, view_ends}
+use Rattle.viewed_soundness.proofs.Names.{borrower_sees}
 
 unless : (b : Bool) → (b ≡ true → ⊥) → b ≡ false
 unless true e = absurd (e refl)
@@ -103,7 +103,7 @@ module _ (table : Table) (typed : TypedProgram) (effects : Effects) (input : Lis
   abbrev own : Typing
   own = typing_of table typed
 
-  abbrev local : (x : ℕ) → is_anonymous (view_of s x) ≡ true → is_package_object s x ≡ false
+  abbrev local : (x : ℕ) → is_view s x ≡ true → is_package_object s x ≡ false
   local = standing.local table typed effects input ready
 
   abbrev unmoved_stage : (e : Stage) → e.frame.sub ≡ 0 → (name : PlaceName) → Has (facts_of program effects e) (Moved name) → ⊥
@@ -121,7 +121,7 @@ module _ (table : Table) (typed : TypedProgram) (effects : Effects) (input : Lis
       (viewed_before : Viewed (home s (suc (length rest))) (sees_only s) (known_gone (home s (suc (length rest))) (GoneElsewhere program effects (below ∷ more_frames))) views
       (view_here s state) (facts_of program effects top))
       (kept : Kept s state.memory (waiting_in state)) (scope : InScope s state.memory (suc (length rest)) (lasting_of s p.scope)) (holds : HoldsAt s (suc (length rest)) views state.memory p)
-      (placed_before : ArePlaced program (facts_of program effects top) views p.scope) (above : NoneAbove s (suc (length rest)) state.memory) where
+      (placed_before : ArePlaced program (suc (length rest)) (facts_of program effects top) views p.scope × ArePast s (suc (length rest)) views (below ∷ more_frames)) (above : NoneAbove s (suc (length rest)) state.memory) where
     abbrev pub outer : List Frame
     outer = below.stage.frame ∷ rest
 
@@ -240,7 +240,7 @@ module _ (table : Table) (typed : TypedProgram) (effects : Effects) (input : Lis
     }
 
     pub borrower_local : (x : ℕ) → is_borrower s x ≡ true → is_package_object s x ≡ false
-    borrower_local x borrows = local x (borrower_anonymous s x borrows)
+    borrower_local x borrows = local x (anonymous_view s x (borrower_anonymous s x borrows))
 
     pub one_apart : (a : Placed) → Has (standing.acts_by table typed effects input ready state top older outer named p frames of_sub at_point s p.instr) a → ends s a.act ≡ false
         → (f : Fact) → Has handed_on f → forbids a.act f ≡ None
@@ -283,10 +283,12 @@ module _ (table : Table) (typed : TypedProgram) (effects : Effects) (input : Lis
     own_views x w has = local x (holds.only x w has)
 
     pub package_plain : (x : ℕ) → is_package_object s x ≡ true → is_observer s x ≡ false
-    package_plain x shared = unless (is_observer s x) (λ sees. true_false (is_package_object s x) shared (local x (observer_anonymous s x sees)))
+    package_plain x shared = unless (is_observer s x) (λ sees. true_false (is_package_object s x) shared (local x (anonymous_view s x (observer_anonymous s x sees))))
 
     pub package_owns : (x : ℕ) → is_package_object s x ≡ true → sees_only s x ≡ false
-    package_owns x shared = observes_not s (standing.no_in_formals table typed effects input ready) x (package_plain x shared)
+    package_owns x shared =
+        borrower_sees s x (package_plain x shared)
+        (unless (is_view_formal s x) (λ formal. true_false (is_package_object s x) shared (ready.orderly.passed x formal)))
 
     -- what is lent around is no part of an object of the frame
     pub not_lent : (x : ℕ) → is_package_object s x ≡ false → (l : Loan) (name : PlaceName) → other.lent l name → name.root ≡ x → ⊥
@@ -300,42 +302,41 @@ module _ (table : Table) (typed : TypedProgram) (effects : Effects) (input : Lis
     -- with the views of those that wait, and their facts on package objects
     pub viewed : Viewed (home s depth) (sees_only s) other views (view_here s state) facts_now
     viewed = with_them table typed effects unmoved_stage local state depth older between views (view_here s state) own_facts own_views package_owns apart
-        (λ w n keeps. far table typed effects unmoved_stage local state depth older between w n keeps) viewed_own
+        (λ w n keeps. far table typed effects unmoved_stage local state depth older between w n keeps) placed_before.1 viewed_own
 
     -- and without them
-    pub apart_from_them : (done : List Act) (v : Views) (view : ways.View) → ((x : ℕ) (w : Way) → v.way x ≡ Some w → is_anonymous (view_of s x) ≡ true)
-        → ((x : ℕ) (w : Way) → v.way x ≡ Some w → ways.Named (home s depth) w)
+    pub apart_from_them : (done : List Act) (v : Views) (view : ways.View) → ((x : ℕ) (w : Way) → v.way x ≡ Some w → is_view s x ≡ true)
         → Viewed (home s depth) (sees_only s) other v view (after done facts_now)
         → Viewed (home s depth) (sees_only s) (known_gone (home s depth) (GoneElsewhere program effects older)) v view (after done own_facts)
-    apart_from_them done v view only ways_named well =
+    apart_from_them done v view only well =
         without_them table typed effects unmoved_stage local state depth older between v view (after done facts_now) (after done own_facts)
-        (λ x w has. local x (only x w has)) ways_named package_owns (after_more done own_facts facts_now (λ f has. Has-append_left own_facts handed_on f has))
+        (λ x w has. local x (only x w has)) package_owns (after_more done own_facts facts_now (λ f has. Has-append_left own_facts handed_on f has))
         (after_splits done facts_now own_facts handed_on from_both) well
 
-    pub placed_own : ArePlaced program own_facts views p.scope
-    placed_own = subst (λ z. ArePlaced program z views p.scope) (standing.facts_are table typed effects input ready state top older outer named p frames of_sub at_point path) placed_before
+    pub placed_own : ArePlaced program (suc (length rest)) own_facts views p.scope
+    placed_own = subst (λ z. ArePlaced program depth z views p.scope) (standing.facts_are table typed effects input ready state top older outer named p frames of_sub at_point path) placed_before.0
 
     pub placed_by : (some all : List Fact) (v : Views) (scope_there : List ℕ)
-        → ((h : ℕ) (m : PlaceName) → is_observer s h ≡ true → Has some (Lent Observed h m) → Has all (Lent Observed h m))
-        → ArePlaced program some v scope_there → ArePlaced program all v scope_there
+        → ((h : ℕ) (m : PlaceName) → sees_only s h ≡ true → Has some (Lent Observed h m) → Has all (Lent Observed h m))
+        → ArePlaced program (suc (length rest)) some v scope_there → ArePlaced program (suc (length rest)) all v scope_there
     placed_by some all v scope_there lends there x w has = (let old = there x w has in record {
       within = old.within;
       up = old.up;
       root = old.root;
-      holder = λ sees. (let h = old.holder sees in (h.0, lends h.0 (ways.name_of (v.loan x)) h.3 h.1, h.2, h.3));
+      holder = λ named_up sees. (let h = old.holder named_up sees in (h.0, lends h.0 (ways.name_of (v.loan x)) h.3 h.1, h.2, h.3));
     })
 
-    pub placed : ArePlaced program facts_now views p.scope
+    pub placed : ArePlaced program (suc (length rest)) facts_now views p.scope
     placed = placed_by own_facts facts_now views p.scope (λ h m sees has. Has-append_left own_facts handed_on (Lent Observed h m) has) placed_own
 
     -- loans are those of the frame
-    pub own_loans : (done : List Act) (h : ℕ) (m : PlaceName) → is_observer s h ≡ true → Has (after done facts_now) (Lent Observed h m)
+    pub own_loans : (done : List Act) (h : ℕ) (m : PlaceName) → sees_only s h ≡ true → Has (after done facts_now) (Lent Observed h m)
         → Has (after done own_facts) (Lent Observed h m)
     own_loans done h m sees has = elim (after_splits done facts_now own_facts handed_on from_both (Lent Observed h m) has) [
       | inl mine ↦ mine
       | inr there ↦ (
           let lent = lent_handed table typed effects unmoved_stage local state (suc (length rest)) (below ∷ more_frames) between Observed h m there in
-          absurd (true_false (is_observer s h) sees (package_plain h (ap (is_package_object s) lent.0 ∙ (lent.1).5))))
+          absurd (true_false (sees_only s h) sees (package_owns h (ap (is_package_object s) lent.0 ∙ (lent.1).5))))
     ]
 
     -- what is handed on is of no object of the frame
@@ -456,23 +457,30 @@ module _ (table : Table) (typed : TypedProgram) (effects : Effects) (input : Lis
     ]
 
     -- as views have
-    pub view_stays : (x : ℕ) → is_anonymous (view_of s x) ≡ true → is_held s x ≡ false
-    view_stays x view = plain_unheld s x (variable_stays (object_at s x).kind (ready.orderly.local x view).0)
+    pub view_stays : (x : ℕ) → is_view s x ≡ true → is_held s x ≡ false
+    view_stays x view = elim (view_cases s x view) [
+      | inl anonymous ↦ plain_unheld s x (variable_stays (object_at s x).kind (ready.orderly.local x anonymous).0)
+      | inr formal ↦ plain_unheld s x (formal_stays (object_at s x).kind (is_in (object_at s x).mode) (is_owning s.table (object_at s x).of) formal)
+    ]
       where
         variable_stays : (k : ObjectKind) → is_variable k ≡ true → is_temporary k ≡ false
         variable_stays object_kind.Variable is = refl
         variable_stays k is = cc
 
+        formal_stays : (k : ObjectKind) (a b : Bool) → (is_formal_kind k && a) && b ≡ true → is_temporary k ≡ false
+        formal_stays object_kind.Formal a b is = refl
+        formal_stays k a b is = cc
+
     pub lasts_left : (r x : ℕ) → Lasts program p.scope r x → Lasts program left_scope r x
     lasts_left r x (inl shared_object) = inl shared_object
     lasts_left r x (inr (within, end, around, plain)) = inr (left_within r end plain within, end, around, plain)
 
-    pub placed_left : (facts : List Fact) → ArePlaced program facts views p.scope → ArePlaced program facts views left_scope
+    pub placed_left : (facts : List Fact) → ArePlaced program (suc (length rest)) facts views p.scope → ArePlaced program (suc (length rest)) facts views left_scope
     placed_left facts there x w has = (let old = there x w has in record {
       within = left_within x (view_ends s x (holds.only x w has)) (view_stays x (holds.only x w has)) old.within;
-      up = lasts_left (number_of (views.up x)) x old.up;
-      root = lasts_left (number_of w) x old.root;
-      holder = λ sees. (let h = old.holder sees in (h.0, h.1, lasts_left h.0 x h.2, h.3));
+      up = λ named_up. lasts_left (number_of (views.up x)) x (old.up named_up);
+      root = λ at_home. lasts_left (number_of w) x (old.root at_home);
+      holder = λ named_up sees. (let h = old.holder named_up sees in (h.0, h.1, lasts_left h.0 x h.2, h.3));
     })
 
     -- the values that wait on, after an instruction that fills no temporary

@@ -11,6 +11,7 @@ pub mod Sources
 pub mod Beside
 pub mod Inherited
 pub mod Uses
+pub mod Rooted
 pub mod Roots
 pub mod Waiting
 pub mod Apart

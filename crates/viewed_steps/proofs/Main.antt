@@ -57,6 +57,7 @@ module _ (s : Typing) where
         };
         views = λ x w has. absurd (none_some w has);
         whole = λ x w z has. absurd (none_some w has);
+        past = λ x w has. absurd (none_some w has);
         lends = λ l n lent. absurd lent;
         far = λ w n none. absurd none;
       }
@@ -105,9 +106,13 @@ module _ (table : Table) (typed : TypedProgram) (effects : Effects) (input : Lis
         held = λ x n lasts view e. absurd (empty_word s (home s 0 x) x n e);
         within = λ x n view e. absurd (empty_word s (home s 0 x) x n e);
         only = λ x w has. absurd (none_some w has);
-        named = λ x w has. absurd (none_some w has);
+        lies = λ x w has. absurd (none_some w has);
+        owners = λ x w has. absurd (none_some w has);
+        passed = λ x w has. absurd (none_some w has);
+        own = λ x w has. absurd (none_some w has);
       };
       placed = λ x w has. absurd (none_some w has);
+      past = λ x w has. absurd (none_some w has);
       none_above = λ f x n less view e. empty_word s f x n e;
     },
     λ g has. elim has [ inl e ↦ ap (λ (z : ViewStage). z.stage.before) (sym e) | inr none ↦ absurd none ],
@@ -144,9 +149,13 @@ module _ (table : Table) (typed : TypedProgram) (effects : Effects) (input : Lis
         held = λ x n lasts view e. absurd (empty_word s (home s 1 x) x n e);
         within = λ x n view e. absurd (empty_word s (home s 1 x) x n e);
         only = λ x w has. absurd (none_some w has);
-        named = λ x w has. absurd (none_some w has);
+        lies = λ x w has. absurd (none_some w has);
+        owners = λ x w has. absurd (none_some w has);
+        passed = λ x w has. absurd (none_some w has);
+        own = λ x w has. absurd (none_some w has);
       };
       placed = λ x w has. absurd (none_some w has);
+      past = λ x w has. absurd (none_some w has);
       none_above = λ f x n less view e. empty_word s f x n e;
     },
     λ g has. elim has [

@@ -22,7 +22,9 @@ use Rattle.type_definitions.specs.Types.{shape_of, full, parts, is_scalar, is_ow
 use Rattle.typed_tree.specs.Trees.{TypedTree, Name, More}
 use Rattle.flow_paths.specs.declared.report.Effects.{Effects}
 use Rattle.flow_paths.specs.Instructions.{Call}
-use Rattle.flow_paths.specs.Objects.{Typing, Signature, object_at, sub_at, is_package_object, is_named_access, is_variable_access, view_of, Passing, passing, passing_by, passings}
+use Rattle.flow_paths.specs.Objects.{Typing, Signature, object_at, sub_at, is_formal, is_package_object, is_named_access, is_variable_access, view_of, Passing, passing, passing_by, passings}
+use Rattle.machine.specs.Owners.{is_in}
+use Rattle.soundness.specs.Seen.{is_view_formal}
 use Rattle.flow_paths.specs.Names.{Written, written, name_of}
 use Rattle.flow_paths.specs.Acts.{actual_act, actual_acts}
 use Rattle.flow_paths.specs.Views.{is_in_mode, text_report}
@@ -247,6 +249,21 @@ module _ (s : Typing) (own_law : OwnsByShape s.table) (cells : List Lodge) (dept
   abbrev AllowsOne : List Fact → ℕ → TypedTree → Type 0
   AllowsOne known x e = AllowsAll known (acts (actual_act (passing s procedure x) e))
 
+  -- what is copied back owns
+  copied_owner : (x : ℕ) → IsCopiedBack s x → is_view_formal s x ≡ false
+  copied_owner x back =
+      ap (λ b. (is_formal s x && b) && is_owning s.table (object_at s x).of) (not_in (object_at s x).mode back)
+      ∙ no_middle (is_formal s x) (is_owning s.table (object_at s x).of)
+    where
+      no_middle : (a b : Bool) → (a && false) && b ≡ false
+      no_middle true b = refl
+      no_middle false b = refl
+
+      not_in : (m : Mode) → (m ≡ mode.In → ⊥) → is_in m ≡ false
+      not_in mode.In is = absurd (is refl)
+      not_in mode.Out is = refl
+      not_in mode.InOut is = refl
+
   -- another place, by the mode
   own_first : (x : ℕ) (how : Mode) (p : Pos) (y u : ℕ) (path : TypedTree) (k : Place) (a : Passed) (formals : List ℕ) (actuals : TypedTree) (passed : List Passed) (known : List Fact)
       (outs later : List Out)
@@ -271,6 +288,7 @@ module _ (s : Typing) (own_law : OwnsByShape s.table) (cells : List Lodge) (dept
             inside = inside;
             fits = fits;
             formal = local;
+            owner = copied_owner x back;
             many = many;
             within = λ owns. within inside.object (inl (sym object_is)) inside.own owns;
             unlent = λ l h n has over. unlent to by_way l h n (less (Lent l h n) has) over;

@@ -22,11 +22,11 @@ use Rattle.typed_laws.specs.Needed.{Leads, Gives, Source}
 use Rattle.soundness.proofs.Scalars.{acts}
 use Rattle.soundness.proofs.Taking.{Takes}
 use Rattle.owned_loans.specs.Views.{Around, Views, Unused}
-use Rattle.viewed_soundness.specs.Holds.{IsNamed, PartsAreNamed}
+use Rattle.viewed_soundness.specs.Holds.{IsNamed, PartsAreNamed, sees_only}
 use Rattle.viewed_soundness.proofs.Outcomes.{IsGood, Leads_on}
 use Rattle.viewed_soundness.proofs.Lends.{Observes, Declares, Puts, borrower_on, observer_on, observer_again_on, assign_borrower_on, assign_observer_on}
 use Rattle.viewed_steps.proofs.Ended.{view_kinds}
-use Rattle.viewed_steps.proofs.Views.{observes_not}
+use Rattle.viewed_steps.proofs.Views.{AreAccess}
 
 -- ---- types of views
 
@@ -92,7 +92,7 @@ leads_or s parts (Designated rest) t u (d, c, n, is, lead) = inr (leads_named s 
 leads_or s parts path t u lead = absurd lead
 
 module _ (t : Turn) (settled : IsSettled (typing t).table) (own_law : OwnsByShape (typing t).table) (other : Around (home (typing t) (length t.outer)))
-    (alone : (w : Way) → IsNear (length t.outer) w → other.gone w → ⊥) (no_formals : (x : ℕ) → is_view_formal (typing t) x ≡ false)
+    (alone : (w : Way) → IsNear (length t.outer) w → other.gone w → ⊥) (in_formals : AreAccess (typing t))
     (v : Views) (parts_named : PartsAreNamed (typing t).table) (may : ℕ → ℕ → Type 0)
     (frames : t.state.frames ≡ t.frame ∷ t.outer) (none : taken t.point.instr ≡ 0) where
   abbrev s : Typing
@@ -119,24 +119,32 @@ module _ (t : Turn) (settled : IsSettled (typing t).table) (own_law : OwnsByShap
   abbrev Observes_here : ℕ → ℕ → ℕ → ℕ → TypedTree → Type 0
   Observes_here x y u d path = Observes t settled own_law other alone v parts_named may frames none x y u d path
 
+  -- it is no formal
+  own_there : (x : ℕ) → is_anonymous (view_of s x) ≡ true → is_view_formal s x ≡ false
+  own_there x view = by_kind (is_view_formal s x) refl
+    where
+      by_kind : (b : Bool) → is_view_formal s x ≡ b → b ≡ false
+      by_kind false e = refl
+      by_kind true e = absurd ((in_formals x e).1 view)
+
   pub observes : (q : Pos) (x y u : ℕ) (path : TypedTree) → is_anonymous (view_of s x) ≡ true → home s depth x ≡ depth
       → Source s (object_at s x).of (Name q y path u) → (d : ℕ) × Observes_here x y u d path
   unfolding Gives
   observes q x y u path view mine (inl (is_view, (d, k, c, n, e, o, lead, source, want, fits))) = (
     d,
-    record { k = k; c = c; n = n; e = e; o = o; lead = lead; source = source; view = want; fits = fits; anonymous = view; mine = mine; own = no_formals x },
+    record { k = k; c = c; n = n; e = e; o = o; lead = lead; source = source; view = want; fits = fits; anonymous = view; mine = mine; own = own_there x view },
   )
   observes q x y u path view mine (inr (lead, inl same)) =
       let sh = view_shape (shape_of s.table (object_at s x).of) view in (
         sh.0,
-        record { k = sh.0; c = sh.1; n = sh.2; e = sh.1; o = sh.2; lead = lead; source = same ∙ sh.3; view = sh.3; fits = inl refl; anonymous = view; mine = mine; own = no_formals x },
+        record { k = sh.0; c = sh.1; n = sh.2; e = sh.1; o = sh.2; lead = lead; source = same ∙ sh.3; view = sh.3; fits = inl refl; anonymous = view; mine = mine; own = own_there x view },
       )
   observes q x y u path view mine (inr (lead, inr scalar)) = absurd (view_scalar (shape_of s.table (object_at s x).of) view scalar.1)
 
   -- a view is declared
   pub view_declared : (ws : List (List machine.Word)) (q : Pos) (x y u : ℕ) (path : TypedTree) → is_anonymous (view_of s x) ≡ true → is_variable (object_at s x).kind ≡ true
       → home s depth x ≡ depth → Source s (object_at s x).of (Name q y path u) → Takes (waits_in path) ws []
-      → (is_observer s x ≡ false → (is_observer s y ≡ false) × (y < x)) → may x y → (facts : List Fact) → Good facts → Unused (home s depth) other.lent v facts x
+      → (is_observer s x ≡ false → (sees_only s y ≡ false) × (y < x)) → may x y → (facts : List Fact) → Good facts → Unused (home s depth) other.lent v facts x
       → AllowsAll facts (acts (declared_acts s x (More (Name q y path u) NoMore)))
       → LeadsHere (after (acts (declared_acts s x (More (Name q y path u) NoMore))) facts) (Declares_here ws x (More (Name q y path u) NoMore))
   view_declared ws q x y u path view variable mine source takes older from facts good unused allowed =
@@ -152,7 +160,7 @@ module _ (t : Turn) (settled : IsSettled (typing t).table) (own_law : OwnsByShap
       by_kind d found false e c f =
           borrower_on t settled own_law other alone v parts_named may frames none ws x y u d q path NoMore found
           (view_kinds (is_variable (object_at s x).kind) (is_borrowing (view_of s x)) (is_observing (view_of s x)) view variable e) e
-          (observes_not s no_formals y (older e).0) (older e).1 from takes facts good unused allowed
+          (older e).0 (older e).1 from takes facts good unused allowed
 
   -- a view is assigned
   pub view_assigned : (ws : List (List machine.Word)) (pos r q : Pos) (x y u : ℕ) (path : TypedTree) → is_anonymous (view_of s x) ≡ true → is_variable (object_at s x).kind ≡ true

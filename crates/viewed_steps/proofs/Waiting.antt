@@ -1,7 +1,7 @@
 -- Frames that wait for a call to end, with views: what they keep concerns the innermost frame as ways
 -- of others, and they wait still after its steps.
-use Rattle.viewed_soundness.specs.Holds.{sees_only}
-use Rattle.std.proofs.Common.{◌≡◌, refl, sym, ap, ◌∙◌, subst, ◌⊎◌, inl, inr, ℕ, suc, ◌<◌, ◌≤◌, Bool, true, false, ◌&&◌, ◌==◌, eqb-true, nat_lt, ltb-true, lt-ltb, List, [], ◌∷◌, ◌++◌, length, get_or, arith, Option, Some, None, if◌then◌else◌}
+use Rattle.viewed_soundness.specs.Holds.{is_view, sees_only}
+use Rattle.std.proofs.Common.{◌≡◌, refl, sym, ap, ◌∙◌, subst, ◌⊎◌, inl, inr, ℕ, ◌<◌, ◌≤◌, Bool, true, false, ◌&&◌, ◌==◌, eqb-true, nat_lt, ltb-true, lt-ltb, List, [], ◌∷◌, ◌++◌, length, get_or, arith, Option, Some, None, if◌then◌else◌}
 use Rattle.std.specs.Prelude.{flat_map}
 use Rattle.spark_base.specs.Lists.{Has}
 use Rattle.spark_base.proofs.Lists.{Has-append_left, Has-append_right, Has-append_cases, Has-map, Has-map_from}
@@ -13,7 +13,7 @@ use Rattle.place_names.specs.Names.{Name, overlaps}
 use Rattle.type_definitions.specs.Types.{Table}
 use Rattle.typed_tree.specs.Programs.{TypedProgram}
 use Rattle.flow_paths.specs.declared.report.Effects.{Effects}
-use Rattle.flow_paths.specs.Objects.{Typing, is_anonymous, is_package_object, view_of}
+use Rattle.flow_paths.specs.Objects.{Typing, is_package_object}
 use Rattle.flow_paths.specs.Laid.{FlowProgram, flow_typing, flow_program}
 use Rattle.machine.specs.Words as machine
 use Rattle.machine.specs.Memory.{variable_slots, no_slot}
@@ -26,16 +26,17 @@ use Rattle.soundness.specs.Sound.{Stage, facts_of, AreStages, Uses, view_of as v
 use Rattle.soundness.proofs.Around.{near_or_far, IsFar, near_package, package_named, is_inherited, inherited, inherited_has, inherited_from}
 use Rattle.soundness.proofs.Contents.{bool_cases}
 use Rattle.soundness.proofs.Inherited.{Splits}
-use Rattle.owned_loans.specs.Views.{Go, on, Around, known_gone, Views, expand, IsThrough, IsMovedBy, HasLoan, Viewed}
+use Rattle.owned_loans.specs.Views.{Go, on, Around, known_gone, Views, expand, IsThrough, IsMovedBy, HasLoan, Viewed, IsForeign}
 use Rattle.owned_loans.proofs.Ended.{stands_itself}
-use Rattle.owned_loans.proofs.Ways.{base_on, under_on, on_under, lifts, lifted_root, lifted_way}
-use Rattle.owned_loans.proofs.Moves.{named_way, view_on, own_loan, reached}
+use Rattle.owned_loans.proofs.Ways.{base_on, under_on, on_under, lifts, lifted_root, lifted_way, on_named}
+use Rattle.owned_loans.proofs.Moves.{view_on, own_loan, reached}
 use Rattle.viewed_steps.specs.Taken.{TakenBy, Lodge}
+use Rattle.owned_loans.proofs.Meeting.{stands}
 use Rattle.viewed_steps.proofs.Between.{taken_from as words_taken, taken_base, still_taken, near_base}
 use Rattle.viewed_steps.proofs.Roots.{borrower_goes, view_goes}
 use Rattle.viewed_steps.specs.Awaited.{lasting_of}
-use Rattle.viewed_steps.specs.Sound.{ViewStage, stages_of, GoneElsewhere, IsWaiting, IsFirst, AreWaiting}
-use Rattle.viewed_steps.proofs.Views.{not_elsewhere, Lies}
+use Rattle.viewed_steps.specs.Sound.{IsWayOf, KeptBy, ArePast, ViewStage, stages_of, Lies, GoneElsewhere, IsWaiting, IsFirst, AreWaiting}
+use Rattle.viewed_steps.proofs.Views.{base_named, same_lies}
 
 -- ---- near ways
 
@@ -76,7 +77,7 @@ some_frames k older (f ∷ outer) stages = omega arith
 
 module _ (table : Table) (typed : TypedProgram) (effects : Effects)
     (unmoved : (e : Stage) → e.frame.sub ≡ 0 → (name : Name) → Has (facts_of (flow_program table typed) effects e) (Moved name) → ⊥)
-    (local : (x : ℕ) → is_anonymous (view_of (flow_typing (flow_program table typed)) x) ≡ true
+    (local : (x : ℕ) → is_view (flow_typing (flow_program table typed)) x ≡ true
     → is_package_object (flow_typing (flow_program table typed)) x ≡ false) where
   abbrev program : FlowProgram
   program = flow_program table typed
@@ -120,14 +121,9 @@ module _ (table : Table) (typed : TypedProgram) (effects : Effects)
   none_some : {A : Type 0} (o : ℕ) (w : Way) (v : Views) → v.way o ≡ None → v.way o ≡ Some w → A
   none_some o w v none has = (let no : None ≡ Some w = sym none ∙ has in cc)
 
-  -- A way of a frame that waits, with its cell: one of a view, or one to a place that is copied back to.
-  abbrev pub IsWayOf : ViewStage → Way → ℕ → Type 0
-  IsWayOf g w n =
-      ((x : ℕ) × (g.views.way x ≡ Some w) × (g.views.cell x ≡ n)) ⊎ ((c : Lodge) × Has g.cells c × (c.way ≡ w) × (c.cell ≡ n))
-
   -- The ways of others, with their cells.
   abbrev pub KeptElsewhere : List ViewStage → Way → ℕ → Type 0
-  KeptElsewhere older w n = (g : ViewStage) × Has older g × IsWayOf g w n
+  KeptElsewhere older w n = KeptBy older w n
 
   -- the frame of the package objects has none
   none_first : (g : ViewStage) (w : Way) (n : ℕ) → IsFirst g → IsWayOf g w n → ⊥
@@ -250,18 +246,14 @@ module _ (table : Table) (typed : TypedProgram) (effects : Effects)
 
     -- the way of a view begins at an own variable of its frame, or goes on from such a place
     way_cases : (callee : ℕ) (backs : List Return) (g : ViewStage) → Has older g → 0 < g.stage.depth → IsWaiting table typed effects state callee backs g → (x : ℕ) (w : Way)
-        → g.views.way x ≡ Some w
-        → Named (home s g.stage.depth) w × ((is_package_object s (number_of w) ≡ false) ⊎ ((l : Loan) × IsLentFor l w))
-    way_cases callee backs g has some waits x w way = (
-      waits.holds.named x w way,
-      elim (bool_cases (is_package_object s (number_of w))) [
-        | inr own ↦ inl own
-        | inl shared ↦ (
-            let goes = view_goes (home s g.stage.depth) (sees_only s) g.views (view_here s state) (facts_of program effects g.stage) waits.views x w way (waits.holds.named x w way) in
-            let place = goes.1 in
-            inr (goes.0, lent_for g has some goes.0 place.0 place.1 w place.2 place.3 place.4 shared))
-      ],
-    )
+        → g.views.way x ≡ Some w → Named (home s g.stage.depth) w → (is_package_object s (number_of w) ≡ false) ⊎ ((l : Loan) × IsLentFor l w)
+    way_cases callee backs g has some waits x w way named = elim (bool_cases (is_package_object s (number_of w))) [
+      | inr own ↦ inl own
+      | inl shared ↦ (
+          let goes = view_goes (home s g.stage.depth) (sees_only s) g.views (view_here s state) (facts_of program effects g.stage) waits.views x w way named in
+          let place = goes.1 in
+          inr (goes.0, lent_for g has some goes.0 place.0 place.1 w place.2 place.3 place.4 shared))
+    ]
 
     -- a way of a view of a frame below
     record Begins (w : Way) : Type 0 where
@@ -276,8 +268,8 @@ module _ (table : Table) (typed : TypedProgram) (effects : Effects)
     low_home false d less = less
 
     way_begins : (callee : ℕ) (backs : List Return) (g : ViewStage) → Has older g → 0 < g.stage.depth → g.stage.depth < depth
-        → IsWaiting table typed effects state callee backs g → (x : ℕ) (w : Way) → g.views.way x ≡ Some w → Lies (home s g.stage.depth) g.stage.depth w → Begins w
-    way_begins callee backs g has some less waits x w is (inr (foreign, low)) = record {
+        → IsWaiting table typed effects state callee backs g → (x : ℕ) (w : Way) → g.views.way x ≡ Some w → Lies s g.stage.depth w → Begins w
+    way_begins callee backs g has some less waits x w is (inr (foreign, low, above)) = record {
       frame = foreign.0;
       object = foreign.1;
       base = foreign.2;
@@ -291,12 +283,12 @@ module _ (table : Table) (typed : TypedProgram) (effects : Effects)
         by_kind false own e =
             (let there : home s depth foreign.1 ≡ depth = ap (λ b. if b then 0 else depth) own in omega (arith, low, less, e, there))
     way_begins callee backs g has some less waits x w is (inl named) =
-        let way = way_cases callee backs g has some waits x w is in record {
+        let way = way_cases callee backs g has some waits x w is named in record {
           frame = home s g.stage.depth (number_of w);
           object = number_of w;
           base = named_base (home s g.stage.depth) w named;
           low = low_home (is_package_object s (number_of w)) g.stage.depth less;
-          other = elim way.1 [
+          other = elim way [
             | inr lent ↦ inr lent
             | inl own ↦ inl (λ e. other_frame s g.stage.depth depth some less (number_of w) own (sym (ap (λ z. if z then 0 else g.stage.depth) own) ∙ e))
           ];
@@ -317,7 +309,7 @@ module _ (table : Table) (typed : TypedProgram) (effects : Effects)
                 (sym (ap (λ z. if z then 0 else g.stage.depth) kept.own) ∙ e));
           })
           | inr l ↦ subst Begins (sym (lifted_way g.views c.name l))
-              (goes_on l.way l.rest (way_begins callee backs g has some less waits l.object l.way l.has (inl (waits.holds.named l.object l.way l.has))))
+              (goes_on l.way l.rest (way_begins callee backs g has some less waits l.object l.way l.has (waits.holds.lies l.object l.way l.has)))
         ])
       where
         goes_on : (w : Way) (rest : List Go) → Begins w → Begins (on w rest)
@@ -336,7 +328,7 @@ module _ (table : Table) (typed : TypedProgram) (effects : Effects)
     begins_there w n (g, has, way) = elim (between g has) [
       | inl first ↦ absurd (none_first g w n first way)
       | inr (some, less, callee, backs, waits) ↦ elim way [
-        | inl (x, is, cell) ↦ way_begins callee backs g has some less waits x w is (inl (waits.holds.named x w is))
+        | inl (x, is, cell) ↦ way_begins callee backs g has some less waits x w is (waits.holds.lies x w is)
         | inr (c, there, is, cell) ↦ subst Begins is (cell_begins callee backs g has some less waits c there)
       ]
     ]
@@ -356,6 +348,17 @@ module _ (table : Table) (typed : TypedProgram) (effects : Effects)
     pub kept_low : (w : Way) (n : ℕ) → KeptElsewhere older w n → (f : ℕ) × (x : ℕ) × (base_of w ≡ OfRoot (OfVariable f x)) × (f < depth)
     kept_low w n kept = (let b = begins_there w n kept in (b.frame, b.object, b.base, b.low))
 
+    -- what a moved name of a frame stands for lies there
+    stood : (callee : ℕ) (backs : List Return) (g : ViewStage) → IsWaiting table typed effects state callee backs g → (u : Way)
+        → IsMoved (home s g.stage.depth) (facts_of program effects g.stage) u → Lies s g.stage.depth (expand g.views u)
+    stood callee backs g waits u moved =
+        elim (stands (home s g.stage.depth) (sees_only s) g.views (view_here s state) (facts_of program effects g.stage) waits.views u
+        (moved.0, waits.clear.owned (name_of u) moved.1)) [
+          | inl own ↦ inl own.0
+          | inr held ↦ same_lies s g.stage.depth (expand g.views u) held.way (longer held.way (expand g.views u) held.under).base
+              (waits.holds.lies held.object held.way held.has)
+        ]
+
     -- and so does what is gone for them
     pub gone_low : (w : Way) → GoneElsewhere program effects older w → (f : ℕ) × (x : ℕ) × (base_of w ≡ OfRoot (OfVariable f x)) × (f < depth)
     gone_low w (g, has, inr taken) = elim (between g has) [
@@ -368,15 +371,16 @@ module _ (table : Table) (typed : TypedProgram) (effects : Effects)
     gone_low w (g, has, inl (u, moved, leads)) = elim (between g has) [
       | inl first ↦ absurd (unmoved g.stage first.0 (name_of u) moved.1)
       | inr (some, less, callee, backs, waits) ↦ (
-          let named : Named (home s g.stage.depth) w =
-          subst (Named (home s g.stage.depth)) leads
-          (named_way (home s g.stage.depth) (sees_only s) (known_gone (home s g.stage.depth) (λ z. ⊥)) g.views (view_here s state) (facts_of program effects g.stage)
-          waits.views (suc (number_of u)) u (omega arith) (moved.0, waits.clear.owned (name_of u) moved.1)) in (
-            home s g.stage.depth (number_of w),
-            number_of w,
-            named_base (home s g.stage.depth) w named,
-            low_home (is_package_object s (number_of w)) g.stage.depth less,
-          ))
+          elim (stood callee backs g waits u moved) [
+            | inr (foreign, low, above) ↦ (foreign.0, foreign.1, ap base_of (sym leads) ∙ foreign.2, omega (arith, low, less))
+            | inl there ↦ (
+                let named : Named (home s g.stage.depth) w = subst (Named (home s g.stage.depth)) leads there in (
+                  home s g.stage.depth (number_of w),
+                  number_of w,
+                  named_base (home s g.stage.depth) w named,
+                  low_home (is_package_object s (number_of w)) g.stage.depth less,
+                ))
+          ])
     ]
 
     -- what is near and gone elsewhere is a part of a package object that a fact says was moved, or
@@ -401,20 +405,47 @@ module _ (table : Table) (typed : TypedProgram) (effects : Effects)
             let here : IsMoved (home s g.stage.depth) (facts_of program effects g.stage) w =
             subst (IsMoved (home s g.stage.depth) (facts_of program effects g.stage)) (sym e ∙ leads) moved in
             inl (near_package s g.stage.depth depth some less w here.0 near, g, has, here))
-        | inr l ↦ (
-            let plain : sees_only s (number_of u) ≡ false = waits.clear.owned (name_of u) moved.1 in
-            let goes = borrower_goes (home s g.stage.depth) (sees_only s) g.views (view_here s state) (facts_of program effects g.stage) waits.views l.object l.way
-            (ap (sees_only s) (sym (lifted_root g.views u l)) ∙ plain) l.has in
-            let stands : w ≡ on l.way l.rest = sym leads ∙ lifted_way g.views u l in
-            let named : Named (home s g.stage.depth) w =
-            subst (Named (home s g.stage.depth)) leads
-            (named_way (home s g.stage.depth) (sees_only s) (known_gone (home s g.stage.depth) (λ z. ⊥)) g.views (view_here s state) (facts_of program effects g.stage)
-            waits.views (suc (number_of u)) u (omega arith) (moved.0, plain)) in
-            inr (lent_for g has some Borrowed goes.0 goes.1 w goes.2 goes.3
-            (subst (Under goes.1) (sym stands) (under_on goes.1 l.way (on l.way l.rest) goes.4 (on_under l.way l.rest)))
-            (near_package s g.stage.depth depth some less w named near)))
+        | inr l ↦ elim (stood callee backs g waits u moved) [
+          | inr (foreign, low, above) ↦ absurd (elim (near_base depth w foreign.0 foreign.1 near (ap base_of (sym leads) ∙ foreign.2)) [
+            | inl none ↦ omega (arith, above, none)
+            | inr same ↦ omega (arith, low, less, same)
+          ])
+          | inl there ↦ (
+              let plain : sees_only s (number_of u) ≡ false = waits.clear.owned (name_of u) moved.1 in
+              let front : Named (home s g.stage.depth) l.way = on_named (home s g.stage.depth) l.way l.rest
+              (subst (Named (home s g.stage.depth)) (lifted_way g.views u l) there) in
+              let goes = borrower_goes (home s g.stage.depth) (sees_only s) g.views (view_here s state) (facts_of program effects g.stage) waits.views l.object l.way
+              (ap (sees_only s) (sym (lifted_root g.views u l)) ∙ plain) l.has front in
+              let same : w ≡ on l.way l.rest = sym leads ∙ lifted_way g.views u l in
+              let named : Named (home s g.stage.depth) w = subst (Named (home s g.stage.depth)) leads there in
+              inr (lent_for g has some Borrowed goes.0 goes.1 w goes.2 goes.3
+              (subst (Under goes.1) (sym same) (under_on goes.1 l.way (on l.way l.rest) goes.4 (on_under l.way l.rest)))
+              (near_package s g.stage.depth depth some less w named near)))
+        ]
       ]
     ]
+
+    -- what is gone elsewhere and meets a way of another frame doesn't begin near
+    pub far_met : (w z : Way) → IsForeign (home s depth) w → GoneElsewhere program effects older z → Under z w ⊎ Under w z → IsFar depth (GoneElsewhere program effects older) z
+    far_met w z foreign gone meets = (λ near. apart near, gone)
+      where
+        base_there : base_of z ≡ OfRoot (OfVariable foreign.0 foreign.1)
+        base_there = elim meets [ inl above ↦ sym (longer z w above).base ∙ foreign.2 | inr below ↦ (longer w z below).base ∙ foreign.2 ]
+
+        same_object : (f x g y : ℕ) → OfRoot (OfVariable f x) ≡ OfRoot (OfVariable g y) → x ≡ y
+        same_object f x g y e = cc
+
+        at_home : Named (home s depth) z → ⊥
+        at_home named =
+            let is = sym (named_base (home s depth) z named) ∙ base_there in
+            foreign.3 (sym (same_frame (home s depth (number_of z)) (number_of z) foreign.0 foreign.1 is)
+            ∙ ap (home s depth) (same_object (home s depth (number_of z)) (number_of z) foreign.0 foreign.1 is))
+
+        apart : IsNear depth z → ⊥
+        apart near = elim (near_moved z near gone) [
+          | inl (shared, g, has, moved) ↦ at_home (package_named s g.stage.depth depth z shared moved.0)
+          | inr (k, named, under, lent) ↦ at_home (base_named (home s depth) z (number_of k) ((longer k z under).base ∙ named_base (home s depth) k named))
+        ]
 
     -- a package object is no view of another frame
     pub no_view_there : (g : ViewStage) → Has older g → (r : ℕ) → is_package_object s r ≡ true → g.views.way r ≡ None
@@ -506,10 +537,10 @@ module _ (table : Table) (typed : TypedProgram) (effects : Effects)
     -- with them
     pub with_them : (v : Views) (view : View) (facts : List Fact) → ((x : ℕ) (w : Way) → v.way x ≡ Some w → is_package_object s x ≡ false)
         → ((x : ℕ) → is_package_object s x ≡ true → sees_only s x ≡ false) → AreApart facts
-        → ((w : Way) (n : ℕ) → KeptElsewhere older w n → Reaches view w (OfCell n))
+        → ((w : Way) (n : ℕ) → KeptElsewhere older w n → Reaches view w (OfCell n)) → ArePast s depth v older
         → Viewed (home s depth) (sees_only s) (known_gone (home s depth) (GoneElsewhere program effects older)) v view facts
         → Viewed (home s depth) (sees_only s) beside_them v view (facts ++ handed)
-    with_them v view facts only plain apart reach well = record {
+    with_them v view facts only plain apart reach past well = record {
       owned = well.owned;
       covered = well.covered;
       known = λ w l rooted r gone. elim (well.known w l rooted r gone) [
@@ -565,6 +596,7 @@ module _ (table : Table) (typed : TypedProgram) (effects : Effects)
           (λ b n loan. own_loan (sees_only s) facts (facts ++ handed) (λ l h m own. Has-append_left facts handed (Lent l h m) own) b x n loan)
           (reached (home s depth) (sees_only s) beside_them v view facts x w (well.views x w has));
       whole = λ x w z has foreign gone meets. well.whole x w z has foreign gone.1 meets;
+      past = past;
       lends = λ l n lent. record {
         has = Has-append_right facts handed (Lent l n.root n) (Has-append_right moved_there (loans_there older) (Lent l n.root n) (loans_has older l n lent));
         none = none_there n.root lent.5;
@@ -602,12 +634,11 @@ module _ (table : Table) (typed : TypedProgram) (effects : Effects)
 
     -- and without them
     pub without_them : (v : Views) (view : View) (all facts : List Fact) → ((x : ℕ) (w : Way) → v.way x ≡ Some w → is_package_object s x ≡ false)
-        → ((x : ℕ) (w : Way) → v.way x ≡ Some w → Named (home s depth) w)
         → ((x : ℕ) → is_package_object s x ≡ true → sees_only s x ≡ false)
         → ((f : Fact) → Has facts f → Has all f) → Splits all facts handed
         → Viewed (home s depth) (sees_only s) beside_them v view all
         → Viewed (home s depth) (sees_only s) (known_gone (home s depth) (GoneElsewhere program effects older)) v view facts
-    without_them v view all facts only ways_named plain part from well = record {
+    without_them v view all facts only plain part from well = record {
       owned = well.owned;
       covered = well.covered;
       known = λ w l rooted r gone. elim (well.known w l rooted r gone) [
@@ -624,7 +655,8 @@ module _ (table : Table) (typed : TypedProgram) (effects : Effects)
         seen = λ b h n m one two over. well.clear.seen b h n m (part (Lent Borrowed b n) one) (part (Lent Observed h m) two) over;
         owned = λ n has. well.clear.owned n (part (Moved n) has);
       };
-      whole = λ x w z has foreign gone meets. not_elsewhere (home s depth) w (ways_named x w has) foreign;
+      whole = λ x w z has foreign gone meets. well.whole x w z has foreign (far_met w z foreign gone meets) meets;
+      past = λ x w has given plain k n none. absurd none;
       views = λ x w has.
           view_on (home s depth) (sees_only s) beside_them v view view all facts x w (well.views x w has) (λ b n loan. loan_kept x w has b n loan)
           (reached (home s depth) (sees_only s) beside_them v view all x w (well.views x w has));
@@ -671,7 +703,7 @@ module _ (table : Table) (typed : TypedProgram) (effects : Effects)
   module _ (state next : State) (depth : ℕ)
       (still : (f x : ℕ) (p : List Step) (c : ℕ) → 0 < f → f < depth → word_in s.table (content s next.memory [] (OfRoot (OfVariable f x))) p ≡ Held c
       → word_in s.table (content s state.memory [] (OfRoot (OfVariable f x))) p ≡ Held c)
-      (words : (f x : ℕ) → 0 < f → f < depth → is_anonymous (view_of s x) ≡ true
+      (words : (f x : ℕ) → 0 < f → f < depth → is_view s x ≡ true
       → (get_or (variable_slots s f x next.memory.variables) 0 no_slot).word ≡ (get_or (variable_slots s f x state.memory.variables) 0 no_slot).word) where
     waits_on : (callee : ℕ) (backs : List Return) (g : ViewStage) → 0 < g.stage.depth → g.stage.depth < depth
         → ((w : Way) (n : ℕ) → IsWayOf g w n → Reaches (view_here s next) w (OfCell n))
@@ -697,7 +729,10 @@ module _ (table : Table) (typed : TypedProgram) (effects : Effects)
         held = λ x n lasts view e. waits.holds.held x n lasts view (word_before x n view e);
         within = λ x n view e. waits.holds.within x n view (word_before x n view e);
         only = waits.holds.only;
-        named = waits.holds.named;
+        lies = waits.holds.lies;
+        owners = waits.holds.owners;
+        passed = waits.holds.passed;
+        own = waits.holds.own;
       };
       placed = waits.placed;
       kept = λ c has. (let kept = waits.kept c has in record {
@@ -711,7 +746,7 @@ module _ (table : Table) (typed : TypedProgram) (effects : Effects)
           (λ y p c held. still g.stage.depth y p c some less held) backs g.stage.returns waits.taken;
     }
       where
-        word_before : (x n : ℕ) → is_anonymous (view_of s x) ≡ true
+        word_before : (x n : ℕ) → is_view s x ≡ true
             → (get_or (variable_slots s (home s g.stage.depth x) x next.memory.variables) 0 no_slot).word ≡ machine.Cell n
             → (get_or (variable_slots s (home s g.stage.depth x) x state.memory.variables) 0 no_slot).word ≡ machine.Cell n
         word_before x n view e =
@@ -731,6 +766,8 @@ module _ (table : Table) (typed : TypedProgram) (effects : Effects)
         let deep = stages.1 in (
           waits_on callee backs g (omega (arith, some, deep)) (omega (arith, less, deep)) (λ w n way. reach w n (g, inl refl, way)) waiting.0,
           all_on g.stage.frame.sub g.stage.frame.returns (h ∷ older) outer stages.2 (omega (arith, less)) (λ w n (k, has, way). reach w n (k, inr has, way)) waiting.1,
+          waiting.2,
+          waiting.3,
         )
 
     -- where owners see the same

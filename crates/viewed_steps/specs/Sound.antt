@@ -16,7 +16,7 @@ use Rattle.typed_tree.specs.Trees.{TypedTree, Name, NoMore, More}
 use Rattle.typed_tree.specs.Programs.{TypedProgram}
 use Rattle.flow_paths.specs.declared.report.Effects.{Effects}
 use Rattle.flow_paths.specs.Instructions.{Instruction, Declare, Assign, Call, EndScope, Finish}
-use Rattle.flow_paths.specs.Objects.{Typing, object_at, sub_at, is_formal, is_anonymous, is_observer, is_package_object, has_scope_end, view_of}
+use Rattle.flow_paths.specs.Objects.{Typing, object_at, sub_at, is_formal, is_observer, is_package_object, has_scope_end}
 use Rattle.flow_paths.specs.Points.{NamedPoint, FlowPoint}
 use Rattle.flow_paths.specs.Laid.{FlowSub, FlowProgram, NamedSub, flow_typing, flow_program, flow_named}
 use Rattle.flow_paths.specs.Paths.{ControlPath}
@@ -28,14 +28,14 @@ use Rattle.machine.specs.Memory.{Memory, variable_slots, no_slot}
 use Rattle.machine.specs.States.{Return, Waiting, Frame, State, Outcome, Goes, Ends, sub_of}
 use Rattle.machine.specs.Owners.{is_in, WellOwned, waiting_in}
 use Rattle.machine.specs.Run.{step}
-use Rattle.owned_ways.specs.Ways.{Step, OfVariable, OfRoot, OfCell, Held, Way, Named, Reaches, Past, name_of, number_of}
-use Rattle.soundness.specs.Seen.{content, word_in, home}
+use Rattle.owned_ways.specs.Ways.{Step, OfVariable, OfRoot, OfCell, Held, Way, Named, Reaches, Past, name_of, number_of, Under}
+use Rattle.soundness.specs.Seen.{content, word_in, home, is_view_formal}
 use Rattle.soundness.specs.Typed.{Kept}
 use Rattle.soundness.specs.Sound.{goes_through_none, is_temporary_object, IsNamedSub, IsAtPoint, IsRunnable, Stage, facts_of, AreStages, Uses, IsPlain, InScope, IsTrap}
 use Rattle.soundness.specs.Sound as owners
 use Rattle.soundness.specs.Ready.{root_of}
-use Rattle.owned_loans.specs.Views.{known_gone, Views, expand, IsMovedBy, AreClear, AreViews, Viewed}
-use Rattle.viewed_soundness.specs.Holds.{IsNamed, PartsAreNamed, sees_only}
+use Rattle.owned_loans.specs.Views.{known_gone, Views, expand, IsMovedBy, AreClear, AreViews, Viewed, IsForeign}
+use Rattle.viewed_soundness.specs.Holds.{IsNamed, PartsAreNamed, sees_only, is_view, IsOwners}
 use Rattle.viewed_steps.specs.Awaited.{is_held, lasting_of, AreNamedResults, AreAwaited}
 use Rattle.viewed_steps.specs.Taken.{TakenBy, Lodge, AreTaken, AreCarried}
 
@@ -93,33 +93,40 @@ IsFading s p x = (z : ℕ) × (p.instr ≡ EndScope z) × (is_observer s x ≡ t
 
 -- ---- views at a point
 
+-- A way is of a frame, or begins at a variable of a frame below, which isn't that of the package objects.
+abbrev pub Lies : Typing → ℕ → Way → Type 0
+Lies s frame w = Named (home s frame) w ⊎ ((foreign : IsForeign (home s frame) w) × (foreign.0 < frame) × (0 < foreign.0))
+
 -- The objects of a frame that hold the number of a cell are views with a value, but for those that
 -- fade.
 pub record HoldsAt (s : Typing) (frame : ℕ) (v : Views) (m : Memory) (p : NamedPoint) : Type 0 where
-  pub held : (x n : ℕ) → (IsFading s p x → ⊥) → is_anonymous (view_of s x) ≡ true
+  pub held : (x n : ℕ) → (IsFading s p x → ⊥) → is_view s x ≡ true
       → (get_or (variable_slots s (home s frame x) x m.variables) 0 no_slot).word ≡ Cell n
       → (w : Way) × (v.way x ≡ Some w) × (v.cell x ≡ n)
-  pub within : (x n : ℕ) → is_anonymous (view_of s x) ≡ true
+  pub within : (x n : ℕ) → is_view s x ≡ true
       → (get_or (variable_slots s (home s frame x) x m.variables) 0 no_slot).word ≡ Cell n → is_within x p.scope ≡ true
-  pub only : (x : ℕ) (w : Way) → v.way x ≡ Some w → is_anonymous (view_of s x) ≡ true
-  pub named : (x : ℕ) (w : Way) → v.way x ≡ Some w → Named (home s frame) w
+  pub only : (x : ℕ) (w : Way) → v.way x ≡ Some w → is_view s x ≡ true
+  pub lies : (x : ℕ) (w : Way) → v.way x ≡ Some w → Lies s frame w
+  pub owners : (x : ℕ) (w : Way) → v.way x ≡ Some w → IsOwners s w
+  -- what a formal sees was taken from no object of the frame, and what a borrower leads to was
+  pub passed : (x : ℕ) (w : Way) → v.way x ≡ Some w → is_view_formal s x ≡ true → Named (home s frame) (v.up x) → ⊥
+  pub own : (x : ℕ) (w : Way) → v.way x ≡ Some w → sees_only s x ≡ false → is_view_formal s x ≡ false → Named (home s frame) (v.up x)
 
 -- A view is in scope. The roots of its way and of what it was taken from last, and so does the one
--- that holds the loan of an observer.
-pub record IsPlaced (program : FlowProgram) (facts : List Fact) (v : Views) (scope : List ℕ) (x : ℕ) (w : Way) : Type 0 where
+-- that holds the loan of an observer, if these are of the frame.
+pub record IsPlaced (program : FlowProgram) (frame : ℕ) (facts : List Fact) (v : Views) (scope : List ℕ) (x : ℕ) (w : Way) : Type 0 where
   pub within : is_within x scope ≡ true
-  pub up : Lasts program scope (number_of (v.up x)) x
-  pub root : Lasts program scope (number_of w) x
-  pub holder : is_observer (flow_typing program) x ≡ true
-      → (h : ℕ) × Has facts (Lent Observed h (name_of (v.loan x))) × Lasts program scope h x × (is_observer (flow_typing program) h ≡ true)
+  pub up : Named (home (flow_typing program) frame) (v.up x) → Lasts program scope (number_of (v.up x)) x
+  pub root : Named (home (flow_typing program) frame) w → Lasts program scope (number_of w) x
+  pub holder : Named (home (flow_typing program) frame) (v.up x) → sees_only (flow_typing program) x ≡ true
+      → (h : ℕ) × Has facts (Lent Observed h (name_of (v.loan x))) × Lasts program scope h x × (sees_only (flow_typing program) h ≡ true)
 
-abbrev pub ArePlaced : FlowProgram → List Fact → Views → List ℕ → Type 0
-ArePlaced program facts v scope = (x : ℕ) (w : Way) → v.way x ≡ Some w → IsPlaced program facts v scope x w
+abbrev pub ArePlaced : FlowProgram → ℕ → List Fact → Views → List ℕ → Type 0
+ArePlaced program frame facts v scope = (x : ℕ) (w : Way) → v.way x ≡ Some w → IsPlaced program frame facts v scope x w
 
 -- Above a frame no variable of a view has a number.
 abbrev pub NoneAbove : Typing → ℕ → Memory → Type 0
-NoneAbove s depth m =
-    (f x n : ℕ) → depth < f → is_anonymous (view_of s x) ≡ true → (get_or (variable_slots s f x m.variables) 0 no_slot).word ≡ Cell n → ⊥
+NoneAbove s depth m = (f x n : ℕ) → depth < f → is_view s x ≡ true → (get_or (variable_slots s f x m.variables) 0 no_slot).word ≡ Cell n → ⊥
 
 -- ---- frames that wait
 
@@ -191,7 +198,7 @@ pub record IsWaiting (table : Table) (typed : TypedProgram) (effects : Effects) 
   pub views : AreViews (home (flow_typing (flow_program table typed)) g.stage.depth) (sees_only (flow_typing (flow_program table typed))) g.views
       (owners.view_of (flow_typing (flow_program table typed)) state) (facts_of (flow_program table typed) effects g.stage)
   pub holds : HoldsAt (flow_typing (flow_program table typed)) g.stage.depth g.views state.memory point
-  pub placed : ArePlaced (flow_program table typed) (facts_of (flow_program table typed) effects g.stage) g.views point.scope
+  pub placed : ArePlaced (flow_program table typed) g.stage.depth (facts_of (flow_program table typed) effects g.stage) g.views point.scope
   pub kept : (c : Lodge) → Has g.cells c → IsKept (flow_typing (flow_program table typed)) state g c
   pub taken : AreTaken (flow_typing (flow_program table typed)) g.cells state.memory g.stage.depth (facts_of (flow_program table typed) effects g.stage)
       (lasting_of (flow_typing (flow_program table typed)) point.scope) backs g.stage.returns
@@ -200,12 +207,32 @@ pub record IsWaiting (table : Table) (typed : TypedProgram) (effects : Effects) 
 abbrev pub IsFirst : ViewStage → Type 0
 IsFirst e = (e.stage.frame.sub ≡ 0) × IsPlain e.stage × ((x : ℕ) → e.views.way x ≡ None) × (e.stage.depth ≡ 0) × (e.cells ≡ [])
 
+-- Nothing that is gone for the frames around meets what a view of a frame sees that belongs to them.
+abbrev pub AreUnmet : FlowProgram → Effects → ViewStage → List ViewStage → Type 0
+AreUnmet program effects g older =
+    (x : ℕ) (w z : Way) → g.views.way x ≡ Some w → IsForeign (home (flow_typing program) g.stage.depth) w → GoneElsewhere program effects older z
+    → Under z w ⊎ Under w z → ⊥
+
+-- A way of a frame that waits, with its cell: one of a view, or one to a place that is copied back to.
+abbrev pub IsWayOf : ViewStage → Way → ℕ → Type 0
+IsWayOf g w n =
+    ((x : ℕ) × (g.views.way x ≡ Some w) × (g.views.cell x ≡ n)) ⊎ ((c : Lodge) × Has g.cells c × (c.way ≡ w) × (c.cell ≡ n))
+
+abbrev pub KeptBy : List ViewStage → Way → ℕ → Type 0
+KeptBy older w n = (g : ViewStage) × Has older g × IsWayOf g w n
+
+-- None of the frames around goes past what a view of a frame changes that belongs to them.
+abbrev pub ArePast : Typing → ℕ → Views → List ViewStage → Type 0
+ArePast s depth v older =
+    (x : ℕ) (w : Way) → v.way x ≡ Some w → (Named (home s depth) (v.up x) → ⊥) → sees_only s x ≡ false → (k : Way) (n : ℕ) → KeptBy older k n → Past w k → ⊥
+
 -- The frames around one that runs a subprogram and copies formals back.
 abbrev pub AreWaiting : Table → TypedProgram → Effects → State → ℕ → List Return → List ViewStage → Type 0
 AreWaiting table typed effects state callee backs [] = ⊥
 AreWaiting table typed effects state callee backs (e ∷ []) = IsFirst e × (backs ≡ [])
 AreWaiting table typed effects state callee backs (g ∷ (h ∷ older)) =
     IsWaiting table typed effects state callee backs g × AreWaiting table typed effects state g.stage.frame.sub g.stage.frame.returns (h ∷ older)
+    × AreUnmet (flow_program table typed) effects g (h ∷ older) × ArePast (flow_typing (flow_program table typed)) g.stage.depth g.views (h ∷ older)
 
 -- ---- a state
 
@@ -239,7 +266,8 @@ pub record IsSound (table : Table) (typed : TypedProgram) (effects : Effects) (s
   -- variables that own are in scope, and so are views
   pub scope : InScope (flow_typing (flow_program table typed)) state.memory top.depth (lasting_of (flow_typing (flow_program table typed)) point.scope)
   pub holds : HoldsAt (flow_typing (flow_program table typed)) top.depth views state.memory point
-  pub placed : ArePlaced (flow_program table typed) (facts_of (flow_program table typed) effects top) views point.scope
+  pub placed : ArePlaced (flow_program table typed) top.depth (facts_of (flow_program table typed) effects top) views point.scope
+  pub past : ArePast (flow_typing (flow_program table typed)) top.depth views older
   pub none_above : NoneAbove (flow_typing (flow_program table typed)) top.depth state.memory
 
 -- ---- where the frames come from
@@ -253,8 +281,8 @@ abbrev pub AreTurned : Instruction → Views → Views → Type 0
 AreTurned i before later = (x : ℕ) (w : Way) → later.way x ≡ Some w → (before.way x ≡ Some w) ⊎ IsStoredAt i x
 
 -- The views that are left where the scope of an object ends had their ways, and none begins at the object.
-abbrev pub AreLeft : ℕ → Views → Views → Type 0
-AreLeft y before later = (x : ℕ) (w : Way) → later.way x ≡ Some w → (before.way x ≡ Some w) × (number_of w ≡ y → ⊥)
+abbrev pub AreLeft : (ℕ → ℕ) → ℕ → Views → Views → Type 0
+AreLeft at_home y before later = (x : ℕ) (w : Way) → later.way x ≡ Some w → (before.way x ≡ Some w) × (Named at_home w → number_of w ≡ y → ⊥)
 
 -- How the frames after a step, with their views, come from those before it, of which `top` is the innermost one: it goes on; the
 -- scope of an object ends; after the last package object the main procedure begins; a subprogram is called, which has executed
@@ -263,7 +291,8 @@ AreLeft y before later = (x : ℕ) (w : Way) → later.way x ≡ Some w → (bef
 pub data Follows (program : FlowProgram) (effects : Effects) (i : Instruction) (m : Memory) (top : ViewStage) (older : List ViewStage) (n : Memory) (next : ViewStage) (around : List ViewStage) : Type 0 where
   steps_on : owners.IsNoCall i → (i ≡ Finish → ⊥) → ((y : ℕ) → i ≡ EndScope y → ⊥) → owners.IsOnward top.stage next.stage
       → AreTurned i top.views next.views → around ≡ older → Follows program effects i m top older n next around
-  leaves_scope : (y : ℕ) → i ≡ EndScope y → owners.IsOnward top.stage next.stage → AreLeft y top.views next.views → around ≡ older
+  leaves_scope : (y : ℕ) → i ≡ EndScope y → owners.IsOnward top.stage next.stage
+      → AreLeft (home (flow_typing program) top.stage.depth) y top.views next.views → around ≡ older
       → Follows program effects i m top older n next around
   begins_main : (below : ViewStage) → older ≡ [] → around ≡ below ∷ [] → owners.IsOnward top.stage below.stage → next.stage.before ≡ []
       → Follows program effects i m top older n next around

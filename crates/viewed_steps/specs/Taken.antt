@@ -15,8 +15,9 @@ use Rattle.machine.specs.Memory as memory
 use Rattle.machine.specs.States.{Return}
 use Rattle.owned_ways.specs.Ways.{Step, OfVariable, OfRoot, OfCell, Way, Object, Lost, Into, All, Held, Gone, Under, along, name_of, object_of}
 use Rattle.part_offsets.specs.Parts.{type_in, offset_in, has_part}
-use Rattle.soundness.specs.Seen.{content, word_in}
+use Rattle.soundness.specs.Seen.{content, word_in, is_view_formal}
 use Rattle.soundness.specs.Typed.{Matches, IsFixed}
+use Rattle.soundness.specs.Sound.{IsCopied}
 use Rattle.viewed_soundness.specs.Holds.{IsNamed}
 
 -- A way is one of these, or goes on from it to a part.
@@ -39,6 +40,7 @@ pub record IsInside (s : Typing) (depth : ℕ) (k : Place) (to : Way) : Type 0 w
   pub way : to ≡ along (Object (OfVariable depth object)) steps
   pub base : k.base ≡ memory.OfVariable depth object
   pub own : is_package_object s object ≡ false
+  pub owner : is_view_formal s object ≡ false
   pub there : has_part s.table (object_at s object).of steps ≡ true
   pub at : k.at ≡ offset_in s.table (object_at s object).of steps
   pub of : Matches s.table k.of (type_in s.table (object_at s object).of steps)
@@ -87,6 +89,7 @@ pub record IsPassedOn (s : Typing) (depth : ℕ) (facts : List Fact) (scope : Li
   pub inside : IsInside s depth k to
   pub fits : Matches s.table k.of (object_at s x).of
   pub formal : is_package_object s x ≡ false
+  pub owner : is_view_formal s x ≡ false
   pub many : is_scalar (full s.table (object_at s x).of) ≡ false
   pub within : is_owning s.table (object_at s inside.object).of ≡ true → is_within inside.object scope ≡ true
   pub unlent : (l : Loan) (h : ℕ) (n : PlaceName) → Has facts (Lent l h n) → overlaps n (name_of to) ≡ true → ⊥
