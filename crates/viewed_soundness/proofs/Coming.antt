@@ -23,12 +23,12 @@ use Rattle.machine.specs.Owners.{waiting_in}
 use Rattle.owned_ways.specs.Ways.{Way, All, Named, Allows, after, AllowsAll}
 use Rattle.owned_ways.specs.Ways as ways
 use Rattle.part_offsets.specs.Parts.{IsSettled}
-use Rattle.soundness.specs.Seen.{IsNear, seen, home, is_view_formal}
+use Rattle.soundness.specs.Seen.{IsNear, seen, home}
 use Rattle.soundness.specs.Typed.{IsCell, OwnsByShape}
 use Rattle.soundness.proofs.Scalars.{acts}
 use Rattle.owned_loans.specs.Views.{Go, on, Around, Views, Unused}
 use Rattle.owned_loans.proofs.Ways.{Lifted, further}
-use Rattle.viewed_soundness.specs.Holds.{PartsAreNamed, is_view, sees_only}
+use Rattle.viewed_soundness.specs.Holds.{PartsAreNamed, is_view, sees_only, is_given}
 use Rattle.viewed_soundness.proofs.Viewing.{IsReached}
 use Rattle.viewed_soundness.proofs.Outcomes.{IsGood, Leads_on}
 use Rattle.viewed_soundness.proofs.Names.{observer_sees}
@@ -160,7 +160,7 @@ module _ (t : Turn) (settled : IsSettled (typing t).table) (own_law : OwnsByShap
         (λ one. borrow_gets t settled own_law other alone v parts_named may frames none x y d path facts looks good unused borrows plain older mine one)
 
     -- what an observer gets
-    observer_gets : is_observer s x ≡ true → is_view_formal s x ≡ false → (b : Bool) → is_observer s y ≡ b → Allows facts (act.Observe x (name_of y path) b)
+    observer_gets : is_observer s x ≡ true → is_given s x ≡ false → (b : Bool) → is_observer s y ≡ b → Allows facts (act.Observe x (name_of y path) b)
         → GetsHere x y d (name_of y path) (effect (act.Observe x (name_of y path) b) facts)
     observer_gets sees own true kind one =
         through_gets t settled own_law other alone v parts_named may frames none true x y d path facts looks good
@@ -169,7 +169,7 @@ module _ (t : Turn) (settled : IsSettled (typing t).table) (own_law : OwnsByShap
         seen_gets t settled own_law other alone v parts_named may frames none x y d path facts looks own good sees kind mine one
 
     -- An observer is declared with it.
-    pub observer_given : (rest : TypedTree) → is_borrower s x ≡ false → is_observer s x ≡ true → is_view_formal s x ≡ false
+    pub observer_given : (rest : TypedTree) → is_borrower s x ≡ false → is_observer s x ≡ true → is_given s x ≡ false
         → AllowsAll facts (acts (declared_acts s x (More call rest)))
         → LeadsHere (after (acts (declared_acts s x (More call rest))) facts) (DeclaresHere ((z ∷ []) ∷ []) x (More call rest))
     observer_given rest is_not sees own allowed =
@@ -179,7 +179,7 @@ module _ (t : Turn) (settled : IsSettled (typing t).table) (own_law : OwnsByShap
         (λ one. observer_gets sees own (is_observer s y) refl one)
 
     -- An observer is assigned it.
-    pub assign_observer_given : (pos r : Pos) → is_borrower s x ≡ false → is_observer s x ≡ true → is_view_formal s x ≡ false
+    pub assign_observer_given : (pos r : Pos) → is_borrower s x ≡ false → is_observer s x ≡ true → is_given s x ≡ false
         → AllowsAll facts (acts (assigned_to s pos (Some x) (Name r x NoMore (object_at s x).of) call))
         → LeadsHere (after (acts (assigned_to s pos (Some x) (Name r x NoMore (object_at s x).of) call)) facts) (PutsHere ((z ∷ []) ∷ []) r x call)
     assign_observer_given pos r is_not sees own allowed =
@@ -192,7 +192,7 @@ module _ (t : Turn) (settled : IsSettled (typing t).table) (own_law : OwnsByShap
 
   -- A borrower goes on from where it is.
   pub assign_borrower_given : (q : Pos) (n : ℕ) (p : Pos) (path : TypedTree) (u : ℕ) (more : TypedTree) (x d : ℕ) (z : machine.Word) (facts : List Fact) → SeesHere x d → Good facts
-      → IsComing x d (name_of x path) z → may x x → (pos r : Pos) → is_borrower s x ≡ true → sees_only s x ≡ false → is_view_formal s x ≡ false
+      → IsComing x d (name_of x path) z → may x x → (pos r : Pos) → is_borrower s x ≡ true → sees_only s x ≡ false → is_given s x ≡ false
       → AllowsAll facts (acts (assigned_to s pos (Some x) (Name r x NoMore (object_at s x).of) (call_of q n p x path u more)))
       → LeadsHere (after (acts (assigned_to s pos (Some x) (Name r x NoMore (object_at s x).of) (call_of q n p x path u more))) facts)
       (PutsHere ((z ∷ []) ∷ []) r x (call_of q n p x path u more))

@@ -50,7 +50,7 @@ use Rattle.owned_ways.proofs.Dropped.{named_base}
 use Rattle.owned_loans.proofs.Ways.{Lifted, next_of, lifts, lifted_root, lifted_way, root_on, named_on, base_on, on_named, on_under}
 use Rattle.owned_loans.proofs.Taken.{becomes_with}
 use Rattle.owned_loans.proofs.Taken as lent
-use Rattle.viewed_soundness.specs.Holds.{PartsAreNamed, is_view, sees_only, IsOwners, Holds}
+use Rattle.viewed_soundness.specs.Holds.{PartsAreNamed, is_view, sees_only, IsOwners, Holds, is_given}
 use Rattle.viewed_soundness.proofs.Names.{either_true, observer_sees, borrower_sees, sees_view, true_false}
 use Rattle.viewed_soundness.proofs.Stays.{steps_taking}
 use Rattle.viewed_soundness.proofs.Viewing.{IsReached, IsOfType, way_from, number_in, borrower_declared, observer_stored, observer_again, view_emptied, borrower_stored}
@@ -254,7 +254,7 @@ module _ (t : Turn) (settled : IsSettled (typing t).table) (own_law : OwnsByShap
     pub fits : Matches s.table d k
     pub anonymous : is_anonymous (view_of s x) ≡ true
     pub mine : home s depth x ≡ depth
-    pub own : is_view_formal s x ≡ false
+    pub own : is_given s x ≡ false
 
   sees_it : (x y u d : ℕ) (path : TypedTree) → Observes x y u d path → Sees x d
   sees_it x y u d path observes = record {
@@ -271,7 +271,7 @@ module _ (t : Turn) (settled : IsSettled (typing t).table) (own_law : OwnsByShap
   observes_only : (x : ℕ) → is_observer s x ≡ true → sees_only s x ≡ true
   observes_only x e = observer_sees s x e
 
-  borrows_only : (x : ℕ) → is_observer s x ≡ false → is_view_formal s x ≡ false → sees_only s x ≡ false
+  borrows_only : (x : ℕ) → is_observer s x ≡ false → is_given s x ≡ false → sees_only s x ≡ false
   borrows_only x e own = borrower_sees s x e own
 
   -- a name through a formal goes by its way
@@ -451,7 +451,7 @@ module _ (t : Turn) (settled : IsSettled (typing t).table) (own_law : OwnsByShap
       by_word machine.Null is typed lifted = nothing machine.Null (λ q e. cc) is typed
 
   -- an observer of what isn't an observer: of an owner, a borrower or a formal
-  pub seen_gets : (x y d : ℕ) (path : TypedTree) (facts : List Fact) → Sees x d → is_view_formal s x ≡ false → Good v facts t.state
+  pub seen_gets : (x y d : ℕ) (path : TypedTree) (facts : List Fact) → Sees x d → is_given s x ≡ false → Good v facts t.state
       → is_observer s x ≡ true → is_observer s y ≡ false → may x y → Allows facts (act.Observe x (name_of y path) false)
       → Gets x y d (name_of y path) (effect (act.Observe x (name_of y path) false) facts)
   seen_gets x y d path facts observes own good sees plain mine allowed = by_kind (sees_only s y) refl
@@ -578,7 +578,7 @@ module _ (t : Turn) (settled : IsSettled (typing t).table) (own_law : OwnsByShap
 
   -- A borrower goes on from where it is.
   pub reborrow_gets : (x d : ℕ) (path : TypedTree) (facts : List Fact) → Sees x d → Good v facts t.state
-      → sees_only s x ≡ false → is_view_formal s x ≡ false → may x x → Allows facts (act.Reborrow x (name_of x path))
+      → sees_only s x ≡ false → is_given s x ≡ false → may x x → Allows facts (act.Reborrow x (name_of x path))
       → Gets x x d (name_of x path) (effect (act.Reborrow x (name_of x path)) facts)
   reborrow_gets x d path facts observes good borrows own mine allowed w r z named called is typed lifted = by_word z is typed lifted
     where

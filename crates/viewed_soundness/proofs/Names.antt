@@ -5,8 +5,8 @@ use Rattle.place_names.specs.declared.fact.Fact.{Fact}
 use Rattle.place_names.specs.Names.{Name as PlaceName}
 use Rattle.type_definitions.specs.declared.table.Shape.{Shape}
 use Rattle.type_definitions.specs.declared.table.Shape.TheVariants as shape
-use Rattle.type_definitions.specs.Types.{Table, is_nil, shape_of, components_of, fields, words, words_of, full, view_of as view_of_shape}
-use Rattle.flow_paths.specs.Objects.{Typing, object_at, designated, designated_of, is_anonymous, is_borrowing, is_observing, is_observer, is_variable, view_of}
+use Rattle.type_definitions.specs.Types.{Table, is_nil, is_owning, shape_of, components_of, fields, words, words_of, full, view_of as view_of_shape}
+use Rattle.flow_paths.specs.Objects.{Typing, object_at, is_formal, designated, designated_of, is_anonymous, is_borrowing, is_observing, is_observer, is_variable, view_of}
 use Rattle.machine.specs.Words.{component_type, element_type, element_count, count_of}
 use Rattle.machine.specs.Words as machine
 use Rattle.machine.specs.Memory.{Slot, Memory, Place, cell, no_slot, variable_slots, words_of as place_words}
@@ -16,6 +16,7 @@ use Rattle.machine.specs.States.{Waiting, Leak}
 use Rattle.owned_ways.specs.Ways.{Component, Element, Root, OfVariable, OfHand, Loc, OfRoot, OfCell, Way, Object, Lost, Into, All, Empty, Held, View, Reaches, IsRooted, Past, Owned, Named, Under, number_of}
 use Rattle.part_offsets.specs.Parts.{IsSettled}
 use Rattle.owned_ways.proofs.Locations.{past_under, under_itself}
+use Rattle.machine.specs.Owners.{is_in_formal, is_in}
 use Rattle.soundness.specs.Seen.{IsNear, content, trunk, seen, home, is_view_formal}
 use Rattle.soundness.specs.Typed.{Kept, Spot}
 use Rattle.soundness.proofs.Contents.{word_dead}
@@ -29,7 +30,7 @@ use Rattle.owned_loans.proofs.Safe.{Open}
 use Rattle.owned_loans.proofs.Others.{open_away, seen_away}
 use Rattle.owned_loans.proofs.Moves.{IsPlace, reached}
 use Rattle.owned_loans.proofs.Ended.{stands_itself}
-use Rattle.viewed_soundness.specs.Holds.{IsNamed, PartsAreNamed, is_view, is_exclusive, sees_only, is_fixed, IsOwners, Holds}
+use Rattle.viewed_soundness.specs.Holds.{IsNamed, PartsAreNamed, is_view, is_given, is_exclusive, sees_only, is_fixed, IsOwners, Holds}
 use Rattle.viewed_soundness.proofs.Walks.{owners_rooted, walk}
 use Rattle.viewed_soundness.proofs.Spared.{gone_off}
 
@@ -211,40 +212,74 @@ and_true : (a b : Bool) → a && b ≡ true → (a ≡ true) × (b ≡ true)
 and_true true b e = (refl, e)
 and_true false b e = cc
 
+-- what isn't a view isn't given
+plain_given : (s : Typing) (x : ℕ) → is_view s x ≡ false → is_given s x ≡ false
+plain_given s x plain =
+    let none = neither (is_anonymous (view_of s x)) (is_view_formal s x) plain in
+    both_no (is_view_formal s x) (is_in_formal s x && is_anonymous (view_of s x)) none.1 (no_and (is_in_formal s x) (is_anonymous (view_of s x)) none.0)
+
+pub given_view : (s : Typing) (x : ℕ) → is_given s x ≡ true → is_view s x ≡ true
+given_view s x given = by (is_view_formal s x) (is_in_formal s x) (is_anonymous (view_of s x)) given
+  where
+    by : (f i a : Bool) → f || (i && a) ≡ true → a || f ≡ true
+    by f i true e = refl
+    by true i false e = refl
+    by false true false e = cc
+    by false false false e = cc
+
+-- nor is a variable
+pub variable_given : (s : Typing) (x : ℕ) → is_formal s x ≡ false → is_given s x ≡ false
+variable_given s x none = by (is_formal s x) (is_in (object_at s x).mode) (is_owning s.table (object_at s x).of) (is_anonymous (view_of s x)) none
+  where
+    by : (f i o a : Bool) → f ≡ false → ((f && i) && o) || ((f && i) && a) ≡ false
+    by false i o a e = refl
+    by true i o a e = cc
+
 -- what isn't a view doesn't see another's cell
 pub plain_sees : (s : Typing) (x : ℕ) → is_view s x ≡ false → sees_only s x ≡ false
 plain_sees s x plain =
     let none = neither (is_anonymous (view_of s x)) (is_view_formal s x) plain in
-    both_no (is_observer s x) (is_view_formal s x && not (is_exclusive s x)) (plain_observer s x none.0) (ap (λ b. b && not (is_exclusive s x)) none.1)
+    both_no (is_observer s x) (is_given s x && not (is_exclusive s x)) (plain_observer s x none.0) (ap (λ b. b && not (is_exclusive s x)) (plain_given s x plain))
+
+pub owner_sees : (s : Typing) (x : ℕ) → is_anonymous (view_of s x) ≡ false → is_view_formal s x ≡ false → sees_only s x ≡ false
+owner_sees s x own plain = plain_sees s x (both_no (is_anonymous (view_of s x)) (is_view_formal s x) own plain)
 
 -- what sees is a view
 pub sees_view : (s : Typing) (x : ℕ) → sees_only s x ≡ true → is_view s x ≡ true
-sees_view s x sees = anonymous (is_variable (object_at s x).kind) (is_borrowing (view_of s x)) (is_observing (view_of s x)) (is_view_formal s x) (not (is_exclusive s x)) sees
+sees_view s x sees = by (is_observer s x) (is_given s x) (not (is_exclusive s x)) refl sees
   where
-    anonymous : (a b c f e : Bool) → (a && c) || (f && e) ≡ true → (b || c) || f ≡ true
-    anonymous a true c f e is = refl
-    anonymous a false true f e is = refl
-    anonymous true false false f e is = (and_true f e is).0
-    anonymous false false false f e is = (and_true f e is).0
+    observed : (a b c f : Bool) → a && c ≡ true → (b || c) || f ≡ true
+    observed true true c f is = refl
+    observed true false true f is = refl
+    observed true false false f is = cc
+    observed false b c f is = cc
+
+    by : (o g e : Bool) → is_observer s x ≡ o → o || (g && e) ≡ true → is_view s x ≡ true
+    by true g e is any = observed (is_variable (object_at s x).kind) (is_borrowing (view_of s x)) (is_observing (view_of s x)) (is_view_formal s x) is
+    by false g e is any = given_view s x (given_first (is_given s x) (not (is_exclusive s x)) (ap (λ b. b || (is_given s x && not (is_exclusive s x))) (sym is) ∙ sees))
+      where
+        given_first : (a b : Bool) → a && b ≡ true → a ≡ true
+        given_first true b e = refl
+        given_first false b e = cc
 
 -- an observer sees, and what is neither one nor a formal doesn't
 pub observer_sees : (s : Typing) (x : ℕ) → is_observer s x ≡ true → sees_only s x ≡ true
-observer_sees s x e = ap (λ b. b || (is_view_formal s x && not (is_exclusive s x))) e
+observer_sees s x e = ap (λ b. b || (is_given s x && not (is_exclusive s x))) e
 
-pub borrower_sees : (s : Typing) (x : ℕ) → is_observer s x ≡ false → is_view_formal s x ≡ false → sees_only s x ≡ false
-borrower_sees s x e own = both_no (is_observer s x) (is_view_formal s x && not (is_exclusive s x)) e (ap (λ b. b && not (is_exclusive s x)) own)
+pub borrower_sees : (s : Typing) (x : ℕ) → is_observer s x ≡ false → is_given s x ≡ false → sees_only s x ≡ false
+borrower_sees s x e own = both_no (is_observer s x) (is_given s x && not (is_exclusive s x)) e (ap (λ b. b && not (is_exclusive s x)) own)
 
 pub sees_observer : (s : Typing) (x : ℕ) → sees_only s x ≡ false → is_observer s x ≡ false
-sees_observer s x e = (neither (is_observer s x) (is_view_formal s x && not (is_exclusive s x)) e).0
+sees_observer s x e = (neither (is_observer s x) (is_given s x && not (is_exclusive s x)) e).0
 
 -- a name that is changed isn't one through what only sees, nor a formal itself
 pub free_sees : (s : Typing) (n : PlaceName) → is_fixed s n ≡ false → sees_only s n.root ≡ false
-free_sees s n e = (neither (sees_only s n.root) (is_view_formal s n.root && is_nil n.sels) e).0
+free_sees s n e = (neither (sees_only s n.root) (is_given s n.root && is_nil n.sels) e).0
 
 pub free_formal : (s : Typing) (n : PlaceName) → is_fixed s n ≡ false → is_view_formal s n.root ≡ true → n.sels ≡ [] → ⊥
 free_formal s n e formal none =
-    true_false (is_view_formal s n.root && is_nil n.sels) (ap (λ b. b && is_nil n.sels) formal ∙ ap is_nil none)
-    (neither (sees_only s n.root) (is_view_formal s n.root && is_nil n.sels) e).1
+    true_false (is_given s n.root && is_nil n.sels) (ap (λ b. (b || (is_in_formal s n.root && is_anonymous (view_of s n.root))) && is_nil n.sels) formal ∙ ap is_nil none)
+    (neither (sees_only s n.root) (is_given s n.root && is_nil n.sels) e).1
 
 -- a name that a view leads to is that of a place
 pub lifted_place : (v : Views) (u : Way) → Lifted v u → IsPlace v u

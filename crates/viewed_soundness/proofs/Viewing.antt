@@ -30,7 +30,7 @@ use Rattle.owned_loans.proofs.Allowed.{LoansStay}
 use Rattle.owned_loans.proofs.Taken.{rebound, borrowed, observed, observed_again, reborrowed}
 use Rattle.owned_ways.proofs.Locations.{same_loc}
 use Rattle.owned_loans.proofs.Moves.{IsPlace, reached, same_viewed}
-use Rattle.viewed_soundness.specs.Holds.{is_view, sees_only, IsOwners, Holds}
+use Rattle.viewed_soundness.specs.Holds.{is_view, sees_only, IsOwners, Holds, is_given}
 use Rattle.viewed_soundness.proofs.Walks.{held_there}
 use Rattle.viewed_soundness.proofs.Names.{true_false, stands_owners, view_access}
 
@@ -204,7 +204,7 @@ module _ (s : Typing) (settled : IsSettled s.table) where
       only y way e true b = ap (is_view s) (eqb-true y x b) ∙ view
       only y way e false b = holds.only y way (sym (becomes.ways y (off y b)) ∙ e)
 
-      own : (y : ℕ) (way : Way) → t.way y ≡ Some way → sees_only s y ≡ false → is_view_formal s y ≡ false → (b : Bool) → (y == x) ≡ b → Named (home s frame) (t.up y)
+      own : (y : ℕ) (way : Way) → t.way y ≡ Some way → sees_only s y ≡ false → is_given s y ≡ false → (b : Bool) → (y == x) ≡ b → Named (home s frame) (t.up y)
       own y way e sees none true b =
           let same = eqb-true y x b in
           subst (Named (home s frame)) (sym (ap t.up same ∙ becomes.up_is))
@@ -332,11 +332,11 @@ module _ (s : Typing) (settled : IsSettled s.table) (frame : ℕ) (other : Aroun
       named (reached_by v (seen s m hands leaks) k z is) b allowed)
 
   pub borrower_stored : (name : PlaceName) (k : Way) (l : Lifted v k) → l.object ≡ x
-      → Becomes v t x (way_from z (expand v k)) (v.loan l.object) (next_of v k l) (number_in z) → sees_only s x ≡ false → is_view_formal s x ≡ false
+      → Becomes v t x (way_from z (expand v k)) (v.loan l.object) (next_of v k l) (number_in z) → sees_only s x ≡ false → is_given s x ≡ false
       → Named (home s frame) k → IsReached v (seen s m hands leaks) k z → Allows facts (Reborrow x name)
       → Became (effect (Reborrow x name) facts)
   borrower_stored name k l same becomes borrows own named is allowed =
-      let up : Named (home s frame) (v.up l.object) = holds.own l.object l.way l.has (ap (sees_only s) same ∙ borrows) (ap (is_view_formal s) same ∙ own) in
+      let up : Named (home s frame) (v.up l.object) = holds.own l.object l.way l.has (ap (sees_only s) same ∙ borrows) (ap (is_given s) same ∙ own) in
       became (effect (Reborrow x name) facts) (expand v k) (v.loan l.object) (next_of v k l) becomes (owned_way k named (λ f n e. l)) (λ q e sees. named_on (home s frame) (v.up l.object) l.rest up)
       (reborrowed (home s frame) (sees_only s) other v t (seen s m hands leaks) facts viewed x (way_from z (expand v k)) name k (number_in z) l same becomes borrows up
       named (reached_by v (seen s m hands leaks) k z is) allowed)

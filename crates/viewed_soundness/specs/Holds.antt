@@ -7,6 +7,8 @@ use Rattle.place_names.specs.declared.act.Act.{Act}
 use Rattle.place_names.specs.declared.act.Act.TheVariants.{Move, Write, Free}
 use Rattle.type_definitions.specs.declared.table.Shape.TheVariants as shape
 use Rattle.type_definitions.specs.Types.{Table, shape_of, is_nil}
+use Rattle.flow_paths.specs.Acts.{gives_variable}
+use Rattle.machine.specs.Owners.{is_in_formal}
 use Rattle.flow_paths.specs.Objects.{Signature, Typing, object_at, is_anonymous, is_named_access, is_observer, view_of}
 use Rattle.machine.specs.Words.{Cell, component_type, element_type}
 use Rattle.machine.specs.Memory.{Memory, variable_slots, no_slot}
@@ -30,20 +32,32 @@ pub record PartsAreNamed (table : Table) : Type 0 where
 abbrev pub is_view : Typing → ℕ → Bool
 is_view s x = is_anonymous (view_of s x) || is_view_formal s x
 
--- A formal of a procedure lends what it designates: of a named access type, it is changed through.
+-- Such a formal, whether its type owns or is an anonymous access type.
+abbrev pub is_given : Typing → ℕ → Bool
+is_given s x = is_view_formal s x || (is_in_formal s x && is_anonymous (view_of s x))
+
+-- A formal of a procedure lends what it designates: of a named access type, it is changed through. So
+-- does the first one of a function that gives a borrower.
 abbrev pub is_of_procedure : ℕ → Signature → Bool
 is_of_procedure x sub = not (is_some sub.result) && list_any (λ y. y == x) sub.formals
 
+abbrev pub is_first : ℕ → List ℕ → Bool
+is_first x [] = false
+is_first x (y ∷ rest) = y == x
+
+abbrev pub lends_first : Typing → ℕ → Signature → Bool
+lends_first s x sub = gives_variable s sub.result && is_first x sub.formals
+
 abbrev pub is_exclusive : Typing → ℕ → Bool
-is_exclusive s x = is_named_access (view_of s x) && list_any (is_of_procedure x) s.subs
+is_exclusive s x = (is_named_access (view_of s x) && list_any (is_of_procedure x) s.subs) || list_any (lends_first s x) s.subs
 
 -- Nothing is changed through observers and other such formals.
 abbrev pub sees_only : Typing → ℕ → Bool
-sees_only s x = is_observer s x || (is_view_formal s x && not (is_exclusive s x))
+sees_only s x = is_observer s x || (is_given s x && not (is_exclusive s x))
 
 -- Nor is such a formal itself changed.
 abbrev pub is_fixed : Typing → Name → Bool
-is_fixed s m = sees_only s m.root || (is_view_formal s m.root && is_nil m.sels)
+is_fixed s m = sees_only s m.root || (is_given s m.root && is_nil m.sels)
 
 -- A way begins at what owns: at a variable that is no such formal, or at a hand.
 abbrev pub IsOwners : Typing → Way → Type 0
@@ -65,7 +79,7 @@ pub record Holds (s : Typing) (frame : ℕ) (v : Views) (m : Memory) : Type 0 wh
   pub only : (x : ℕ) (w : Way) → v.way x ≡ Some w → is_view s x ≡ true
   pub owners : (x : ℕ) (w : Way) → v.way x ≡ Some w → IsOwners s w
   pub access : (x : ℕ) → is_view s x ≡ true → IsAccess s x
-  pub own : (x : ℕ) (w : Way) → v.way x ≡ Some w → sees_only s x ≡ false → is_view_formal s x ≡ false → Named (home s frame) (v.up x)
+  pub own : (x : ℕ) (w : Way) → v.way x ≡ Some w → sees_only s x ≡ false → is_given s x ≡ false → Named (home s frame) (v.up x)
 
 -- What is moved, written or freed isn't fixed.
 abbrev pub KeepsObserved : (Name → Bool) → Act → Type 0

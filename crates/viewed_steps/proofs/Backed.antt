@@ -34,7 +34,7 @@ use Rattle.soundness.proofs.Fixed.{fixed_one}
 use Rattle.owned_loans.proofs.Safe.{off_view}
 use Rattle.owned_loans.proofs.Moves.{same_viewed}
 use Rattle.owned_loans.proofs.Meeting.{stands}
-use Rattle.viewed_soundness.proofs.Names.{both_no, true_false, borrower_sees}
+use Rattle.viewed_soundness.proofs.Names.{both_no, true_false, borrower_sees, owner_sees}
 use Rattle.viewed_soundness.proofs.Evaluated.{matches_named}
 use Rattle.viewed_steps.proofs.Left.{cells_same}
 use Rattle.viewed_steps.specs.Taken.{Lodge, IsLodged, IsPlainPlace, IsCopiedTo, AreCarried, TakenBy, IsInside, IsPassedOn, IsBare, IsTaken, IsApartFrom, IsAnother, AreTaken}
@@ -275,7 +275,7 @@ module _ (t : Turn) (settled : IsSettled (typing t).table) (own_law : OwnsByShap
     bare p c held = taken.1 p c (held_mid depth inside.object (p ++ inside.steps) c (sym (inside_word s depth r.to to inside mid (got ∷ hands) p) ∙ held))
 
     plain_name : observer (number_of to) ≡ false
-    plain_name = ap observer (inside_number s settled depth r.to to inside) ∙ borrower_sees s inside.object (not_observing s inside.object (inside_plain s settled depth r.to to inside)) inside.owner
+    plain_name = ap observer (inside_number s settled depth r.to to inside) ∙ owner_sees s inside.object (inside_plain s settled depth r.to to inside) inside.owner
 
     clear_to : IsClearOf (home s depth) observer v second (AwayBy rest ways) second_apart to
     clear_to = record {

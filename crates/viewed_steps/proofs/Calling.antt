@@ -2,10 +2,10 @@
 use Rattle.typed_tree.specs.declared.object.ObjectKind.{ObjectKind}
 use Rattle.typed_tree.specs.declared.object.ObjectKind.TheVariants as object_kind
 use Rattle.place_names.specs.Facts.{adds}
-use Rattle.spark_base.proofs.Lists.{Has-map_from}
 use Rattle.std.proofs.Common.{◌≡◌, refl, sym, ap, ◌∙◌, subst, ◌⊎◌, inl, inr, ℕ, suc, ◌<◌, true, false, ◌==◌, List, [], ◌∷◌, ◌++◌, map, take, drop, length, get_or, arith, Option, Some, None, if◌then◌else◌, is_some, Bool, not, ◌||◌, flat_map}
 use Rattle.std.specs.Prelude.{is_some}
 use Rattle.spark_base.specs.Lists.{Has}
+use Rattle.spark_base.proofs.Lists.{Has-append_cases, Has-map_from}
 use Rattle.place_names.specs.declared.act.Act.{Act}
 use Rattle.place_names.specs.declared.act.Act.TheVariants as act
 use Rattle.place_names.specs.declared.act.Placed.{Placed}
@@ -67,16 +67,16 @@ use Rattle.owned_loans.specs.Views.{expand, Around, known_gone, Views, IsMovedBy
 use Rattle.owned_loans.proofs.Ways.{under_on}
 use Rattle.owned_loans.proofs.Meeting.{stands}
 use Rattle.owned_loans.proofs.Moves.{expand_under}
-use Rattle.owned_loans.proofs.Meeting.{stands}
-use Rattle.viewed_soundness.proofs.Names.{true_false, borrower_sees}
+use Rattle.viewed_soundness.proofs.Names.{true_false, owner_sees}
 use Rattle.viewed_soundness.specs.Holds.{Holds, is_view, sees_only, IsOwners}
 use Rattle.viewed_soundness.proofs.Evaluated.{live_trunk}
 use Rattle.soundness.specs.Ready.{IsSupplied, Fills}
 use Rattle.viewed_steps.specs.Awaited.{AreValuesBut, temporaries_of, lasting_of, awaited, WaitsAt, AreAwaited, AreScalar, FillsTyped, TakesScalars, IsTakenBy}
 use Rattle.viewed_steps.proofs.Waited.{late_scope, within_lasting, lasting_more, Shares, plain_unheld}
-use Rattle.viewed_steps.specs.Sound.{ArePast, AreUnmet, HoldsAt, ArePlaced, NoneAbove, ViewStage, stages_of, GoneElsewhere, Disturbs, IsWaiting, AreWaiting, calls_one, LeadsAlong, IsResting, IsKindOfFormal, IsScalarObject, AreReturned}
+use Rattle.viewed_steps.specs.Sound.{withheld, ArePast, AreUnmet, HoldsAt, ArePlaced, NoneAbove, ViewStage, stages_of, GoneElsewhere, Disturbs, IsWaiting, AreWaiting, calls_one, LeadsAlong, IsResting, IsKindOfFormal, IsScalarObject, AreReturned}
 use Rattle.viewed_steps.specs.Ready.{IsReady, roots_passed, IsCalled}
 use Rattle.viewed_steps.specs.Taken.{TakenBy, Lodge, AreTaken, AreCarried}
+use Rattle.viewed_steps.proofs.Apart.{moved_same}
 use Rattle.viewed_steps.proofs.Lent.{Spare, spare_both, loans_stay}
 use Rattle.viewed_steps.proofs.Placed.{within_on, lasts_more, scope_on, placed_on}
 use Rattle.viewed_steps.proofs.Ended.{none_some}
@@ -87,7 +87,7 @@ use Rattle.viewed_steps.proofs.Aside.{names_off}
 use Rattle.viewed_steps.proofs.LaidOut.{AreLaidOut, outs_of, cells_of, AreOpenActuals}
 use Rattle.viewed_steps.proofs.Called.{AreGiven, all_laid_out, all_given, all_acted, values_are_read, call_adds_none, passes_to, spare_reads, spare_copies}
 use Rattle.viewed_steps.proofs.Outs.{Out, IsUnderOne, found_in}
-use Rattle.viewed_steps.proofs.Entered.{not_observing, inside_plain, inside_named, inside_number, inside_itself, ArePassedOn, IsOpen, AreBlank, not_above, passed_base, passed_one, outs_taken}
+use Rattle.viewed_steps.proofs.Entered.{not_observing, inside_plain, inside_named, inside_number, inside_itself, ArePassedOn, IsOpen, AreBlank, not_above, passed_base, passed_one, outs_taken, passed_own}
 use Rattle.viewed_steps.proofs.Entering.{owns_there, AreDeclared, Enter, formals_of_returns, all_declared}
 use Rattle.viewed_steps.proofs.Cells.{passed_apart, passed_formal, are_kept, all_in, all_open, IsCellNamed, named_before, cells_named}
 use Rattle.viewed_steps.proofs.Passed.{IsNamedBy, apart_or, all_passed_on, found_there, all_returned, call_goes}
@@ -623,7 +623,7 @@ module _ (table : Table) (typed : TypedProgram) (effects : Effects) (input : Lis
             let itself : expand views to ≡ to = inside_itself s ready.accepted.settled depth one.1 to inside views in
             let plain_to : sees_only s (ways.number_of to) ≡ false =
             ap (sees_only s) (inside_number s ready.accepted.settled depth one.1 to inside)
-            ∙ borrower_sees s inside.object (not_observing s inside.object (inside_plain s ready.accepted.settled depth one.1 to inside)) inside.owner in
+            ∙ owner_sees s inside.object (inside_plain s ready.accepted.settled depth one.1 to inside) inside.owner in
             let cell = named_cell c has in
             let below : ways.Under c.way (expand views cell.whole) =
             subst (λ z. ways.Under z (expand views cell.whole)) cell.leads (expand_under views c.name cell.whole (λ r is. absurd (cell.deep r is)) cell.begins) in
@@ -757,6 +757,19 @@ module _ (table : Table) (typed : TypedProgram) (effects : Effects) (input : Lis
         word_still x view = declared_there.views (home s depth x) x view (λ up formal has. not_above s ready.accepted.settled ready.owns in_formals
             (waiting_in easy.state) state.leaks depth views far_views facts_called next_there x up)
 
+        -- what is moved or taken of package objects isn't used
+        kept_unused : (name : PlaceName) → Has (withheld program effects (waits_with all_passed_ways.0)) (Moved name) → is_package_object s name.root ≡ true
+            → Uses effects n name.root → ⊥
+        kept_unused name has shared uses =
+            elim (Has-append_cases (facts_of program effects (waits_with all_passed_ways.0)) (map (λ (to : Way). Moved (ways.name_of to)) ways_taken) (Moved name) has) [
+              | inl fact ↦ spared_then name (subst (λ z. Has z (Moved name)) facts_there fact) shared uses
+              | inr taken ↦ (
+                  let from = Has-map_from (λ (to : Way). Moved (ways.name_of to)) ways_taken (Moved name) taken in
+                  true_false (is_package_object s name.root) shared
+                  (subst (λ (z : PlaceName). is_package_object s z.root ≡ false) (moved_same (ways.name_of from.0) name from.2)
+                  (passed_own s cells depth facts_called next_there formals passed ways_taken outs all_passed_ways.1 from.0 from.1)))
+            ]
+
         is_waiting : IsWaiting table typed effects after_call n (returns_of formals passed) waits_there
         is_waiting = record {
           runs = running.0;
@@ -774,7 +787,8 @@ module _ (table : Table) (typed : TypedProgram) (effects : Effects) (input : Lis
             | inr mine ↦ mine.1
           ];
           lends = lends_there;
-          unmoved = λ name has shared uses. spared_then name (subst (λ z. Has z (Moved name)) facts_there has) shared uses;
+          unmoved = λ name has shared uses. kept_unused name has shared uses;
+          written = λ to has shared. absurd (true_false (is_package_object s (ways.number_of to)) shared (passed_own s cells depth facts_called next_there formals passed ways_taken outs all_passed_ways.1 to has));
           uses = λ x uses. called_used program effects ready.accepted.effects_are top.frame.sub (flow_sub own named) sub_at_all sub_less n callee_less
               main_turn.point (standing.in_sub table typed effects input ready state top older outer named p frames of_sub at_point) actuals result e x uses;
           writes = λ x written. called_writes program effects ready.accepted.effects_are top.frame.sub (flow_sub own named) sub_at_all sub_less n callee_less

@@ -42,7 +42,7 @@ use Rattle.machine.specs.Owners.{WellOwned, waiting_in}
 use Rattle.owned_ways.specs.Ways.{Step, OfVariable, OfRoot, Way, Held, after, AllowsAll, along, number_of, Named}
 use Rattle.owned_ways.specs.Ways as ways
 use Rattle.owned_ways.proofs.Locations.{reaches_along, named_along as rooted_along}
-use Rattle.soundness.specs.Seen.{IsNear, is_view_formal, content, word_in, home}
+use Rattle.soundness.specs.Seen.{IsNear, content, word_in, home}
 use Rattle.soundness.specs.Typed.{Kept}
 use Rattle.typed_laws.specs.Needed.{IsFine, Stays, Source, FirstSource, FirstWrites, FirstStays, Returns}
 use Rattle.soundness.specs.Sound.{IsNoCall, Stage, facts_of, AreStages, IsRunnable, returns_value, InScope, IsNamedSub, IsAtPoint, view_of as view_here, is_temporary_object}
@@ -61,7 +61,7 @@ use Rattle.soundness.proofs.Eased.{eased, waits_same, goes_same, from_eased}
 use Rattle.soundness.proofs.Continued.{got_with, released_with, started_with, input_eased, release_eased, start_eased}
 use Rattle.soundness.proofs.Successors.{not_true, below_one, below_two, successor_there}
 use Rattle.owned_loans.specs.Views.{Around, known_gone, Views, Viewed, Unused, IsForeign}
-use Rattle.viewed_soundness.specs.Holds.{AllKeep, is_view, sees_only, is_fixed}
+use Rattle.viewed_soundness.specs.Holds.{AllKeep, is_view, sees_only, is_fixed, is_given}
 use Rattle.viewed_soundness.proofs.Names.{plain_named, true_false}
 use Rattle.viewed_soundness.proofs.Evaluated.{keep_both}
 use Rattle.viewed_soundness.proofs.Outcomes.{named_plain, IsGood, Leads_on, decides_on, choose_on, assign_on, Turned}
@@ -76,7 +76,7 @@ use Rattle.viewed_steps.proofs.Rounds.{skip_leads, line_leads, next_leads, outpu
 use Rattle.viewed_steps.proofs.Lent.{Spare, loans_stay, spare_acts}
 use Rattle.viewed_steps.proofs.Placed.{brought_more, lasts_more, scope_on, placed_on, MayBe, turned_placed, turned_lies}
 use Rattle.owned_loans.proofs.Meeting.{named_view}
-use Rattle.viewed_steps.proofs.Sources.{leads_or, view_declared, view_assigned}
+use Rattle.viewed_steps.proofs.Sources.{leads_or, own_there, view_declared, view_assigned}
 use Rattle.viewed_steps.proofs.Beside.{IsOther, OthersKept, others_keep}
 use Rattle.viewed_steps.proofs.Waiting.{StandsBetween, KeptElsewhere, beside_them, handed, apart_elsewhere}
 use Rattle.viewed_steps.proofs.Standing.{or_right}
@@ -158,8 +158,8 @@ module _ (table : Table) (typed : TypedProgram) (effects : Effects) (input : Lis
     abbrev placed : ArePlaced program (suc (length rest)) facts_now views p.scope
     placed = innermost.placed table typed effects input ready state top below more_frames rest named p frames deep stages running awaiting of_sub at_point path views viewed_before kept scope holds placed_before above
 
-    abbrev not_at_home : (x : ℕ) (name : PlaceName) → Has handed_on (Moved name) → name.root ≡ x → depth ≡ home s depth x → ⊥
-    not_at_home = innermost.not_at_home table typed effects input ready state top below more_frames rest named p frames deep stages running awaiting of_sub at_point path views viewed_before kept scope holds placed_before above
+    abbrev not_handed : (name : PlaceName) → Has handed_on (Moved name) → ⊥
+    not_handed = innermost.not_handed table typed effects input ready state top below more_frames rest named p frames deep stages running awaiting of_sub at_point path views viewed_before kept scope holds placed_before above
 
     abbrev none_takes : (i : Instruction) → p.instr ≡ i → taken i ≡ 0 → taken main_turn.point.instr ≡ 0
     none_takes = innermost.none_takes table typed effects input ready state top below more_frames rest named p frames deep stages running awaiting of_sub at_point path views viewed_before kept scope holds placed_before above
@@ -367,7 +367,7 @@ module _ (table : Table) (typed : TypedProgram) (effects : Effects) (input : Lis
       unused x v e mine = record {
         unmoved = λ name has root. elim (from_both (Moved name) has) [
           | inl mine_fact ↦ packages.new_before table typed effects input ready state top older outer named p frames of_sub at_point path x v e name mine_fact root
-          | inr there ↦ (innermost.not_handed table typed effects input ready state top below more_frames rest named p frames deep stages running awaiting of_sub at_point path views viewed_before kept scope holds placed_before above) name there (ap (is_package_object s) root ∙ mine)
+          | inr there ↦ not_handed name there
         ];
         unlent = (innermost.not_lent table typed effects input ready state top below more_frames rest named p frames deep stages running awaiting of_sub at_point path views viewed_before kept scope holds placed_before above) x mine;
         untaken = λ z w has named_there off root. unrooted x v e (number_of (views.up z)) z mine ((placed z w has).up named_there) root;
@@ -376,7 +376,7 @@ module _ (table : Table) (typed : TypedProgram) (effects : Effects) (input : Lis
       pub unmoved_now : (x : ℕ) (v : TypedTree) → p.instr ≡ Declare x v → (name : PlaceName) → Has facts_now (Moved name) → name.root ≡ x → depth ≡ home s depth x → ⊥
       unmoved_now x v e name has root at_home = elim (from_both (Moved name) has) [
         | inl mine ↦ packages.new_before table typed effects input ready state top older outer named p frames of_sub at_point path x v e name mine root
-        | inr there ↦ not_at_home x name there root at_home
+        | inr there ↦ absurd (not_handed name there)
       ]
 
       pub blank : (x : ℕ) (v : TypedTree) → p.instr ≡ Declare x v → (q : List Step) (w : ways.Word)
@@ -412,7 +412,7 @@ module _ (table : Table) (typed : TypedProgram) (effects : Effects) (input : Lis
       after_it x v e name has root at_home = elim (after_splits (acts_of_main (Declare x v)) facts_now own_facts handed_on from_both (Moved name) has) [
         | inl mine ↦ packages.new_after table typed effects input ready state top older outer named p frames of_sub at_point path x v e no_calls name
             (subst (λ i. Has (after (acts_of_main i) own_facts) (Moved name)) (sym e) mine) root
-        | inr there ↦ not_at_home x name there root at_home
+        | inr there ↦ absurd (not_handed name there)
       ]
 
       declares : Plainly → (x : ℕ) (v : TypedTree) (e : p.instr ≡ Declare x v) → FirstSource s (object_at s x).of v
@@ -757,10 +757,10 @@ module _ (table : Table) (typed : TypedProgram) (effects : Effects) (input : Lis
       -- formals have what they had
       passed_then : (turned_views : Views) (facts : List Fact)
           → Turned easy ready.accepted.settled ready.owns other alone views ready.class.parts_named may refl refl turned_views facts
-          → (x : ℕ) (w : Way) → turned_views.way x ≡ Some w → is_view_formal s x ≡ true → ways.Named (home s depth) (turned_views.up x) → ⊥
+          → (x : ℕ) (w : Way) → turned_views.way x ≡ Some w → is_given s x ≡ true → ways.Named (home s depth) (turned_views.up x) → ⊥
       passed_then turned_views facts turned x w has formal taken_up = elim (turned x w has) [
         | inl old ↦ holds.passed x w (sym old.way ∙ has) formal (subst (ways.Named (home s depth)) old.up taken_up)
-        | inr (y, from, comes) ↦ (in_formals x formal).1 (from.0).view
+        | inr (y, from, comes) ↦ true_false (is_given s x) formal (own_there s x (ready.orderly.local x (from.0).view).0)
       ]
 
       pub goes_there : sparing → (p.instr ≡ Finish → ⊥) → returns_value p.instr ≡ false → (after_step : State) (waits : List Waiting) (loops : List Loop) (k : ℕ)

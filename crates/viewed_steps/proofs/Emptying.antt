@@ -21,7 +21,7 @@ use Rattle.owned_loans.specs.Views.{Around, Views, expand, Viewed, IsForeign}
 use Rattle.owned_loans.proofs.Safe.{off_view}
 use Rattle.owned_loans.proofs.Moves.{same_viewed}
 use Rattle.viewed_soundness.specs.Holds.{is_view, sees_only}
-use Rattle.viewed_soundness.proofs.Names.{borrower_sees, both_no, true_false, not_view}
+use Rattle.viewed_soundness.proofs.Names.{owner_sees, both_no, true_false, not_view}
 use Rattle.viewed_soundness.proofs.Evaluated.{matches_named}
 use Rattle.viewed_steps.specs.Taken.{AreCarried, IsPassedOn, IsBare}
 use Rattle.viewed_steps.proofs.Between.{gone_also, same_reaches, IsClearOf, base_under, same_variable}
@@ -31,7 +31,7 @@ use Rattle.viewed_steps.proofs.Emptied.{IsEmptied, none_left, owner_before, keep
 use Rattle.viewed_steps.proofs.Vacated.{vacated, vacated_gone, default_same}
 use Rattle.viewed_steps.proofs.Outs.{HasStill, places_apart}
 use Rattle.viewed_steps.proofs.Views.{AreAccess, view_cases}
-use Rattle.viewed_steps.proofs.Entered.{not_observing, inside_plain, inside_named, inside_number, inside_itself}
+use Rattle.viewed_steps.proofs.Entered.{inside_plain, inside_named, inside_number, inside_itself}
 
 module _ (s : Typing) (settled : IsSettled s.table) (own_law : OwnsByShape s.table) (in_formals : AreAccess s)
     (hands : List Waiting) (leaks : List Leak) (depth : ℕ) (v : Views) (facts : List Fact) (scope : List ℕ)
@@ -59,7 +59,7 @@ module _ (s : Typing) (settled : IsSettled s.table) (own_law : OwnsByShape s.tab
   plain_name : sees_only s (number_of to) ≡ false
   plain_name =
       ap (sees_only s) (inside_number s settled depth k to passed.inside)
-      ∙ borrower_sees s (passed.inside).object (not_observing s (passed.inside).object (inside_plain s settled depth k to passed.inside)) (passed.inside).owner
+      ∙ owner_sees s (passed.inside).object (inside_plain s settled depth k to passed.inside) (passed.inside).owner
 
   itself : expand v to ≡ to
   itself = inside_itself s settled depth k to passed.inside v

@@ -30,7 +30,7 @@ use Rattle.soundness.proofs.Memories.{removed_same, removed_other}
 use Rattle.owned_loans.specs.Views.{Around, Views, Viewed, Unused, with_view}
 use Rattle.owned_loans.proofs.Safe.{root_before}
 use Rattle.owned_loans.proofs.Taken.{becomes_with, given_up}
-use Rattle.viewed_soundness.specs.Holds.{PartsAreNamed, is_view, sees_only}
+use Rattle.viewed_soundness.specs.Holds.{PartsAreNamed, is_view, sees_only, is_given}
 use Rattle.viewed_soundness.proofs.Names.{observer_sees, borrower_sees, both_no, true_false}
 use Rattle.viewed_soundness.proofs.Outcomes.{LeavesOthers, Is_left, scope_left, borrower_unmoved}
 use Rattle.viewed_steps.specs.Sound.{Lasts, IsFading, HoldsAt, ArePlaced}
@@ -135,14 +135,14 @@ module _ (t : Turn) (settled : IsSettled (typing t).table) (own_law : OwnsByShap
 
   -- nothing that another view goes by is the object
   other_root : (x : ℕ) → is_within x p.scope ≡ true → (x ≡ y → ⊥) → fades x ≡ false → (r : ℕ) → Lasts t.program p.scope r x
-      → (sees_only s x ≡ false → r < x) → (is_view_formal s x ≡ true → ⊥) → r ≡ y → ⊥
+      → (sees_only s x ≡ false → r < x) → (is_given s x ≡ true → ⊥) → r ≡ y → ⊥
   other_root x within off stays r (inl shared) older own same = true_false (is_package_object s y) (ap (is_package_object s) (sym same) ∙ shared) not_shared
   other_root x within off stays r (inr (there, end, around, plain)) older own same = by_kind (is_observer s x) refl
     where
       by_kind : (b : Bool) → is_observer s x ≡ b → ⊥
       by_kind false e =
           let less = (ended x within off).0 in
-          let low = older (borrower_sees s x e (refused (is_view_formal s x) own)) in
+          let low = older (borrower_sees s x e (refused (is_given s x) own)) in
           absurd (omega (arith, less, low, same))
       by_kind true e =
           let region = (ended x within off).1 (subst (λ z. encloses t.program.scopes (scope_of s z) (scope_of s x) ≡ true) same around) in

@@ -31,7 +31,7 @@ use Rattle.owned_loans.specs.Views.{Around, Views, expand, ExcusedBy, Viewed, Is
 use Rattle.owned_loans.proofs.Safe.{off_view}
 use Rattle.owned_loans.proofs.Others.{clean_away}
 use Rattle.owned_loans.proofs.Moves.{expand_along}
-use Rattle.viewed_soundness.proofs.Names.{both_no, true_false, view_access, not_view, borrower_sees}
+use Rattle.viewed_soundness.proofs.Names.{both_no, true_false, view_access, not_view, borrower_sees, owner_sees}
 use Rattle.viewed_soundness.proofs.Evaluated.{matches_named}
 use Rattle.viewed_steps.specs.Taken.{Lodge, IsPlainPlace, AreCarried, IsInside, IsPassedOn, IsBare, IsApartFrom}
 use Rattle.viewed_steps.proofs.Between.{gone_also, IsClearOf, base_along, base_under, same_variable}
@@ -143,6 +143,18 @@ passed_one s cells depth facts scope (x ∷ formals) (a ∷ passed) (k ∷ ways)
 passed_one s cells depth facts scope (x ∷ formals) (a ∷ passed) (k ∷ ways) outs (inr (place, later, how, one, apart, differ, more)) to (inr has) =
     passed_one s cells depth facts scope formals passed ways later more to has
 
+-- they belong to no package
+pub passed_own : (s : Typing) (cells : List Lodge) (depth : ℕ) (facts : List Fact) (scope : List ℕ) (formals : List ℕ) (passed : List Passed) (ways : List Way) (outs : List Out)
+    → ArePassedOn s cells depth facts scope formals passed ways outs → (k : Way) → Has ways k → is_package_object s (number_of k) ≡ false
+passed_own s cells depth facts scope [] passed ways outs none k has = absurd (subst (λ z. Has z k) none.0 has)
+passed_own s cells depth facts scope (x ∷ formals) [] ways outs none k has = absurd (subst (λ z. Has z k) none.0 has)
+passed_own s cells depth facts scope (x ∷ formals) (a ∷ passed) [] outs are k has = absurd has
+passed_own s cells depth facts scope (x ∷ formals) (a ∷ passed) (to ∷ ways) outs (inl are) k has = passed_own s cells depth facts scope formals passed (to ∷ ways) outs are.1 k has
+passed_own s cells depth facts scope (x ∷ formals) (a ∷ passed) (to ∷ ways) outs (inr (place, later, how, one, apart, differ, more)) k (inl same) =
+    ap (is_package_object s) (ap number_of (sym same ∙ one.inside.way) ∙ number_part (Object (OfVariable depth one.inside.object)) one.inside.steps) ∙ one.inside.own
+passed_own s cells depth facts scope (x ∷ formals) (a ∷ passed) (to ∷ ways) outs (inr (place, later, how, one, apart, differ, more)) k (inr has) =
+    passed_own s cells depth facts scope formals passed ways later more k has
+
 -- what is emptied is among them
 pub outs_taken : (s : Typing) (cells : List Lodge) (depth : ℕ) (facts : List Fact) (scope : List ℕ) (formals : List ℕ) (passed : List Passed) (ways : List Way) (outs : List Out)
     → ArePassedOn s cells depth facts scope formals passed ways outs → (o : Out) → Has outs o → Has ways o.way
@@ -224,7 +236,7 @@ module _ (s : Typing) (settled : IsSettled s.table) (own_law : OwnsByShape s.tab
     spot = inside_spot s depth k to passed.inside m hands
 
     plain_name : sees_only s (number_of to) ≡ false
-    plain_name = ap (sees_only s) (inside_number s settled depth k to passed.inside) ∙ borrower_sees s (passed.inside).object (not_observing s (passed.inside).object (inside_plain s settled depth k to passed.inside)) (passed.inside).owner
+    plain_name = ap (sees_only s) (inside_number s settled depth k to passed.inside) ∙ owner_sees s (passed.inside).object (inside_plain s settled depth k to passed.inside) (passed.inside).owner
 
     itself : expand v to ≡ to
     itself = inside_itself s settled depth k to passed.inside v

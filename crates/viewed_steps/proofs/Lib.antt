@@ -8,6 +8,8 @@ pub mod Lent
 pub mod Placed
 pub mod Ended
 pub mod Sources
+pub mod Sighted
+pub mod Returned
 pub mod Beside
 pub mod Inherited
 pub mod Uses
@@ -37,6 +39,7 @@ pub mod Whole
 pub mod Passed
 pub mod Cells
 pub mod Eased
+pub mod Blank
 pub mod Standing
 pub mod Packages
 pub mod Innermost

@@ -530,6 +530,7 @@ module _ (table : Table) (typed : TypedProgram) (effects : Effects) (input : Lis
               lends = was.lends;
               writes = was.writes;
               unmoved = was.unmoved;
+              written = was.written;
               uses = was.uses;
               clear = was.clear;
               views = was.views;

@@ -46,11 +46,11 @@ use Rattle.viewed_steps.specs.Awaited.{AreValues, lasting_of, awaited, AreAwaite
 use Rattle.viewed_steps.proofs.Waited.{plain_unheld, last_lasting, lasting_last}
 use Rattle.viewed_steps.specs.Sound.{ArePast, HoldsAt, ArePlaced, NoneAbove, ViewStage, stages_of, GoneElsewhere, AreWaiting, AreLeft, leaves_scope, LeadsAlong, IsResting}
 use Rattle.viewed_steps.specs.Ready.{AreOrderly, IsReady}
-use Rattle.viewed_steps.proofs.Inherited.{apart_end, lent_end}
+use Rattle.viewed_steps.proofs.Inherited.{lent_end}
 use Rattle.viewed_steps.proofs.Placed.{scope_on}
 use Rattle.viewed_steps.proofs.Ended.{views_left, ends_well, placed_left, holds_left, leaves, leaves_others}
 use Rattle.viewed_steps.proofs.Beside.{OthersKept, end_scope_keeps}
-use Rattle.viewed_steps.proofs.Waiting.{StandsBetween, KeptElsewhere, beside_them, handed, handed_cases}
+use Rattle.viewed_steps.proofs.Waiting.{StandsBetween, KeptElsewhere, beside_them, handed, handed_lent}
 use Rattle.viewed_steps.proofs.Standing as standing
 use Rattle.viewed_steps.proofs.Packages as packages
 use Rattle.viewed_steps.proofs.Innermost as innermost
@@ -248,12 +248,9 @@ module _ (table : Table) (typed : TypedProgram) (effects : Effects) (input : Lis
           allowed_beside (acts_of_main (EndScope y)) facts_now own_facts handed_on from_both
           (subst (λ i. AllowsAll own_facts (acts_of_main i)) is (standing.allowed table typed effects input ready state top older outer named p frames of_sub at_point path no_call_here))
           (λ a has f there. elim has [
-            | inl end_act ↦ ap (λ z. forbids z f) (sym end_act) ∙ elim (handed_cases table typed effects unmoved_stage local state (suc (length rest)) (below ∷ more_frames) between f there) [
-              | inl (name, same, g, has_stage, fact, shared) ↦ ap (forbids (act.EndScope y (is_borrower s y))) same
-                  ∙ apart_end s name shared borrower_local y (is_borrower s y) not_shared
-              | inr (l, name, same, lent) ↦ ap (forbids (act.EndScope y (is_borrower s y))) same
-                  ∙ lent_end s name lent.5 borrower_local l name.root y (is_borrower s y)
-            ]
+            | inl end_act ↦ ap (λ z. forbids z f) (sym end_act) ∙ (
+                let (l, name, same, lent) = handed_lent table typed effects unmoved_stage local state (suc (length rest)) (below ∷ more_frames) between f there in
+                ap (forbids (act.EndScope y (is_borrower s y))) same ∙ lent_end s name lent.5 borrower_local l name.root y (is_borrower s y))
             | inr never ↦ absurd never
           ])
 

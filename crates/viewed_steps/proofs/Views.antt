@@ -12,7 +12,7 @@ use Rattle.owned_ways.proofs.Dropped.{named_base}
 use Rattle.owned_ways.proofs.Named.{longer}
 use Rattle.soundness.specs.Seen.{home, is_view_formal}
 use Rattle.owned_loans.specs.Views.{Views, IsForeign}
-use Rattle.viewed_soundness.specs.Holds.{is_view, sees_only, IsOwners, IsAccess, Holds}
+use Rattle.viewed_soundness.specs.Holds.{is_view, sees_only, IsOwners, IsAccess, Holds, is_given}
 use Rattle.viewed_steps.specs.Sound.{Lies}
 
 access_of : (sh : Shape) → is_anonymous (view_of_shape sh) ≡ true → (d : ℕ) × (c : Bool) × (n : Bool) × (sh ≡ shape.Access d c n)
@@ -130,5 +130,5 @@ module _ (s : Typing) (in_formals : AreAccess s) where
       → (w : Way) × (v.way x ≡ Some w) × (v.cell x ≡ n))
       → ((x : ℕ) (w : Way) → v.way x ≡ Some w → is_view s x ≡ true)
       → ((x : ℕ) (w : Way) → v.way x ≡ Some w → IsOwners s w)
-      → ((x : ℕ) (w : Way) → v.way x ≡ Some w → sees_only s x ≡ false → is_view_formal s x ≡ false → Named (home s frame) (v.up x)) → Holds s frame v m
+      → ((x : ℕ) (w : Way) → v.way x ≡ Some w → sees_only s x ≡ false → is_given s x ≡ false → Named (home s frame) (v.up x)) → Holds s frame v m
   all_held frame v m held only owners own = record { held = held; only = only; owners = owners; access = view_access; own = own }

@@ -2,7 +2,7 @@
 --
 -- A frame that waits for a call to end has its views still: what was called names no object of the
 -- frame, and leaves package objects alone of which a part is lent.
-use Rattle.std.specs.Prelude.{◌≡◌, ◌⊎◌, ◌<◌, ℕ, true, false, List, [], ◌∷◌, map, get_or, Option, Some, None, suc}
+use Rattle.std.specs.Prelude.{◌≡◌, ◌⊎◌, ◌<◌, ℕ, true, false, List, [], ◌∷◌, ◌++◌, map, get_or, Option, Some, None, suc}
 use Rattle.spark_base.specs.Lists.{Has}
 use Rattle.spark_base.specs.declared.position.Pos.{Pos}
 use Rattle.place_names.specs.declared.act.Mode.TheVariants as mode
@@ -35,7 +35,7 @@ use Rattle.soundness.specs.Sound.{goes_through_none, is_temporary_object, IsName
 use Rattle.soundness.specs.Sound as owners
 use Rattle.soundness.specs.Ready.{root_of}
 use Rattle.owned_loans.specs.Views.{known_gone, Views, expand, IsMovedBy, AreClear, AreViews, Viewed, IsForeign}
-use Rattle.viewed_soundness.specs.Holds.{IsNamed, PartsAreNamed, sees_only, is_view, IsOwners}
+use Rattle.viewed_soundness.specs.Holds.{IsNamed, PartsAreNamed, sees_only, is_view, IsOwners, is_given}
 use Rattle.viewed_steps.specs.Awaited.{is_held, lasting_of, AreNamedResults, AreAwaited}
 use Rattle.viewed_steps.specs.Taken.{TakenBy, Lodge, AreTaken, AreCarried}
 
@@ -109,8 +109,8 @@ pub record HoldsAt (s : Typing) (frame : ℕ) (v : Views) (m : Memory) (p : Name
   pub lies : (x : ℕ) (w : Way) → v.way x ≡ Some w → Lies s frame w
   pub owners : (x : ℕ) (w : Way) → v.way x ≡ Some w → IsOwners s w
   -- what a formal sees was taken from no object of the frame, and what a borrower leads to was
-  pub passed : (x : ℕ) (w : Way) → v.way x ≡ Some w → is_view_formal s x ≡ true → Named (home s frame) (v.up x) → ⊥
-  pub own : (x : ℕ) (w : Way) → v.way x ≡ Some w → sees_only s x ≡ false → is_view_formal s x ≡ false → Named (home s frame) (v.up x)
+  pub passed : (x : ℕ) (w : Way) → v.way x ≡ Some w → is_given s x ≡ true → Named (home s frame) (v.up x) → ⊥
+  pub own : (x : ℕ) (w : Way) → v.way x ≡ Some w → sees_only s x ≡ false → is_given s x ≡ false → Named (home s frame) (v.up x)
 
 -- A view is in scope. The roots of its way and of what it was taken from last, and so does the one
 -- that holds the loan of an observer, if these are of the frame.
@@ -172,9 +172,19 @@ pub record IsKept (s : Typing) (state : State) (g : ViewStage) (c : Lodge) : Typ
   pub reaches : Reaches (owners.view_of s state) c.way (OfCell c.cell)
   pub aside : (to : Way) → Has g.stage.returns to → Past to c.way → ⊥
 
+-- What is kept from a callee, as a loan: it may use nothing of what was moved, as of what was borrowed.
+abbrev pub loan_by : Fact → Loan
+loan_by (Moved n) = Borrowed
+loan_by (Lent l h n) = l
+
+-- What a frame keeps from what it calls: its facts, and the places that were taken from it, as moved ones.
+abbrev pub withheld : FlowProgram → Effects → Stage → List Fact
+withheld program effects g = facts_of program effects g ++ map (λ (to : Way). Moved (name_of to)) g.returns
+
 -- A frame that waits for a call to end. The points that it has executed form a control path to its
 -- next point. What it owns is in scope there, and so are its views, which have their ways still. The
--- callee disturbs no package object of which a part is lent, and uses none of which a part is moved.
+-- callee disturbs no package object of which a part is lent, and uses none of which a part is moved or was
+-- taken; such a one the frame writes.
 -- What the callee uses or writes, its caller does. What the callee copies back goes to scalar places,
 -- or to those that it took.
 pub record IsWaiting (table : Table) (typed : TypedProgram) (effects : Effects) (state : State) (callee : ℕ) (backs : List Return) (g : ViewStage) : Type 0 where
@@ -190,8 +200,10 @@ pub record IsWaiting (table : Table) (typed : TypedProgram) (effects : Effects) 
       → is_within x (lasting_of (flow_typing (flow_program table typed)) point.scope) ≡ true
   pub lends : (l : Loan) (h : ℕ) (name : PlaceName) → Has (facts_of (flow_program table typed) effects g.stage) (Lent l h name)
       → is_package_object (flow_typing (flow_program table typed)) name.root ≡ true → Disturbs effects l callee name.root → ⊥
-  pub unmoved : (name : PlaceName) → Has (facts_of (flow_program table typed) effects g.stage) (Moved name)
+  pub unmoved : (name : PlaceName) → Has (withheld (flow_program table typed) effects g.stage) (Moved name)
       → is_package_object (flow_typing (flow_program table typed)) name.root ≡ true → Uses effects callee name.root → ⊥
+  pub written : (to : Way) → Has g.stage.returns to → is_package_object (flow_typing (flow_program table typed)) (number_of to) ≡ true
+      → Has (written_by effects g.stage.frame.sub) (number_of to)
   pub uses : (x : ℕ) → Uses effects callee x → Uses effects g.stage.frame.sub x
   pub writes : (x : ℕ) → Has (written_by effects callee) x → Has (written_by effects g.stage.frame.sub) x
   pub clear : AreClear (sees_only (flow_typing (flow_program table typed))) (facts_of (flow_program table typed) effects g.stage)
