@@ -49,6 +49,10 @@ far_old s owned (Lost c) l f x base r = cc
 far_old s owned (Into w i) l f x base (m, r, e) = subst (IsOld s) (sym e) (far_old s owned w m f x base r)
 far_old s owned (All w) l f x base (m, c, r, held, e) = subst (IsOld s) (sym e) (owned.within m c held)
 
+old_part : (s : View) (l : Loc) (p : List Step) → IsOld s l → IsOld s (part l p)
+old_part s l [] old = old
+old_part s l (i ∷ p) old = old_part s l p old
+
 far_reaches : (s t : View) → Owned s → ((l : Loc) → IsOld s l → t.word l ≡ s.word l) → (w : Way) (l : Loc) (f x : ℕ) → base_of w ≡ OfRoot (OfVariable f x)
     → Reaches s w l → Reaches t w l
 far_reaches s t owned same (Object r) l f x base reach = reach
@@ -74,6 +78,9 @@ module _ (home : ℕ → ℕ) (observer : ℕ → Bool) (other : Around home) (v
     whole = viewed.whole;
     past = viewed.past;
     far = λ w n keeps. (let root = other.begins w n keeps in far_reaches s t viewed.owned same w (OfCell n) root.0 root.1 root.2 (viewed.far w n keeps));
+    bare = λ w n p bare q c held. (let root = other.begins w n (other.bared w n p bare) in
+        viewed.bare w n p bare q c (sym (same (part (OfCell n) (q ++ p))
+        (old_part s (OfCell n) (q ++ p) (far_old s viewed.owned w (OfCell n) root.0 root.1 root.2 (viewed.far w n (other.bared w n p bare))))) ∙ held));
   }
 
   -- nothing that is known of a name is of a hand
