@@ -366,6 +366,7 @@ module _ (table : Table) (typed : TypedProgram) (effects : Effects) (input : Lis
         past = λ x w has given plain k n none. absurd none;
         lends = λ l n none. absurd none;
         far = λ w n none. absurd none;
+        bare = λ w n p none. absurd none;
       }
 
       abbrev Backed : Memory → Type 0
@@ -470,6 +471,7 @@ module _ (table : Table) (typed : TypedProgram) (effects : Effects) (input : Lis
           past = λ x w has given plain k n none. absurd none;
           lends = λ l n none. absurd none;
           far = λ w n none. absurd none;
+          bare = λ w n p none. absurd none;
         }
 
         holds_there : HoldsAt s low below.views left_memory waits.point

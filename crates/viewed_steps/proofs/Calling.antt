@@ -896,6 +896,7 @@ module _ (table : Table) (typed : TypedProgram) (effects : Effects) (input : Lis
               past = λ x w has. absurd (none_some w has);
               lends = λ l k none. absurd none;
               far = λ w k none. absurd none;
+              bare = λ w k q none. absurd none;
             };
             kept = subst (Kept s with_all) (sym hands_there) declared_there.typed;
             named = called.runs.named;

@@ -159,10 +159,16 @@ module _ (s : Typing) (settled : IsSettled s.table) (home : ℕ → ℕ) (observ
         far = λ w n keeps. (let root = other.begins w n keeps in
             far_off a b f x root.0 root.1 (λ l off. word_off s m (got ∷ rest) rest leaks f x got.words l off) w (OfCell n) root.2
             (λ e. apart w n keeps (root.2 ∙ ap OfRoot (sym e))) (viewed.far w n keeps));
+        bare = λ w n p bare q c held. viewed.bare w n p bare q c
+            (sym (word_off s m (got ∷ rest) rest leaks f x got.words (part (OfCell n) (q ++ p)) (off_cell n (q ++ p))) ∙ held);
       }
     where
       frame_of : (f x g y : ℕ) → OfVariable f x ≡ OfVariable g y → g ≡ f
       frame_of f x g y e = cc
+
+      off_cell : (n : ℕ) (p : List Step) → IsOff f x (part (OfCell n) p)
+      off_cell n [] = tt
+      off_cell n (i ∷ p) = off_cell n p
 
       stays : (y : ℕ) (w : Way) → v.way y ≡ Some w
           → Named home w ⊎ IsForeign home w → Reaches (seen s m (got ∷ rest) leaks) w (OfCell (v.cell y))

@@ -226,6 +226,7 @@ module _ (table : Table) (typed : TypedProgram) (effects : Effects) (input : Lis
         past = λ x w has. no_views views none x w has;
         lends = λ l n lent. absurd lent;
         far = λ w n keeps. absurd keeps;
+        bare = λ w n p none. absurd none;
       };
       kept = kept;
       named = ready.main_there.named;

@@ -28,7 +28,7 @@ use Rattle.machine.specs.Memory.{Memory, variable_slots, no_slot}
 use Rattle.machine.specs.States.{Return, Waiting, Frame, State, Outcome, Goes, Ends, sub_of}
 use Rattle.machine.specs.Owners.{is_in, WellOwned, waiting_in}
 use Rattle.machine.specs.Run.{step}
-use Rattle.owned_ways.specs.Ways.{Step, OfVariable, OfRoot, OfCell, Held, Way, Named, Reaches, Past, name_of, number_of, Under}
+use Rattle.owned_ways.specs.Ways.{Step, OfVariable, OfRoot, OfCell, Held, Way, Named, Reaches, Past, along, name_of, number_of, Under}
 use Rattle.soundness.specs.Seen.{content, word_in, home, is_view_formal}
 use Rattle.soundness.specs.Typed.{Kept}
 use Rattle.soundness.specs.Sound.{goes_through_none, is_temporary_object, IsNamedSub, IsAtPoint, IsRunnable, Stage, facts_of, AreStages, Uses, IsPlain, InScope, IsTrap}
@@ -171,6 +171,9 @@ pub record IsKept (s : Typing) (state : State) (g : ViewStage) (c : Lodge) : Typ
   pub leads : expand g.views c.name ≡ c.way
   pub reaches : Reaches (owners.view_of s state) c.way (OfCell c.cell)
   pub aside : (to : Way) → Has g.stage.returns to → Past to c.way → ⊥
+  -- a part of it that was taken has no number
+  pub bare : (p : List Step) → Has g.stage.returns (along c.way p) → (q : List Step) (n : ℕ)
+      → word_in s.table (content s state.memory [] (OfCell c.cell)) (q ++ p) ≡ Held n → ⊥
 
 -- What is kept from a callee, as a loan: it may use nothing of what was moved, as of what was borrowed.
 abbrev pub loan_by : Fact → Loan
