@@ -19,6 +19,9 @@ pub mod Waiting
 pub mod Apart
 pub mod Left
 pub mod Between
+pub mod Lodged
+pub mod Aside
+pub mod Opened
 pub mod Emptied
 pub mod Vacated
 pub mod Carried
@@ -28,11 +31,14 @@ pub mod Alike
 pub mod Entered
 pub mod Emptying
 pub mod Entering
+pub mod Direct
+pub mod LaidOut
 pub mod Called
 pub mod Backed
 pub mod Whole
 pub mod Passed
 pub mod Globals
+pub mod Cells
 pub mod Eased
 pub mod Blank
 pub mod Standing
