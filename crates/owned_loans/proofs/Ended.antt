@@ -74,7 +74,7 @@ module _ (home : ℕ → ℕ) (observer : ℕ → Bool) (other : Around home) (v
         lends = viewed.lends;
         far = λ w n keeps. (let root = other.begins w n keeps in
             drop_reaches s t (OfHand h) viewed.owned d w (OfCell n) (viewed.far w n keeps) (λ e. variable_hand root.0 root.1 h (sym root.2 ∙ e)));
-        bare = λ w n p bare q c held. viewed.bare w n p bare q c (drop_held s t (OfHand h) d (part (OfCell n) (q ++ p)) c held);
+        bare = λ w l p bare q c held. viewed.bare w l p bare q c (drop_held s t (OfHand h) d (part l (q ++ p)) c held);
       }
 
   same_frame : (f g x y : ℕ) → OfRoot (OfVariable f x) ≡ OfRoot (OfVariable g y) → (f ≡ g) × (x ≡ y)
@@ -226,7 +226,7 @@ module _ (home : ℕ → ℕ) (observer : ℕ → Bool) (other : Around home) (v
                   let bases = sym (named_base home k named) ∙ sym (longer k w under).base ∙ e in
                   leaves.unlent l (name_of k) lent (same_variable (home (number_of k)) (home x) (number_of k) x bases))
             ])));
-        bare = λ w n p bare q c held. viewed.bare w n p bare q c (drop_held s t (OfVariable (home x) x) d (part (OfCell n) (q ++ p)) c held);
+        bare = λ w l p bare q c held. viewed.bare w l p bare q c (drop_held s t (OfVariable (home x) x) d (part l (q ++ p)) c held);
       }
     where
       own_loan : (y : ℕ) (w : Way) → v.way y ≡ Some w → Named home (v.up y) → (b : Bool) → observer y ≡ b → HasLoan observer (observer y) y facts (name_of (v.loan y))

@@ -131,5 +131,5 @@ module _ (home : ℕ → ℕ) (observer : ℕ → Bool) (other : Around home) (v
         lends = λ l m lent. lends_on observer v facts (effect act facts) (loan_kept act facts (λ l h z. refl)) l m (viewed.lends l m lent);
         far = λ w n' keeps. reaches_on s t at n step (expand v k) w (OfCell n') viewed.owned held target (viewed.far w n' keeps)
             (λ past. off_kept home observer other v s facts viewed k w n' name (free_unlent facts k allowed) keeps past);
-        bare = λ w n' p bare q c h. viewed.bare w n' p bare q c (held_before s t at n step (part (OfCell n') (q ++ p)) c h);
+        bare = λ w l p bare q c h. viewed.bare w l p bare q c (held_before s t at n step (part l (q ++ p)) c h);
       }

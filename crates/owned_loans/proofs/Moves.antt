@@ -191,19 +191,26 @@ module _ (home : ℕ → ℕ) (observer : ℕ → Bool) (other : Around home) (v
 
   -- Nothing that is bare is a part of a place, or has it for a part.
   abbrev pub OffBare : Way → Type 0
-  OffBare f = (w : Way) (n : ℕ) (p : List Step) → other.bare w n p → (q : List Step) → Under f (along w (q ++ p)) → ⊥
+  OffBare f = (w : Way) (l : Loc) (p : List Step) → other.bare w l p → (q : List Step) → Under f (along w (q ++ p)) → ⊥
+
+  -- its way leads there
+  pub rests_there : (s : View) (facts : List Fact) → Viewed home observer other v s facts → (w : Way) (l : Loc) (p : List Step) → other.bare w l p → Reaches s w l
+  rests_there s facts viewed w l p bare = elim (other.rests w l p bare) [
+    | inl (n, kept, is) ↦ subst (Reaches s w) (sym is) (viewed.far w n kept)
+    | inr (r, is, at) ↦ subst (λ z. Reaches s z l) (sym is) at
+  ]
 
   -- what is bare gets no number
   pub bare_on : (s t : View) (k : Way) (from to : Loc) (facts : List Fact) → Viewed home observer other v s facts → IsMove s t from to → Reaches s k to → OffBare k
-      → (w : Way) (n : ℕ) (p : List Step) → other.bare w n p → (q : List Step) (c : ℕ) → t.word (part (OfCell n) (q ++ p)) ≡ Held c → ⊥
-  bare_on s t k from to facts viewed move target off w n p bare q c held =
-      elim (owner_before s t from to move (part (OfCell n) (q ++ p)) c held) [
-        | inr stays ↦ viewed.bare w n p bare q c stays.word
+      → (w : Way) (l : Loc) (p : List Step) → other.bare w l p → (q : List Step) (c : ℕ) → t.word (part l (q ++ p)) ≡ Held c → ⊥
+  bare_on s t k from to facts viewed move target off w l p bare q c held =
+      elim (owner_before s t from to move (part l (q ++ p)) c held) [
+        | inr stays ↦ viewed.bare w l p bare q c stays.word
         | inl (r, is, before) ↦ (
-            let reach = viewed.far w n (other.bared w n p bare) in
-            let same = one_way s viewed.owned (along w (q ++ p)) (along k r) (part (OfCell n) (q ++ p)) (reaches_along s w (OfCell n) (q ++ p) reach)
+            let reach = rests_there s facts viewed w l p bare in
+            let same = one_way s viewed.owned (along w (q ++ p)) (along k r) (part l (q ++ p)) (reaches_along s w l (q ++ p) reach)
             (subst (Reaches s (along k r)) (sym is) (reaches_along s k to r target)) in
-            off w n p bare q (subst (Under k) (sym same) (under_along k k r (under_itself k))))
+            off w l p bare q (subst (Under k) (sym same) (under_along k k r (under_itself k))))
       ]
 
   pub moved_on : (s t : View) (f k : Way) (from to : Loc) (facts facts' : List Fact) → Given s t f k from to
@@ -255,8 +262,8 @@ module _ (home : ℕ → ℕ) (observer : ℕ → Bool) (other : Around home) (v
   hand_far f inhand w n keeps past = far_hand home other f w n inhand keeps past
 
   pub hand_bare : (f : Way) → InHand f → OffBare f
-  hand_bare f inhand w n p bare q under =
-      let root = other.begins w n (other.bared w n p bare) in
+  hand_bare f inhand w l p bare q under =
+      let root = other.bares w l p bare in
       no_hand_base (along w (q ++ p)) (hand_under f (along w (q ++ p)) inhand under) ((longer w (along w (q ++ p)) (under_along w w (q ++ p) (under_itself w))).base ∙ root.2)
 
   -- what is moved by a fact is no hand
@@ -345,7 +352,7 @@ module _ (home : ℕ → ℕ) (observer : ℕ → Bool) (other : Around home) (v
       (hand_off s facts viewed.views f inhand)
       (λ x w has past. off_view home observer v s facts viewed.views viewed.clear k x w name (write_unlent facts k allowed) has past)
       (hand_far f inhand) (λ w n keeps past. off_kept home observer other v s facts viewed k w n name (write_unlent facts k allowed) keeps past)
-      (λ w n p bare q under. off_bare home observer other v s facts viewed k w n p q name (write_unlent facts k allowed) bare under)
+      (λ w l p bare q under. off_bare home observer other v s facts viewed k w l p q name (write_unlent facts k allowed) bare under)
 
   -- ---- a new cell, and nothing
 
@@ -370,12 +377,12 @@ module _ (home : ℕ → ℕ) (observer : ℕ → Bool) (other : Around home) (v
         views = λ x w has. (let view = viewed.views x w has in
             view_on s t facts facts x w view (λ seen n has. has) (fresh_on s t at fresh w (OfCell (v.cell x)) (reached s facts x w view)));
         far = λ w n keeps. fresh_on s t at fresh w (OfCell n) (viewed.far w n keeps);
-        bare = λ w n p bare q c held. elim (same_loc (part (OfCell n) (q ++ p)) at) [
-          | inr other_one ↦ viewed.bare w n p bare q c (sym (fresh.off (part (OfCell n) (q ++ p)) other_one) ∙ held)
+        bare = λ w l p bare q c held. elim (same_loc (part l (q ++ p)) at) [
+          | inr other_one ↦ viewed.bare w l p bare q c (sym (fresh.off (part l (q ++ p)) other_one) ∙ held)
           | inl same ↦ (
-              let reach = reaches_along s w (OfCell n) (q ++ p) (viewed.far w n (other.bared w n p bare)) in
+              let reach = reaches_along s w l (q ++ p) (rests_there s facts viewed w l p bare) in
               let one = one_way s viewed.owned k (along w (q ++ p)) at there (subst (Reaches s (along w (q ++ p))) same reach) in
-              off w n p bare q (subst (Under k) one (under_itself k)))
+              off w l p bare q (subst (Under k) one (under_itself k)))
         ];
       }
 
@@ -392,7 +399,7 @@ module _ (home : ℕ → ℕ) (observer : ℕ → Bool) (other : Around home) (v
         views = λ x w has. (let view = viewed.views x w has in
             view_on s t facts facts x w view (λ seen n has. has) (same_reaches s t same w (OfCell (v.cell x)) (reached s facts x w view)));
         far = λ w n keeps. same_reaches s t same w (OfCell n) (viewed.far w n keeps);
-        bare = λ w n p bare q c held. viewed.bare w n p bare q c (sym (same.word (part (OfCell n) (q ++ p))) ∙ held);
+        bare = λ w l p bare q c held. viewed.bare w l p bare q c (sym (same.word (part l (q ++ p))) ∙ held);
       }
 
   -- an act that ends no fact and adds none

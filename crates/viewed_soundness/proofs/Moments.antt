@@ -30,7 +30,7 @@ use Rattle.owned_loans.specs.Views.{Around, Views, expand, ExcusedBy, Viewed}
 use Rattle.owned_loans.proofs.Meeting.{IsPlain}
 use Rattle.owned_loans.proofs.Others.{clean_away}
 use Rattle.owned_loans.proofs.Allowed.{move_unlent, move_unmoved}
-use Rattle.owned_loans.proofs.Moves.{IsPlace, rooted_way, view_rooted, reached, view_on, all_known, no_hand, taken, put}
+use Rattle.owned_loans.proofs.Moves.{IsPlace, rests_there, rooted_way, view_rooted, reached, view_on, all_known, no_hand, taken, put}
 use Rattle.owned_loans.proofs.Ended.{Leaves, ended}
 
 -- ---- ways through words that stay
@@ -78,9 +78,9 @@ module _ (home : ℕ → ℕ) (observer : ℕ → Bool) (other : Around home) (v
     whole = viewed.whole;
     past = viewed.past;
     far = λ w n keeps. (let root = other.begins w n keeps in far_reaches s t viewed.owned same w (OfCell n) root.0 root.1 root.2 (viewed.far w n keeps));
-    bare = λ w n p bare q c held. (let root = other.begins w n (other.bared w n p bare) in
-        viewed.bare w n p bare q c (sym (same (part (OfCell n) (q ++ p))
-        (old_part s (OfCell n) (q ++ p) (far_old s viewed.owned w (OfCell n) root.0 root.1 root.2 (viewed.far w n (other.bared w n p bare))))) ∙ held));
+    bare = λ w l p bare q c held. (let root = other.bares w l p bare in
+        viewed.bare w l p bare q c (sym (same (part l (q ++ p))
+        (old_part s l (q ++ p) (far_old s viewed.owned w l root.0 root.1 root.2 (rests_there home observer other v s facts viewed w l p bare)))) ∙ held));
   }
 
   -- nothing that is known of a name is of a hand

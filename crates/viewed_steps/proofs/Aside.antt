@@ -1,16 +1,13 @@
 -- Names of places that are passed: one of them isn't above another one that doesn't overlap it, where
 -- neither is lent. And the name of the cell that such a place is in.
-use Rattle.std.proofs.Common.{◌≡◌, refl, sym, ap, ◌∙◌, subst, ◌⊎◌, inl, inr, ℕ, Bool, true, List, [], ◌∷◌, ◌++◌, Option, Some, None}
-use Rattle.spark_base.specs.Lists.{Has}
+use Rattle.std.proofs.Common.{◌≡◌, refl, sym, ap, ◌∙◌, subst, inl, inr, ℕ, Bool, true, List, [], ◌∷◌, Option, Some, None}
 use Rattle.place_names.specs.declared.rule.Loan.TheVariants.{Borrowed}
 use Rattle.place_names.specs.declared.fact.Fact.{Fact}
 use Rattle.place_names.specs.Names.{overlaps}
-use Rattle.owned_ways.specs.Ways.{Step, Root, OfVariable, OfHand, Loc, OfRoot, OfCell, Inside, Way, Object, Lost, Into, All, View, Reaches, Under, Past, Named, part, along, name_of, number_of}
+use Rattle.owned_ways.specs.Ways.{Step, Root, OfVariable, OfHand, Loc, OfRoot, OfCell, Way, Object, Lost, Into, All, View, Reaches, Under, along, name_of}
 use Rattle.owned_ways.proofs.Named.{under_front}
-use Rattle.owned_ways.proofs.Locations.{past_under, under_itself, under_along}
 use Rattle.owned_ways.proofs.Unique.{one_location}
 use Rattle.soundness.specs.Seen.{trunk}
-use Rattle.soundness.proofs.Joined.{trunk_trunk}
 use Rattle.owned_loans.specs.Views.{Views, way_at, expand, expand_root, AreClear, AreViews}
 use Rattle.owned_loans.proofs.Ways.{under_on, meet_overlaps}
 use Rattle.owned_loans.proofs.Meeting.{IsPlain, meeting}
@@ -83,3 +80,28 @@ cell_name v s views (All w) l n reach base = record {
     at_cell (Lost c) reach = of_cell (Lost c) l reach base
     at_cell (Into w i) reach = of_cell (expand v (Into w i)) l reach base
     at_cell (All w) reach = of_cell (expand v (All w)) l reach base
+
+-- No part of a cell is one of a root.
+pub part_apart : (s : View) (w : Way) (n : ℕ) → Reaches s w (OfCell n) → (r : Root) (p q : List Step) → along w p ≡ along (Object r) q → ⊥
+part_apart s w n reach r p q e = by_steps p q e
+  where
+    no_root : (w : Way) → Reaches s w (OfCell n) → w ≡ Object r → ⊥
+    no_root (Object b) reach same = cc
+    no_root (Lost c) reach same = cc
+    no_root (Into u i) reach same = cc
+    no_root (All u) reach same = cc
+
+    no_step : (w u : Way) (i : Step) → Reaches s w (OfCell n) → w ≡ Into u i → ⊥
+    no_step (Object b) u i reach same = cc
+    no_step (Lost c) u i reach same = cc
+    no_step (Into k j) u i (m, there, is) same = cc
+    no_step (All k) u i reach same = cc
+
+    longer_one : (a b : Way) (i j : Step) → Into a i ≡ Into b j → a ≡ b
+    longer_one a b i j same = cc
+
+    by_steps : (p q : List Step) → along w p ≡ along (Object r) q → ⊥
+    by_steps [] [] e = no_root w reach e
+    by_steps [] (j ∷ q) e = no_step w (along (Object r) q) j reach e
+    by_steps (i ∷ p) [] e = cc
+    by_steps (i ∷ p) (j ∷ q) e = by_steps p q (longer_one (along w p) (along (Object r) q) i j e)

@@ -37,9 +37,10 @@ gone_also home other gone = record {
   through = other.through;
   kept = other.kept;
   begins = other.begins;
-  bare = λ w n p. ⊥;
-  bared = λ w n p none. absurd none;
-  emptied = λ w n p none q. absurd none;
+  bare = λ w l p. ⊥;
+  rests = λ w l p none. absurd none;
+  bares = λ w l p none. absurd none;
+  emptied = λ w l p none q. absurd none;
 }
 
 module _ (home : ℕ → ℕ) (observer : ℕ → Bool) (v : Views) (other : Around home) (gone : Way → Type 0)

@@ -44,7 +44,7 @@ use Rattle.owned_ways.specs.Ways as ways
 use Rattle.owned_ways.proofs.Locations.{past_under, reaches_along, named_along as rooted_along}
 use Rattle.owned_ways.proofs.Named.{longer}
 use Rattle.owned_ways.proofs.Dropped.{named_base}
-use Rattle.soundness.specs.Seen.{IsNear, is_view_formal, content, seen, home, trunk, word_in}
+use Rattle.soundness.specs.Seen.{IsNear, content, seen, home, trunk, word_in}
 use Rattle.soundness.proofs.Contents.{word_root}
 use Rattle.soundness.specs.Typed.{Kept}
 use Rattle.soundness.specs.Sound.{Stage, facts_of, AreStages, Uses, IsRunnable, returns_value, InScope, IsNamedSub, IsAtPoint, view_of as view_here}
@@ -53,7 +53,7 @@ use Rattle.soundness.proofs.Numbers.{index_law}
 use Rattle.soundness.proofs.Lasting.{keeps}
 use Rattle.soundness.proofs.Passing.{AreReads, reads_keep, entered, TakesAll, takes_each, signature_is}
 use Rattle.soundness.proofs.Scalars.{acts, acts_append, after_append, allows_both}
-use Rattle.soundness.proofs.Points.{sub_in_range, path_there}
+use Rattle.soundness.proofs.Points.{sub_in_range, path_there, one_named, one_point}
 use Rattle.soundness.proofs.Inherited.{AreGlobal, global_after, global_allowed, global_apart}
 use Rattle.soundness.proofs.Used.{called_used, used_global, called_are, globals_are, added_after}
 use Rattle.soundness.proofs.Around.{IsFar}
@@ -61,12 +61,12 @@ use Rattle.soundness.proofs.Waits.{led_waits}
 use Rattle.soundness.proofs.Taking.{Takes}
 use Rattle.soundness.proofs.Eased.{eased}
 use Rattle.soundness.proofs.Scoped.{Inside}
-use Rattle.soundness.proofs.Beginning.{one_named, one_point}
 use Rattle.soundness.proofs.Successors.{below_one, successor_there}
 use Rattle.owned_loans.specs.Views.{expand, Around, known_gone, Views, IsMovedBy, AreClear, AreViews, Viewed, IsForeign}
 use Rattle.owned_loans.proofs.Ways.{under_on}
 use Rattle.owned_loans.proofs.Meeting.{stands}
 use Rattle.owned_loans.proofs.Moves.{expand_under}
+use Rattle.owned_loans.proofs.Meeting.{stands}
 use Rattle.viewed_soundness.proofs.Names.{true_false, owner_sees}
 use Rattle.viewed_soundness.specs.Holds.{Holds, is_view, sees_only, IsOwners}
 use Rattle.viewed_soundness.proofs.Evaluated.{live_trunk}
@@ -75,19 +75,19 @@ use Rattle.viewed_steps.specs.Awaited.{AreValuesBut, temporaries_of, lasting_of,
 use Rattle.viewed_steps.proofs.Waited.{late_scope, within_lasting, lasting_more, Shares, plain_unheld}
 use Rattle.viewed_steps.specs.Sound.{withheld, ArePast, AreUnmet, HoldsAt, ArePlaced, NoneAbove, ViewStage, stages_of, GoneElsewhere, Disturbs, IsWaiting, AreWaiting, calls_one, LeadsAlong, IsResting, IsKindOfFormal, IsScalarObject, AreReturned}
 use Rattle.viewed_steps.specs.Ready.{IsReady, roots_passed, IsCalled}
-use Rattle.viewed_steps.specs.Taken.{TakenBy, Lodge, AreTaken, AreCarried}
+use Rattle.viewed_steps.specs.Taken.{TakenBy, AreTaken, AreCarried, Lodge}
 use Rattle.viewed_steps.proofs.Apart.{moved_same}
 use Rattle.viewed_steps.proofs.Lent.{Spare, spare_both, loans_stay}
 use Rattle.viewed_steps.proofs.Placed.{within_on, lasts_more, scope_on, placed_on}
 use Rattle.viewed_steps.proofs.Ended.{none_some}
-use Rattle.viewed_steps.proofs.Waiting.{StandsBetween, gone_low, kept_low, beside_them, handed, all_on}
+use Rattle.viewed_steps.proofs.Waiting.{StandsBetween, gone_low, kept_low, beside_them, handed, all_on, bare_still}
 use Rattle.viewed_steps.proofs.Between.{gone_also, more_gone, base_along, base_under, same_variable, not_named}
 use Rattle.viewed_steps.proofs.Carried.{past_other}
-use Rattle.viewed_steps.proofs.Aside.{names_off}
+use Rattle.viewed_steps.proofs.Aside.{names_off, part_apart}
 use Rattle.viewed_steps.proofs.LaidOut.{AreLaidOut, outs_of, cells_of, AreOpenActuals}
 use Rattle.viewed_steps.proofs.Called.{AreGiven, all_laid_out, all_given, all_acted, values_are_read, call_adds_none, passes_to, spare_reads, spare_copies}
 use Rattle.viewed_steps.proofs.Outs.{Out, IsUnderOne, found_in}
-use Rattle.viewed_steps.proofs.Entered.{not_observing, inside_plain, inside_named, inside_number, inside_itself, ArePassedOn, IsOpen, AreBlank, not_above, passed_base, passed_one, outs_taken, passed_own}
+use Rattle.viewed_steps.proofs.Entered.{passed_own, ArePassedOn, IsOpen, AreBlank, not_above, passed_base, outs_taken, inside_plain, inside_named, inside_number, inside_itself, passed_one}
 use Rattle.viewed_steps.proofs.Entering.{owns_there, AreDeclared, Enter, formals_of_returns, all_declared}
 use Rattle.viewed_steps.proofs.Cells.{passed_apart, passed_formal, are_kept, all_in, all_open, IsCellNamed, named_before, cells_named}
 use Rattle.viewed_steps.proofs.Passed.{IsNamedBy, apart_or, all_passed_on, found_there, all_returned, call_goes}
@@ -467,6 +467,7 @@ module _ (table : Table) (typed : TypedProgram) (effects : Effects) (input : Lis
           placed_on program depth facts_called views (scope_behind p) (at_successor.0).scope holds.only at_successor.2
           (λ x w has. (let own_place = placed_left own_facts placed_own x w has in record {
             within = more x own_place.within;
+            plain = own_place.plain;
             up = λ up_named. lasts_more program left_scope (scope_behind p) (ways.number_of (views.up x)) x more (own_place.up up_named);
             root = λ at_home. lasts_more program left_scope (scope_behind p) (ways.number_of w) x more (own_place.root at_home);
             holder = λ up_named sees. (let h = own_place.holder up_named sees in
@@ -816,6 +817,9 @@ module _ (table : Table) (typed : TypedProgram) (effects : Effects) (input : Lis
                 declared_there.stays c.way begin.0 begin.1 begin.2 begin.3 (cell_aside c has) c.cell (named_cell c has).reaches);
             aside = cell_aside c has;
           };
+          bare = λ w l p (taken, (c, has, way, is)) q k held. (let inside = ((passed_one s cells depth facts_called next_there formals passed ways_taken outs all_passed_ways.1 (ways.along w p) taken).2).inside in
+              absurd (part_apart (view_here s easy.state) w c.cell (subst (λ z. ways.Reaches (view_here s easy.state) z (ways.OfCell c.cell)) way (named_cell c has).reaches)
+              (ways.OfVariable depth inside.object) p inside.steps inside.way));
           taken = subst (λ z. AreTaken s cells with_all top.depth z next_there (returns_of formals passed) all_passed_ways.0) (sym facts_there)
               (subst (λ d. AreTaken s cells with_all d facts_called next_there (returns_of formals passed) all_passed_ways.0) (sym deep) enters.2);
         }
@@ -826,13 +830,16 @@ module _ (table : Table) (typed : TypedProgram) (effects : Effects) (input : Lis
             (λ f x q k some less held. held_called f x q k (λ above_it. omega (arith, less, above_it)) held)
             (λ f x some less view. declared_there.views f x view (λ up formal has. omega (arith, less, up)))
             top.frame.sub top.frame.returns older outer stages (omega arith)
-            (λ w k keeps_it. (let root = kept_low table typed effects unmoved_stage local state depth older between w k keeps_it in
-            subst (λ z. ways.Reaches z w (ways.OfCell k)) view_called
-            (declared_there.stays w root.0 root.1 root.2 (λ same. (let less = root.3 in omega (arith, less, same)))
-            (λ to taken. (
-            let base = passed_base s cells depth facts_called next_there formals passed ways_taken outs all_passed_ways.1 to taken in
-            past_other to w depth base.0 root.0 root.1 base.1 root.2 (λ same. (let less = root.3 in omega (arith, less, same))))) k
-            (((viewed_easy plain_there.0).0).far w k keeps_it)))) running.2
+            (record {
+              far = λ w k keeps_it. (let root = kept_low table typed effects unmoved_stage local state depth older between w k keeps_it in
+                  subst (λ z. ways.Reaches z w (ways.OfCell k)) view_called
+                  (declared_there.stays w root.0 root.1 root.2 (λ same. (let less = root.3 in omega (arith, less, same)))
+                  (λ to taken. (
+                  let base = passed_base s cells depth facts_called next_there formals passed ways_taken outs all_passed_ways.1 to taken in
+                  past_other to w depth base.0 root.0 root.1 base.1 root.2 (λ same. (let less = root.3 in omega (arith, less, same))))) k
+                  (((viewed_easy plain_there.0).0).far w k keeps_it)));
+              bare = bare_still table typed effects unmoved_stage local older easy.state after_call declared_there.carried.cells ((viewed_easy plain_there.0).0).bare;
+            }) running.2
 
         -- what is gone then is known to those that wait
         known_called : (w : Way) (l : ways.Loc) → ways.IsRooted w → ways.Reaches (view_here s after_call) w l → (view_here s after_call).word l ≡ ways.Gone

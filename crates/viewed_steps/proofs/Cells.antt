@@ -1,10 +1,8 @@
 -- Actuals that are copied back to in cells: nothing that was moved leads to them before the call, no place that
 -- the call takes lies above them, and each cell has a name.
-use Rattle.std.proofs.Common.{◌≡◌, refl, sym, ap, ◌∙◌, subst, ◌⊎◌, inl, inr, ℕ, Bool, true, false, not, ◌&&◌, ◌==◌, eqb-true, eq-eqb, List, [], ◌∷◌, ◌++◌, map, flat_map, Option, Some, None, if◌then◌else◌}
-use Rattle.std.specs.List.{filter}
+use Rattle.std.proofs.Common.{◌≡◌, refl, sym, ap, ◌∙◌, subst, ◌⊎◌, inl, inr, ℕ, Bool, true, false, ◌&&◌, ◌==◌, eqb-true, eq-eqb, List, [], ◌∷◌, ◌++◌, map, flat_map, Option, Some, None}
 use Rattle.spark_base.specs.Lists.{Has}
 use Rattle.spark_base.proofs.Lists.{Has-append_left, Has-append_right, Has-append_cases, Has-map_from}
-use Rattle.spark_base.specs.declared.position.Pos.{Pos}
 use Rattle.place_names.specs.declared.selector.Sel.{Sel}
 use Rattle.place_names.specs.declared.selector.Sel.TheVariants.{Field, Elem, Deref}
 use Rattle.place_names.specs.declared.act.Act.{Act}
@@ -15,10 +13,10 @@ use Rattle.place_names.specs.declared.act.Placed.{Placed}
 use Rattle.place_names.specs.declared.fact.Fact.{Fact}
 use Rattle.place_names.specs.declared.fact.Fact.TheVariants.{Moved, Lent}
 use Rattle.place_names.specs.Names.{Name as PlaceName, is_equal, agree_along, overlaps, covers}
-use Rattle.place_names.specs.Facts.{adds, removes, effect, is_moved_under}
+use Rattle.place_names.specs.Facts.{adds, is_moved_under}
 use Rattle.place_names.specs.Reports.{Report}
 use Rattle.place_names.proofs.Names.{both_parts, both_true}
-use Rattle.type_definitions.specs.Types.{full, is_scalar, is_owning}
+use Rattle.type_definitions.specs.Types.{is_owning}
 use Rattle.typed_tree.specs.Trees.{TypedTree, Name, More}
 use Rattle.flow_paths.specs.Objects.{Typing, object_at, is_package_object, is_named_access, view_of, Passing, passing, passing_by}
 use Rattle.flow_paths.specs.Names.{Written, written, name_of}
@@ -31,7 +29,6 @@ use Rattle.machine.specs.Owners.{is_in}
 use Rattle.owned_ways.specs.Ways.{OfCell, Way, Under, Past, Named, Reaches, Allows, AllowsAll, after, number_of}
 use Rattle.owned_ways.specs.Ways as ways
 use Rattle.owned_ways.proofs.Assigned.{kept_fact}
-use Rattle.owned_ways.proofs.Locations.{past_under}
 use Rattle.soundness.specs.Seen.{home}
 use Rattle.soundness.specs.Typed.{OwnsByShape}
 use Rattle.soundness.specs.Sound.{goes_through_none}
@@ -39,12 +36,12 @@ use Rattle.soundness.specs.Ready.{root_of}
 use Rattle.soundness.proofs.Contents.{bool_cases}
 use Rattle.soundness.proofs.Scalars.{acts, acts_append, after_append, allows_both}
 use Rattle.owned_loans.specs.Views.{Views, expand}
-use Rattle.owned_loans.proofs.Safe.{Open, Unlent}
+use Rattle.owned_loans.proofs.Safe.{Unlent}
 use Rattle.viewed_soundness.specs.Holds.{sees_only}
 use Rattle.viewed_steps.specs.Taken.{Lodge}
 use Rattle.viewed_steps.specs.Sound.{IsScalarObject, IsCopiedBack, AreKeptPlaces}
 use Rattle.viewed_steps.specs.Ready.{AreUnobserved}
-use Rattle.viewed_steps.proofs.LaidOut.{IsInCell, IsPlainAt, IsPlaceLaid, IsLaidOne, AreLaidOut, plain_cell, place_cell, cell_of, cells_of, IsOpenActual, AreOpenActuals}
+use Rattle.viewed_steps.proofs.LaidOut.{IsPlaceLaid, IsLaidOne, AreLaidOut, place_cell, cell_of, cells_of, IsOpenActual, AreOpenActuals}
 use Rattle.viewed_steps.proofs.Opened.{actual_open, IsLess, open_before}
 use Rattle.viewed_steps.proofs.Called.{copies_add}
 use Rattle.viewed_steps.proofs.Passed.{apart_pair, flat_has, later_none, after_less}

@@ -3,7 +3,6 @@ use Rattle.std.proofs.Common.{◌≡◌, refl, ap, ◌∙◌, ℕ, true, List, [
 use Rattle.type_definitions.specs.Types.{Table}
 use Rattle.typed_tree.specs.Trees.{TypedTree, Component as IntoComponent, Designated, Element}
 use Rattle.flow_paths.specs.Objects.{Typing}
-use Rattle.machine.specs.Words as machine
 use Rattle.machine.specs.Memory.{Base, Place}
 use Rattle.machine.specs.Evaluate.{Here, Now, AsValue, Evaluated, Done, Raises, Traps, followed_by, evaluate, indexed, steps_of, walked, component_place, element_place}
 use Rattle.machine.specs.Evaluate as run

@@ -1,14 +1,14 @@
 -- A formal of mode `out` that isn't scalar: what the place of its actual has is leaked, and is gone; the formal
 -- has what an object has without a value.
-use Rattle.std.proofs.Common.{◌≡◌, refl, sym, ap, ◌∙◌, subst, ◌⊎◌, inl, inr, ℕ, suc, ◌<◌, ◌+◌, true, false, not, List, [], ◌++◌, take, drop, length, get_or, arith, append-nil, Some}
+use Rattle.std.proofs.Common.{◌≡◌, refl, sym, ap, ◌∙◌, subst, ◌⊎◌, inl, inr, ℕ, suc, ◌+◌, true, false, not, List, [], ◌++◌, take, drop, length, get_or, arith, append-nil, Some}
 use Rattle.place_names.specs.declared.fact.Fact.{Fact}
 use Rattle.flow_paths.specs.Objects.{Typing, object_at, is_anonymous, view_of}
 use Rattle.machine.specs.Words.{access_offsets, default}
 use Rattle.machine.specs.Memory.{Slot, Memory, Place, fresh, no_slot, variable_slots, slots_at, slots_of, words_of, gone_at, moved_out, declared}
 use Rattle.machine.specs.Memory as memory
 use Rattle.machine.specs.States.{Waiting, Leak}
-use Rattle.owned_ways.specs.Ways.{Step, OfVariable, Loc, OfRoot, OfCell, IsSame, Reaches, Way, Empty, Gone, Held, Under, Past, part, along, base_of, number_of}
-use Rattle.owned_ways.proofs.Locations.{below, past_under}
+use Rattle.owned_ways.specs.Ways.{Step, OfVariable, Loc, OfRoot, OfCell, IsSame, Reaches, Way, Empty, Gone, Held, Under, Past, part, along, number_of}
+use Rattle.owned_ways.proofs.Locations.{below}
 use Rattle.part_offsets.specs.Parts.{IsSettled}
 use Rattle.soundness.specs.Seen.{content, trunk, steps_in, word_in, seen, home, is_view_formal}
 use Rattle.soundness.specs.Changes.{Checks}
@@ -24,8 +24,8 @@ use Rattle.viewed_soundness.specs.Holds.{is_view, sees_only}
 use Rattle.viewed_soundness.proofs.Names.{owner_sees, both_no, true_false, not_view}
 use Rattle.viewed_soundness.proofs.Evaluated.{matches_named}
 use Rattle.viewed_steps.specs.Taken.{AreCarried, IsPassedOn, IsBare}
-use Rattle.viewed_steps.proofs.Between.{gone_also, same_reaches, IsClearOf, base_under, same_variable}
-use Rattle.viewed_steps.proofs.Carried.{trunk_is, cell_off, inside_at, inside_spot, inside_reached, inside_base, inside_rooted, inside_owns, inside_word}
+use Rattle.viewed_steps.proofs.Between.{gone_also, same_reaches, IsClearOf, same_variable}
+use Rattle.viewed_steps.proofs.Carried.{trunk_is, cell_off, inside_at, inside_spot, inside_reached, inside_rooted, inside_owns, inside_word}
 use Rattle.viewed_steps.proofs.Beside.{put_beside}
 use Rattle.viewed_steps.proofs.Emptied.{IsEmptied, none_left, owner_before, keeps_off, emptied}
 use Rattle.viewed_steps.proofs.Vacated.{vacated, vacated_gone, default_same}

@@ -21,7 +21,7 @@ use Rattle.typed_tree.specs.Trees.{Call as CallIn, TypedTree}
 use Rattle.typed_tree.specs.Programs.{TypedProgram}
 use Rattle.flow_paths.specs.declared.report.Effects.{Effects}
 use Rattle.flow_paths.specs.Instructions.{Instruction, EndScope}
-use Rattle.flow_paths.specs.Objects.{Typing, traverses, object_at, is_anonymous, is_package_object, is_variable, is_borrower, is_observer, is_borrowing, is_observing, has_scope_end, is_formal_kind, view_of}
+use Rattle.flow_paths.specs.Objects.{Typing, traverses, object_at, is_anonymous, is_package_object, is_variable, is_borrower, is_observer, is_borrowing, is_observing, has_scope_end, view_of}
 use Rattle.flow_paths.specs.Points.{NamedPoint, FlowPoint}
 use Rattle.flow_paths.specs.Laid.{FlowSub, FlowProgram, NamedSub, number_in, flow_sub, typing_of, flow_typing, flow_program, flow_named}
 use Rattle.flow_paths.specs.Paths.{ControlPath}
@@ -35,7 +35,7 @@ use Rattle.machine.specs.States.{Waiting, Frame, State, sub_of}
 use Rattle.machine.specs.Step.{Turn, start}
 use Rattle.machine.specs.Step as steps
 use Rattle.machine.specs.Typed.{successors}
-use Rattle.machine.specs.Owners.{WellOwned, is_in, waiting_in}
+use Rattle.machine.specs.Owners.{WellOwned, waiting_in}
 use Rattle.owned_ways.specs.Ways.{Step, OfVariable, OfRoot, Way, Held, after, AllowsAll, number_of}
 use Rattle.owned_ways.specs.Ways as ways
 use Rattle.soundness.specs.Seen.{IsNear, content, word_in, home}
@@ -70,7 +70,7 @@ use Rattle.viewed_steps.proofs.Eased.{eased_viewed}
 use Rattle.viewed_steps.proofs.Standing.{or_right}
 use Rattle.viewed_steps.proofs.Standing as standing
 use Rattle.viewed_steps.proofs.Packages as packages
-use Rattle.viewed_steps.proofs.Views.{view_cases, anonymous_view, view_ends}
+use Rattle.viewed_steps.proofs.Views.{anonymous_view, view_ends}
 use Rattle.viewed_soundness.proofs.Names.{borrower_sees}
 
 unless : (b : Bool) → (b ≡ true → ⊥) → b ≡ false
@@ -303,6 +303,7 @@ module _ (table : Table) (typed : TypedProgram) (effects : Effects) (input : Lis
         → ArePlaced program (suc (length rest)) some v scope_there → ArePlaced program (suc (length rest)) all v scope_there
     placed_by some all v scope_there lends there x w has = (let old = there x w has in record {
       within = old.within;
+      plain = old.plain;
       up = old.up;
       root = old.root;
       holder = λ named_up sees. (let h = old.holder named_up sees in (h.0, lends h.0 (ways.name_of (v.loan x)) h.3 h.1, h.2, h.3));
@@ -433,20 +434,13 @@ module _ (table : Table) (typed : TypedProgram) (effects : Effects) (input : Lis
       | inl temporary ↦ absurd (true_false (is_held s x) (ended_held s x temporary end) lasts)
     ]
 
-    -- as views have
-    pub view_stays : (x : ℕ) → is_view s x ≡ true → is_held s x ≡ false
-    view_stays x view = elim (view_cases s x view) [
-      | inl anonymous ↦ plain_unheld s x (variable_stays (object_at s x).kind (ready.orderly.local x anonymous).0)
-      | inr formal ↦ plain_unheld s x (formal_stays (object_at s x).kind (is_in (object_at s x).mode) (is_owning s.table (object_at s x).of) formal)
-    ]
+    -- as variables have
+    pub variable_stays : (x : ℕ) → is_variable (object_at s x).kind ≡ true → is_held s x ≡ false
+    variable_stays x variable = plain_unheld s x (no_temporary (object_at s x).kind variable)
       where
-        variable_stays : (k : ObjectKind) → is_variable k ≡ true → is_temporary k ≡ false
-        variable_stays object_kind.Variable is = refl
-        variable_stays k is = cc
-
-        formal_stays : (k : ObjectKind) (a b : Bool) → (is_formal_kind k && a) && b ≡ true → is_temporary k ≡ false
-        formal_stays object_kind.Formal a b is = refl
-        formal_stays k a b is = cc
+        no_temporary : (k : ObjectKind) → is_variable k ≡ true → is_temporary k ≡ false
+        no_temporary object_kind.Variable is = refl
+        no_temporary k is = cc
 
     pub lasts_left : (r x : ℕ) → Lasts program p.scope r x → Lasts program left_scope r x
     lasts_left r x (inl shared_object) = inl shared_object
@@ -454,7 +448,8 @@ module _ (table : Table) (typed : TypedProgram) (effects : Effects) (input : Lis
 
     pub placed_left : (facts : List Fact) → ArePlaced program (suc (length rest)) facts views p.scope → ArePlaced program (suc (length rest)) facts views left_scope
     placed_left facts there x w has = (let old = there x w has in record {
-      within = left_within x (view_ends s x (holds.only x w has)) (view_stays x (holds.only x w has)) old.within;
+      within = left_within x (view_ends s x (holds.only x w has)) old.plain old.within;
+      plain = old.plain;
       up = λ named_up. lasts_left (number_of (views.up x)) x (old.up named_up);
       root = λ at_home. lasts_left (number_of w) x (old.root at_home);
       holder = λ named_up sees. (let h = old.holder named_up sees in (h.0, h.1, lasts_left h.0 x h.2, h.3));

@@ -37,6 +37,7 @@ pub mod Called
 pub mod Backed
 pub mod Whole
 pub mod Passed
+pub mod Globals
 pub mod Cells
 pub mod Eased
 pub mod Blank

@@ -1,20 +1,20 @@
 -- Places in cells: the type of a cell goes by the way that reaches it, so a place stays where it is as
 -- long as the way reaches the cell.
-use Rattle.std.proofs.Common.{◌≡◌, refl, sym, ap, ◌∙◌, subst, ◌⊎◌, inl, inr, ℕ, ◌≤◌, Bool, true, false, ◌&&◌, List, [], ◌∷◌, ◌++◌, length, get_or, append-nil}
+use Rattle.std.proofs.Common.{◌≡◌, refl, sym, ap, ◌∙◌, subst, inl, inr, ℕ, Bool, true, false, ◌&&◌, List, ◌∷◌, get_or, append-nil}
 use Rattle.type_definitions.specs.declared.table.Shape.{Shape}
 use Rattle.type_definitions.specs.declared.table.Shape.TheVariants as shape
-use Rattle.type_definitions.specs.Types.{Table, shape_of, full, view_of, is_scalar}
-use Rattle.flow_paths.specs.Objects.{Typing, object_at, designated, designated_of}
+use Rattle.type_definitions.specs.Types.{Table, shape_of, view_of, is_scalar}
+use Rattle.flow_paths.specs.Objects.{Typing, designated, designated_of}
 use Rattle.machine.specs.Words as machine
 use Rattle.machine.specs.Memory.{Slot, Memory, Place, cell, no_slot}
 use Rattle.machine.specs.Memory as memory
 use Rattle.machine.specs.States.{Waiting, Leak}
-use Rattle.owned_ways.specs.Ways.{Step, OfVariable, OfHand, Loc, OfRoot, OfCell, Inside, Way, Object, Lost, Into, All, Empty, Held, Reaches, Owned, part, base_of}
+use Rattle.owned_ways.specs.Ways.{Step, OfVariable, OfHand, Loc, OfRoot, OfCell, Inside, Way, Object, Lost, Into, All, Held, Reaches, Owned, part, base_of}
 use Rattle.part_offsets.specs.Parts.{type_in, offset_in, has_part, owns_one, is_leaf, IsSettled}
-use Rattle.soundness.specs.Seen.{Content, content, trunk, steps_in, word_in, owner_word, seen}
+use Rattle.soundness.specs.Seen.{Content, content, trunk, steps_in, word_in, seen}
 use Rattle.soundness.specs.Typed.{Matches, IsCell, Kept, Spot, IsMade, loc_of}
 use Rattle.soundness.proofs.Joined.{trunk_part, steps_part}
-use Rattle.soundness.proofs.Contents.{bool_cases, owner_held, Shown, shown}
+use Rattle.soundness.proofs.Contents.{owner_held, Shown, shown}
 use Rattle.soundness.proofs.Steps.{same_below, no_leaf, plain_shape, plain_end}
 use Rattle.viewed_steps.specs.Taken.{Lodge, last_steps, trunk_type, IsLodged}
 

@@ -1,6 +1,6 @@
 -- What is passed by a name that is copied back: nothing that was moved leads to it, before the acts of the
 -- call as at its own act, since what an earlier actual of mode `out` covers doesn't overlap it.
-use Rattle.std.proofs.Common.{◌≡◌, refl, sym, ap, ◌∙◌, subst, ◌⊎◌, inl, inr, ℕ, ◌<◌, Bool, true, false, not, ◌&&◌, ◌||◌, ◌==◌, eqb-true, eq-eqb, List, [], ◌∷◌, length}
+use Rattle.std.proofs.Common.{◌≡◌, refl, sym, ◌∙◌, subst, ◌⊎◌, inl, inr, Bool, true, false, not, ◌||◌, ◌==◌, eqb-true, eq-eqb, List, [], ◌∷◌}
 use Rattle.std.specs.List.{list_any}
 use Rattle.spark_base.specs.Lists.{Has}
 use Rattle.place_names.specs.declared.selector.Sel.{Sel}
@@ -10,13 +10,12 @@ use Rattle.place_names.specs.declared.act.Mode.{Mode}
 use Rattle.place_names.specs.declared.act.Mode.TheVariants as mode
 use Rattle.place_names.specs.declared.fact.Fact.{Fact}
 use Rattle.place_names.specs.declared.fact.Fact.TheVariants.{Moved, Lent}
-use Rattle.place_names.specs.declared.rule.Loan.{Loan}
-use Rattle.place_names.specs.declared.rule.Loan.TheVariants.{Borrowed, Observed}
+use Rattle.place_names.specs.declared.rule.Loan.TheVariants.{Borrowed}
 use Rattle.place_names.specs.declared.rule.Rule.TheVariants.{O10}
 use Rattle.place_names.specs.Names.{Name as PlaceName, is_equal, begins, is_prefix, agree_along, agrees_whole, overlaps, leads_to, has_elem, covers, strict_prefixes}
 use Rattle.place_names.specs.Rules.{lent, moved_or_borrowed, moved_or_lent, breaks_O2, breaks_O3, breaks_O10}
 use Rattle.place_names.proofs.Names.{both_parts, both_true}
-use Rattle.owned_ways.specs.Ways.{Way, Allows, name_of, sels_of}
+use Rattle.owned_ways.specs.Ways.{Way, Allows, name_of}
 use Rattle.soundness.proofs.Freeing.{switched}
 use Rattle.owned_loans.proofs.Clear.{refused}
 use Rattle.owned_loans.proofs.Allowed.{either_right, leads_overlaps, write_open, write_unlent}

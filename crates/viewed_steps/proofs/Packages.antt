@@ -40,10 +40,9 @@ use Rattle.typed_laws.specs.Needed.{IsFine}
 use Rattle.soundness.specs.Sound.{IsNoCall, IsRunnable, temporaries_in, Stage, facts_of, AreStages, IsPlain, InScope, IsNamedSub, IsAtPoint, view_of as view_here, is_temporary_object}
 use Rattle.soundness.proofs.Contents.{word_root}
 use Rattle.soundness.proofs.Paths.{facts_next}
-use Rattle.soundness.proofs.Points.{named_has, sub_there, point_there}
+use Rattle.soundness.proofs.Points.{named_has, sub_there, point_there, one_named, one_point}
 use Rattle.soundness.proofs.Used.{path_acts}
 use Rattle.soundness.proofs.Following.{Each, Declares, declare_on}
-use Rattle.soundness.proofs.Beginning.{one_named, one_point}
 use Rattle.soundness.proofs.Waits.{no_waits, drop_none}
 use Rattle.soundness.proofs.Successors.{not_true, successor_cases, unmoved_after}
 use Rattle.owned_loans.specs.Views.{Around, known_gone, Views, Viewed, IsForeign}
@@ -364,7 +363,7 @@ module _ (table : Table) (typed : TypedProgram) (effects : Effects) (input : Lis
           (λ q. blank_first q (word_in s.table (content s state.memory [] (OfRoot (OfVariable 0 x))) q) refl)
           (λ name has root at_home. new_after state top [] [] named p frames of_sub at_point path x v e (calls_plain x v e) name
           (subst (λ i. Has (after (acts_first i) facts_first) (Moved name)) (sym e) has) root)
-          free_first (λ w n keeps base. keeps)
+          free_first (λ w keeps base. elim keeps [ inl there ↦ there.1 | inr there ↦ there.2 ])
 
       none_left : (turned_views : Views) → Turned first_turn ready.accepted.settled ready.owns nowhere alone_first views ready.class.parts_named no_sources frames first_takes
           turned_views (after (acts_first (Declare x v)) facts_first) → HasNone turned_views

@@ -81,7 +81,6 @@ use Rattle.soundness.proofs.Onward.{Gets, value_inside, source_inside}
 use Rattle.soundness.proofs.Operands.{handed_over, hold_is}
 use Rattle.soundness.proofs.Points.{path_there}
 use Rattle.soundness.proofs.Stays.{Quiet, One}
-use Rattle.soundness.proofs.Standing.{head_of, last_of}
 use Rattle.soundness.proofs.Waits.{waits_of}
 use Rattle.soundness.proofs.Numbers.{index_law}
 use Rattle.soundness.proofs.Lasting.{keeps}
@@ -542,8 +541,8 @@ module _ (table : Table) (typed : TypedProgram) (effects : Effects) (input : Lis
                 leads = (was.kept c has).leads;
                 reaches = (was.kept c has).reaches;
                 aside = (was.kept c has).aside;
-                bare = (was.kept c has).bare;
               };
+              bare = was.bare;
               taken = was.taken;
             },
             waits.1,
@@ -631,7 +630,7 @@ module _ (table : Table) (typed : TypedProgram) (effects : Effects) (input : Lis
                     (wait_still (state_then ws m) (lasting_of s (scope_behind p)) inside_behind stay
                     (record {
                       far = λ w n keeps. subst (λ z. ways.Reaches z w (ways.OfCell n)) view_same (well_all.far w n keeps);
-                      bare = λ w n p bare q c held. well_all.bare w n p bare q c (subst (λ z. z.word (ways.part (ways.OfCell n) (q ++ p)) ≡ Held c) (sym view_same) held);
+                      bare = λ w n p bare q c held. well_all.bare w n p bare q c (subst (λ z. z.word (ways.part n (q ++ p)) ≡ Held c) (sym view_same) held);
                     })),
               );
               awaited = (
@@ -731,8 +730,9 @@ module _ (table : Table) (typed : TypedProgram) (effects : Effects) (input : Lis
         by_result : (r : Option ℕ) → named.sub.result ≡ r → Returns s r (More e last) → Along (steps.hold main_turn (More e last))
         by_result None none never = cc
         by_result (Some of) result (value_there, same, source) =
-            let source_here : Source s of e = subst (Source s of) (sym (ap head_of same)) source in
-            let last_is : last ≡ NoMore = ap last_of same in
+            let value_is : value_there ≡ e = cc in
+            let source_here : Source s of e = subst (Source s of) value_is source in
+            let last_is : last ≡ NoMore = cc in
             value_step e last is of result source_here last_is (elim (innermost.taken_there table typed effects input ready state top below more_frames rest named p frames deep stages running awaiting of_sub at_point path views viewed_before kept scope holds placed_before above) [
               | inl plain ↦ plain_given e last is of result source_here last_is plain
               | inr alone_taken ↦ alone_given e last is of result source_here last_is alone_taken

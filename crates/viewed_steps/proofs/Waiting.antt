@@ -19,8 +19,8 @@ use Rattle.flow_paths.specs.Laid.{FlowProgram, flow_typing, flow_program}
 use Rattle.machine.specs.Words as machine
 use Rattle.machine.specs.Memory.{variable_slots, no_slot}
 use Rattle.machine.specs.States.{Frame, Return, State}
-use Rattle.owned_ways.specs.Ways.{Loc, IsSame, Step, OfVariable, OfHand, OfRoot, OfCell, Way, Object, Lost, Into, All, Held, View, Reaches, Under, Named, IsMoved, base_of, number_of, name_of, part, along}
-use Rattle.owned_ways.proofs.Locations.{under_itself}
+use Rattle.owned_ways.specs.Ways.{Loc, IsSame, Step, OfVariable, OfHand, OfRoot, OfCell, Way, Root, Object, Lost, Into, All, Held, View, Reaches, Under, Named, IsMoved, base_of, number_of, name_of, part, along}
+use Rattle.owned_ways.proofs.Locations.{under_itself, under_along}
 use Rattle.owned_ways.proofs.Named.{longer}
 use Rattle.owned_ways.proofs.Dropped.{named_base}
 use Rattle.soundness.specs.Seen.{IsNear, content, word_in, home}
@@ -28,17 +28,17 @@ use Rattle.soundness.specs.Sound.{Stage, facts_of, AreStages, Uses, view_of as v
 use Rattle.soundness.proofs.Around.{near_or_far, IsFar, near_package, package_named}
 use Rattle.soundness.proofs.Contents.{bool_cases, word_part}
 use Rattle.soundness.proofs.Inherited.{Splits}
-use Rattle.owned_loans.specs.Views.{Go, on, Around, known_gone, Views, expand, IsThrough, IsMovedBy, HasLoan, Viewed, IsForeign}
-use Rattle.owned_loans.proofs.Ended.{stands_itself}
-use Rattle.owned_loans.proofs.Ways.{base_on, under_on, on_under, lifts, lifted_root, lifted_way, on_named}
+use Rattle.owned_loans.specs.Views.{on, Around, known_gone, Views, expand, IsThrough, HasLoan, IsForeign, Viewed, Go}
+use Rattle.owned_loans.proofs.Ways.{under_on, on_under, on_named, lifts, lifted_root, lifted_way, base_on}
 use Rattle.owned_loans.proofs.Meeting.{stands}
 use Rattle.owned_loans.proofs.Moves.{view_on, own_loan, reached}
 use Rattle.viewed_steps.specs.Taken.{TakenBy, Lodge}
+use Rattle.owned_loans.proofs.Meeting.{stands}
 use Rattle.viewed_steps.proofs.Between.{taken_from as words_taken, taken_base, still_taken, near_base}
 use Rattle.viewed_steps.proofs.Roots.{borrower_goes, view_goes}
 use Rattle.viewed_steps.specs.Awaited.{lasting_of}
-use Rattle.viewed_steps.specs.Sound.{IsWayOf, KeptBy, ArePast, ViewStage, stages_of, Lies, GoneElsewhere, IsWaiting, IsFirst, AreWaiting, loan_by, withheld}
 use Rattle.viewed_steps.proofs.Whole.{flat_has}
+use Rattle.viewed_steps.specs.Sound.{loan_by, withheld, KeptBy, ArePast, ViewStage, stages_of, Lies, GoneElsewhere, IsWaiting, IsFirst, AreWaiting, IsWayOf, IsBareOf}
 use Rattle.viewed_steps.proofs.Views.{base_named, same_lies}
 use Rattle.machine.specs.Owners.{waiting_in}
 
@@ -86,6 +86,12 @@ pub cell_word : (s : Typing) (state : State) (n : ℕ) (p : List Step)
 cell_word s state n p =
     word_part s.table (content s state.memory (waiting_in state)) (OfCell n) p
     ∙ ap (word_in s.table (content s state.memory [] (OfCell n))) (append-nil p)
+
+-- of what is bare
+bare_word : (s : Typing) (state : State) (g : ViewStage) (w : Way) (l : Loc) (p q : List Step) → IsBareOf g w l p
+    → (view_here s state).word (part l q) ≡ word_in s.table (content s state.memory [] l) q
+bare_word s state g w l p q (taken, (c, has, way, is)) =
+    subst (λ z. (view_here s state).word (part z q) ≡ word_in s.table (content s state.memory [] z) q) is (cell_word s state c.cell q)
 
 pub along_both : (w : Way) (q p : List Step) → along w (q ++ p) ≡ along (along w p) q
 along_both w [] p = refl
@@ -156,19 +162,32 @@ module _ (table : Table) (typed : TypedProgram) (effects : Effects)
   KeptElsewhere older w n = KeptBy older w n
 
   -- Parts of those cells that were taken.
-  abbrev pub BareElsewhere : List ViewStage → Way → ℕ → List Step → Type 0
-  BareElsewhere older w n p =
-      (g : ViewStage) × Has older g × (c : Lodge) × Has g.cells c × (c.way ≡ w) × (c.cell ≡ n) × Has g.stage.returns (along c.way p)
+  abbrev pub BareElsewhere : List ViewStage → Way → Loc → List Step → Type 0
+  BareElsewhere older w l p = (g : ViewStage) × Has older g × IsBareOf g w l p
 
   -- What others keep is there, and no number stands in what was taken.
   pub record AreTheirs (older : List ViewStage) (view : View) : Type 0 where
     pub far : (w : Way) (n : ℕ) → KeptElsewhere older w n → Reaches view w (OfCell n)
-    pub bare : (w : Way) (n : ℕ) (p : List Step) → BareElsewhere older w n p → (q : List Step) (c : ℕ) → view.word (part (OfCell n) (q ++ p)) ≡ Held c → ⊥
+    pub bare : (w : Way) (l : Loc) (p : List Step) → BareElsewhere older w l p → (q : List Step) (c : ℕ) → view.word (part l (q ++ p)) ≡ Held c → ⊥
+
+  -- where cells keep their words
+  pub bare_still : (older : List ViewStage) (before after : State)
+      → ((c : ℕ) (q : List Step) → word_in s.table (content s after.memory [] (OfCell c)) q ≡ word_in s.table (content s before.memory [] (OfCell c)) q)
+      → ((w : Way) (l : Loc) (p : List Step) → BareElsewhere older w l p → (q : List Step) (k : ℕ) → (view_here s before).word (part l (q ++ p)) ≡ Held k → ⊥)
+      → (w : Way) (l : Loc) (p : List Step) → BareElsewhere older w l p → (q : List Step) (k : ℕ) → (view_here s after).word (part l (q ++ p)) ≡ Held k → ⊥
+  bare_still older before after same none w l p bare q k held = none w l p bare q k (one (bare.2).1 held)
+    where
+      one : (c : Lodge) × Has (bare.0).cells c × (c.way ≡ w) × (OfCell c.cell ≡ l) → (view_here s after).word (part l (q ++ p)) ≡ Held k
+          → (view_here s before).word (part l (q ++ p)) ≡ Held k
+      one (c, has, way, is) held =
+          subst (λ z. (view_here s before).word (part z (q ++ p)) ≡ Held k) is
+          (cell_word s before c.cell (q ++ p) ∙ sym (same c.cell (q ++ p)) ∙ sym (cell_word s after c.cell (q ++ p))
+          ∙ subst (λ z. (view_here s after).word (part z (q ++ p)) ≡ Held k) (sym is) held)
 
   -- the frame of the package objects has none
-  none_first : (g : ViewStage) (w : Way) (n : ℕ) → IsFirst g → IsWayOf g w n → ⊥
-  none_first g w n first (inl (x, is, cell)) = (let no : None ≡ Some w = sym (first.2 x) ∙ is in cc)
-  none_first g w n first (inr (c, has, is, cell)) = subst (λ z. Has z c) first.4 has
+  no_cells : (g : ViewStage) (w : Way) (n : ℕ) → IsFirst g → IsWayOf g w n → ⊥
+  no_cells g w n first (inl (x, is, cell)) = (let no : None ≡ Some w = sym (first.2 x) ∙ is in cc)
+  no_cells g w n first (inr (c, has, is, cell)) = subst (λ z. Has z c) first.4 has
 
   -- What a frame keeps of package objects, as loans that the objects hold themselves.
   loan_of : Fact → List Fact
@@ -339,7 +358,7 @@ module _ (table : Table) (typed : TypedProgram) (effects : Effects)
 
     begins_there : (w : Way) (n : ℕ) → KeptElsewhere older w n → Begins w
     begins_there w n (g, has, way) = elim (between g has) [
-      | inl first ↦ absurd (none_first g w n first way)
+      | inl first ↦ absurd (no_cells g w n first way)
       | inr (some, less, callee, backs, waits) ↦ elim way [
         | inl (x, is, cell) ↦ way_begins callee backs g has some less waits x w is (waits.holds.lies x w is)
         | inr (c, there, is, cell) ↦ subst Begins is (cell_begins callee backs g has some less waits c there)
@@ -351,11 +370,17 @@ module _ (table : Table) (typed : TypedProgram) (effects : Effects)
     begins_elsewhere w n kept = (let b = begins_there w n kept in (b.frame, b.object, b.base, b.other))
 
     -- no variable of the innermost frame begins one
-    pub apart_elsewhere : (x : ℕ) (w : Way) (n : ℕ) → KeptElsewhere older w n → base_of w ≡ OfRoot (OfVariable depth x) → ⊥
-    apart_elsewhere x w n kept base =
+    kept_apart : (x : ℕ) (w : Way) (n : ℕ) → KeptElsewhere older w n → base_of w ≡ OfRoot (OfVariable depth x) → ⊥
+    kept_apart x w n kept base =
         let b = begins_there w n kept in
         let frames = same_frame b.frame b.object depth x (sym b.base ∙ base) in
         let low = b.low in omega (arith, low, frames)
+
+    -- or a place that is bare
+    pub apart_elsewhere : (x : ℕ) (w : Way) → ((n : ℕ) × KeptElsewhere older w n) ⊎ ((l : Loc) × (p : List Step) × BareElsewhere older w l p)
+        → base_of w ≡ OfRoot (OfVariable depth x) → ⊥
+    apart_elsewhere x w (inl (n, kept)) base = kept_apart x w n kept base
+    apart_elsewhere x w (inr (l, p, (g, has, (taken, (c, there, is, cell))))) base = kept_apart x w c.cell (g, has, inr (c, there, is, refl)) base
 
     -- the ways of their views begin below
     pub kept_low : (w : Way) (n : ℕ) → KeptElsewhere older w n → (f : ℕ) × (x : ℕ) × (base_of w ≡ OfRoot (OfVariable f x)) × (f < depth)
@@ -474,27 +499,37 @@ module _ (table : Table) (typed : TypedProgram) (effects : Effects)
 
     pub far : (w : Way) (n : ℕ) → KeptElsewhere older w n → Reaches (view_here s state) w (OfCell n)
     far w n (g, has, way) = elim (between g has) [
-      | inl first ↦ absurd (none_first g w n first way)
+      | inl first ↦ absurd (no_cells g w n first way)
       | inr (some, less, callee, backs, waits) ↦ way_reaches state callee backs g waits w n way
     ]
 
     pub theirs : AreTheirs older (view_here s state)
     theirs = record {
       far = far;
-      bare = λ w n p (g, has, c, there, is, cell, taken) q k held. elim (between g has) [
-        | inl first ↦ absurd (subst (λ z. Has z c) first.4 there)
-        | inr (some, less, callee, backs, waits) ↦
-            (waits.kept c there).bare p taken q k
-            (sym (cell_word s state c.cell (q ++ p)) ∙ subst (λ z. (view_here s state).word (part (OfCell z) (q ++ p)) ≡ Held k) (sym cell) held)
-      ];
+      bare = λ w l p there q k held. (let (g, has, bare) = there in elim (between g has) [
+        | inl first ↦ absurd (subst (λ z. TakenBy z (along w p)) (first.1).2 (along w p, bare.0, [], refl)).1
+        | inr (some, less, callee, backs, waits) ↦ waits.bare w l p bare q k (sym (bare_word s state g w l p (q ++ p) bare) ∙ held)
+      ]);
     }
 
+    pub bare_rests : (w : Way) (l : Loc) (p : List Step) → BareElsewhere older w l p
+        → ((n : ℕ) × KeptElsewhere older w n × (l ≡ OfCell n)) ⊎ ((r : Root) × (w ≡ Object r) × (l ≡ OfRoot r))
+    bare_rests w l p (g, has, (taken, (c, there, is, cell))) = inl (c.cell, (g, has, inr (c, there, is, refl)), sym cell)
+
+    pub bare_begins : (w : Way) (l : Loc) (p : List Step) → BareElsewhere older w l p
+        → (f : ℕ) × (x : ℕ) × (base_of w ≡ OfRoot (OfVariable f x)) × ((f ≡ home s depth x → ⊥) ⊎ ((k : Loan) × IsLentFor k (along w p)))
+    bare_begins w l p (g, has, (taken, (c, there, is, cell))) =
+        let b = begins_elsewhere w c.cell (g, has, inr (c, there, is, refl)) in
+        (b.0, b.1, b.2, elim b.3 [
+          | inl away ↦ inl away
+          | inr (k, m) ↦ inr (k, (m.0, m.1, under_along m.0 w p m.2, m.3))
+        ])
+
     -- what was taken is gone for them
-    pub emptied_there : (w : Way) (n : ℕ) (p : List Step) → BareElsewhere older w n p → (q : List Step)
+    pub emptied_there : (w : Way) (l : Loc) (p : List Step) → BareElsewhere older w l p → (q : List Step)
         → IsFar depth (GoneElsewhere program effects older) (along w (q ++ p)) ⊎ (IsLentFor Borrowed (along w (q ++ p)) × GoneElsewhere program effects older (along w (q ++ p)))
-    emptied_there w n p (g, has, c, there, is, cell, taken) q =
-        let gone : GoneElsewhere program effects older (along w (q ++ p)) =
-        (g, has, inr (along c.way p, taken, q, ap (λ z. along z (q ++ p)) (sym is) ∙ along_both c.way q p)) in
+    emptied_there w l p (g, has, bare) q =
+        let gone : GoneElsewhere program effects older (along w (q ++ p)) = (g, has, inr (along w p, bare.0, q, along_both w q p)) in
         elim (near_or_far depth (along w (q ++ p))) [
           | inr away ↦ inl (away, gone)
           | inl near ↦ inr (near_lent (along w (q ++ p)) near gone, gone)
@@ -510,7 +545,8 @@ module _ (table : Table) (typed : TypedProgram) (effects : Effects)
       kept = KeptElsewhere older;
       begins = begins_elsewhere;
       bare = BareElsewhere older;
-      bared = λ w n p (g, has, c, there, is, cell, taken). (g, has, inr (c, there, is, cell));
+      rests = bare_rests;
+      bares = bare_begins;
       emptied = emptied_there;
     }
 
@@ -680,8 +716,7 @@ module _ (table : Table) (typed : TypedProgram) (effects : Effects)
       → (get_or (variable_slots s f x next.memory.variables) 0 no_slot).word ≡ (get_or (variable_slots s f x state.memory.variables) 0 no_slot).word) where
     waits_on : (callee : ℕ) (backs : List Return) (g : ViewStage) → 0 < g.stage.depth → g.stage.depth < depth
         → ((w : Way) (n : ℕ) → IsWayOf g w n → Reaches (view_here s next) w (OfCell n))
-        → ((c : Lodge) → Has g.cells c → (p : List Step) → Has g.stage.returns (along c.way p) → (q : List Step) (k : ℕ)
-        → (view_here s next).word (part (OfCell c.cell) (q ++ p)) ≡ Held k → ⊥)
+        → ((w : Way) (l : Loc) (p : List Step) → IsBareOf g w l p → (q : List Step) (k : ℕ) → (view_here s next).word (part l (q ++ p)) ≡ Held k → ⊥)
         → IsWaiting table typed effects state callee backs g → IsWaiting table typed effects next callee backs g
     waits_on callee backs g some less reach bare waits = record {
       runs = waits.runs;
@@ -711,13 +746,13 @@ module _ (table : Table) (typed : TypedProgram) (effects : Effects)
         own = waits.holds.own;
       };
       placed = waits.placed;
+      bare = λ w l p taken q k held. bare w l p taken q k (bare_word s next g w l p (q ++ p) taken ∙ held);
       kept = λ c has. (let kept = waits.kept c has in record {
         named = kept.named;
         own = kept.own;
         leads = kept.leads;
         reaches = reach c.way c.cell (inr (c, has, refl, refl));
         aside = kept.aside;
-        bare = λ p taken q k held. bare c has p taken q k (cell_word s next c.cell (q ++ p) ∙ held);
       });
       taken = still_taken s g.cells state.memory next.memory g.stage.depth (facts_of program effects g.stage) (lasting_of s waits.point.scope)
           (λ y p c held. still g.stage.depth y p c some less held) backs g.stage.returns waits.taken;
@@ -742,10 +777,10 @@ module _ (table : Table) (typed : TypedProgram) (effects : Effects)
         let some = some_frames h older outer stages.2 in
         let deep = stages.1 in (
           waits_on callee backs g (omega (arith, some, deep)) (omega (arith, less, deep)) (λ w n way. reach.far w n (g, inl refl, way))
-              (λ c there p taken q k held. reach.bare c.way c.cell p (g, inl refl, c, there, refl, refl, taken) q k held) waiting.0,
+              (λ w l p bare. reach.bare w l p (g, inl refl, bare)) waiting.0,
           all_on g.stage.frame.sub g.stage.frame.returns (h ∷ older) outer stages.2 (omega (arith, less)) (record {
             far = λ w n (k, has, way). reach.far w n (k, inr has, way);
-            bare = λ w n p (k, has, c, there, is, cell, taken). reach.bare w n p (k, inr has, c, there, is, cell, taken);
+            bare = λ w l p (k, has, bare). reach.bare w l p (k, inr has, bare);
           }) waiting.1,
           waiting.2,
           waiting.3,
@@ -758,5 +793,5 @@ module _ (table : Table) (typed : TypedProgram) (effects : Effects)
         all_on callee backs older outer stages less
         (let there = theirs state depth older (all_between state callee depth backs older outer stages less waiting) in record {
           far = λ w n kept. same_reaches (view_here s state) (view_here s next) same w (OfCell n) (there.far w n kept);
-          bare = λ w n p bare q c held. there.bare w n p bare q c (sym (same.word (part (OfCell n) (q ++ p))) ∙ held);
+          bare = λ w n p bare q c held. there.bare w n p bare q c (sym (same.word (part n (q ++ p))) ∙ held);
         }) waiting

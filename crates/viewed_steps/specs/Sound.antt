@@ -28,14 +28,14 @@ use Rattle.machine.specs.Memory.{Memory, variable_slots, no_slot}
 use Rattle.machine.specs.States.{Return, Waiting, Frame, State, Outcome, Goes, Ends, sub_of}
 use Rattle.machine.specs.Owners.{is_in, WellOwned, waiting_in}
 use Rattle.machine.specs.Run.{step}
-use Rattle.owned_ways.specs.Ways.{Step, OfVariable, OfRoot, OfCell, Held, Way, Named, Reaches, Past, along, name_of, number_of, Under}
-use Rattle.soundness.specs.Seen.{content, word_in, home, is_view_formal}
+use Rattle.owned_ways.specs.Ways.{Loc, Step, OfVariable, OfRoot, Held, Way, Named, Under, Past, along, name_of, number_of, OfCell, Reaches}
+use Rattle.soundness.specs.Seen.{content, word_in, home}
 use Rattle.soundness.specs.Typed.{Kept}
 use Rattle.soundness.specs.Sound.{goes_through_none, is_temporary_object, IsNamedSub, IsAtPoint, IsRunnable, Stage, facts_of, AreStages, Uses, IsPlain, InScope, IsTrap}
 use Rattle.soundness.specs.Sound as owners
+use Rattle.owned_loans.specs.Views.{known_gone, Views, IsMovedBy, AreClear, IsForeign, AreViews, Viewed, expand}
+use Rattle.viewed_soundness.specs.Holds.{IsNamed, PartsAreNamed, is_view, sees_only, IsOwners, is_given}
 use Rattle.soundness.specs.Ready.{root_of}
-use Rattle.owned_loans.specs.Views.{known_gone, Views, expand, IsMovedBy, AreClear, AreViews, Viewed, IsForeign}
-use Rattle.viewed_soundness.specs.Holds.{IsNamed, PartsAreNamed, sees_only, is_view, IsOwners, is_given}
 use Rattle.viewed_steps.specs.Awaited.{is_held, lasting_of, AreNamedResults, AreAwaited}
 use Rattle.viewed_steps.specs.Taken.{TakenBy, Lodge, AreTaken, AreCarried}
 
@@ -112,10 +112,11 @@ pub record HoldsAt (s : Typing) (frame : ℕ) (v : Views) (m : Memory) (p : Name
   pub passed : (x : ℕ) (w : Way) → v.way x ≡ Some w → is_given s x ≡ true → Named (home s frame) (v.up x) → ⊥
   pub own : (x : ℕ) (w : Way) → v.way x ≡ Some w → sees_only s x ≡ false → is_given s x ≡ false → Named (home s frame) (v.up x)
 
--- A view is in scope. The roots of its way and of what it was taken from last, and so does the one
+-- A view is in scope, and no temporary. The roots of its way and of what it was taken from last, and so does the one
 -- that holds the loan of an observer, if these are of the frame.
 pub record IsPlaced (program : FlowProgram) (frame : ℕ) (facts : List Fact) (v : Views) (scope : List ℕ) (x : ℕ) (w : Way) : Type 0 where
   pub within : is_within x scope ≡ true
+  pub plain : is_held (flow_typing program) x ≡ false
   pub up : Named (home (flow_typing program) frame) (v.up x) → Lasts program scope (number_of (v.up x)) x
   pub root : Named (home (flow_typing program) frame) w → Lasts program scope (number_of w) x
   pub holder : Named (home (flow_typing program) frame) (v.up x) → sees_only (flow_typing program) x ≡ true
@@ -163,18 +164,6 @@ abbrev pub Disturbs : Effects → Loan → ℕ → ℕ → Type 0
 Disturbs effects Borrowed n x = Uses effects n x
 Disturbs effects Observed n x = Has (written_by effects n) x
 
--- A cell of a place that is copied back to is there: it is named by the frame, by a variable of its own or a
--- view, and no way that was taken goes before the name's way.
-pub record IsKept (s : Typing) (state : State) (g : ViewStage) (c : Lodge) : Type 0 where
-  pub named : Named (home s g.stage.depth) c.name
-  pub own : is_package_object s (number_of c.name) ≡ false
-  pub leads : expand g.views c.name ≡ c.way
-  pub reaches : Reaches (owners.view_of s state) c.way (OfCell c.cell)
-  pub aside : (to : Way) → Has g.stage.returns to → Past to c.way → ⊥
-  -- a part of it that was taken has no number
-  pub bare : (p : List Step) → Has g.stage.returns (along c.way p) → (q : List Step) (n : ℕ)
-      → word_in s.table (content s state.memory [] (OfCell c.cell)) (q ++ p) ≡ Held n → ⊥
-
 -- What is kept from a callee, as a loan: it may use nothing of what was moved, as of what was borrowed.
 abbrev pub loan_by : Fact → Loan
 loan_by (Moved n) = Borrowed
@@ -183,6 +172,19 @@ loan_by (Lent l h n) = l
 -- What a frame keeps from what it calls: its facts, and the places that were taken from it, as moved ones.
 abbrev pub withheld : FlowProgram → Effects → Stage → List Fact
 withheld program effects g = facts_of program effects g ++ map (λ (to : Way). Moved (name_of to)) g.returns
+
+-- A cell of a place that is copied back to is there: it is named by the frame, by a variable of its own or a
+-- view, and no way that was taken goes before the name's way.
+pub record IsKept (s : Typing) (state : State) (g : ViewStage) (c : Lodge) : Type 0 where
+  pub named : Named (home s g.stage.depth) c.name
+  pub own : is_package_object s (number_of c.name) ≡ false
+  pub leads : expand g.views c.name ≡ c.way
+  pub reaches : Reaches (owners.view_of s state) c.way (OfCell c.cell)
+  pub aside : (to : Way) → Has g.stage.returns to → Past to c.way → ⊥
+
+-- A part of such a cell that was taken: its way, its location, and the steps from there.
+abbrev pub IsBareOf : ViewStage → Way → Loc → List Step → Type 0
+IsBareOf g w l p = Has g.stage.returns (along w p) × ((c : Lodge) × Has g.cells c × (c.way ≡ w) × (OfCell c.cell ≡ l))
 
 -- A frame that waits for a call to end. The points that it has executed form a control path to its
 -- next point. What it owns is in scope there, and so are its views, which have their ways still. The
@@ -215,6 +217,9 @@ pub record IsWaiting (table : Table) (typed : TypedProgram) (effects : Effects) 
   pub holds : HoldsAt (flow_typing (flow_program table typed)) g.stage.depth g.views state.memory point
   pub placed : ArePlaced (flow_program table typed) g.stage.depth (facts_of (flow_program table typed) effects g.stage) g.views point.scope
   pub kept : (c : Lodge) → Has g.cells c → IsKept (flow_typing (flow_program table typed)) state g c
+  -- no number stands in what was taken
+  pub bare : (w : Way) (l : Loc) (p : List Step) → IsBareOf g w l p → (q : List Step) (n : ℕ)
+      → word_in (flow_typing (flow_program table typed)).table (content (flow_typing (flow_program table typed)) state.memory [] l) (q ++ p) ≡ Held n → ⊥
   pub taken : AreTaken (flow_typing (flow_program table typed)) g.cells state.memory g.stage.depth (facts_of (flow_program table typed) effects g.stage)
       (lasting_of (flow_typing (flow_program table typed)) point.scope) backs g.stage.returns
 

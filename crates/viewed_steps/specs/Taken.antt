@@ -17,7 +17,6 @@ use Rattle.owned_ways.specs.Ways.{Step, OfVariable, OfRoot, OfCell, Way, Object,
 use Rattle.part_offsets.specs.Parts.{type_in, offset_in, has_part}
 use Rattle.soundness.specs.Seen.{content, word_in, is_view_formal}
 use Rattle.soundness.specs.Typed.{Matches, IsFixed}
-use Rattle.soundness.specs.Sound.{IsCopied}
 use Rattle.viewed_soundness.specs.Holds.{IsNamed}
 
 -- A way is one of these, or goes on from it to a part.
