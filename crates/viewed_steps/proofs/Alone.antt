@@ -182,7 +182,7 @@ module _ (table : Table) (typed : TypedProgram) (effects : Effects) (input : Lis
 
     -- where it leads, and how the frames come from those before
     abbrev Along : Outcome → Type 0
-    Along outcome = LeadsAlong table typed effects p.instr state.memory (record { stage = top; views = views }) (below ∷ more_frames) outcome
+    Along outcome = LeadsAlong table typed effects p.instr state.memory (record { stage = top; views = views; cells = [] }) (below ∷ more_frames) outcome
 
     abbrev may : ℕ → ℕ → Type 0
     may x y = MayBe program (scope_behind p) x y × IsStoredAt p.instr x
@@ -351,7 +351,7 @@ module _ (table : Table) (typed : TypedProgram) (effects : Effects) (input : Lis
             (word_in s.table (content s state.memory [] (OfRoot (OfVariable depth y))) q) refl)
             (each.after_it table typed effects input ready state top below more_frames rest named p frames deep stages running awaiting of_sub at_point path views viewed_before kept scope holds placed_before above going no_calls y v is)
             (each.free table typed effects input ready state top below more_frames rest named p frames deep stages running awaiting of_sub at_point path views viewed_before kept scope holds placed_before above going no_calls y v is)
-            (λ w n keeps base. apart_elsewhere table typed effects unmoved_stage local state depth older between y w n keeps base))
+            (apart_elsewhere table typed effects unmoved_stage local state depth older between y))
         declared_value (Raises how n) given faint =
             each.ends_so table typed effects input ready state top below more_frames rest named p frames deep stages running awaiting of_sub at_point path views viewed_before kept scope holds placed_before above going no_calls (Declare y v) how n.memory
         declared_value (Traps how n) never faint = absurd never

@@ -60,6 +60,7 @@ module _ (s : Typing) where
         past = λ x w has. absurd (none_some w has);
         lends = λ l n lent. absurd lent;
         far = λ w n none. absurd none;
+        bare = λ w n p none. absurd none;
       }
 
   empty_word : (f x n : ℕ) → (get_or (variable_slots s f x empty_memory.variables) 0 no_slot).word ≡ machine.Cell n → ⊥
@@ -82,7 +83,7 @@ module _ (table : Table) (typed : TypedProgram) (effects : Effects) (input : Lis
   abbrev pub IsFresh : State → Type 0
   IsFresh state =
       (sound : IsSound table typed effects state)
-      × ((g : ViewStage) → Has (record { stage = sound.top; views = sound.views } ∷ sound.older) g → g.stage.before ≡ [])
+      × ((g : ViewStage) → Has (record { stage = sound.top; views = sound.views; cells = [] } ∷ sound.older) g → g.stage.before ≡ [])
 
   -- the package objects are declared first
   packages_start : (p : NamedPoint) (rest : List NamedPoint) → ready.packages.points ≡ p ∷ rest → IsFresh (started (frame_at_start 0 [] ∷ []))
@@ -92,7 +93,7 @@ module _ (table : Table) (typed : TypedProgram) (effects : Effects) (input : Lis
       views = no_views;
       older = [];
       stages = (refl, refl, tt);
-      running = (refl, (refl, refl, refl), (λ x. refl), refl);
+      running = (refl, (refl, refl, refl), (λ x. refl), refl, refl);
       awaited = (refl, refl);
       path = begins (first_point table typed effects input ready 0 ready.packages ready.stands p rest is);
       viewed = empty_viewed s (home s 0) (GoneElsewhere program effects []);
@@ -124,12 +125,12 @@ module _ (table : Table) (typed : TypedProgram) (effects : Effects) (input : Lis
     record {
       top = stage_of ready.main 1;
       views = no_views;
-      older = record { stage = stage_of 0 0; views = no_views } ∷ [];
+      older = record { stage = stage_of 0 0; views = no_views; cells = [] } ∷ [];
       stages = (refl, refl, (refl, refl, tt));
       running = (
         main_runs table typed effects input ready,
         ((λ x has. inl (ready.main_plain x has)), (λ r has. absurd has)),
-        ((refl, (refl, refl, refl), (λ x. refl), refl), refl),
+        ((refl, (refl, refl, refl), (λ x. refl), refl, refl), refl),
       );
       awaited = (
         first_waits table typed effects input ready 1 ready.main [] ready.main_there.named ready.main_there.stands ready.main_there.point
@@ -138,7 +139,7 @@ module _ (table : Table) (typed : TypedProgram) (effects : Effects) (input : Lis
       );
       path = begins (first_point table typed effects input ready ready.main ready.main_there.named ready.main_there.stands
           ready.main_there.point ready.main_there.points ready.main_there.begins);
-      viewed = empty_viewed s (home s 1) (GoneElsewhere program effects (record { stage = stage_of 0 0; views = no_views } ∷ []));
+      viewed = empty_viewed s (home s 1) (GoneElsewhere program effects (record { stage = stage_of 0 0; views = no_views; cells = [] } ∷ []));
       kept = empty_kept s;
       named = ready.main_there.named;
       of_sub = ready.main_there.stands;

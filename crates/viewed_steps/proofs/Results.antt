@@ -53,13 +53,13 @@ use Rattle.viewed_soundness.specs.Holds.{IsNamed, AllKeep, is_view, sees_only, i
 use Rattle.viewed_soundness.proofs.Outcomes.{named_plain, IsGood, Leads_on}
 use Rattle.viewed_steps.specs.Awaited.{AreFor, AreValues, AreValuesBut, temporaries_of, lasting_of, awaited, AreAwaited, AreScalar, FillsTyped, TakesScalars, IsTakenBy, TakesAlone}
 use Rattle.viewed_steps.proofs.Waited.{temporary_first, lasting_more, Shares}
-use Rattle.viewed_steps.specs.Sound.{ArePast, HoldsAt, ArePlaced, NoneAbove, ViewStage, stages_of, GoneElsewhere, AreWaiting, IsStoredAt, returns_one, LeadsAlong, IsResting}
+use Rattle.viewed_steps.specs.Sound.{IsWayOf, ArePast, HoldsAt, ArePlaced, NoneAbove, ViewStage, stages_of, GoneElsewhere, AreWaiting, IsStoredAt, returns_one, LeadsAlong, IsResting}
 use Rattle.viewed_steps.specs.Taken.{TakenBy}
 use Rattle.viewed_steps.specs.Ready.{IsReady}
 use Rattle.viewed_steps.proofs.Lent.{Spare, loans_stay}
 use Rattle.viewed_steps.proofs.Placed.{scope_on, placed_on, MayBe, turned_placed}
 use Rattle.viewed_steps.proofs.Beside.{OthersKept}
-use Rattle.viewed_steps.proofs.Waiting.{StandsBetween, KeptElsewhere, beside_them, handed}
+use Rattle.viewed_steps.proofs.Waiting.{StandsBetween, AreTheirs, beside_them, handed}
 use Rattle.viewed_steps.proofs.Standing.{or_right}
 use Rattle.viewed_steps.proofs.Standing as standing
 use Rattle.viewed_steps.proofs.Packages as packages
@@ -238,7 +238,7 @@ module _ (table : Table) (typed : TypedProgram) (effects : Effects) (input : Lis
     still_above = innermost.still_above table typed effects input ready state top below more_frames rest named p frames deep stages running awaiting of_sub at_point path views viewed_before kept scope holds placed_before above
 
     abbrev wait_still : (next : State) (after_scope : List ℕ) → Inside s IsOld next.memory depth after_scope → OthersKept s depth state.memory next.memory
-        → ((w : Way) (n : ℕ) → KeptElsewhere table typed effects unmoved_stage local older w n → ways.Reaches (view_here s next) w (ways.OfCell n))
+        → AreTheirs table typed effects unmoved_stage local older (view_here s next)
         → AreWaiting table typed effects next top.frame.sub top.frame.returns older
     wait_still = innermost.wait_still table typed effects input ready state top below more_frames rest named p frames deep stages running awaiting of_sub at_point path views viewed_before kept scope holds placed_before above
 
@@ -256,7 +256,7 @@ module _ (table : Table) (typed : TypedProgram) (effects : Effects) (input : Lis
 
     -- where it leads, and how the frames come from those before
     abbrev Along : Outcome → Type 0
-    Along outcome = LeadsAlong table typed effects p.instr state.memory (record { stage = top; views = views }) (below ∷ more_frames) outcome
+    Along outcome = LeadsAlong table typed effects p.instr state.memory (record { stage = top; views = views; cells = [] }) (below ∷ more_frames) outcome
 
     abbrev may : ℕ → ℕ → Type 0
     may x y = MayBe program (scope_behind p) x y × IsStoredAt p.instr x
@@ -535,6 +535,14 @@ module _ (table : Table) (typed : TypedProgram) (effects : Effects) (input : Lis
               views = was.views;
               holds = was.holds;
               placed = was.placed;
+              kept = λ c has. record {
+                named = (was.kept c has).named;
+                own = (was.kept c has).own;
+                leads = (was.kept c has).leads;
+                reaches = (was.kept c has).reaches;
+                aside = (was.kept c has).aside;
+              };
+              bare = was.bare;
               taken = was.taken;
             },
             waits.1,
@@ -543,10 +551,12 @@ module _ (table : Table) (typed : TypedProgram) (effects : Effects) (input : Lis
           )
 
       past_with : (v : Waiting) → ArePast s depth views (below ∷ more_frames) → ArePast s depth views (below_with v ∷ more_frames)
-      past_with v past x w has given sees k n (g, inr there, y, is, cell) goes = past x w has given sees k n (g, inr there, y, is, cell) goes
-      past_with v past x w has given sees k n (g, inl same, y, is, cell) goes =
-          past x w has given sees k n
-          (below, inl refl, y, ap (λ (z : ViewStage). z.views.way y) same ∙ is, ap (λ (z : ViewStage). z.views.cell y) same ∙ cell) goes
+      past_with v past x w has given sees k n (g, inr there, way) goes = past x w has given sees k n (g, inr there, way) goes
+      past_with v past x w has given sees k n (g, inl same, way) goes =
+          past x w has given sees k n (below, inl refl, way_from way) goes
+        where
+          way_from : IsWayOf g k n → IsWayOf below k n
+          way_from way = subst (λ (z : ViewStage). IsWayOf z k n → IsWayOf below k n) same (λ there. there) way
 
       elsewhere_from : (v : Waiting) (w : Way) → GoneElsewhere program effects (below_with v ∷ more_frames) w → GoneElsewhere program effects (below ∷ more_frames) w
       elsewhere_from v w (g, inr has, what) = (g, inr has, what)
@@ -618,7 +628,10 @@ module _ (table : Table) (typed : TypedProgram) (effects : Effects) (input : Lis
                 running.1,
                 wait_with v (state_then ws m) more_frames one_awaited
                     (wait_still (state_then ws m) (lasting_of s (scope_behind p)) inside_behind stay
-                    (λ w n keeps. subst (λ z. ways.Reaches z w (ways.OfCell n)) view_same (well_all.far w n keeps))),
+                    (record {
+                      far = λ w n keeps. subst (λ z. ways.Reaches z w (ways.OfCell n)) view_same (well_all.far w n keeps);
+                      bare = λ w n p bare q c held. well_all.bare w n p bare q c (subst (λ z. z.word (ways.part n (q ++ p)) ≡ Held c) (sym view_same) held);
+                    })),
               );
               awaited = (
                 standing.waits_next table typed effects input ready state top older outer named p frames of_sub at_point path (steps.waiting main_turn) top.frame.loops next_number next_has left_values,
@@ -640,6 +653,7 @@ module _ (table : Table) (typed : TypedProgram) (effects : Effects) (input : Lis
                     past = λ x w has given plain k n none. absurd none;
                     lends = well.lends;
                     far = λ w n none. absurd none;
+                    bare = λ w n p none. absurd none;
                   })));
               kept = subst (Kept s m) (sym (hands_then ws m)) kept_then;
               named = named;

@@ -1,7 +1,7 @@
 -- Frames that wait for a call to end, with views: what they keep concerns the innermost frame as ways
 -- of others, and they wait still after its steps.
 use Rattle.viewed_soundness.specs.Holds.{is_view, sees_only}
-use Rattle.std.proofs.Common.{◌≡◌, refl, sym, ap, ◌∙◌, subst, ◌⊎◌, inl, inr, ℕ, ◌<◌, ◌≤◌, Bool, true, false, ◌&&◌, ◌==◌, eqb-true, nat_lt, ltb-true, lt-ltb, List, [], ◌∷◌, ◌++◌, length, get_or, arith, Option, Some, None, if◌then◌else◌}
+use Rattle.std.proofs.Common.{◌≡◌, refl, sym, ap, ◌∙◌, subst, ◌⊎◌, inl, inr, ℕ, ◌<◌, ◌≤◌, Bool, true, false, ◌&&◌, ◌==◌, eqb-true, nat_lt, ltb-true, lt-ltb, List, [], ◌∷◌, ◌++◌, length, get_or, arith, Option, Some, None, if◌then◌else◌, append-nil}
 use Rattle.std.specs.Prelude.{flat_map, map}
 use Rattle.spark_base.specs.Lists.{Has}
 use Rattle.spark_base.proofs.Lists.{Has-append_left, Has-append_right, Has-append_cases, Has-map, Has-map_from}
@@ -19,26 +19,28 @@ use Rattle.flow_paths.specs.Laid.{FlowProgram, flow_typing, flow_program}
 use Rattle.machine.specs.Words as machine
 use Rattle.machine.specs.Memory.{variable_slots, no_slot}
 use Rattle.machine.specs.States.{Frame, Return, State}
-use Rattle.owned_ways.specs.Ways.{Loc, IsSame, Step, OfVariable, OfHand, OfRoot, OfCell, Way, Object, Lost, Into, All, Held, View, Reaches, Under, Named, IsMoved, base_of, number_of, name_of}
-use Rattle.owned_ways.proofs.Locations.{under_itself}
+use Rattle.owned_ways.specs.Ways.{Loc, IsSame, Step, OfVariable, OfHand, OfRoot, OfCell, Way, Root, Object, Lost, Into, All, Held, View, Reaches, Under, Named, IsMoved, base_of, number_of, name_of, part, along}
+use Rattle.owned_ways.proofs.Locations.{under_itself, under_along}
 use Rattle.owned_ways.proofs.Named.{longer}
 use Rattle.owned_ways.proofs.Dropped.{named_base}
 use Rattle.soundness.specs.Seen.{IsNear, content, word_in, home}
 use Rattle.soundness.specs.Sound.{Stage, facts_of, AreStages, Uses, view_of as view_here}
 use Rattle.soundness.proofs.Around.{near_or_far, IsFar, near_package, package_named}
-use Rattle.soundness.proofs.Contents.{bool_cases}
+use Rattle.soundness.proofs.Contents.{bool_cases, word_part}
 use Rattle.soundness.proofs.Inherited.{Splits}
-use Rattle.owned_loans.specs.Views.{on, Around, known_gone, Views, expand, IsThrough, ExcusedBy, HasLoan, IsForeign, Viewed}
-use Rattle.owned_loans.proofs.Ways.{under_on, on_under, on_named, lifts, lifted_root, lifted_way}
+use Rattle.owned_loans.specs.Views.{on, Around, known_gone, Views, expand, IsThrough, ExcusedBy, HasLoan, IsForeign, Viewed, Go}
+use Rattle.owned_loans.proofs.Ways.{under_on, on_under, on_named, lifts, lifted_root, lifted_way, base_on}
 use Rattle.owned_loans.proofs.Meeting.{stands}
 use Rattle.owned_loans.proofs.Moves.{view_on, own_loan, reached}
-use Rattle.viewed_steps.specs.Taken.{TakenBy}
+use Rattle.viewed_steps.specs.Taken.{TakenBy, Lodge}
+use Rattle.owned_loans.proofs.Meeting.{stands}
 use Rattle.viewed_steps.proofs.Between.{taken_from as words_taken, taken_base, still_taken, near_base}
 use Rattle.viewed_steps.proofs.Roots.{borrower_goes, view_goes}
 use Rattle.viewed_steps.specs.Awaited.{lasting_of}
 use Rattle.viewed_steps.proofs.Whole.{flat_has}
-use Rattle.viewed_steps.specs.Sound.{loan_by, withheld, KeptBy, ArePast, ViewStage, stages_of, Lies, GoneElsewhere, IsWaiting, IsFirst, AreWaiting}
+use Rattle.viewed_steps.specs.Sound.{loan_by, withheld, KeptBy, ArePast, ViewStage, stages_of, Lies, GoneElsewhere, IsWaiting, IsFirst, AreWaiting, IsWayOf, IsBareOf}
 use Rattle.viewed_steps.proofs.Views.{base_named, same_lies}
+use Rattle.machine.specs.Owners.{waiting_in}
 
 flat_from : {A B : Type 0} (f : A → List B) (xs : List A) (y : B) → Has (flat_map f xs) y → (x : A) × Has xs x × Has (f x) y
 flat_from f [] y h = absurd h
@@ -77,6 +79,23 @@ same_reaches s t e (All w) l (m, n, h, held, is) = (m, n, same_reaches s t e w m
 both_first : (a b : Bool) → a && b ≡ true → a ≡ true
 both_first true b e = refl
 both_first false b e = cc
+
+-- the words of a cell, as owners see them
+pub cell_word : (s : Typing) (state : State) (n : ℕ) (p : List Step)
+    → (view_here s state).word (part (OfCell n) p) ≡ word_in s.table (content s state.memory [] (OfCell n)) p
+cell_word s state n p =
+    word_part s.table (content s state.memory (waiting_in state)) (OfCell n) p
+    ∙ ap (word_in s.table (content s state.memory [] (OfCell n))) (append-nil p)
+
+-- of what is bare
+bare_word : (s : Typing) (state : State) (g : ViewStage) (w : Way) (l : Loc) (p q : List Step) → IsBareOf g w l p
+    → (view_here s state).word (part l q) ≡ word_in s.table (content s state.memory [] l) q
+bare_word s state g w l p q (taken, (c, has, way, is)) =
+    subst (λ z. (view_here s state).word (part z q) ≡ word_in s.table (content s state.memory [] z) q) is (cell_word s state c.cell q)
+
+pub along_both : (w : Way) (q p : List Step) → along w (q ++ p) ≡ along (along w p) q
+along_both w [] p = refl
+along_both w (i ∷ q) p = ap (λ z. Into z i) (along_both w q p)
 
 -- ---- frames that wait
 
@@ -138,9 +157,37 @@ module _ (table : Table) (typed : TypedProgram) (effects : Effects)
   none_some : {A : Type 0} (o : ℕ) (w : Way) (v : Views) → v.way o ≡ None → v.way o ≡ Some w → A
   none_some o w v none has = (let no : None ≡ Some w = sym none ∙ has in cc)
 
-  -- The ways of the views of others, with their cells.
+  -- The ways of others, with their cells.
   abbrev pub KeptElsewhere : List ViewStage → Way → ℕ → Type 0
   KeptElsewhere older w n = KeptBy older w n
+
+  -- Parts of those cells that were taken.
+  abbrev pub BareElsewhere : List ViewStage → Way → Loc → List Step → Type 0
+  BareElsewhere older w l p = (g : ViewStage) × Has older g × IsBareOf g w l p
+
+  -- What others keep is there, and no number stands in what was taken.
+  pub record AreTheirs (older : List ViewStage) (view : View) : Type 0 where
+    pub far : (w : Way) (n : ℕ) → KeptElsewhere older w n → Reaches view w (OfCell n)
+    pub bare : (w : Way) (l : Loc) (p : List Step) → BareElsewhere older w l p → (q : List Step) (c : ℕ) → view.word (part l (q ++ p)) ≡ Held c → ⊥
+
+  -- where cells keep their words
+  pub bare_still : (older : List ViewStage) (before after : State)
+      → ((c : ℕ) (q : List Step) → word_in s.table (content s after.memory [] (OfCell c)) q ≡ word_in s.table (content s before.memory [] (OfCell c)) q)
+      → ((w : Way) (l : Loc) (p : List Step) → BareElsewhere older w l p → (q : List Step) (k : ℕ) → (view_here s before).word (part l (q ++ p)) ≡ Held k → ⊥)
+      → (w : Way) (l : Loc) (p : List Step) → BareElsewhere older w l p → (q : List Step) (k : ℕ) → (view_here s after).word (part l (q ++ p)) ≡ Held k → ⊥
+  bare_still older before after same none w l p bare q k held = none w l p bare q k (one (bare.2).1 held)
+    where
+      one : (c : Lodge) × Has (bare.0).cells c × (c.way ≡ w) × (OfCell c.cell ≡ l) → (view_here s after).word (part l (q ++ p)) ≡ Held k
+          → (view_here s before).word (part l (q ++ p)) ≡ Held k
+      one (c, has, way, is) held =
+          subst (λ z. (view_here s before).word (part z (q ++ p)) ≡ Held k) is
+          (cell_word s before c.cell (q ++ p) ∙ sym (same c.cell (q ++ p)) ∙ sym (cell_word s after c.cell (q ++ p))
+          ∙ subst (λ z. (view_here s after).word (part z (q ++ p)) ≡ Held k) (sym is) held)
+
+  -- the frame of the package objects has none
+  no_cells : (g : ViewStage) (w : Way) (n : ℕ) → IsFirst g → IsWayOf g w n → ⊥
+  no_cells g w n first (inl (x, is, cell)) = (let no : None ≡ Some w = sym (first.2 x) ∙ is in cc)
+  no_cells g w n first (inr (c, has, is, cell)) = subst (λ z. Has z c) first.4 has
 
   -- What a frame keeps of package objects, as loans that the objects hold themselves.
   loan_of : Fact → List Fact
@@ -198,6 +245,15 @@ module _ (table : Table) (typed : TypedProgram) (effects : Effects)
       (subst (λ b. Has (if b then flat_map loan_of (withheld program effects g.stage) else []) (Lent (loan_by f) (place f).root (place f))) (sym (lt-ltb 0 g.stage.depth some))
       (flat_has loan_of (withheld program effects g.stage) f (Lent (loan_by f) (place f).root (place f)) there
       (one_has f (ap (λ (z : Name). is_package_object s z.root) is ∙ shared))))))
+
+  -- such a way reaches its cell
+  way_reaches : (state : State) (callee : ℕ) (backs : List Return) (g : ViewStage) → IsWaiting table typed effects state callee backs g → (w : Way) (n : ℕ) → IsWayOf g w n
+      → Reaches (view_here s state) w (OfCell n)
+  way_reaches state callee backs g waits w n (inl (x, is, cell)) =
+      subst (λ z. Reaches (view_here s state) w (OfCell z)) cell
+      (reached (home s g.stage.depth) (sees_only s) (known_gone (home s g.stage.depth) (λ z. ⊥)) g.views (view_here s state) (facts_of program effects g.stage) x w (waits.views x w is))
+  way_reaches state callee backs g waits w n (inr (c, has, is, cell)) =
+      subst (λ z. Reaches (view_here s state) z (OfCell n)) is (subst (λ z. Reaches (view_here s state) c.way (OfCell z)) cell (waits.kept c has).reaches)
 
   module _ (state : State) (depth : ℕ) (older : List ViewStage) (between : (g : ViewStage) → Has older g → StandsBetween state depth g) where
     -- A way goes on from such a place.
@@ -270,10 +326,43 @@ module _ (table : Table) (typed : TypedProgram) (effects : Effects)
           ];
         }
 
+    -- the way of a cell of a place begins at an own variable, or goes on from that of a view
+    cell_begins : (callee : ℕ) (backs : List Return) (g : ViewStage) → Has older g → 0 < g.stage.depth → g.stage.depth < depth
+        → IsWaiting table typed effects state callee backs g → (c : Lodge) → Has g.cells c → Begins c.way
+    cell_begins callee backs g has some less waits c there =
+        let kept = waits.kept c there in
+        subst Begins kept.leads (elim (lifts g.views c.name) [
+          | inl itself ↦ subst Begins (sym itself) (record {
+            frame = home s g.stage.depth (number_of c.name);
+            object = number_of c.name;
+            base = named_base (home s g.stage.depth) c.name kept.named;
+            low = low_home (is_package_object s (number_of c.name)) g.stage.depth less;
+            other = inl (λ e. other_frame s g.stage.depth depth some less (number_of c.name) kept.own
+                (sym (ap (λ z. if z then 0 else g.stage.depth) kept.own) ∙ e));
+          })
+          | inr l ↦ subst Begins (sym (lifted_way g.views c.name l))
+              (goes_on l.way l.rest (way_begins callee backs g has some less waits l.object l.way l.has (waits.holds.lies l.object l.way l.has)))
+        ])
+      where
+        goes_on : (w : Way) (rest : List Go) → Begins w → Begins (on w rest)
+        goes_on w rest b = record {
+          frame = b.frame;
+          object = b.object;
+          base = base_on w rest ∙ b.base;
+          low = b.low;
+          other = elim b.other [
+            | inl away ↦ inl away
+            | inr (l, (k, named, under, lent)) ↦ inr (l, (k, named, under_on k w (on w rest) under (on_under w rest), lent))
+          ];
+        }
+
     begins_there : (w : Way) (n : ℕ) → KeptElsewhere older w n → Begins w
-    begins_there w n (g, has, x, is, cell) = elim (between g has) [
-      | inl first ↦ none_some x w g.views (first.2 x) is
-      | inr (some, less, callee, backs, waits) ↦ way_begins callee backs g has some less waits x w is (waits.holds.lies x w is)
+    begins_there w n (g, has, way) = elim (between g has) [
+      | inl first ↦ absurd (no_cells g w n first way)
+      | inr (some, less, callee, backs, waits) ↦ elim way [
+        | inl (x, is, cell) ↦ way_begins callee backs g has some less waits x w is (waits.holds.lies x w is)
+        | inr (c, there, is, cell) ↦ subst Begins is (cell_begins callee backs g has some less waits c there)
+      ]
     ]
 
     pub begins_elsewhere : (w : Way) (n : ℕ) → KeptElsewhere older w n
@@ -281,11 +370,17 @@ module _ (table : Table) (typed : TypedProgram) (effects : Effects)
     begins_elsewhere w n kept = (let b = begins_there w n kept in (b.frame, b.object, b.base, b.other))
 
     -- no variable of the innermost frame begins one
-    pub apart_elsewhere : (x : ℕ) (w : Way) (n : ℕ) → KeptElsewhere older w n → base_of w ≡ OfRoot (OfVariable depth x) → ⊥
-    apart_elsewhere x w n kept base =
+    kept_apart : (x : ℕ) (w : Way) (n : ℕ) → KeptElsewhere older w n → base_of w ≡ OfRoot (OfVariable depth x) → ⊥
+    kept_apart x w n kept base =
         let b = begins_there w n kept in
         let frames = same_frame b.frame b.object depth x (sym b.base ∙ base) in
         let low = b.low in omega (arith, low, frames)
+
+    -- or a place that is bare
+    pub apart_elsewhere : (x : ℕ) (w : Way) → ((n : ℕ) × KeptElsewhere older w n) ⊎ ((l : Loc) × (p : List Step) × BareElsewhere older w l p)
+        → base_of w ≡ OfRoot (OfVariable depth x) → ⊥
+    apart_elsewhere x w (inl (n, kept)) base = kept_apart x w n kept base
+    apart_elsewhere x w (inr (l, p, (g, has, (taken, (c, there, is, cell))))) base = kept_apart x w c.cell (g, has, inr (c, there, is, refl)) base
 
     -- the ways of their views begin below
     pub kept_low : (w : Way) (n : ℕ) → KeptElsewhere older w n → (f : ℕ) × (x : ℕ) × (base_of w ≡ OfRoot (OfVariable f x)) × (f < depth)
@@ -308,7 +403,7 @@ module _ (table : Table) (typed : TypedProgram) (effects : Effects)
       | inl first ↦ absurd (subst (λ z. TakenBy z w) (first.1).2 taken).1
       | inr (some, less, callee, backs, waits) ↦ (
           let base = taken_base g.stage.returns g.stage.depth
-          (words_taken s state.memory g.stage.depth (facts_of program effects g.stage) (lasting_of s waits.point.scope) backs g.stage.returns waits.taken) w taken in
+          (words_taken s g.cells state.memory g.stage.depth (facts_of program effects g.stage) (lasting_of s waits.point.scope) backs g.stage.returns waits.taken) w taken in
           (g.stage.depth, base.0, base.1, less))
     ]
     gone_low w (g, has, inl (u, moved, leads)) = elim (between g has) [
@@ -332,7 +427,7 @@ module _ (table : Table) (typed : TypedProgram) (effects : Effects)
       | inl first ↦ absurd (subst (λ z. TakenBy z w) (first.1).2 taken).1
       | inr (some, less, callee, backs, waits) ↦ absurd (
           let base = taken_base g.stage.returns g.stage.depth
-          (words_taken s state.memory g.stage.depth (facts_of program effects g.stage) (lasting_of s waits.point.scope) backs g.stage.returns waits.taken) w taken in
+          (words_taken s g.cells state.memory g.stage.depth (facts_of program effects g.stage) (lasting_of s waits.point.scope) backs g.stage.returns waits.taken) w taken in
           elim (near_base depth w g.stage.depth base.0 near base.1) [
             | inl none ↦ omega (arith, some, none)
             | inr same ↦ omega (arith, less, same)
@@ -403,11 +498,42 @@ module _ (table : Table) (typed : TypedProgram) (effects : Effects)
         ]
 
     pub far : (w : Way) (n : ℕ) → KeptElsewhere older w n → Reaches (view_here s state) w (OfCell n)
-    far w n (g, has, x, is, cell) = elim (between g has) [
-      | inl first ↦ none_some x w g.views (first.2 x) is
-      | inr (some, less, callee, backs, waits) ↦ subst (λ z. Reaches (view_here s state) w (OfCell z)) cell
-          (reached (home s g.stage.depth) (sees_only s) (known_gone (home s g.stage.depth) (λ z. ⊥)) g.views (view_here s state) (facts_of program effects g.stage) x w (waits.views x w is))
+    far w n (g, has, way) = elim (between g has) [
+      | inl first ↦ absurd (no_cells g w n first way)
+      | inr (some, less, callee, backs, waits) ↦ way_reaches state callee backs g waits w n way
     ]
+
+    pub theirs : AreTheirs older (view_here s state)
+    theirs = record {
+      far = far;
+      bare = λ w l p there q k held. (let (g, has, bare) = there in elim (between g has) [
+        | inl first ↦ absurd (subst (λ z. TakenBy z (along w p)) (first.1).2 (along w p, bare.0, [], refl)).1
+        | inr (some, less, callee, backs, waits) ↦ waits.bare w l p bare q k (sym (bare_word s state g w l p (q ++ p) bare) ∙ held)
+      ]);
+    }
+
+    pub bare_rests : (w : Way) (l : Loc) (p : List Step) → BareElsewhere older w l p
+        → ((n : ℕ) × KeptElsewhere older w n × (l ≡ OfCell n)) ⊎ ((r : Root) × (w ≡ Object r) × (l ≡ OfRoot r))
+    bare_rests w l p (g, has, (taken, (c, there, is, cell))) = inl (c.cell, (g, has, inr (c, there, is, refl)), sym cell)
+
+    pub bare_begins : (w : Way) (l : Loc) (p : List Step) → BareElsewhere older w l p
+        → (f : ℕ) × (x : ℕ) × (base_of w ≡ OfRoot (OfVariable f x)) × ((f ≡ home s depth x → ⊥) ⊎ ((k : Loan) × IsLentFor k (along w p)))
+    bare_begins w l p (g, has, (taken, (c, there, is, cell))) =
+        let b = begins_elsewhere w c.cell (g, has, inr (c, there, is, refl)) in
+        (b.0, b.1, b.2, elim b.3 [
+          | inl away ↦ inl away
+          | inr (k, m) ↦ inr (k, (m.0, m.1, under_along m.0 w p m.2, m.3))
+        ])
+
+    -- what was taken is gone for them
+    pub emptied_there : (w : Way) (l : Loc) (p : List Step) → BareElsewhere older w l p → (q : List Step)
+        → IsFar depth (GoneElsewhere program effects older) (along w (q ++ p)) ⊎ (IsLentFor Borrowed (along w (q ++ p)) × GoneElsewhere program effects older (along w (q ++ p)))
+    emptied_there w l p (g, has, bare) q =
+        let gone : GoneElsewhere program effects older (along w (q ++ p)) = (g, has, inr (along w p, bare.0, q, along_both w q p)) in
+        elim (near_or_far depth (along w (q ++ p))) [
+          | inr away ↦ inl (away, gone)
+          | inl near ↦ inr (near_lent (along w (q ++ p)) near gone, gone)
+        ]
 
     -- What concerns the innermost frame when it has their facts on package objects beside its own.
     abbrev pub beside_them : Around (home s depth)
@@ -418,6 +544,10 @@ module _ (table : Table) (typed : TypedProgram) (effects : Effects)
       through = λ w away. away.0;
       kept = KeptElsewhere older;
       begins = begins_elsewhere;
+      bare = BareElsewhere older;
+      rests = bare_rests;
+      bares = bare_begins;
+      emptied = emptied_there;
     }
 
     -- What they hand on: no fact of a moved place.
@@ -458,7 +588,7 @@ module _ (table : Table) (typed : TypedProgram) (effects : Effects)
     -- with them
     pub with_them : (v : Views) (view : View) (facts : List Fact) → ((x : ℕ) (w : Way) → v.way x ≡ Some w → is_package_object s x ≡ false)
         → ((x : ℕ) → is_package_object s x ≡ true → sees_only s x ≡ false) → AreApart facts
-        → ((w : Way) (n : ℕ) → KeptElsewhere older w n → Reaches view w (OfCell n)) → ArePast s depth v older
+        → AreTheirs older view → ArePast s depth v older
         → Viewed (home s depth) (sees_only s) (known_gone (home s depth) (GoneElsewhere program effects older)) v view facts
         → Viewed (home s depth) (sees_only s) beside_them v view (facts ++ handed)
     with_them v view facts only plain apart reach past well = record {
@@ -514,7 +644,8 @@ module _ (table : Table) (typed : TypedProgram) (effects : Effects)
         none = none_there n.root lent.5;
         plain = plain n.root lent.5;
       };
-      far = reach;
+      far = reach.far;
+      bare = reach.bare;
     }
       where
         cases : (f : Fact) → Has (facts ++ handed) f → Has facts f ⊎ Has handed f
@@ -560,6 +691,7 @@ module _ (table : Table) (typed : TypedProgram) (effects : Effects)
           (reached (home s depth) (sees_only s) beside_them v view all x w (well.views x w has));
       lends = λ l n none. absurd none;
       far = λ w n none. absurd none;
+      bare = λ w n p none. absurd none;
     }
       where
         not_both : (b : Bool) → b ≡ true → b ≡ false → ⊥
@@ -587,9 +719,10 @@ module _ (table : Table) (typed : TypedProgram) (effects : Effects)
       (words : (f x : ℕ) → 0 < f → f < depth → is_view s x ≡ true
       → (get_or (variable_slots s f x next.memory.variables) 0 no_slot).word ≡ (get_or (variable_slots s f x state.memory.variables) 0 no_slot).word) where
     waits_on : (callee : ℕ) (backs : List Return) (g : ViewStage) → 0 < g.stage.depth → g.stage.depth < depth
-        → ((x : ℕ) (w : Way) → g.views.way x ≡ Some w → Reaches (view_here s next) w (OfCell (g.views.cell x)))
+        → ((w : Way) (n : ℕ) → IsWayOf g w n → Reaches (view_here s next) w (OfCell n))
+        → ((w : Way) (l : Loc) (p : List Step) → IsBareOf g w l p → (q : List Step) (k : ℕ) → (view_here s next).word (part l (q ++ p)) ≡ Held k → ⊥)
         → IsWaiting table typed effects state callee backs g → IsWaiting table typed effects next callee backs g
-    waits_on callee backs g some less reach waits = record {
+    waits_on callee backs g some less reach bare waits = record {
       runs = waits.runs;
       plain = waits.plain;
       path = waits.path;
@@ -606,7 +739,7 @@ module _ (table : Table) (typed : TypedProgram) (effects : Effects)
       clear = waits.clear;
       views = λ x w has.
           view_on (home s g.stage.depth) (sees_only s) (known_gone (home s g.stage.depth) (λ z. ⊥)) g.views (view_here s state) (view_here s next)
-          (facts_of program effects g.stage) (facts_of program effects g.stage) x w (waits.views x w has) (λ b n loan. loan) (reach x w has);
+          (facts_of program effects g.stage) (facts_of program effects g.stage) x w (waits.views x w has) (λ b n loan. loan) (reach w (g.views.cell x) (inl (x, has, refl)));
       holds = record {
         held = λ x n lasts view e. waits.holds.held x n lasts view (word_before x n view e);
         within = λ x n view e. waits.holds.within x n view (word_before x n view e);
@@ -617,7 +750,15 @@ module _ (table : Table) (typed : TypedProgram) (effects : Effects)
         own = waits.holds.own;
       };
       placed = waits.placed;
-      taken = still_taken s state.memory next.memory g.stage.depth (facts_of program effects g.stage) (lasting_of s waits.point.scope)
+      bare = λ w l p taken q k held. bare w l p taken q k (bare_word s next g w l p (q ++ p) taken ∙ held);
+      kept = λ c has. (let kept = waits.kept c has in record {
+        named = kept.named;
+        own = kept.own;
+        leads = kept.leads;
+        reaches = reach c.way c.cell (inr (c, has, refl, refl));
+        aside = kept.aside;
+      });
+      taken = still_taken s g.cells state.memory next.memory g.stage.depth (facts_of program effects g.stage) (lasting_of s waits.point.scope)
           (λ y p c held. still g.stage.depth y p c some less held) backs g.stage.returns waits.taken;
     }
       where
@@ -631,7 +772,7 @@ module _ (table : Table) (typed : TypedProgram) (effects : Effects)
             ∙ subst (λ f. (get_or (variable_slots s f x next.memory.variables) 0 no_slot).word ≡ machine.Cell n) own e)
 
     pub all_on : (callee : ℕ) (backs : List Return) (older : List ViewStage) (outer : List Frame) → AreStages (stages_of older) outer → length outer ≤ depth
-        → ((g : ViewStage) → Has older g → (x : ℕ) (w : Way) → g.views.way x ≡ Some w → Reaches (view_here s next) w (OfCell (g.views.cell x)))
+        → AreTheirs older (view_here s next)
         → AreWaiting table typed effects state callee backs older → AreWaiting table typed effects next callee backs older
     all_on callee backs [] outer stages less reach waiting = waiting
     all_on callee backs (e ∷ []) outer stages less reach waiting = waiting
@@ -639,8 +780,12 @@ module _ (table : Table) (typed : TypedProgram) (effects : Effects)
     all_on callee backs (g ∷ (h ∷ older)) (f ∷ outer) stages less reach waiting =
         let some = some_frames h older outer stages.2 in
         let deep = stages.1 in (
-          waits_on callee backs g (omega (arith, some, deep)) (omega (arith, less, deep)) (reach g (inl refl)) waiting.0,
-          all_on g.stage.frame.sub g.stage.frame.returns (h ∷ older) outer stages.2 (omega (arith, less)) (λ k has. reach k (inr has)) waiting.1,
+          waits_on callee backs g (omega (arith, some, deep)) (omega (arith, less, deep)) (λ w n way. reach.far w n (g, inl refl, way))
+              (λ w l p bare. reach.bare w l p (g, inl refl, bare)) waiting.0,
+          all_on g.stage.frame.sub g.stage.frame.returns (h ∷ older) outer stages.2 (omega (arith, less)) (record {
+            far = λ w n (k, has, way). reach.far w n (k, inr has, way);
+            bare = λ w l p (k, has, bare). reach.bare w l p (k, inr has, bare);
+          }) waiting.1,
           waiting.2,
           waiting.3,
         )
@@ -650,7 +795,7 @@ module _ (table : Table) (typed : TypedProgram) (effects : Effects)
         → length outer ≤ depth → AreWaiting table typed effects state callee backs older → AreWaiting table typed effects next callee backs older
     all_same same callee backs older outer stages less waiting =
         all_on callee backs older outer stages less
-        (λ g has x w there. elim (all_between state callee depth backs older outer stages less waiting g has) [
-          | inl first ↦ none_some x w g.views (first.2 x) there
-          | inr (some, under, below, backs_there, waits) ↦ same_reaches (view_here s state) (view_here s next) same w (OfCell (g.views.cell x)) (reached (home s g.stage.depth) (sees_only s) (known_gone (home s g.stage.depth) (λ z. ⊥)) g.views (view_here s state) (facts_of program effects g.stage) x w (waits.views x w there))
-        ]) waiting
+        (let there = theirs state depth older (all_between state callee depth backs older outer stages less waiting) in record {
+          far = λ w n kept. same_reaches (view_here s state) (view_here s next) same w (OfCell n) (there.far w n kept);
+          bare = λ w n p bare q c held. there.bare w n p bare q c (sym (same.word (part n (q ++ p))) ∙ held);
+        }) waiting
