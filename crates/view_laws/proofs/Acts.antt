@@ -24,8 +24,7 @@ use Rattle.typed_tree.specs.Trees.{TypedTree, Number, Literal, Text, Name, Compo
 use Rattle.typed_tree.specs.Trees as typed
 use Rattle.flow_paths.specs.Instructions.{Instruction, Skip, Declare, Assign, Output, Input, Release, Test, Choose, Start, Next, Evaluate, LeaveLoop, Hold, EndScope, Finish, Fall}
 use Rattle.flow_paths.specs.Instructions as instruction
-use Rattle.flow_paths.specs.Objects as objects
-use Rattle.flow_paths.specs.Objects.{Typing, ByValue, passing_by, is_named_access, object_at, is_formal, is_variable, is_borrower, is_observer, is_borrowing, is_observing, is_anonymous, view_of, traverses}
+use Rattle.flow_paths.specs.Objects.{Typing, passing_by, is_named_access, object_at, is_formal, is_variable, is_borrower, is_observer, is_borrowing, is_observing, is_anonymous, view_of, traverses}
 use Rattle.flow_paths.specs.Names.{Written, name_of, selectors, written, first, source, whole, has_call}
 use Rattle.flow_paths.specs.Acts.{acts_in, acts_of, used, placed, naming, observe, reborrow, target_pos, index_acts, source_acts, assigned_to, stored_acts, declared_acts, returned_acts, gives_variable, actual_act, actual_acts}
 use Rattle.flow_paths.specs.Views.{changes, lends}
@@ -550,10 +549,13 @@ module _ (s : Typing) (own_law : OwnsByShape s.table) (parts_named : PartsAreNam
     stored_good p x steps t u e leads gives plain =
         good_end (acts_in s e ++ acts_in s steps) (placed p (act.Write (name_of x steps))) (roots e ++ (x ∷ roots steps))
         (good_both (acts_in s e) (acts_in s steps) (roots e) (x ∷ roots steps) (gives_good u e gives)
-        (good_root (acts_in s steps) x (roots steps) (leads_good (object_at s x).of steps t leads)))
-        ((λ name none. absurd none), λ m same. (
-          let is : name_of x steps ≡ m = cc in
-          (Has-append_right (roots e) (x ∷ roots steps) m.root (inl (ap (λ (z : PlaceName). z.root) is)), λ none. plain m is none)), λ m e. cc)
+        (good_root (acts_in s steps) x (roots steps) (leads_good (object_at s x).of steps t leads))) (
+          (λ name none. absurd none),
+          λ m same. (
+              let is : name_of x steps ≡ m = cc in
+              (Has-append_right (roots e) (x ∷ roots steps) m.root (inl (ap (λ (z : PlaceName). z.root) is)), λ none. plain m is none)),
+          λ m e. cc,
+        )
 
     in_source : (e target : TypedTree) (ps : List Placed) → AreGood ps (roots e) → AreGood ps (roots e ++ roots target)
     in_source e target ps h = good_more ps (roots e) (roots e ++ roots target) (λ x has. Has-append_left (roots e) (roots target) x has) h
@@ -615,8 +617,8 @@ module _ (s : Typing) (own_law : OwnsByShape s.table) (parts_named : PartsAreNam
         (good_root (acts_in s steps) x (roots steps) (leads_good (object_at s x).of steps t there.0)) (
           (λ f new. absurd (none (name_of x steps) f new)),
           (λ m e. (
-          let same : name_of x steps ≡ m = of (name_of x steps) m e in
-          (inl (ap (λ (z : PlaceName). z.root) same), λ empty. changed_whole x steps t m there.0 (ap (λ z. is_anonymous (full s.table z)) there.1 ∙ plain) same empty))),
+              let same : name_of x steps ≡ m = of (name_of x steps) m e in
+              (inl (ap (λ (z : PlaceName). z.root) same), λ empty. changed_whole x steps t m there.0 (ap (λ z. is_anonymous (full s.table z)) there.1 ∙ plain) same empty))),
           (λ m e. inl (ap (λ (z : PlaceName). z.root) (lent (name_of x steps) m e))),
         )
     place_good _ u there plain a none of lent = absurd there
@@ -677,8 +679,8 @@ module _ (s : Typing) (own_law : OwnsByShape s.table) (parts_named : PartsAreNam
       good_one (placed p (act.Actual (name_of x steps) m owning access)) xs (
         (λ f new. absurd (subst (λ z. Has z f) (none (name_of x steps)) new)),
         (λ n e. (
-        let is : name_of x steps ≡ n = same (name_of x steps) n e in
-        (subst (Has xs) (ap (λ (z : PlaceName). z.root) is) named, λ empty. changed_whole x steps t n there.0 (ap (λ z. is_anonymous (full s.table z)) there.1 ∙ plain) is empty))),
+            let is : name_of x steps ≡ n = same (name_of x steps) n e in
+            (subst (Has xs) (ap (λ (z : PlaceName). z.root) is) named, λ empty. changed_whole x steps t n there.0 (ap (λ z. is_anonymous (full s.table z)) there.1 ∙ plain) is empty))),
         (λ n e. absurd (lent (name_of x steps) n e)),
       )
 

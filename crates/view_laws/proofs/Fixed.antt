@@ -2,10 +2,10 @@
 -- one of the subprogram itself which it may change through.
 use Rattle.std.specs.Prelude.{IsTrue}
 use Rattle.std.specs.List.{list_any}
-use Rattle.std.proofs.Common.{◌≡◌, refl, sym, ap, ◌∙◌, subst, ◌⊎◌, inl, inr, ℕ, Bool, true, false, not, ◌&&◌, ◌||◌, ◌==◌, eq-eqb, List, [], ◌∷◌, ◌++◌, map, Option, Some, None, is_some}
+use Rattle.std.proofs.Common.{◌≡◌, refl, sym, ap, ◌∙◌, subst, ◌⊎◌, inl, inr, ℕ, Bool, true, false, not, ◌&&◌, ◌||◌, ◌==◌, eq-eqb, List, [], ◌∷◌, ◌++◌, map, Option, Some, is_some}
 use Rattle.spark_base.specs.declared.position.Pos.{Pos}
 use Rattle.spark_base.specs.Lists.{Has}
-use Rattle.spark_base.proofs.Lists.{Has-append_right, Has-map, Has-map_from}
+use Rattle.spark_base.proofs.Lists.{Has-append_left, Has-append_right, Has-map, Has-map_from}
 use Rattle.place_names.specs.declared.act.Act.{Act}
 use Rattle.place_names.specs.declared.act.Act.TheVariants as act
 use Rattle.place_names.specs.declared.act.Mode.{Mode}
@@ -18,21 +18,24 @@ use Rattle.place_names.specs.Names.{Name as PlaceName, extend}
 use Rattle.type_definitions.specs.Types.{Table, is_nil, is_owning}
 use Rattle.typed_tree.specs.declared.object.ObjectKind.{ObjectKind}
 use Rattle.typed_tree.specs.declared.object.ObjectKind.TheVariants as object_kind
-use Rattle.typed_tree.specs.Trees.{TypedTree, Name}
-use Rattle.typed_tree.specs.Programs.{TypedSub, TypedProgram}
+use Rattle.typed_tree.specs.Trees.{TypedTree, Name, More}
+use Rattle.typed_tree.specs.Programs.{TypedProgram}
 use Rattle.flow_paths.specs.declared.report.Effects.{Effects}
-use Rattle.flow_paths.specs.Instructions.{Input}
-use Rattle.flow_paths.specs.Objects.{Typing, Signature, object_at, is_variable, is_borrower, is_borrowing, traverses, is_formal, is_formal_kind, is_named_access, is_observer, is_anonymous, is_package_object, has_scope_end, view_of}
+use Rattle.flow_paths.specs.Instructions.{Call, Input}
+use Rattle.flow_paths.specs.Objects.{Typing, passing_by, passings, object_at, sub_at, is_variable, is_borrower, is_borrowing, traverses, is_formal, is_formal_kind, is_named_access, is_observer, is_anonymous, is_package_object, has_scope_end, view_of}
 use Rattle.flow_paths.specs.Names.{name_of}
-use Rattle.flow_paths.specs.Acts.{placed, acts_in, acts_of, gives_variable}
+use Rattle.flow_paths.specs.Acts.{placed, acts_in, acts_of, gives_variable, actual_values, actual_act, actual_acts}
 use Rattle.flow_paths.specs.Points.{NamedPoint, FlowPoint}
 use Rattle.flow_paths.specs.Laid.{FlowSub, FlowProgram, NamedSub, signature, kept_roots, sub_facts, flow_sub, typing_of, flow_typing, flow_program, flow_named}
 use Rattle.flow_paths.specs.Reports.{on_views}
-use Rattle.flow_paths.specs.Views.{changes, lends, ConstantView, of_observer, of_formal, in_function, changed, lent, MayBorrow, directly, through, is_function, is_outer, is_in_mode, has_selector, traversed_of, text_report}
+use Rattle.flow_paths.specs.Views.{changes, lends, ConstantView, of_observer, of_formal, in_function, changed, lent, MayBorrow, directly, through, is_function, is_in_mode, has_selector, traversed_of, text_report}
+use Rattle.machine.specs.States.{sub_of}
 use Rattle.machine.specs.Owners.{is_in, is_in_formal}
+use Rattle.soundness.specs.Ready.{root_of}
+use Rattle.viewed_steps.specs.Ready.{AreUnobserved}
+use Rattle.viewed_steps.proofs.Called.{way_to, passes_to}
 use Rattle.soundness.specs.Seen.{is_view_formal}
 use Rattle.soundness.proofs.Points.{flow_at}
-use Rattle.soundness.proofs.Typings.{formal_same}
 use Rattle.typed_laws.specs.Needed.{IsFine}
 use Rattle.viewed_soundness.specs.Holds.{is_given, is_of_procedure, is_first, is_exclusive, lends_first, sees_only, is_fixed, KeepsObserved, AllKeep}
 use Rattle.scope_laws.specs.Order.{named_in}
@@ -339,9 +342,9 @@ module _ (table : Table) (typed : TypedProgram) (effects : Effects) (given : IsV
             by : (b : Bool) → is_exclusive s m.root ≡ b → is_exclusive s m.root ≡ true
             by true is = is
             by false is = absurd (refused (may_change (is_formal s m.root) (is_in_mode (object_at s m.root).mode) (is_named_access (view_of s m.root))
-              (has_selector (extend m (sel.Deref ∷ []))) (is_function sub) formal
-              (both_second (is_formal s m.root) (is_in (object_at s m.root).mode) (given_formal m.root is_one)) (λ view. no_view (of_formal view))
-              (λ view. no_view (in_function (outer (is_function sub) (is_formal s m.root) (is_package_object s m.root) view)))))
+                (has_selector (extend m (sel.Deref ∷ []))) (is_function sub) formal
+                (both_second (is_formal s m.root) (is_in (object_at s m.root).mode) (given_formal m.root is_one)) (λ view. no_view (of_formal view))
+                (λ view. no_view (in_function (outer (is_function sub) (is_formal s m.root) (is_package_object s m.root) view)))))
               where
                 no_may : MayBorrow s sub (act.Borrow x m) → ⊥
                 no_may may = borrow_exclusive s sub (act.Borrow x m) x m may refl formal (signature_here) is
@@ -363,6 +366,50 @@ module _ (table : Table) (typed : TypedProgram) (effects : Effects) (given : IsV
         first : (a b : Bool) → a || b ≡ false → a ≡ false
         first true b e = cc
         first false b e = refl
+
+    -- ---- what is copied back to
+
+    first_false : (a b : Bool) → a || b ≡ false → a ≡ false
+    first_false true b e = cc
+    first_false false b e = refl
+
+    changed_open : (a : Placed) → Has at.acts a → (m : PlaceName) → changes a.act ≡ Some m → sees_only s m.root ≡ false
+    changed_open a h m e = first_false (sees_only s m.root) (is_given s m.root && is_nil m.sels) (unfixed a h m e)
+
+    one_open : (m : Mode) (owning access : Bool) → is_in m ≡ false → (e : TypedTree) → ((a : Placed) → Has (actual_act (passing_by m owning access) e) a → Has at.acts a)
+        → (y : ℕ) → Has (root_of e) y → sees_only s y ≡ false
+    one_open mode.In owning access back e acts y root = cc
+    one_open mode.Out owning access back (Name q z steps t) acts y (inl same) =
+        subst (λ k. sees_only s k ≡ false) same
+        (changed_open (placed q (act.Actual (name_of z steps) mode.Out owning access)) (acts _ (inl refl)) (name_of z steps) refl)
+    one_open mode.Out owning access back (Name q z steps t) acts y (inr none) = absurd none
+    one_open mode.Out owning access back e acts y root = absurd root
+    one_open mode.InOut owning access back (Name q z steps t) acts y (inl same) =
+        subst (λ k. sees_only s k ≡ false) same
+        (changed_open (placed q (act.Actual (name_of z steps) mode.InOut owning access)) (acts _ (inl refl)) (name_of z steps) refl)
+    one_open mode.InOut owning access back (Name q z steps t) acts y (inr none) = absurd none
+    one_open mode.InOut owning access back e acts y root = absurd root
+
+    all_open : (procedure : Bool) (formals : List ℕ) (actuals : TypedTree)
+        → ((a : Placed) → Has (actual_acts (map (way_to s given.owns procedure) formals) actuals) a → Has at.acts a) → AreUnobserved s formals actuals
+    all_open procedure (x ∷ formals) (More e rest) acts = (
+      λ back. one_open (object_at s x).mode (is_owning s.table (object_at s x).of) (procedure && is_named_access (view_of s x)) back e
+          (λ a h. acts a (Has-append_left (actual_act (way_to s given.owns procedure x) e) (actual_acts (map (way_to s given.owns procedure) formals) rest) a h)),
+      all_open procedure formals rest
+          (λ a h. acts a (Has-append_right (actual_act (way_to s given.owns procedure x) e) (actual_acts (map (way_to s given.owns procedure) formals) rest) a h)),
+    )
+    all_open procedure [] actuals acts = tt
+    all_open procedure (x ∷ formals) actuals acts = tt
+
+    -- It isn't rooted in what only sees.
+    pub unobserved : (n : ℕ) (actuals : TypedTree) (result : Option ℕ) → p.instr ≡ Call n actuals result → AreUnobserved s (sub_of program n).formals actuals
+    unobserved n actuals result is =
+        let call = scoped.plainly table typed effects given sub in_program at in_sub n actuals result is in
+        let procedure : Bool = not (is_some (sub_of program n).result) in
+        all_open procedure (sub_of program n).formals actuals
+        (λ a h. act_there a (subst (λ i. Has (acts_of (record { typing = s; result = named.sub.result; roots = kept }) p.pos i) a) (sym is)
+        (Has-append_right (actual_values s (passings s (sub_at s n)) actuals) (actual_acts (passings s (sub_at s n)) actuals) a
+        (subst (λ ways. Has (actual_acts ways actuals) a) (sym (passes_to program n call.no_traversal)) h))))
 
   -- Nothing is moved, written or freed through an observer, or through a formal that owns nothing and isn't changed through.
   pub all_kept : (sub : FlowSub) → Has program.subs sub → (p : FlowPoint) → Has sub.points p → AllKeep (is_fixed s) (map (λ (a : Placed). a.act) p.acts)

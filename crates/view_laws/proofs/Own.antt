@@ -1,22 +1,19 @@
 -- The formals that the instructions of a body name are its own.
-use Rattle.std.proofs.Common.{◌≡◌, refl, sym, ap, ◌∙◌, subst, inl, inr, ℕ, suc, true, false, List, ◌∷◌, drop, length, Some}
+use Rattle.std.proofs.Common.{◌≡◌, sym, ◌∙◌, subst, inl, inr, ℕ, suc, true, false, drop}
 use Rattle.spark_base.specs.Lists.{Has}
 use Rattle.spark_base.proofs.Lists.{Has-append_cases}
 use Rattle.type_definitions.specs.Types.{Table}
-use Rattle.typed_tree.specs.Trees.{TypedTree}
 use Rattle.typed_tree.specs.declared.object.ObjectKind.{ObjectKind}
 use Rattle.typed_tree.specs.declared.object.ObjectKind.TheVariants as object_kind
-use Rattle.typed_tree.specs.declared.node.ShortCircuit.{ShortCircuit}
-use Rattle.typed_tree.specs.Programs.{TypedSub, TypedProgram}
+use Rattle.typed_tree.specs.Programs.{TypedProgram}
 use Rattle.flow_paths.specs.declared.report.Effects.{Effects}
-use Rattle.flow_paths.specs.Instructions.{Call, Evaluate}
 use Rattle.flow_paths.specs.Objects.{Typing, object_at, is_formal, is_formal_kind, is_package_object}
 use Rattle.flow_paths.specs.Points.{NamedPoint}
 use Rattle.flow_paths.specs.Laid.{NamedSub, declared_within, sub_points, flow_typing, flow_program, flow_named, typing_of}
 use Rattle.flow_paths.specs.Scopes.{is_temporary, taken}
 use Rattle.soundness.specs.Sound.{is_temporary_object}
 use Rattle.soundness.specs.Ready.{Fills}
-use Rattle.soundness.proofs.Typings.{package_same, formal_same}
+use Rattle.soundness.proofs.Typings.{formal_same}
 use Rattle.scope_laws.specs.Alone.{GivesScalar, GivesNamed}
 use Rattle.scope_laws.specs.Code.{objects_of}
 use Rattle.scope_laws.specs.Order.{named_in}
@@ -83,8 +80,8 @@ module _ (table : Table) (typed : TypedProgram) (effects : Effects) (given : IsV
 
   pub formals_own : (p : NamedPoint) → Has named.points p → (x : ℕ) → Has (named_in p.instr) x → is_formal s x ≡ true → Has named.sub.formals x
   formals_own p there x names formal = elim (seen_has (is_package_object own) (drop (taken p.instr) p.scope) (named_in p.instr) x
-    (scoped.body_is_left table typed effects given named body p there) names) [
-      | inl outer ↦ absurd (
-          let no : false ≡ true = sym (given.views.apart x (sym (formal_same s own (scoped.alike table typed effects given) x) ∙ formal)) ∙ outer in cc)
-      | inr within ↦ subst (λ (z : NamedSub). Has z.sub.formals x) (body.4) (left_own p there x (within_has x (drop (taken p.instr) p.scope) within) formal)
-    ]
+      (scoped.body_is_left table typed effects given named body p there) names) [
+        | inl outer ↦ absurd (
+            let no : false ≡ true = sym (given.views.apart x (sym (formal_same s own (scoped.alike table typed effects given) x) ∙ formal)) ∙ outer in cc)
+        | inr within ↦ subst (λ (z : NamedSub). Has z.sub.formals x) (body.4) (left_own p there x (within_has x (drop (taken p.instr) p.scope) within) formal)
+      ]

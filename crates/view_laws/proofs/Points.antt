@@ -9,28 +9,24 @@ use Rattle.std.proofs.lemmas.Bool.{ltb-true}
 use Rattle.std.proofs.lemmas.Bool.Decides.{Decides-eqb}
 use Rattle.std.proofs.lemmas.List.Folds.{list_any-append}
 use Rattle.spark_base.specs.Lists.{Has}
-use Rattle.spark_base.proofs.Lists.{Has-append_right, Has-map, Has-map_from}
+use Rattle.spark_base.proofs.Lists.{Has-append_right, Has-map}
 use Rattle.spark_base.specs.declared.position.Pos.{Pos}
-use Rattle.place_names.specs.declared.act.Act.{Act}
 use Rattle.place_names.specs.declared.act.Act.TheVariants as act
-use Rattle.place_names.specs.declared.act.Mode.TheVariants as mode
 use Rattle.place_names.specs.declared.act.Placed.{Placed}
-use Rattle.place_names.specs.declared.selector.Sel.{Sel}
-use Rattle.place_names.specs.Names.{Name as PlaceName}
 use Rattle.type_definitions.specs.declared.judgement.View.{View}
 use Rattle.type_definitions.specs.declared.judgement.View.TheVariants as view
 use Rattle.type_definitions.specs.Types.{Table, full, is_owning}
 use Rattle.typed_tree.specs.Trees.{TypedTree, Name, Call, NoMore, More}
 use Rattle.typed_tree.specs.Programs.{TypedProgram}
 use Rattle.flow_paths.specs.declared.report.Effects.{Effects}
-use Rattle.flow_paths.specs.Instructions.{Instruction, Declare, Assign, Input, EndScope}
+use Rattle.flow_paths.specs.Instructions.{Instruction, Declare, Assign, EndScope}
 use Rattle.flow_paths.specs.Objects.{Typing, object_at, is_variable, is_borrower, is_observer, is_borrowing, is_observing, is_anonymous, is_formal, is_package_object, has_scope_end, view_of}
 use Rattle.flow_paths.specs.Names.{first, name_of, written, source}
 use Rattle.flow_paths.specs.Acts.{placed, observe, reborrow, target_pos, index_acts, source_acts, assigned_to, stored_acts, declared_acts, acts_in, acts_of}
 use Rattle.flow_paths.specs.Points.{PointName, same_place, same_point, NamedPoint, FlowPoint}
 use Rattle.flow_paths.specs.Laid.{FlowSub, FlowProgram, NamedSub, unnumbered, number_in, kept_roots, sub_facts, flow_sub, typing_of, flow_typing, flow_program, flow_named}
 use Rattle.flow_paths.specs.Scopes.{Differ, is_last, is_within, is_ready, brought, scope_behind, taken}
-use Rattle.flow_paths.specs.Views.{changes, encloses, scope_of, is_assignment}
+use Rattle.flow_paths.specs.Views.{encloses, scope_of, is_assignment}
 use Rattle.soundness.specs.Sound.{IsAtPoint}
 use Rattle.soundness.proofs.Points.{flow_at, next_there}
 use Rattle.soundness.proofs.Typings.{package_same, formal_same}
@@ -50,8 +46,7 @@ use Rattle.ready_laws.proofs.Subs.{setting_from}
 use Rattle.view_laws.specs.InOrder.{is_name_of, is_list_end, is_one_name_of, is_any, is_call, gives_view, NamesSource, fits}
 use Rattle.view_laws.specs.Program.{IsViewProgram}
 use Rattle.view_laws.proofs.Acts.{source_lasts}
-use Rattle.view_laws.proofs.Calls.{point_good}
-use Rattle.view_laws.proofs.Reports.{unchanged, not_observed, observed_encloses, reborrowed_own}
+use Rattle.view_laws.proofs.Reports.{observed_encloses, reborrowed_own}
 use Rattle.view_laws.proofs.Enclosing.{enclosing_less}
 use Rattle.view_laws.proofs.Scoped as scoped
 use Rattle.view_laws.proofs.Fixed as fixed

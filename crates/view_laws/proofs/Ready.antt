@@ -55,6 +55,7 @@ module _ (table : Table) (typed : TypedProgram) (effects : Effects) (given : IsV
             (let both : true ≡ false = sym anonymous ∙ ap (λ z. is_anonymous (view_of s z)) (sym (same_object p.instr found.0 x found.1 v found.2 is)) ∙ found.3 in cc);
         assigned = λ q x w v is anonymous. absurd (no_assign p.instr found.0 found.1 (Name q x NoMore w) v found.2 is);
         read = fixed.read_plain table typed effects given named has p there;
+        copied = fixed.unobserved table typed effects given named has p there;
         ended = λ y x is within other. absurd (no_end p.instr found.0 found.1 y found.2 is);
         followed = λ y x is q follows within sees alike. absurd (no_end p.instr found.0 found.1 y found.2 is);
       }
@@ -68,6 +69,7 @@ module _ (table : Table) (typed : TypedProgram) (effects : Effects) (given : IsV
     over = points.ends_plain table typed effects given named has p there;
     assigned = points.assigned_there table typed effects given named has body p there;
     read = fixed.read_plain table typed effects given named has p there;
+    copied = fixed.unobserved table typed effects given named has p there;
     ended = points.ended_there table typed effects given named has body p there;
     followed = λ y x is q follows. points.followed_there table typed effects given named has body p there y x is q follows.0 follows.1 follows.2;
   }
@@ -105,6 +107,7 @@ module _ (table : Table) (typed : TypedProgram) (effects : Effects) (given : IsV
     results = valued.named_results table typed effects given;
     formals = given.formals;
     functions = given.functions;
+    modes = given.modes;
     procedures = given.procedures;
     copied = given.copied;
   }
