@@ -99,7 +99,7 @@ module _ (s : Typing) (frame : ℕ) (other : Around (home s frame)) (v : Views) 
 -- below the next frame, is foreign in the next frame.
 abbrev pub IsLow : Typing → ℕ → Way → Type 0
 IsLow s frame w =
-    (Named (home s frame) w × (is_package_object s (number_of w) ≡ false)) ⊎ ((foreign : IsForeign (home s frame) w) × (foreign.0 < suc frame))
+    (Named (home s frame) w × (is_package_object s (number_of w) ≡ false)) ⊎ ((foreign : IsForeign (home s frame) w) × (foreign.0 < suc frame) × (0 < foreign.0))
 
 pub foreign_there : (s : Typing) (frame : ℕ) (w : Way) → IsLow s frame w → IsForeign (home s (suc frame)) w
 foreign_there s frame w (inl (named, own)) = (
@@ -110,7 +110,7 @@ foreign_there s frame w (inl (named, own)) = (
       let here : home s frame (number_of w) ≡ frame = ap (λ b. if b then 0 else frame) own in
       let there : home s (suc frame) (number_of w) ≡ suc frame = ap (λ b. if b then 0 else suc frame) own in omega (arith, e, here, there)),
 )
-foreign_there s frame w (inr (foreign, low)) = (foreign.0, foreign.1, foreign.2, λ e. by_kind (is_package_object s foreign.1) refl e)
+foreign_there s frame w (inr (foreign, low, some)) = (foreign.0, foreign.1, foreign.2, λ e. by_kind (is_package_object s foreign.1) refl e)
   where
     by_kind : (b : Bool) → is_package_object s foreign.1 ≡ b → foreign.0 ≡ home s (suc frame) foreign.1 → ⊥
     by_kind true shared e =
@@ -119,8 +119,8 @@ foreign_there s frame w (inr (foreign, low)) = (foreign.0, foreign.1, foreign.2,
         (let there : home s (suc frame) foreign.1 ≡ suc frame = ap (λ b. if b then 0 else suc frame) own in omega (arith, low, e, there))
 
 -- and it is low there again
-pub low_there : (s : Typing) (frame : ℕ) (w : Way) (low : IsLow s frame w) → (foreign_there s frame w low).0 < suc frame
+pub low_there : (s : Typing) (frame : ℕ) (w : Way) → 0 < frame → (low : IsLow s frame w) → ((foreign_there s frame w low).0 < suc frame) × (0 < (foreign_there s frame w low).0)
 unfolding foreign_there
-low_there s frame w (inl (named, own)) =
-    (let here : home s frame (number_of w) ≡ frame = ap (λ b. if b then 0 else frame) own in omega (arith, here))
-low_there s frame w (inr (foreign, low)) = low
+low_there s frame w deep (inl (named, own)) =
+    (let here : home s frame (number_of w) ≡ frame = ap (λ b. if b then 0 else frame) own in (omega (arith, here), omega (arith, here, deep)))
+low_there s frame w deep (inr (foreign, low, some)) = (low, some)

@@ -15,13 +15,15 @@ use Rattle.flow_paths.specs.Objects.{Typing, object_at, is_variable, is_borrowin
 use Rattle.machine.specs.Words.{access_offsets}
 use Rattle.machine.specs.Memory.{Slot, Memory, Base, Place, fresh, no_slot, variable_slots, slots_at, slots_of, words_of, gone_at, moved_out, declared}
 use Rattle.machine.specs.Memory as memory
-use Rattle.machine.specs.Calls.{Passed, From, To}
+use Rattle.machine.specs.Words as machine
+use Rattle.machine.specs.Calls.{Passed, From, To, Value}
 use Rattle.machine.specs.States.{Waiting, Leak}
 use Rattle.owned_ways.specs.Ways.{Step, OfVariable, OfHand, Loc, OfRoot, OfCell, Reaches, Way, Object, Empty, Held, Under, Past, Named, along, base_of, number_of, name_of}
 use Rattle.owned_ways.proofs.Locations.{same_loc}
 use Rattle.part_offsets.specs.Parts.{type_in, IsSettled}
 use Rattle.soundness.specs.Seen.{content, word_in, seen, home, is_view_formal}
-use Rattle.soundness.specs.Typed.{Matches, OwnsByShape, Kept, Spot}
+use Rattle.type_definitions.specs.declared.table.Shape.TheVariants as shape
+use Rattle.soundness.specs.Typed.{Matches, IsCell, OwnsByShape, Kept, Spot}
 use Rattle.soundness.proofs.Memories.{put_other}
 use Rattle.soundness.proofs.Moments.{number_part}
 use Rattle.soundness.proofs.Steps.{matches_words, plain_end, alike, taken_slots, room}
@@ -88,9 +90,23 @@ module _ (s : Typing) (settled : IsSettled s.table) (depth : ℕ) (k : Place) (t
 
 -- ---- what is passed
 
--- A scalar value, or a scalar place in a variable.
-abbrev pub IsPlainOne : Typing → ℕ → Passed → Type 0
-IsPlainOne s x a = (is_scalar (full s.table (object_at s x).of) ≡ true) × IsLaid s a
+-- An access value designates a cell of its type.
+abbrev pub IsTyped : Typing → Memory → ℕ → machine.Word → Type 0
+IsTyped s m x z = (d : ℕ) (c n : Bool) (k : ℕ) → shape_of s.table (object_at s x).of ≡ shape.Access d c n → z ≡ machine.Cell k → IsCell s m d k
+
+-- An access value, for a formal that owns nothing.
+abbrev pub IsShownOne : Typing → Memory → ℕ → Passed → Type 0
+IsShownOne s m x a = (is_view_formal s x ≡ true) × (z : machine.Word) × (a ≡ Value (z ∷ [])) × IsTyped s m x z
+
+-- A scalar value, or a scalar place in a variable; or such an access value.
+abbrev pub IsPlainOne : Typing → Memory → ℕ → Passed → Type 0
+IsPlainOne s m x a = ((is_scalar (full s.table (object_at s x).of) ≡ true) × IsLaid s a) ⊎ IsShownOne s m x a
+
+-- A value of one word is passed for a formal.
+abbrev pub IsShownTo : List ℕ → List Passed → ℕ → machine.Word → Type 0
+IsShownTo [] passed y z = ⊥
+IsShownTo (x ∷ formals) [] y z = ⊥
+IsShownTo (x ∷ formals) (a ∷ passed) y z = ((x ≡ y) × (a ≡ Value (z ∷ []))) ⊎ IsShownTo formals passed y z
 
 -- No fact says of the way that it was moved, or of what leads to it or lies in it.
 abbrev pub IsWhole : List Fact → Way → Type 0
@@ -105,40 +121,40 @@ IsTakenAs facts k to a outs later =
     ((a ≡ From k) × IsWhole facts to × (outs ≡ later)) ⊎ ((pos : Pos) × (a ≡ To k) × (outs ≡ record { way = to; place = k; pos = pos } ∷ later))
 
 -- What is passed, with the ways of the places that are taken, and those of them that are emptied.
-abbrev pub ArePassedOn : Typing → ℕ → List Fact → List ℕ → List ℕ → List Passed → List Way → List Out → Type 0
-ArePassedOn s depth facts scope [] passed ways outs = (ways ≡ []) × (outs ≡ [])
-ArePassedOn s depth facts scope (x ∷ formals) [] ways outs = (ways ≡ []) × (outs ≡ [])
-ArePassedOn s depth facts scope (x ∷ formals) (a ∷ passed) [] outs = IsPlainOne s x a × ArePassedOn s depth facts scope formals passed [] outs
-ArePassedOn s depth facts scope (x ∷ formals) (a ∷ passed) (to ∷ ways) outs =
-    (IsPlainOne s x a × ArePassedOn s depth facts scope formals passed (to ∷ ways) outs)
+abbrev pub ArePassedOn : Typing → Memory → ℕ → List Fact → List ℕ → List ℕ → List Passed → List Way → List Out → Type 0
+ArePassedOn s m depth facts scope [] passed ways outs = (ways ≡ []) × (outs ≡ [])
+ArePassedOn s m depth facts scope (x ∷ formals) [] ways outs = (ways ≡ []) × (outs ≡ [])
+ArePassedOn s m depth facts scope (x ∷ formals) (a ∷ passed) [] outs = IsPlainOne s m x a × ArePassedOn s m depth facts scope formals passed [] outs
+ArePassedOn s m depth facts scope (x ∷ formals) (a ∷ passed) (to ∷ ways) outs =
+    (IsPlainOne s m x a × ArePassedOn s m depth facts scope formals passed (to ∷ ways) outs)
     ⊎ ((k : Place) × (later : List Out) × IsTakenAs facts k to a outs later × IsPassedOn s depth facts scope x k to × IsApartFrom to ways × DiffersFrom x formals
-    × ArePassedOn s depth facts scope formals passed ways later)
+    × ArePassedOn s m depth facts scope formals passed ways later)
 
 -- the ways of such places begin at variables of the frame
-pub passed_base : (s : Typing) (depth : ℕ) (facts : List Fact) (scope : List ℕ) (formals : List ℕ) (passed : List Passed) (ways : List Way) (outs : List Out)
-    → ArePassedOn s depth facts scope formals passed ways outs → (k : Way) → Has ways k → (y : ℕ) × (base_of k ≡ OfRoot (OfVariable depth y))
-passed_base s depth facts scope [] passed ways outs none k has = absurd (subst (λ z. Has z k) none.0 has)
-passed_base s depth facts scope (x ∷ formals) [] ways outs none k has = absurd (subst (λ z. Has z k) none.0 has)
-passed_base s depth facts scope (x ∷ formals) (a ∷ passed) [] outs are k has = absurd has
-passed_base s depth facts scope (x ∷ formals) (a ∷ passed) (to ∷ ways) outs (inl are) k has = passed_base s depth facts scope formals passed (to ∷ ways) outs are.1 k has
-passed_base s depth facts scope (x ∷ formals) (a ∷ passed) (to ∷ ways) outs (inr (place, later, how, one, apart, differ, more)) k (inl same) =
+pub passed_base : (s : Typing) (m : Memory) (depth : ℕ) (facts : List Fact) (scope : List ℕ) (formals : List ℕ) (passed : List Passed) (ways : List Way) (outs : List Out)
+    → ArePassedOn s m depth facts scope formals passed ways outs → (k : Way) → Has ways k → (y : ℕ) × (base_of k ≡ OfRoot (OfVariable depth y))
+passed_base s m depth facts scope [] passed ways outs none k has = absurd (subst (λ z. Has z k) none.0 has)
+passed_base s m depth facts scope (x ∷ formals) [] ways outs none k has = absurd (subst (λ z. Has z k) none.0 has)
+passed_base s m depth facts scope (x ∷ formals) (a ∷ passed) [] outs are k has = absurd has
+passed_base s m depth facts scope (x ∷ formals) (a ∷ passed) (to ∷ ways) outs (inl are) k has = passed_base s m depth facts scope formals passed (to ∷ ways) outs are.1 k has
+passed_base s m depth facts scope (x ∷ formals) (a ∷ passed) (to ∷ ways) outs (inr (place, later, how, one, apart, differ, more)) k (inl same) =
     (one.inside.object, ap base_of (sym same) ∙ inside_base s depth place to one.inside)
-passed_base s depth facts scope (x ∷ formals) (a ∷ passed) (to ∷ ways) outs (inr (place, later, how, one, apart, differ, more)) k (inr has) =
-    passed_base s depth facts scope formals passed ways later more k has
+passed_base s m depth facts scope (x ∷ formals) (a ∷ passed) (to ∷ ways) outs (inr (place, later, how, one, apart, differ, more)) k (inr has) =
+    passed_base s m depth facts scope formals passed ways later more k has
 
 -- what is emptied is among them
-pub outs_taken : (s : Typing) (depth : ℕ) (facts : List Fact) (scope : List ℕ) (formals : List ℕ) (passed : List Passed) (ways : List Way) (outs : List Out)
-    → ArePassedOn s depth facts scope formals passed ways outs → (o : Out) → Has outs o → Has ways o.way
-outs_taken s depth facts scope [] passed ways outs none o has = absurd (subst (λ z. Has z o) none.1 has)
-outs_taken s depth facts scope (x ∷ formals) [] ways outs none o has = absurd (subst (λ z. Has z o) none.1 has)
-outs_taken s depth facts scope (x ∷ formals) (a ∷ passed) [] outs are o has = outs_taken s depth facts scope formals passed [] outs are.1 o has
-outs_taken s depth facts scope (x ∷ formals) (a ∷ passed) (to ∷ ways) outs (inl are) o has = outs_taken s depth facts scope formals passed (to ∷ ways) outs are.1 o has
-outs_taken s depth facts scope (x ∷ formals) (a ∷ passed) (to ∷ ways) outs (inr (place, later, inl (from, whole, same), one, apart, differ, more)) o has =
-    inr (outs_taken s depth facts scope formals passed ways later more o (subst (λ z. Has z o) same has))
-outs_taken s depth facts scope (x ∷ formals) (a ∷ passed) (to ∷ ways) outs (inr (place, later, inr (pos, goes, same), one, apart, differ, more)) o has =
+pub outs_taken : (s : Typing) (m : Memory) (depth : ℕ) (facts : List Fact) (scope : List ℕ) (formals : List ℕ) (passed : List Passed) (ways : List Way) (outs : List Out)
+    → ArePassedOn s m depth facts scope formals passed ways outs → (o : Out) → Has outs o → Has ways o.way
+outs_taken s m depth facts scope [] passed ways outs none o has = absurd (subst (λ z. Has z o) none.1 has)
+outs_taken s m depth facts scope (x ∷ formals) [] ways outs none o has = absurd (subst (λ z. Has z o) none.1 has)
+outs_taken s m depth facts scope (x ∷ formals) (a ∷ passed) [] outs are o has = outs_taken s m depth facts scope formals passed [] outs are.1 o has
+outs_taken s m depth facts scope (x ∷ formals) (a ∷ passed) (to ∷ ways) outs (inl are) o has = outs_taken s m depth facts scope formals passed (to ∷ ways) outs are.1 o has
+outs_taken s m depth facts scope (x ∷ formals) (a ∷ passed) (to ∷ ways) outs (inr (place, later, inl (from, whole, same), one, apart, differ, more)) o has =
+    inr (outs_taken s m depth facts scope formals passed ways later more o (subst (λ z. Has z o) same has))
+outs_taken s m depth facts scope (x ∷ formals) (a ∷ passed) (to ∷ ways) outs (inr (place, later, inr (pos, goes, same), one, apart, differ, more)) o has =
     elim (subst (λ z. Has z o) same has) [
       | inl first ↦ inl (ap (λ (z : Out). z.way) first)
-      | inr others ↦ inr (outs_taken s depth facts scope formals passed ways later more o others)
+      | inr others ↦ inr (outs_taken s m depth facts scope formals passed ways later more o others)
     ]
 
 -- Nothing is gone elsewhere in hands, or in the places that are still to be taken; and others keep no way.

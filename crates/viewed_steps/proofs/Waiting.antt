@@ -26,7 +26,7 @@ use Rattle.soundness.specs.Sound.{Stage, facts_of, AreStages, Uses, view_of as v
 use Rattle.soundness.proofs.Around.{near_or_far, IsFar, near_package, package_named, is_inherited, inherited, inherited_has, inherited_from}
 use Rattle.soundness.proofs.Contents.{bool_cases}
 use Rattle.soundness.proofs.Inherited.{Splits}
-use Rattle.owned_loans.specs.Views.{on, Around, known_gone, Views, expand, IsThrough, IsMovedBy, HasLoan, IsForeign, Viewed}
+use Rattle.owned_loans.specs.Views.{on, Around, known_gone, Views, expand, IsThrough, IsMovedBy, ExcusedBy, HasLoan, IsForeign, Viewed}
 use Rattle.owned_loans.proofs.Ended.{stands_itself}
 use Rattle.owned_loans.proofs.Ways.{under_on, on_under, on_named, lifts, lifted_root, lifted_way}
 use Rattle.owned_loans.proofs.Meeting.{stands}
@@ -488,6 +488,31 @@ module _ (table : Table) (typed : TypedProgram) (effects : Effects)
       pub own_borrowed : (b : ℕ) (n : Name) → Has facts (Lent Borrowed b n) → (l : Loan) (m : Name) → LentElsewhere older l m → n.root ≡ m.root → ⊥
       pub own_seen : (h : ℕ) (m : Name) → Has facts (Lent Observed h m) → (n : Name) → LentElsewhere older Borrowed n → n.root ≡ m.root → ⊥
 
+    -- what is gone for them is excused by their facts on package objects, and by what concerns the innermost frame of them
+    pub elsewhere_excused : (v : Views) (facts : List Fact) → ((x : ℕ) → is_package_object s x ≡ true → v.way x ≡ None)
+        → (w : Way) → GoneElsewhere program effects older w → ExcusedBy (home s depth) v beside_them (facts ++ handed) w
+    elsewhere_excused v facts none_there w away = elim (near_or_far depth w) [
+      | inr far ↦ inr (far, away)
+      | inl near ↦ elim (near_moved w near away) [
+        | inl moved ↦ inl (inl (known_near moved))
+        | inr lent ↦ inl (inr (lent, away))
+      ]
+    ]
+      where
+        known_near : (is_package_object s (number_of w) ≡ true) × (g : ViewStage) × Has older g × IsMoved (home s g.stage.depth) (facts_of program effects g.stage) w
+            → IsMovedBy (home s depth) v (facts ++ handed) w
+        known_near (shared, g, has, moved) =
+            let named : Named (home s depth) w = package_named s g.stage.depth depth w shared moved.0 in (
+              w,
+              (
+                named,
+                Has-append_right facts handed (Moved (name_of w))
+                    (Has-append_left moved_there (loans_there older) (Moved (name_of w))
+                    (inherited_has program effects (stages_of older) g.stage (Has-map (λ (k : ViewStage). k.stage) older g has) (Moved (name_of w)) moved.1 shared)),
+              ),
+              stands_itself (home s depth) (sees_only s) (known_gone (home s depth) (λ z. ⊥)) v w named (none_there (number_of w) shared),
+            )
+
     -- with them
     pub with_them : (v : Views) (view : View) (facts : List Fact) → ((x : ℕ) (w : Way) → v.way x ≡ Some w → is_package_object s x ≡ false)
         → ((x : ℕ) → is_package_object s x ≡ true → sees_only s x ≡ false) → AreApart facts
@@ -500,13 +525,7 @@ module _ (table : Table) (typed : TypedProgram) (effects : Effects)
       known = λ w l rooted r gone. elim (well.known w l rooted r gone) [
         | inl (inr none) ↦ absurd none
         | inl (inl (u, moved, leads)) ↦ inl (inl (u, (moved.0, Has-append_left facts handed (Moved (name_of u)) moved.1), leads))
-        | inr away ↦ elim (near_or_far depth w) [
-          | inr far ↦ inr (far, away)
-          | inl near ↦ elim (near_moved w near away) [
-            | inl moved ↦ inl (inl (known_near w moved))
-            | inr lent ↦ inl (inr (lent, away))
-          ]
-        ]
+        | inr away ↦ elsewhere_excused v facts none_there w away
       ];
       clear = record {
         moved = λ l h n m has lends over. elim (cases (Moved n) has) [
@@ -571,20 +590,6 @@ module _ (table : Table) (typed : TypedProgram) (effects : Effects)
             by_way : (o : Option Way) → v.way x ≡ o → v.way x ≡ None
             by_way None is = is
             by_way (Some w) is = (let no : true ≡ false = sym shared ∙ only x w is in cc)
-
-        known_near : (w : Way) → (is_package_object s (number_of w) ≡ true) × (g : ViewStage) × Has older g × IsMoved (home s g.stage.depth) (facts_of program effects g.stage) w
-            → IsMovedBy (home s depth) v (facts ++ handed) w
-        known_near w (shared, g, has, moved) =
-            let named : Named (home s depth) w = package_named s g.stage.depth depth w shared moved.0 in (
-              w,
-              (
-                named,
-                Has-append_right facts handed (Moved (name_of w))
-                    (Has-append_left moved_there (loans_there older) (Moved (name_of w))
-                    (inherited_has program effects (stages_of older) g.stage (Has-map (λ (k : ViewStage). k.stage) older g has) (Moved (name_of w)) moved.1 shared)),
-              ),
-              stands_itself (home s depth) (sees_only s) (known_gone (home s depth) (λ z. ⊥)) v w named (none_there (number_of w) shared),
-            )
 
     -- and without them
     pub without_them : (v : Views) (view : View) (all facts : List Fact) → ((x : ℕ) (w : Way) → v.way x ≡ Some w → is_package_object s x ≡ false)
