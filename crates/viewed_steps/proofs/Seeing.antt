@@ -30,7 +30,7 @@ use Rattle.owned_loans.proofs.Ended.{stands_itself}
 use Rattle.owned_loans.proofs.Moves.{IsPlace}
 use Rattle.owned_loans.proofs.Ways.{Lifted, lifted_way, base_on}
 use Rattle.viewed_soundness.specs.Holds.{PartsAreNamed, is_view, sees_only, IsOwners, Holds, IsAccess}
-use Rattle.viewed_soundness.proofs.Given.{IsLow, owner_whole, seen_whole}
+use Rattle.viewed_soundness.proofs.Given.{IsLow, lent_whole, seen_whole}
 use Rattle.viewed_soundness.proofs.Names.{true_false, both_no, either_true, plain_sees, stands_owners}
 use Rattle.viewed_soundness.proofs.Sources.{Shows, source_on}
 use Rattle.viewed_steps.specs.Ready.{IsSeen, IsShowable}
@@ -100,10 +100,6 @@ module _ (h : Here) (settled : IsSettled h.typing.table) (hands : List Waiting) 
         by_way None e = e
         by_way (Some k) e = absurd (true_false (is_view s y) (holds.only y k e) (both_no (is_anonymous (view_of s y)) (is_view_formal s y) showable.1 owner))
 
-    is_place : is_view_formal h.typing y ≡ false → IsPlace v w
-    is_place owner (OfVariable f x) e = subst (λ z. v.way z ≡ None) (sym root ∙ ap number_of e) (no_way owner)
-    is_place owner (OfHand k) e = absurd (subst (Named Home) e named)
-
     by_owner : is_view_formal h.typing y ≡ false → Sees e n
     by_owner owner =
         let plain : sees_only s (number_of w) ≡ false =
@@ -118,7 +114,7 @@ module _ (h : Here) (settled : IsSettled h.typing.table) (hands : List Waiting) 
           owners = stands_owners s h.frame v m (All w) holds named (inl (ap (is_view_formal s) root ∙ owner));
           reaches = reaches;
           low = inl (subst (Named Home) (sym itself) named, ap (λ z. is_package_object s (number_of z)) itself ∙ ap (is_package_object s) root ∙ showable.0);
-          whole = owner_whole s h.frame other v (seen s m hands leaks) facts well alone w named plain (is_place owner) (clears (sym (ap (sees_only s) root) ∙ plain));
+          whole = lent_whole s h.frame other v (seen s m hands leaks) facts well alone w named plain (clears (sym (ap (sees_only s) root) ∙ plain));
         }
 
     by_formal : is_view_formal h.typing y ≡ true → Sees e n
@@ -136,8 +132,14 @@ module _ (h : Here) (settled : IsSettled h.typing.table) (hands : List Waiting) 
           owners = stands_owners s h.frame v m (All w) holds named (inr l.0);
           reaches = reaches;
           low = inr (((far.0).0, (far.0).1, base ∙ (far.0).2, (far.0).3), (let less = far.1 in omega (arith, less)), far.2);
-          whole = seen_whole s h.frame other v (seen s m hands leaks) facts well alone w named l.0 (ap (sees_only s) l.1 ∙ showable.2 formal);
+          whole = by_sees (sees_only s y) refl;
         }
+      where
+        by_sees : (b : Bool) → sees_only s y ≡ b → (z : Way) → ExcusedBy (home h.typing h.frame) v other facts z → Meets z (expand v (All w)) → ⊥
+        by_sees true sees =
+            let l = lifted (either_true (is_anonymous (view_of s y)) (is_view_formal s y) formal) in
+            seen_whole s h.frame other v (seen s m hands leaks) facts well alone w named l.0 (ap (sees_only s) l.1 ∙ sees)
+        by_sees false plain = lent_whole s h.frame other v (seen s m hands leaks) facts well alone w named (ap (sees_only s) root ∙ plain) (clears plain)
 
     pub sees_it : Sees e n
     sees_it = by_kind (is_view_formal s y) refl
