@@ -25,7 +25,7 @@ use Rattle.accepted_runs.specs.Passed.{Passes}
 use Rattle.accepted_runs.proofs.Passing.{Passed, product_passed}
 use Rattle.accepted_runs.proofs.Parsed.{are_parsed}
 use Rattle.accepted_runs.proofs.Runs.{RunsAreSound}
-use Rattle.accepted_runs.proofs.Functions.{AreInThirdClass}
+use Rattle.accepted_runs.specs.Classes.{AreInThirdClass}
 
 -- ---- with calls
 

@@ -1,9 +1,8 @@
 -- Calls of subprograms and their ends lead to the same in memories that agree, where of what is passed
 -- and copied back nothing is gone: so it is with formals of scalar types.
-use Rattle.std.proofs.Common.{◌≡◌, refl, sym, inl, inr, subst, ◌∙◌, ℕ, suc, Bool, true, false, List, [], ◌∷◌, ◌++◌, length, nat_le, if◌then◌else◌}
-use Rattle.spark_base.specs.Lists.{Has}
+use Rattle.std.proofs.Common.{◌≡◌, refl, sym, subst, ℕ, suc, Bool, true, false, List, [], ◌∷◌, ◌++◌, length, nat_le, if◌then◌else◌}
 use Rattle.spark_base.specs.declared.position.Pos.{Pos}
-use Rattle.type_definitions.specs.Types.{full, is_scalar}
+use Rattle.type_definitions.specs.Types.{full}
 use Rattle.typed_tree.specs.Trees.{TypedTree, More}
 use Rattle.flow_paths.specs.Objects.{Typing, object_at, sub_at, passings}
 use Rattle.flow_paths.specs.Names.{written}
@@ -17,14 +16,10 @@ use Rattle.machine.specs.Step.{Turn, typing, here, start, waiting, counted, behi
 use Rattle.machine.specs.Step as steps
 use Rattle.part_offsets.specs.Parts.{IsSettled}
 use Rattle.soundness.specs.Typed.{OwnsByShape, Kept, IsFixed}
-use Rattle.soundness.specs.Sound.{IsCopied}
 use Rattle.soundness.proofs.Stays.{Quiet}
-use Rattle.soundness.proofs.Keeping.{scalar}
-use Rattle.soundness.proofs.Lasting.{keeps, lengths, declared_kept, less_kept, put_away}
 use Rattle.soundness.proofs.Steps.{no_leaf}
-use Rattle.soundness.proofs.Fixed.{plain_word, fixed_at, fixed_spot, fixed_one}
-use Rattle.soundness.proofs.Passing.{IsLaid, AreLaid, Enters}
-use Rattle.soundness.proofs.Returning.{formal_fixed}
+use Rattle.soundness.proofs.Fixed.{fixed_at, fixed_spot}
+use Rattle.soundness.proofs.Passing.{Enters}
 use Rattle.null_places.proofs.Walks.{SameTo}
 use Rattle.null_places.specs.Agrees.{Agrees}
 use Rattle.null_places.proofs.Memories.{NoneGone, words_agree, checks_agree, declared_agree, moved_agree, stored_agree, frame_agree}
@@ -98,47 +93,6 @@ module _ (s : Typing) (settled : IsSettled s.table) (own_law : OwnsByShape s.tab
         (plain_whole s settled m hands k (fixed_at s settled k fixed) (fixed_spot s settled k fixed m hands) (λ p. no_leaf s.table settled k.of fixed.scalar p)),
     moved_only s settled m hands only kept k (fixed_at s settled k fixed) (fixed_spot s settled k fixed m hands),
   )
-
-  -- words stay typed
-  moved_kept : (k : Place) → IsFixed s k → (m : Memory) → Kept s m hands → Kept s (moved_out s k m) hands
-  moved_kept k fixed m kept =
-      less_kept s settled (moved_out s k m) (record { of = k.of; words = words_of s m k }) hands
-      ((keeps s settled own_law).moved m hands k (fixed_at s settled k fixed) (fixed_spot s settled k fixed m hands) kept)
-
-  stored_kept : (k : Place) → IsFixed s k → (ws : List machine.Word) → length ws ≡ 1 → (m : Memory) → Kept s m hands → Kept s (stored s k ws m) hands
-  stored_kept k fixed ws one m kept =
-      let v : Waiting = record { of = k.of; words = ws } in
-      put_away s settled m v hands k (fixed_at s settled k fixed) (scalar s settled m v hands fixed.scalar kept) (fixed_spot s settled k fixed m (v ∷ hands))
-      (one ∙ sym (plain_word s settled k.of fixed.scalar)) (inl refl)
-
-  module _ (f : ℕ) where
-    abbrev Plain : ℕ → Type 0
-    Plain x = is_scalar (full s.table (object_at s x).of) ≡ true
-
-    declared_typed : (x : ℕ) (ws : List machine.Word) (m : Memory) → Plain x → length ws ≡ 1 → Kept s m hands → Kept s (declared f x ws m) hands
-    declared_typed x ws m plain one kept =
-        let v : Waiting = record { of = (object_at s x).of; words = ws } in
-        declared_kept s settled m f x v hands (scalar s settled m v hands plain kept) (one ∙ sym (plain_word s settled (object_at s x).of plain)) (inl refl)
-
-    one_plain : (x : ℕ) (a : Passed) → IsLaid s a → Plain x → (m : Memory) → Kept s m hands → IsWhollyPassed s a m × Kept s (with_formal s f x a m) hands
-    one_plain x (Value ws) laid plain m kept = (tt, declared_typed x ws m plain laid kept)
-    one_plain x (From k) laid plain m kept = (
-      fixed_wholly k laid m kept,
-      declared_typed x (words_of s m k) (moved_out s k m) plain (fixed_one s settled k laid m hands kept) (moved_kept k laid m kept),
-    )
-    one_plain x (To k) laid plain m kept = (
-      fixed_wholly k laid m kept,
-      declared_typed x (machine.default s.table (object_at s x).of) (moved_out s k m) plain
-          (lengths s.table (object_at s x).of ∙ plain_word s settled (object_at s x).of plain) (moved_kept k laid m kept),
-    )
-
-    pub scalars_passed : (formals : List ℕ) (passed : List Passed) → ((x : ℕ) → Has formals x → Plain x) → AreLaid s passed
-        → (m : Memory) → Kept s m hands → AreWhollyPassed s f formals passed m
-    scalars_passed [] passed plain are m kept = tt
-    scalars_passed (x ∷ formals) [] plain are m kept = tt
-    scalars_passed (x ∷ formals) (a ∷ rest) plain are m kept =
-        let first = one_plain x a are.0 (plain x (inl refl)) m kept in
-        (first.0, scalars_passed formals rest (λ y has. plain y (inr has)) are.1 (with_formal s f x a m) first.1)
 
 -- ---- the call
 
@@ -218,22 +172,6 @@ module _ (t : Turn) where
       ≡ followed_by (checked (here t) r.to.of (words_of (typing t) i.memory (variable_place (here t) r.formal)) i)
       (λ ws n. copied_back t rest (record n { memory = stored (typing t) r.to ws (moved_out (typing t) (variable_place (here t) r.formal) n.memory) }))
   back_is r rest i f x base = rw base refl
-
-  -- scalar ones
-  pub scalars_back : (settled : IsSettled (typing t).table) (own_law : OwnsByShape (typing t).table) (hands : List Waiting) (returns : List Return)
-      → ((r : Return) → Has returns r → IsCopied (typing t) r) → (m : Memory) → Kept (typing t) m hands → AreWhollyBack t returns m
-  scalars_back settled own_law hands [] copied m kept = tt
-  scalars_back settled own_law hands (r ∷ rest) copied m kept =
-      let is : IsCopied (typing t) r = copied r (inl refl) in
-      let formal : Place = variable_place (here t) r.formal in
-      let fixed : IsFixed (typing t) formal = formal_fixed t r.formal is.0 in
-      let to : IsFixed (typing t) r.to = is.1 in (
-        (to.frame, to.object, to.base),
-        fixed_wholly (typing t) settled own_law hands formal fixed m kept,
-        scalars_back settled own_law hands rest (λ q has. copied q (inr has)) (stored (typing t) r.to (words_of (typing t) m formal) (moved_out (typing t) formal m))
-            (stored_kept (typing t) settled own_law hands r.to is.1 (words_of (typing t) m formal) (fixed_one (typing t) settled formal fixed m hands kept)
-            (moved_out (typing t) formal m) (moved_kept (typing t) settled own_law hands formal fixed m kept)),
-      )
 
 module _ (t : Turn) (n : Memory) (agrees : Agrees t.state.memory n) where
   if_same : (b : Bool) (ws : List machine.Word) (i j : Now) (f g : List machine.Word → Now → Evaluated Memory) → Agrees i.memory j.memory

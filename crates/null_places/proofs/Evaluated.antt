@@ -15,7 +15,7 @@ use Rattle.flow_paths.specs.Acts.{used, acts_in}
 use Rattle.machine.specs.Words.{default, fits_type}
 use Rattle.machine.specs.Words as machine
 use Rattle.machine.specs.Memory.{Memory, Place, slots_of, moved_out, with_new_cell, live_words}
-use Rattle.machine.specs.Evaluate.{Here, Now, AsValue, part_type, parts_of, Evaluated, Done, Raises, Traps, followed_by, evaluate, steps_of, initial, checked, allocated, variable_place, walked, held_or_taken, taken, heap_words, StorageError}
+use Rattle.machine.specs.Evaluate.{Here, Now, AsValue, part_type, parts_of, Evaluated, Done, Raises, followed_by, evaluate, steps_of, initial, checked, allocated, variable_place, walked, held_or_taken, taken, heap_words, StorageError}
 use Rattle.machine.specs.Evaluate as run
 use Rattle.machine.specs.Typed.{is_record, is_array}
 use Rattle.machine.specs.States.{Waiting}

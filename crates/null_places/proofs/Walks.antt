@@ -1,7 +1,7 @@
 -- Evaluations in memories that agree, and where names lead in them.
 use Rattle.std.proofs.Common.{◌≡◌, refl, sym, subst, ℕ, Bool, true, false, List, [], ◌∷◌, if◌then◌else◌}
 use Rattle.flow_paths.specs.Objects.{Typing, designated}
-use Rattle.machine.specs.Words.{component_type, element_type, element_count}
+use Rattle.machine.specs.Words.{component_type, element_type}
 use Rattle.machine.specs.Words as machine
 use Rattle.machine.specs.Memory.{Memory, Place, cell, slots_of, words_of}
 use Rattle.machine.specs.Evaluate.{Now, Evaluated, Done, Raises, Traps, followed_by, component_place, element_place, cell_place, designated_place, stepped, walked, Touched}

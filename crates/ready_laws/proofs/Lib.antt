@@ -1,6 +1,3 @@
-pub mod Temporaries
-pub mod Moves
-pub mod Facts
 pub mod Elaborated
 pub mod Subs
 pub mod Silent

@@ -1,5 +1,5 @@
 -- What the third class says of the program as it is laid out.
-use Rattle.std.proofs.Common.{◌≡◌, refl, sym, ap, ◌∙◌, subst, ◌⊎◌, inl, inr, ℕ, zero, suc, true, false, List, [], ◌∷◌, ◌++◌, map, length, get_or, Option, Some, None, is_some}
+use Rattle.std.proofs.Common.{◌≡◌, refl, sym, ap, ◌∙◌, subst, ◌⊎◌, inl, inr, ℕ, zero, suc, true, false, List, [], ◌∷◌, ◌++◌, map, length, get_or, Some, None, is_some}
 use Rattle.std.specs.Prelude.{flat_map}
 use Rattle.std.specs.List.{AllByRecursion}
 use Rattle.spark_base.specs.Lists.{Has}
@@ -14,14 +14,14 @@ use Rattle.typed_tree.specs.Trees.{TypedTree, More}
 use Rattle.typed_tree.specs.Expressions.{sub_number}
 use Rattle.typed_tree.specs.Programs.{TypedSub, site_of, text_io, typed_program}
 use Rattle.flow_paths.specs.Instructions.{Call}
-use Rattle.flow_paths.specs.Objects.{Typing, Signature, object_at, sub_at, is_formal_kind}
+use Rattle.flow_paths.specs.Objects.{Typing, Signature, object_at, sub_at}
 use Rattle.flow_paths.specs.Points.{FlowPoint}
 use Rattle.flow_paths.specs.Laid.{Temporary, temporary_object, NamedSub, FlowSub, FlowProgram, signature, flow_typing, flow_named, flow_program}
 use Rattle.flow_paths.specs.Scopes.{is_temporary}
 use Rattle.machine.specs.States.{no_sub, sub_of}
 use Rattle.machine.specs.Owners.{is_in}
 use Rattle.machine.specs.Run.{no_point}
-use Rattle.soundness.specs.Sound.{calls_procedures, AreCopied, is_temporary_object, ArePlainResults}
+use Rattle.soundness.specs.Sound.{AreCopied, is_temporary_object, ArePlainResults}
 use Rattle.soundness.proofs.Points.{flow_table, typing_same}
 use Rattle.soundness.proofs.Temporaries.{few_temporaries}
 use Rattle.soundness.proofs.Passing.{signature_is}
@@ -30,11 +30,11 @@ use Rattle.called_subs.specs.Called.{PointCalls, CodeCalls, HaveBodies}
 use Rattle.called_subs.proofs.Main.{points_asked_at}
 use Rattle.called_subs.proofs.Statements.{IsFineSub, all_subs_fine}
 use Rattle.typed_steps.specs.Steps.{IsTypedStep, AreTyped}
-use Rattle.ready_laws.specs.InOrder.{IsSub, AreCallees, AreAnswered}
+use Rattle.ready_laws.specs.InOrder.{IsSub, AreAnswered}
 use Rattle.scope_laws.proofs.Lists.{all_has}
 use Rattle.meant_files.specs.Formless.{IsFormless}
 use Rattle.order_laws.specs.Orderly.{typed_of, typing_in, bodies_of}
-use Rattle.sound_files.specs.Class.{CallsProcedures, HasNoFunction, HasScalarFormals, CopiesToVariables, FormalsAreScalar, ResultsAreScalar, CopyToVariables}
+use Rattle.sound_files.specs.Class.{CallsProcedures, HasNoFunction, CopiesToVariables, FormalsAreScalar, ResultsAreScalar, CopyToVariables}
 use Rattle.sound_files.proofs.Temporaries.{plain_temporaries}
 use Rattle.sound_files.proofs.Formless.{subs_none}
 use Rattle.sound_files.proofs.Formals.{no_formals}
@@ -82,13 +82,6 @@ module _ (p : Program) where
 
   abbrev all_temporaries : List Temporary
   all_temporaries = flat_map temporaries_of (flow_named table (typed_of p))
-
-  pub scalar_formals : FormalsAreScalar p → HasScalarFormals flow
-  unfolding flow_program
-  scalar_formals all x is = elim (object_there (typed_of p).objects all_temporaries x) [
-    | inl same ↦ subst (λ (o : Object). is_scalar (full table o.of) ≡ true) (sym same) (all x (subst (λ (o : Object). is_formal_kind o.kind ≡ true) same is))
-    | inr (kind, mode, none) ↦ absurd (let no : false ≡ true = sym (ap is_formal_kind kind) ∙ is in cc)
-  ]
 
   mode_same : (x : ℕ) → (object_at (flow_typing flow) x).mode ≡ (object_at own x).mode
   unfolding flow_program
@@ -170,17 +163,6 @@ module _ (p : Program) where
         found.3,
         sym (ap is_some (result_there found.0 found.1 found.3)) ∙ sym (ap (λ m. is_some (sub_at (flow_typing flow) m).result) found.2) ∙ step.2,
       )
-
-  -- So it is a procedure where no call has a result.
-  pub are_callees : HaveBodies p → AreTyped flow → CallsProcedures flow → AreCallees table (typed_of p) (bodies_of p)
-  are_callees bodies typed calls sub has q there n actuals result is =
-      let found = are_answered bodies typed sub has q there n actuals result is in
-      (found.0, found.1, found.2, found.3, no_result found.1.result result found.4 (sym (ap calls_procedures is) ∙ calls sub has q there))
-    where
-      no_result : (r result : Option ℕ) → is_some r ≡ is_some result → calls_procedures (Call n actuals result) ≡ true → r ≡ None
-      no_result None result same procedure = refl
-      no_result (Some t) None same procedure = cc
-      no_result (Some t) (Some u) same procedure = cc
 
   -- ---- the other classes
 

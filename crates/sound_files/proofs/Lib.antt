@@ -2,11 +2,9 @@ pub mod Whole
 pub mod Written
 pub mod Once
 pub mod Formless
-pub mod Access
 pub mod Kinded
 pub mod Formals
 pub mod Known
-pub mod First
 pub mod Flat
 pub mod Laws
 pub mod Main
@@ -18,4 +16,3 @@ pub mod Classes
 pub mod Mains
 pub mod Functions
 pub mod Owners
-pub mod Examples

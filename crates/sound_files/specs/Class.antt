@@ -49,10 +49,6 @@ CallsProcedures program = (sub : FlowSub) → Has program.subs sub → (p : Flow
 abbrev pub HasNoFunction : Program → Type 0
 HasNoFunction p = (sub : TypedSub) → Has (bodies_of p) sub → sub.result ≡ None
 
--- Formals are of scalar types.
-abbrev pub HasScalarFormals : FlowProgram → Type 0
-HasScalarFormals program = (x : ℕ) → is_formal (flow_typing program) x ≡ true → is_scalar (full program.table (object_at (flow_typing program) x).of) ≡ true
-
 -- Actuals of modes `out` and `in out` go through no access value.
 abbrev pub CopiesToVariables : FlowProgram → Type 0
 CopiesToVariables program =

@@ -55,7 +55,7 @@ use Rattle.viewed_steps.proofs.Packages as packages
 use Rattle.viewed_steps.proofs.Innermost as innermost
 use Rattle.exact_facts.specs.Exact.{Knows}
 use Rattle.exact_facts.proofs.Frames.{after_more, after_keeps}
-use Rattle.exact_facts.proofs.Stepping.{excused_knows}
+use Rattle.exact_facts.proofs.Spots.{excused_knows}
 use Rattle.exact_facts.proofs.Spots.{leaks_same, object_same}
 use Rattle.viewed_facts.specs.Exact.{IsDefiniteBy, IsDefiniteOf, IsExact}
 use Rattle.viewed_facts.proofs.Frames.{elsewhere as moved_elsewhere, IsDefiniteHere, beside_told, apart_told}

@@ -51,7 +51,7 @@ use Rattle.viewed_soundness.proofs.Outcomes.{named_plain, not_views, IsGood, sca
 use Rattle.viewed_steps.proofs.Declared.{IsUnmoved, IsFree, stands_root, first_given}
 use Rattle.exact_facts.specs.Exact.{NoneFails, Knows}
 use Rattle.exact_facts.proofs.Steps.{IsPlaced, keeps_placed}
-use Rattle.exact_facts.proofs.Instructions.{none_made}
+use Rattle.exact_facts.proofs.Checks.{none_made}
 use Rattle.soundness.proofs.Taking.{Takes, takes_as, nothing_more}
 use Rattle.viewed_facts.specs.Exact.{IsDefinite, IsExact}
 use Rattle.viewed_facts.proofs.Steps.{named_definite, definite_variable, told_still, told_fewer, told_turned, IsOthers, of_others}

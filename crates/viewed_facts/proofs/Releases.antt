@@ -58,7 +58,7 @@ use Rattle.viewed_soundness.proofs.Outcomes.{IsGood, live}
 use Rattle.viewed_steps.proofs.Released.{free_clean, Releases}
 use Rattle.exact_facts.specs.Exact.{Knows}
 use Rattle.exact_facts.proofs.Steps.{fact_before}
-use Rattle.exact_facts.proofs.Instructions.{none_made}
+use Rattle.exact_facts.proofs.Checks.{none_made}
 use Rattle.viewed_facts.specs.Exact.{IsExact}
 use Rattle.viewed_facts.proofs.Steps.{definite_variable, variables_after, told_released, told_fewer, IsOthers, of_others}
 use Rattle.viewed_facts.proofs.Memories.{told_seen, exact_from}

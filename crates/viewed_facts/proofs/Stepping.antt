@@ -79,7 +79,7 @@ use Rattle.viewed_steps.proofs.Released.{Releases, released_on as sound_released
 use Rattle.viewed_steps.proofs.Read.{Gets, got_on as sound_got_on}
 use Rattle.viewed_steps.proofs.Rounds.{Starts, started_on as sound_started_on}
 use Rattle.exact_facts.specs.Exact.{NoneFails, Knows, checks_of}
-use Rattle.exact_facts.proofs.Instructions.{none_made}
+use Rattle.exact_facts.proofs.Checks.{none_made}
 use Rattle.viewed_facts.specs.Exact.{IsDefiniteOf, IsExact}
 use Rattle.viewed_facts.proofs.Instructions.{ExactOn, value_on, waits_exact, source_exact, declare_on, assign_on, skip_exact, then_declared, then_stored}
 use Rattle.viewed_facts.proofs.Viewing.{view_parts, view_declared_on, view_assigned_on}

@@ -1,8 +1,11 @@
 -- A move that a call makes, or its end: no fact changes, and what is gone after it is known otherwise.
-use Rattle.std.proofs.Common.{◌≡◌, refl, sym, ap, ◌∙◌, subst, ◌⊎◌, inl, inr, ℕ, Bool, List, [], ◌∷◌, ◌++◌, Some}
+use Rattle.std.proofs.Common.{◌≡◌, refl, sym, ap, ◌∙◌, subst, ◌⊎◌, inl, inr, ℕ, Bool, true, List, [], ◌∷◌, ◌++◌, Some}
 use Rattle.spark_base.specs.Lists.{Has}
 use Rattle.place_names.specs.declared.fact.Fact.{Fact}
-use Rattle.owned_ways.specs.Ways.{Step, OfVariable, OfHand, Loc, OfRoot, OfCell, Way, Object, Lost, Into, All, Gone, Held, View, Reaches, IsSame, part, along, IsRooted, Under, Past, Named, base_of, number_of}
+use Rattle.place_names.specs.declared.fact.Fact.TheVariants.{Lent}
+use Rattle.place_names.specs.declared.rule.Loan.{Loan}
+use Rattle.place_names.specs.Names.{Name as PlaceName, overlaps}
+use Rattle.owned_ways.specs.Ways.{Step, OfVariable, OfHand, Loc, OfRoot, OfCell, Way, Object, Lost, Into, All, Gone, Held, View, Reaches, IsSame, part, along, IsRooted, Under, Past, Named, base_of, number_of, name_of}
 use Rattle.owned_ways.proofs.Locations.{under_along, under_itself}
 use Rattle.owned_ways.proofs.Named.{longer}
 use Rattle.owned_ways.proofs.Moving.{Given, keeps, owned_after, covered_after, known_after}
@@ -155,6 +158,17 @@ taken_from s m depth facts scope (r ∷ rest) (to ∷ ways) (inr (one, apart, an
   ap base_of (sym same ∙ (one.0).inside.way) ∙ base_along (Object (OfVariable depth (one.0).inside.object)) (one.0).inside.steps,
 )
 taken_from s m depth facts scope (r ∷ rest) (to ∷ ways) (inr (one, apart, another, more)) k (inr has) = taken_from s m depth facts scope rest ways more k has
+
+-- nor is it lent
+pub taken_unlent : (s : Typing) (m : Memory) (depth : ℕ) (facts : List Fact) (scope : List ℕ) (returns : List Return) (ways : List Way)
+    → AreTaken s m depth facts scope returns ways → (k : Way) → Has ways k → (l : Loan) (h : ℕ) (n : PlaceName) → Has facts (Lent l h n) → overlaps n (name_of k) ≡ true → ⊥
+taken_unlent s m depth facts scope [] ways none k has l h n lent over = absurd (subst (λ z. Has z k) none has)
+taken_unlent s m depth facts scope (r ∷ rest) [] taken k has l h n lent over = absurd has
+taken_unlent s m depth facts scope (r ∷ rest) (to ∷ ways) (inl copied) k has l h n lent over = taken_unlent s m depth facts scope rest (to ∷ ways) copied.1 k has l h n lent over
+taken_unlent s m depth facts scope (r ∷ rest) (to ∷ ways) (inr (one, apart, another, more)) k (inl same) l h n lent over =
+    (one.0).unlent l h n lent (subst (λ z. overlaps n (name_of z) ≡ true) (sym same) over)
+taken_unlent s m depth facts scope (r ∷ rest) (to ∷ ways) (inr (one, apart, another, more)) k (inr has) l h n lent over =
+    taken_unlent s m depth facts scope rest ways more k has l h n lent over
 
 pub taken_base : (ways : List Way) (depth : ℕ) → ((k : Way) → Has ways k → (y : ℕ) × (base_of k ≡ OfRoot (OfVariable depth y))) → (w : Way) → TakenBy ways w
     → (y : ℕ) × (base_of w ≡ OfRoot (OfVariable depth y))

@@ -6,7 +6,7 @@ use Rattle.spark_base.proofs.Lists.{Has-map_from, Has-append_left}
 use Rattle.std.proofs.Common.{◌≡◌, refl, sym, ap, ◌∙◌, subst, ◌⊎◌, inl, inr, ℕ, suc, ◌<◌, true, false, ◌==◌, List, [], ◌∷◌, ◌++◌, map, take, drop, length, get_or, arith, Option, Some, None, if◌then◌else◌, is_some, Bool, not, ◌||◌, flat_map, append-nil, ◌&&◌}
 use Rattle.std.specs.Prelude.{is_some}
 use Rattle.spark_base.specs.Lists.{Has}
-use Rattle.spark_base.proofs.Lists.{Has-map_from}
+use Rattle.spark_base.proofs.Lists.{Has-append_cases, Has-map_from}
 use Rattle.place_names.specs.declared.act.Act.{Act}
 use Rattle.place_names.specs.declared.act.Act.TheVariants as act
 use Rattle.place_names.specs.declared.act.Placed.{Placed}
@@ -53,7 +53,7 @@ use Rattle.soundness.proofs.Numbers.{index_law}
 use Rattle.soundness.proofs.Lasting.{keeps}
 use Rattle.soundness.proofs.Passing.{AreReads, reads_keep, entered, TakesAll, takes_each, signature_is}
 use Rattle.soundness.proofs.Scalars.{acts, acts_append, after_append, allows_both}
-use Rattle.soundness.proofs.Points.{sub_in_range, path_there}
+use Rattle.soundness.proofs.Points.{sub_in_range, path_there, one_named, one_point}
 use Rattle.soundness.proofs.Inherited.{AreGlobal, global_after, global_allowed, global_apart}
 use Rattle.soundness.proofs.Used.{called_used, used_global, called_are, globals_are, added_after}
 use Rattle.soundness.proofs.Around.{IsFar}
@@ -61,7 +61,6 @@ use Rattle.soundness.proofs.Waits.{led_waits}
 use Rattle.soundness.proofs.Taking.{Takes}
 use Rattle.soundness.proofs.Eased.{eased}
 use Rattle.soundness.proofs.Scoped.{Inside}
-use Rattle.soundness.proofs.Beginning.{one_named, one_point}
 use Rattle.soundness.proofs.Successors.{below_one, successor_there}
 use Rattle.owned_loans.specs.Views.{expand, Around, known_gone, Views, IsMovedBy, ExcusedBy, AreClear as FactsAreClear, IsForeign, AreViews, Viewed}
 use Rattle.owned_loans.proofs.Meeting.{stands}
@@ -72,9 +71,10 @@ use Rattle.viewed_soundness.proofs.Evaluated.{live_trunk}
 use Rattle.soundness.specs.Ready.{IsSupplied, Fills}
 use Rattle.viewed_steps.specs.Awaited.{AreValuesBut, temporaries_of, lasting_of, awaited, WaitsAt, AreAwaited, AreScalar, FillsTyped, TakesScalars, IsTakenBy}
 use Rattle.viewed_steps.proofs.Waited.{late_scope, within_lasting, lasting_more, Shares, plain_unheld}
-use Rattle.viewed_steps.specs.Sound.{IsCopiedBack, IsShown, ArePast, AreUnmet, HoldsAt, ArePlaced, NoneAbove, ViewStage, stages_of, GoneElsewhere, Disturbs, IsWaiting, AreWaiting, calls_one, LeadsAlong, IsResting, IsKindOfFormal, IsScalarObject, AreReturned}
+use Rattle.viewed_steps.specs.Sound.{IsCopiedBack, IsShown, ArePast, AreUnmet, HoldsAt, ArePlaced, NoneAbove, ViewStage, stages_of, GoneElsewhere, Disturbs, IsWaiting, AreWaiting, calls_one, LeadsAlong, IsResting, IsKindOfFormal, IsScalarObject, AreReturned, withheld}
 use Rattle.viewed_steps.specs.Ready.{IsReady, roots_passed, IsCalled}
 use Rattle.viewed_steps.specs.Taken.{TakenBy, AreTaken, AreCarried}
+use Rattle.viewed_steps.proofs.Apart.{moved_same}
 use Rattle.viewed_steps.proofs.Lent.{Spare, spare_both, loans_stay}
 use Rattle.viewed_steps.proofs.Placed.{within_on, lasts_more, scope_on, placed_on}
 use Rattle.viewed_steps.proofs.Ended.{none_some}
@@ -82,7 +82,7 @@ use Rattle.viewed_steps.proofs.Waiting.{StandsBetween, gone_low, kept_low, besid
 use Rattle.viewed_steps.proofs.Between.{same_reaches, gone_also, more_gone, base_along, base_under, same_variable, not_named}
 use Rattle.viewed_steps.proofs.Called.{AreGiven, AreLaidOut, outs_of, all_laid_out, all_given, all_acted, values_are_read, call_adds_none, passes_to, spare_reads, spare_copies}
 use Rattle.viewed_steps.proofs.Outs.{Out, IsUnderOne, found_in}
-use Rattle.viewed_steps.proofs.Entered.{ArePassedOn, IsOpen, AreBlank, not_above, passed_base, outs_taken}
+use Rattle.viewed_steps.proofs.Entered.{ArePassedOn, IsOpen, AreBlank, not_above, passed_base, outs_taken, passed_own}
 use Rattle.viewed_steps.proofs.Entering.{none_emptied, none_taken_same, owns_there, AreDeclared, Enter, formals_of_returns, all_declared}
 use Rattle.viewed_steps.proofs.Passed.{passed_formal, IsNamedBy, apart_or_plain, all_passed_on, found_there, all_returned, call_goes}
 use Rattle.viewed_steps.proofs.Standing.{or_right}
@@ -491,6 +491,7 @@ module _ (table : Table) (typed : TypedProgram) (effects : Effects) (input : Lis
           placed_on program depth facts_called views (scope_behind p) (at_successor.0).scope holds.only at_successor.2
           (λ x w has. (let own_place = placed_left own_facts placed_own x w has in record {
             within = more x own_place.within;
+            plain = own_place.plain;
             up = λ up_named. lasts_more program left_scope (scope_behind p) (ways.number_of (views.up x)) x more (own_place.up up_named);
             root = λ at_home. lasts_more program left_scope (scope_behind p) (ways.number_of w) x more (own_place.root at_home);
             holder = λ up_named sees. (let h = own_place.holder up_named sees in
@@ -715,6 +716,19 @@ module _ (table : Table) (typed : TypedProgram) (effects : Effects) (input : Lis
           | inr shown ↦ absurd (not_up x shown.0)
         ]
 
+        -- what is moved or taken of package objects isn't used
+        kept_unused : (name : PlaceName) → Has (withheld program effects (waits_with all_passed_ways.0)) (Moved name) → is_package_object s name.root ≡ true
+            → Uses effects n name.root → ⊥
+        kept_unused name has shared uses =
+            elim (Has-append_cases (facts_of program effects (waits_with all_passed_ways.0)) (map (λ (to : Way). Moved (ways.name_of to)) ways_taken) (Moved name) has) [
+              | inl fact ↦ spared_then name (subst (λ z. Has z (Moved name)) facts_there fact) shared uses
+              | inr taken ↦ (
+                  let from = Has-map_from (λ (to : Way). Moved (ways.name_of to)) ways_taken (Moved name) taken in
+                  true_false (is_package_object s name.root) shared
+                  (subst (λ (z : PlaceName). is_package_object s z.root ≡ false) (moved_same (ways.name_of from.0) name from.2)
+                  (passed_own s state.memory depth facts_called next_there formals passed ways_taken outs all_passed_ways.1 from.0 from.1)))
+            ]
+
         is_waiting : IsWaiting table typed effects after_call n (returns_of formals passed) waits_there
         is_waiting = record {
           runs = running.0;
@@ -732,7 +746,8 @@ module _ (table : Table) (typed : TypedProgram) (effects : Effects) (input : Lis
             | inr mine ↦ mine.1
           ];
           lends = lends_there;
-          unmoved = λ name has shared uses. spared_then name (subst (λ z. Has z (Moved name)) facts_there has) shared uses;
+          unmoved = λ name has shared uses. kept_unused name has shared uses;
+          written = λ to has shared. absurd (true_false (is_package_object s (ways.number_of to)) shared (passed_own s state.memory depth facts_called next_there formals passed ways_taken outs all_passed_ways.1 to has));
           uses = λ x uses. called_used program effects ready.accepted.effects_are top.frame.sub (flow_sub own named) sub_at_all sub_less n callee_less
               main_turn.point (standing.in_sub table typed effects input ready state top older outer named p frames of_sub at_point) actuals result e x uses;
           writes = λ x written. called_writes program effects ready.accepted.effects_are top.frame.sub (flow_sub own named) sub_at_all sub_less n callee_less
@@ -848,14 +863,7 @@ module _ (table : Table) (typed : TypedProgram) (effects : Effects) (input : Lis
         -- what is gone for the caller and the frames around it is excused by its facts before the call
         excused_called : all_passed_ways.0 ≡ [] → (z : Way) → GoneElsewhere program effects (waits_there ∷ older) z → ExcusedBy (home s depth) views other facts_now z
         excused_called none z (g, inr has, what) =
-            elsewhere_excused table typed effects unmoved_stage local state depth older between views own_facts no_package_view z (g, has, what)
-          where
-            no_package_view : (x : ℕ) → is_package_object s x ≡ true → views.way x ≡ None
-            no_package_view x shared = by_way (views.way x) refl
-              where
-                by_way : (o : Option Way) → views.way x ≡ o → views.way x ≡ None
-                by_way None is = is
-                by_way (Some w) is = absurd (true_false (is_package_object s x) shared (local x (holds.only x w is)))
+            elsewhere_excused table typed effects unmoved_stage local state depth older between views own_facts z (g, has, what)
         excused_called none z (g, inl same, what) = elim (subst (λ (y : ViewStage). IsMovedBy (home s y.stage.depth) y.views (facts_of program effects y.stage) z ⊎ TakenBy y.stage.returns z) (sym same) what) [
           | inr taken ↦ absurd (subst (λ ks. Has ks taken.0) none taken.1)
           | inl (u, moved, leads) ↦ inl (inl (

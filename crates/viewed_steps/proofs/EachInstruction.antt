@@ -18,7 +18,7 @@ use Rattle.typed_tree.specs.Trees.{TypedTree, TypedCode, Name, NoMore, More}
 use Rattle.typed_tree.specs.Programs.{TypedProgram}
 use Rattle.flow_paths.specs.declared.report.Effects.{Effects}
 use Rattle.flow_paths.specs.Instructions.{Instruction, Skip, Declare, Assign, Call, Output, Input, Release, Test, Choose, Start, Next, Evaluate, LeaveLoop, Hold, EndScope, Finish, Fall}
-use Rattle.flow_paths.specs.Objects.{Typing, object_at, is_anonymous, is_package_object, is_observer, view_of, has_scope_end}
+use Rattle.flow_paths.specs.Objects.{Typing, object_at, is_anonymous, is_package_object, is_observer, view_of, has_scope_end, is_variable}
 use Rattle.flow_paths.specs.Names.{has_call, waiting as waits_in, name_of}
 use Rattle.flow_paths.specs.Acts as flow
 use Rattle.flow_paths.specs.Acts.{acts_in}
@@ -158,8 +158,8 @@ module _ (table : Table) (typed : TypedProgram) (effects : Effects) (input : Lis
     abbrev placed : ArePlaced program (suc (length rest)) facts_now views p.scope
     placed = innermost.placed table typed effects input ready state top below more_frames rest named p frames deep stages running awaiting of_sub at_point path views viewed_before kept scope holds placed_before above
 
-    abbrev not_at_home : (x : ℕ) (name : PlaceName) → Has handed_on (Moved name) → name.root ≡ x → depth ≡ home s depth x → ⊥
-    not_at_home = innermost.not_at_home table typed effects input ready state top below more_frames rest named p frames deep stages running awaiting of_sub at_point path views viewed_before kept scope holds placed_before above
+    abbrev not_handed : (name : PlaceName) → Has handed_on (Moved name) → ⊥
+    not_handed = innermost.not_handed table typed effects input ready state top below more_frames rest named p frames deep stages running awaiting of_sub at_point path views viewed_before kept scope holds placed_before above
 
     abbrev none_takes : (i : Instruction) → p.instr ≡ i → taken i ≡ 0 → taken main_turn.point.instr ≡ 0
     none_takes = innermost.none_takes table typed effects input ready state top below more_frames rest named p frames deep stages running awaiting of_sub at_point path views viewed_before kept scope holds placed_before above
@@ -246,8 +246,8 @@ module _ (table : Table) (typed : TypedProgram) (effects : Effects) (input : Lis
     abbrev new_one : (x : ℕ) → is_temporary_object s x ≡ false → is_within x (lasting_of s (x ∷ left_scope)) ≡ true
     new_one = innermost.new_one table typed effects input ready state top below more_frames rest named p frames deep stages running awaiting of_sub at_point path views viewed_before kept scope holds placed_before above
 
-    abbrev view_stays : (x : ℕ) → is_view s x ≡ true → is_held s x ≡ false
-    view_stays = innermost.view_stays table typed effects input ready state top below more_frames rest named p frames deep stages running awaiting of_sub at_point path views viewed_before kept scope holds placed_before above
+    abbrev variable_stays : (x : ℕ) → is_variable (object_at s x).kind ≡ true → is_held s x ≡ false
+    variable_stays = innermost.variable_stays table typed effects input ready state top below more_frames rest named p frames deep stages running awaiting of_sub at_point path views viewed_before kept scope holds placed_before above
 
     abbrev supplied_here : IsSupplied s p
     supplied_here = innermost.supplied_here table typed effects input ready state top below more_frames rest named p frames deep stages running awaiting of_sub at_point path views viewed_before kept scope holds placed_before above
@@ -367,7 +367,7 @@ module _ (table : Table) (typed : TypedProgram) (effects : Effects) (input : Lis
       unused x v e mine = record {
         unmoved = λ name has root. elim (from_both (Moved name) has) [
           | inl mine_fact ↦ packages.new_before table typed effects input ready state top older outer named p frames of_sub at_point path x v e name mine_fact root
-          | inr there ↦ (innermost.not_handed table typed effects input ready state top below more_frames rest named p frames deep stages running awaiting of_sub at_point path views viewed_before kept scope holds placed_before above) name there (ap (is_package_object s) root ∙ mine)
+          | inr there ↦ not_handed name there
         ];
         unlent = (innermost.not_lent table typed effects input ready state top below more_frames rest named p frames deep stages running awaiting of_sub at_point path views viewed_before kept scope holds placed_before above) x mine;
         untaken = λ z w has named_there off root. unrooted x v e (number_of (views.up z)) z mine ((placed z w has).up named_there) root;
@@ -376,7 +376,7 @@ module _ (table : Table) (typed : TypedProgram) (effects : Effects) (input : Lis
       pub unmoved_now : (x : ℕ) (v : TypedTree) → p.instr ≡ Declare x v → (name : PlaceName) → Has facts_now (Moved name) → name.root ≡ x → depth ≡ home s depth x → ⊥
       unmoved_now x v e name has root at_home = elim (from_both (Moved name) has) [
         | inl mine ↦ packages.new_before table typed effects input ready state top older outer named p frames of_sub at_point path x v e name mine root
-        | inr there ↦ not_at_home x name there root at_home
+        | inr there ↦ absurd (not_handed name there)
       ]
 
       pub blank : (x : ℕ) (v : TypedTree) → p.instr ≡ Declare x v → (q : List Step) (w : ways.Word)
@@ -412,7 +412,7 @@ module _ (table : Table) (typed : TypedProgram) (effects : Effects) (input : Lis
       after_it x v e name has root at_home = elim (after_splits (acts_of_main (Declare x v)) facts_now own_facts handed_on from_both (Moved name) has) [
         | inl mine ↦ packages.new_after table typed effects input ready state top older outer named p frames of_sub at_point path x v e no_calls name
             (subst (λ i. Has (after (acts_of_main i) own_facts) (Moved name)) (sym e) mine) root
-        | inr there ↦ not_at_home x name there root at_home
+        | inr there ↦ absurd (not_handed name there)
       ]
 
       declares : Plainly → (x : ℕ) (v : TypedTree) (e : p.instr ≡ Declare x v) → FirstSource s (object_at s x).of v
@@ -433,8 +433,8 @@ module _ (table : Table) (typed : TypedProgram) (effects : Effects) (input : Lis
               declared_main (Declare x v) x v (subst (λ z. LeadsFrom (Declare x v) (Declared x z easy)) (sym here_is)
               (subst (λ z. Leads_on easy ready.accepted.settled ready.owns other alone views ready.class.parts_named may refl refl (after (acts_of_main (Declare x z)) facts_now) (Declared x (More (Name q y source u) NoMore) easy)) (sym here_is)
               (view_declared easy ready.accepted.settled ready.owns other alone in_formals views ready.class.parts_named may refl refl given_words
-              q x y u source view (ready.orderly.local x view).0 (home_frame x (local x (anonymous_view s x view))) text_there.1 takes
-              older_there (record { lasts = lasts_behind y x lasts; within = in_behind; view = view; plain = view_stays x (anonymous_view s x view) }, inl (v, e)) facts_now (good plain.0) (unused x v e (local x (anonymous_view s x view)))
+              q x y u source view (orderly.variables x (inl (inl (v, e))) view) (home_frame x (local x (anonymous_view s x view))) text_there.1 takes
+              older_there (record { lasts = lasts_behind y x lasts; within = in_behind; view = view; plain = variable_stays x (orderly.variables x (inl (inl (v, e))) view) }, inl (v, e)) facts_now (good plain.0) (unused x v e (local x (anonymous_view s x view)))
               (subst (λ z. AllowsAll facts_now (acts_of_main (Declare x z))) here_is allowed_there))))
 
           by_view : (b : Bool) → is_anonymous (view_of s x) ≡ b → LeadsFrom (Declare x v) (turn main_turn (Declare x v))
@@ -477,8 +477,8 @@ module _ (table : Table) (typed : TypedProgram) (effects : Effects) (input : Lis
                 (stored_there (Assign (Name q x steps u) e) is x (inl refl)) (with_successors (Assign (Name q x steps u) e) 0 is below_one),
           )
         where
-          itself_lasts : is_anonymous (view_of s x) ≡ true → is_within x (scope_behind p) ≡ true → Lasts program (scope_behind p) x x
-          itself_lasts view within = inr (within, view_ends s x (anonymous_view s x view), ready.orderly.itself _, view_stays x (anonymous_view s x view))
+          itself_lasts : is_anonymous (view_of s x) ≡ true → is_held s x ≡ false → is_within x (scope_behind p) ≡ true → Lasts program (scope_behind p) x x
+          itself_lasts view plain within = inr (within, view_ends s x (anonymous_view s x view), ready.orderly.itself _, plain)
 
           within_now : is_anonymous (view_of s x) ≡ true → is_within x (scope_behind p) ≡ true
           within_now view = elim (stored_which (Assign (Name q x steps u) e) is x (inl refl)) [
@@ -497,15 +497,16 @@ module _ (table : Table) (typed : TypedProgram) (effects : Effects) (input : Lis
                   → (is_observer s x ≡ false → y ≡ x) → Goal (Name q x NoMore (object_at s x).of) e
               from_name r y w rest here_is lasts itself =
                   let of : ℕ = (object_at s x).of in
+                  let variable_here : is_variable (object_at s x).kind ≡ true = orderly.variables x (inl (inr (q, of, e, instr_is))) view in
                   let from : may x y = (
                     record {
                       lasts = elim (bool_cases (is_observer s x)) [
                         | inl sees ↦ lasts_behind y x (lasts sees)
-                        | inr borrows ↦ subst (λ z. Lasts program (scope_behind p) z x) (sym (itself borrows)) (itself_lasts view (within_now view))
+                        | inr borrows ↦ subst (λ z. Lasts program (scope_behind p) z x) (sym (itself borrows)) (itself_lasts view (variable_stays x variable_here) (within_now view))
                       ];
                       within = within_now view;
                       view = view;
-                      plain = view_stays x (anonymous_view s x view);
+                      plain = variable_stays x variable_here;
                     },
                     inr (q, (object_at s x).of, e, instr_is),
                   ) in
@@ -515,7 +516,7 @@ module _ (table : Table) (typed : TypedProgram) (effects : Effects) (input : Lis
                   subst (λ z. Goal (Name q x NoMore of) z) (sym here_is)
                   (assigned_main (Assign (Name q x NoMore of) (Name r y rest w)) (Name q x NoMore of) of (Name r y rest w)
                   (view_assigned easy ready.accepted.settled ready.owns other alone in_formals views ready.class.parts_named may refl refl given_words
-                  p.pos q r x y w rest view (ready.orderly.local x view).0 (home_frame x (local x (anonymous_view s x view))) (subst (Source s of) here_is source) takes itself from facts_now (good plain.0)
+                  p.pos q r x y w rest view variable_here (home_frame x (local x (anonymous_view s x view))) (subst (Source s of) here_is source) takes itself from facts_now (good plain.0)
                   (subst (λ z. AllowsAll facts_now (acts_of_main (Assign (Name q x NoMore of) z))) here_is allowed_here)))
 
           by_view : Source s u e → (b : Bool) → is_anonymous (full s.table u) ≡ b → Goal (Name q x steps u) e
@@ -760,7 +761,7 @@ module _ (table : Table) (typed : TypedProgram) (effects : Effects) (input : Lis
           → (x : ℕ) (w : Way) → turned_views.way x ≡ Some w → is_given s x ≡ true → ways.Named (home s depth) (turned_views.up x) → ⊥
       passed_then turned_views facts turned x w has formal taken_up = elim (turned x w has) [
         | inl old ↦ holds.passed x w (sym old.way ∙ has) formal (subst (ways.Named (home s depth)) old.up taken_up)
-        | inr (y, from, comes) ↦ true_false (is_given s x) formal (own_there s x (ready.orderly.local x (from.0).view).0)
+        | inr (y, from, comes) ↦ true_false (is_given s x) formal (own_there s x (orderly.variables x (inl from.1) (from.0).view))
       ]
 
       pub goes_there : sparing → (p.instr ≡ Finish → ⊥) → returns_value p.instr ≡ false → (after_step : State) (waits : List Waiting) (loops : List Loop) (k : ℕ)

@@ -84,8 +84,7 @@ module _ (t : Turn) (settled : IsSettled (typing t).table) (own_law : OwnsByShap
     (frames : t.state.frames ≡ t.frame ∷ t.outer) (none : taken t.point.instr ≡ 0)
     (p q : NamedPoint) (y : ℕ) (is : p.instr ≡ EndScope y) (mine : home (typing t) (length t.outer) y ≡ length t.outer)
     (not_shared : is_package_object (typing t) y ≡ false) (owner : is_view_formal (typing t) y ≡ false) (last : is_last y p.scope ≡ true)
-    (local : (x : ℕ) → is_anonymous (view_of (typing t) x) ≡ true
-    → (is_variable (object_at (typing t) x).kind ≡ true) × (is_package_object (typing t) x ≡ false))
+    (variable : is_anonymous (view_of (typing t) y) ≡ true → is_variable (object_at (typing t) y).kind ≡ true)
     (ended : (x : ℕ) → is_within x p.scope ≡ true → (x ≡ y → ⊥)
     → (x < y) × (encloses t.program.scopes (scope_of (typing t) y) (scope_of (typing t) x) ≡ true → scope_of (typing t) x ≡ scope_of (typing t) y))
     (followed : (x : ℕ) → is_within x q.scope ≡ true → is_observer (typing t) x ≡ true → scope_of (typing t) x ≡ scope_of (typing t) y
@@ -212,7 +211,7 @@ module _ (t : Turn) (settled : IsSettled (typing t).table) (own_law : OwnsByShap
       by_kind true e view = (left, without_it (no_way v fades y (both_true (is_observer s y) (scope_of s y == scope_of s y) e (eq-eqb (scope_of s y) (scope_of s y) refl))))
       by_kind false e view = (
         with_view left y None (left.loan y) (left.up y) 0,
-        without_borrower (view_kinds (is_variable (object_at s y).kind) (is_borrowing (view_of s y)) (is_observing (view_of s y)) view (local y view).0 e) e,
+        without_borrower (view_kinds (is_variable (object_at s y).kind) (is_borrowing (view_of s y)) (is_observing (view_of s y)) view (variable view) e) e,
       )
 
       by_view : (b : Bool) → is_anonymous (view_of s y) ≡ b → (views : Views) × Leaves_views views
@@ -275,6 +274,7 @@ module _ (t : Turn) (settled : IsSettled (typing t).table) (own_law : OwnsByShap
       let place = placed x w old.2 in
       record {
         within = within_on s (drop 1 p.scope) q.scope x leads (view_ends s x (holds.only x w old.2)) (rest_within x y p.scope last place.within old.0);
+        plain = place.plain;
         up = λ named. (
             let taken = subst (Named Home) (leaves.1.ups x old.0) named in
             subst (λ z. Lasts t.program q.scope (number_of z) x) (sym (leaves.1.ups x old.0))

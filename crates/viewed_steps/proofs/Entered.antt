@@ -142,6 +142,18 @@ passed_base s m depth facts scope (x ∷ formals) (a ∷ passed) (to ∷ ways) o
 passed_base s m depth facts scope (x ∷ formals) (a ∷ passed) (to ∷ ways) outs (inr (place, later, how, one, apart, differ, more)) k (inr has) =
     passed_base s m depth facts scope formals passed ways later more k has
 
+-- they belong to no package
+pub passed_own : (s : Typing) (m : Memory) (depth : ℕ) (facts : List Fact) (scope : List ℕ) (formals : List ℕ) (passed : List Passed) (ways : List Way) (outs : List Out)
+    → ArePassedOn s m depth facts scope formals passed ways outs → (k : Way) → Has ways k → is_package_object s (number_of k) ≡ false
+passed_own s m depth facts scope [] passed ways outs none k has = absurd (subst (λ z. Has z k) none.0 has)
+passed_own s m depth facts scope (x ∷ formals) [] ways outs none k has = absurd (subst (λ z. Has z k) none.0 has)
+passed_own s m depth facts scope (x ∷ formals) (a ∷ passed) [] outs are k has = absurd has
+passed_own s m depth facts scope (x ∷ formals) (a ∷ passed) (to ∷ ways) outs (inl are) k has = passed_own s m depth facts scope formals passed (to ∷ ways) outs are.1 k has
+passed_own s m depth facts scope (x ∷ formals) (a ∷ passed) (to ∷ ways) outs (inr (place, later, how, one, apart, differ, more)) k (inl same) =
+    ap (is_package_object s) (ap number_of (sym same ∙ one.inside.way) ∙ number_part (Object (OfVariable depth one.inside.object)) one.inside.steps) ∙ one.inside.own
+passed_own s m depth facts scope (x ∷ formals) (a ∷ passed) (to ∷ ways) outs (inr (place, later, how, one, apart, differ, more)) k (inr has) =
+    passed_own s m depth facts scope formals passed ways later more k has
+
 -- what is emptied is among them
 pub outs_taken : (s : Typing) (m : Memory) (depth : ℕ) (facts : List Fact) (scope : List ℕ) (formals : List ℕ) (passed : List Passed) (ways : List Way) (outs : List Out)
     → ArePassedOn s m depth facts scope formals passed ways outs → (o : Out) → Has outs o → Has ways o.way

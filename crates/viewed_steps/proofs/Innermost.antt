@@ -14,13 +14,14 @@ use Rattle.place_names.specs.declared.fact.Fact.{Fact}
 use Rattle.place_names.specs.declared.fact.Fact.TheVariants.{Moved, Lent}
 use Rattle.place_names.specs.declared.rule.Loan.{Loan}
 use Rattle.place_names.specs.declared.rule.Loan.TheVariants.{Borrowed, Observed}
-use Rattle.place_names.specs.Names.{Name as PlaceName}
+use Rattle.place_names.specs.Names.{Name as PlaceName, overlaps}
+use Rattle.place_names.specs.Facts.{place}
 use Rattle.type_definitions.specs.Types.{Table, full, is_owning}
 use Rattle.typed_tree.specs.Trees.{Call as CallIn, TypedTree}
 use Rattle.typed_tree.specs.Programs.{TypedProgram}
 use Rattle.flow_paths.specs.declared.report.Effects.{Effects}
 use Rattle.flow_paths.specs.Instructions.{Instruction, EndScope}
-use Rattle.flow_paths.specs.Objects.{Typing, traverses, object_at, is_anonymous, is_package_object, is_variable, is_borrower, is_observer, is_borrowing, is_observing, has_scope_end, is_formal_kind, view_of}
+use Rattle.flow_paths.specs.Objects.{Typing, traverses, object_at, is_anonymous, is_package_object, is_variable, is_borrower, is_observer, is_borrowing, is_observing, has_scope_end, view_of}
 use Rattle.flow_paths.specs.Points.{NamedPoint, FlowPoint}
 use Rattle.flow_paths.specs.Laid.{FlowSub, FlowProgram, NamedSub, number_in, flow_sub, typing_of, flow_typing, flow_program, flow_named}
 use Rattle.flow_paths.specs.Paths.{ControlPath}
@@ -34,7 +35,7 @@ use Rattle.machine.specs.States.{Waiting, Frame, State, sub_of}
 use Rattle.machine.specs.Step.{Turn, start}
 use Rattle.machine.specs.Step as steps
 use Rattle.machine.specs.Typed.{successors}
-use Rattle.machine.specs.Owners.{WellOwned, is_in, waiting_in}
+use Rattle.machine.specs.Owners.{WellOwned, waiting_in}
 use Rattle.owned_ways.specs.Ways.{Step, OfVariable, OfRoot, Way, Held, after, AllowsAll, number_of}
 use Rattle.owned_ways.specs.Ways as ways
 use Rattle.soundness.specs.Seen.{IsNear, content, word_in, home}
@@ -60,16 +61,16 @@ use Rattle.viewed_steps.proofs.Waited.{plain_unheld, ended_held, lasting_within,
 use Rattle.viewed_steps.specs.Sound.{ArePast, HoldsAt, ArePlaced, NoneAbove, Lasts, ViewStage, stages_of, GoneElsewhere, Disturbs, AreWaiting, LeadsOn, IsResting}
 use Rattle.viewed_steps.specs.Ready.{AreOrderly, IsReady}
 use Rattle.viewed_steps.proofs.Lent.{ends, Spare, spare_has}
-use Rattle.viewed_steps.proofs.Inherited.{after_more, apart_act, lending_uses, apart_borrowed, apart_seen}
+use Rattle.viewed_steps.proofs.Inherited.{after_more, lending_uses, apart_borrowed, apart_seen}
 use Rattle.viewed_steps.proofs.Beside.{OthersKept, faint_held}
-use Rattle.viewed_steps.proofs.Waiting.{StandsBetween, all_between, KeptElsewhere, LentElsewhere, unused_there, beside_them, handed, handed_cases, moved_handed, lent_handed, AreApart, with_them, without_them, far, all_on}
+use Rattle.viewed_steps.proofs.Waiting.{StandsBetween, all_between, KeptElsewhere, LentElsewhere, unused_there, beside_them, handed, handed_lent, none_moved, lent_handed, AreApart, with_them, without_them, far, all_on}
 use Rattle.viewed_steps.proofs.Uses.{writes_there, borrowing_writes, moving_writes}
-use Rattle.viewed_steps.proofs.Apart.{spared_there, written_disturbs, moved_apart, seen_apart}
+use Rattle.viewed_steps.proofs.Apart.{kept_there, held_apart, written_disturbs}
 use Rattle.viewed_steps.proofs.Eased.{eased_viewed}
 use Rattle.viewed_steps.proofs.Standing.{or_right}
 use Rattle.viewed_steps.proofs.Standing as standing
 use Rattle.viewed_steps.proofs.Packages as packages
-use Rattle.viewed_steps.proofs.Views.{view_cases, anonymous_view, view_ends}
+use Rattle.viewed_steps.proofs.Views.{anonymous_view, view_ends}
 use Rattle.viewed_soundness.proofs.Names.{borrower_sees}
 
 unless : (b : Bool) → (b ≡ true → ⊥) → b ≡ false
@@ -170,21 +171,15 @@ module _ (table : Table) (typed : TypedProgram) (effects : Effects) (input : Lis
     pub sub_less : top.frame.sub < length program.subs
     sub_less = sub_in_range table typed top.frame.sub named of_sub
 
-    -- none that a frame around has moved
-    pub unused_here : (name : PlaceName) → Has handed_on (Moved name) → (is_package_object s name.root ≡ true) × (Uses effects top.frame.sub name.root → ⊥)
-    unused_here name has =
-        let found = moved_handed table typed effects unmoved_stage local state (suc (length rest)) (below ∷ more_frames) between name has in (
-          found.3,
-          λ uses. unused_there table typed effects unmoved_stage local state top.frame.sub top.frame.returns older running.2 found.0 found.1 name found.2 found.3 uses,
-        )
-
     abbrev pub LentAround : Loan → PlaceName → Type 0
     LentAround l name = LentElsewhere table typed effects unmoved_stage local (below ∷ more_frames) l name
 
-    -- and it disturbs none that one has lent
+    -- it disturbs none of what they keep
     pub spared_here : (l : Loan) (name : PlaceName) → LentAround l name → Disturbs effects l top.frame.sub name.root → ⊥
-    spared_here l name (g, has, some, h, fact, shared_object) disturbs =
-        spared_there table typed effects ready.accepted.effects_are state top.frame.sub top.frame.returns older running.2 g has some l h name fact shared_object disturbs
+    spared_here l name (g, has, some, f, there, shared, kind, is) disturbs =
+        kept_there table typed effects ready.accepted.effects_are (unused_there table typed effects unmoved_stage local) state top.frame.sub top.frame.returns older running.2 g has some f there
+        (ap (λ (z : PlaceName). is_package_object s z.root) is ∙ shared)
+        (subst (λ z. Disturbs effects z top.frame.sub (place f).root) (sym kind) (subst (λ (z : PlaceName). Disturbs effects l top.frame.sub z.root) (sym is) disturbs))
 
     pub act_uses : (x : ℕ) → is_package_object s x ≡ true → (q : FlowPoint) → Has (flow_sub own named).points q → (a : Placed) → Has q.acts a
         → (act_writes x a.act ≡ true) ⊎ (act_reads x a.act ≡ true) → Uses effects top.frame.sub x
@@ -217,16 +212,10 @@ module _ (table : Table) (typed : TypedProgram) (effects : Effects) (input : Lis
     -- so they meet none of what is handed on
     pub apart : AreApart table typed effects unmoved_stage local state (suc (length rest)) (below ∷ more_frames) between own_facts
     apart = record {
-      moved = λ n has l m (k, there, some, h, fact, shared) over. (
-          let found = moved_handed table typed effects unmoved_stage local state (suc (length rest)) (below ∷ more_frames) between n has in
-          moved_apart table typed effects ready.accepted.effects_are unmoved_stage (unused_there table typed effects unmoved_stage local) state top.frame.sub top.frame.returns older running.2
-          found.0 k found.1 there some n found.2 found.3 l h m fact over);
-      seen = λ n m (g, has, deep_there, b, lends, shared) (k, there, some, h, fact, also) over.
-          seen_apart table typed effects ready.accepted.effects_are unmoved_stage (unused_there table typed effects unmoved_stage local) state top.frame.sub top.frame.returns older running.2
-          g k has there deep_there some b n lends shared h m fact over;
-      own_lent = λ n has l h m lends root. (
-          let found = unused_here n has in
-          found.1 (subst (Uses effects top.frame.sub) (sym root) (lent_uses l h m lends (ap (is_package_object s) (sym root) ∙ found.0))));
+      seen = λ n m (g, has, deep_there, f, kept, shared, borrowed, is) (k, there, some, o, sees, also, observed, at) over.
+          held_apart table typed effects ready.accepted.effects_are (unused_there table typed effects unmoved_stage local) state top.frame.sub top.frame.returns older running.2
+          g k has there deep_there some f o kept sees borrowed observed (ap (λ (z : PlaceName). is_package_object s z.root) is ∙ shared)
+          ((λ j. overlaps (is j) (at j)) ∙ over);
       own_moved = λ n moved l m lent root. (
           let written = moved_writes n moved (ap (is_package_object s) root ∙ lent.5) in
           spared_here l m lent (written_disturbs table typed effects ready.accepted.effects_are l top.frame.sub m.root
@@ -248,15 +237,8 @@ module _ (table : Table) (typed : TypedProgram) (effects : Effects) (input : Lis
         let in_point : Has (flow_at own named p).acts a =
         subst (λ z. Has z a) (standing.acts_agree table typed effects input ready state top older outer named p frames of_sub at_point) has in
         let in_main = standing.in_sub table typed effects input ready state top older outer named p frames of_sub at_point in
-        elim (handed_cases table typed effects unmoved_stage local state (suc (length rest)) (below ∷ more_frames) between f there) [
-          | inl (name, is, g, has_stage, fact, shared) ↦ (
-              let unused = (unused_here name (subst (Has handed_on) is there)).1 in
-              ap (forbids a.act) is
-              ∙ apart_act s name shared borrower_local a.act fits
-              (unless (act_writes name.root a.act) (λ e. unused (act_uses name.root shared (flow_at own named p) in_main a in_point (inl e))))
-              (unless (act_reads name.root a.act) (λ e. unused (act_uses name.root shared (flow_at own named p) in_main a in_point (inr e)))))
-          | inr (l, name, is, lent) ↦ ap (forbids a.act) is ∙ loan_apart l name lent in_main in_point
-        ]
+        let (l, name, is, lent) = handed_lent table typed effects unmoved_stage local state (suc (length rest)) (below ∷ more_frames) between f there in
+        ap (forbids a.act) is ∙ loan_apart l name lent in_main in_point
       where
         loan_apart : (l : Loan) (name : PlaceName) → LentAround l name → Has (flow_sub own named).points (flow_at own named p) → Has (flow_at own named p).acts a
             → forbids a.act (Lent l name.root name) ≡ None
@@ -321,6 +303,7 @@ module _ (table : Table) (typed : TypedProgram) (effects : Effects) (input : Lis
         → ArePlaced program (suc (length rest)) some v scope_there → ArePlaced program (suc (length rest)) all v scope_there
     placed_by some all v scope_there lends there x w has = (let old = there x w has in record {
       within = old.within;
+      plain = old.plain;
       up = old.up;
       root = old.root;
       holder = λ named_up sees. (let h = old.holder named_up sees in (h.0, lends h.0 (ways.name_of (v.loan x)) h.3 h.1, h.2, h.3));
@@ -339,14 +322,9 @@ module _ (table : Table) (typed : TypedProgram) (effects : Effects) (input : Lis
           absurd (true_false (sees_only s h) sees (package_owns h (ap (is_package_object s) lent.0 ∙ (lent.1).5))))
     ]
 
-    -- what is handed on is of no object of the frame
-    pub not_handed : (name : PlaceName) → Has handed_on (Moved name) → is_package_object s name.root ≡ false → ⊥
-    not_handed name has own_root = true_false (is_package_object s name.root) (unused_here name has).0 own_root
-
-    pub not_at_home : (x : ℕ) (name : PlaceName) → Has handed_on (Moved name) → name.root ≡ x → depth ≡ home s depth x → ⊥
-    not_at_home x name has root at_home =
-        let shared : is_package_object s x ≡ true = ap (is_package_object s) (sym root) ∙ (unused_here name has).0 in
-        let none : depth ≡ 0 = at_home ∙ ap (λ b. if b then 0 else depth) shared in omega (arith, none)
+    -- no moved place is handed on
+    pub not_handed : (name : PlaceName) → Has handed_on (Moved name) → ⊥
+    not_handed name has = none_moved table typed effects unmoved_stage local state (suc (length rest)) (below ∷ more_frames) between name has
 
     pub none_takes : (i : Instruction) → p.instr ≡ i → taken i ≡ 0 → taken main_turn.point.instr ≡ 0
     none_takes i e none = ap taken e ∙ none
@@ -456,20 +434,13 @@ module _ (table : Table) (typed : TypedProgram) (effects : Effects) (input : Lis
       | inl temporary ↦ absurd (true_false (is_held s x) (ended_held s x temporary end) lasts)
     ]
 
-    -- as views have
-    pub view_stays : (x : ℕ) → is_view s x ≡ true → is_held s x ≡ false
-    view_stays x view = elim (view_cases s x view) [
-      | inl anonymous ↦ plain_unheld s x (variable_stays (object_at s x).kind (ready.orderly.local x anonymous).0)
-      | inr formal ↦ plain_unheld s x (formal_stays (object_at s x).kind (is_in (object_at s x).mode) (is_owning s.table (object_at s x).of) formal)
-    ]
+    -- as variables have
+    pub variable_stays : (x : ℕ) → is_variable (object_at s x).kind ≡ true → is_held s x ≡ false
+    variable_stays x variable = plain_unheld s x (no_temporary (object_at s x).kind variable)
       where
-        variable_stays : (k : ObjectKind) → is_variable k ≡ true → is_temporary k ≡ false
-        variable_stays object_kind.Variable is = refl
-        variable_stays k is = cc
-
-        formal_stays : (k : ObjectKind) (a b : Bool) → (is_formal_kind k && a) && b ≡ true → is_temporary k ≡ false
-        formal_stays object_kind.Formal a b is = refl
-        formal_stays k a b is = cc
+        no_temporary : (k : ObjectKind) → is_variable k ≡ true → is_temporary k ≡ false
+        no_temporary object_kind.Variable is = refl
+        no_temporary k is = cc
 
     pub lasts_left : (r x : ℕ) → Lasts program p.scope r x → Lasts program left_scope r x
     lasts_left r x (inl shared_object) = inl shared_object
@@ -477,7 +448,8 @@ module _ (table : Table) (typed : TypedProgram) (effects : Effects) (input : Lis
 
     pub placed_left : (facts : List Fact) → ArePlaced program (suc (length rest)) facts views p.scope → ArePlaced program (suc (length rest)) facts views left_scope
     placed_left facts there x w has = (let old = there x w has in record {
-      within = left_within x (view_ends s x (holds.only x w has)) (view_stays x (holds.only x w has)) old.within;
+      within = left_within x (view_ends s x (holds.only x w has)) old.plain old.within;
+      plain = old.plain;
       up = λ named_up. lasts_left (number_of (views.up x)) x (old.up named_up);
       root = λ at_home. lasts_left (number_of w) x (old.root at_home);
       holder = λ named_up sees. (let h = old.holder named_up sees in (h.0, h.1, lasts_left h.0 x h.2, h.3));

@@ -40,6 +40,7 @@ pub mod Backed
 pub mod Whole
 pub mod Passed
 pub mod Lending
+pub mod Globals
 pub mod Eased
 pub mod Blank
 pub mod Standing

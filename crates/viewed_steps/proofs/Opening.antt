@@ -5,13 +5,15 @@ use Rattle.place_names.specs.declared.act.Mode.{Mode}
 use Rattle.place_names.specs.declared.act.Mode.TheVariants as mode
 use Rattle.place_names.specs.declared.fact.Fact.{Fact}
 use Rattle.type_definitions.specs.Types.{is_owning}
+use Rattle.typed_tree.specs.declared.object.ObjectKind.{ObjectKind}
+use Rattle.typed_tree.specs.declared.object.ObjectKind.TheVariants as object_kind
 use Rattle.typed_tree.specs.Trees.{TypedTree, More}
-use Rattle.flow_paths.specs.Objects.{Typing, object_at, is_package_object}
+use Rattle.flow_paths.specs.Objects.{Typing, object_at, is_formal, is_formal_kind, is_package_object}
 use Rattle.flow_paths.specs.Laid.{FlowProgram, flow_typing}
-use Rattle.flow_paths.specs.Scopes.{is_within}
+use Rattle.flow_paths.specs.Scopes.{is_within, is_temporary}
 use Rattle.machine.specs.Words as machine
 use Rattle.machine.specs.Memory.{Memory, variable_slots, no_slot}
-use Rattle.machine.specs.Owners.{is_in_formal}
+use Rattle.machine.specs.Owners.{is_in, is_in_formal}
 use Rattle.machine.specs.Evaluate.{Here}
 use Rattle.machine.specs.Calls.{Passed, Value, From, To}
 use Rattle.machine.specs.States.{Waiting, Leak}
@@ -25,12 +27,14 @@ use Rattle.viewed_soundness.specs.Holds.{PartsAreNamed, is_view, sees_only, IsOw
 use Rattle.viewed_soundness.proofs.Given.{IsLow, foreign_there, low_there}
 use Rattle.viewed_soundness.proofs.Names.{true_false}
 use Rattle.viewed_steps.specs.Sound.{Lies, ArePlaced, NoneAbove}
+use Rattle.viewed_steps.specs.Awaited.{is_held}
 use Rattle.viewed_steps.specs.Ready.{AreDifferent}
 use Rattle.viewed_steps.proofs.Called.{IsGiven, AreGiven}
 use Rattle.viewed_steps.proofs.Entered.{IsShownTo}
 use Rattle.viewed_steps.proofs.Seeing.{Sees}
 use Rattle.viewed_steps.proofs.Lending.{IsActualOf}
 use Rattle.viewed_steps.proofs.Views.{AreAccess, not_elsewhere}
+use Rattle.viewed_steps.proofs.Waited.{plain_unheld}
 
 abbrev pub no_views : Views
 no_views = record { way = λ x. None; loan = λ x. Lost 0; up = λ x. Lost 0; cell = λ x. 0 }
@@ -255,12 +259,26 @@ module _ (h : Here) (settled : IsSettled h.typing.table) (hands : List Waiting) 
               opened.held y k (formal y has view) (subst (IsShownTo formals passed y) at shown.1))
         ]
 
+    formal_unheld : (y : ℕ) → is_view_formal h.typing y ≡ true → is_held h.typing y ≡ false
+    formal_unheld y formal =
+        plain_unheld s y (by_kind (object_at s y).kind (first_true (is_formal s y) (is_in (object_at s y).mode)
+        (first_true (is_in_formal s y) (is_owning s.table (object_at s y).of) formal)))
+      where
+        first_true : (a b : Bool) → a && b ≡ true → a ≡ true
+        first_true true b e = refl
+        first_true false b e = cc
+
+        by_kind : (k : ObjectKind) → is_formal_kind k ≡ true → is_temporary k ≡ false
+        by_kind object_kind.Formal is = refl
+        by_kind k is = cc
+
     pub opened_placed : (program : FlowProgram) (at_first : List Fact) (scope : List ℕ) → flow_typing program ≡ h.typing → ((y : ℕ) → Has formals y → is_view_formal h.typing y ≡ true → is_within y scope ≡ true)
         → ArePlaced program (suc h.frame) at_first t scope
     opened_placed program at_first scope same within y w has =
         let found = opened.way y w has in
         record {
           within = within y found.1 found.0;
+          plain = ap (λ z. is_held z y) same ∙ formal_unheld y found.0;
           up = λ named. absurd (subst (Named (home (flow_typing program) next)) (opened.ups y) named);
           root = λ named. absurd (not_elsewhere Next w (subst (λ z. Named (home z next) w) same named) (foreign_there s h.frame w (low_of y w has)));
           holder = λ named sees. absurd (subst (Named (home (flow_typing program) next)) (opened.ups y) named);

@@ -40,10 +40,9 @@ use Rattle.typed_laws.specs.Needed.{IsFine}
 use Rattle.soundness.specs.Sound.{IsNoCall, IsRunnable, temporaries_in, Stage, facts_of, AreStages, IsPlain, InScope, IsNamedSub, IsAtPoint, view_of as view_here, is_temporary_object}
 use Rattle.soundness.proofs.Contents.{word_root}
 use Rattle.soundness.proofs.Paths.{facts_next}
-use Rattle.soundness.proofs.Points.{named_has, sub_there, point_there}
+use Rattle.soundness.proofs.Points.{named_has, sub_there, point_there, one_named, one_point}
 use Rattle.soundness.proofs.Used.{path_acts}
 use Rattle.soundness.proofs.Following.{Each, Declares, declare_on}
-use Rattle.soundness.proofs.Beginning.{one_named, one_point}
 use Rattle.soundness.proofs.Waits.{no_waits, drop_none}
 use Rattle.soundness.proofs.Successors.{not_true, successor_cases, unmoved_after}
 use Rattle.owned_loans.specs.Views.{Around, known_gone, Views, Viewed, IsForeign}

@@ -138,6 +138,7 @@ module _ (program : FlowProgram) where
       let old = placed x w has in
       record {
         within = within_on s a b x leads (view_ends s x (only x w has)) old.within;
+        plain = old.plain;
         up = λ named. lasts_on a b (number_of (v.up x)) x leads (old.up named);
         root = λ named. lasts_on a b (number_of w) x leads (old.root named);
         holder = λ named sees. (let h = old.holder named sees in (h.0, h.1, lasts_on a b h.0 x leads h.2, h.3));
@@ -189,6 +190,7 @@ module _ (t : Turn) (settled : IsSettled (typing t).table) (own_law : OwnsByShap
         let old = placed x w (sym same.way ∙ has) in
         record {
           within = more x old.within;
+          plain = old.plain;
           up = λ named. subst (λ z. Lasts t.program b (number_of z) x) (sym same.up)
               (lasts_more t.program a b (number_of (v.up x)) x more (old.up (subst (Named Home) same.up named)));
           root = λ named. lasts_more t.program a b (number_of w) x more (old.root named);
@@ -197,6 +199,7 @@ module _ (t : Turn) (settled : IsSettled (typing t).table) (own_law : OwnsByShap
         })
     | inr (y, from, comes) ↦ record {
       within = from.within;
+      plain = from.plain;
       up = λ named. elim comes.up [
         | inl is ↦ subst (λ z. Lasts t.program b z x) (sym is) from.lasts
         | inr (k, has_y, is, back) ↦ subst (λ z. Lasts t.program b z x) (sym is) (through y k has_y from (number_of (v.up y)) ((placed y k has_y).up (back named)))

@@ -81,7 +81,6 @@ use Rattle.soundness.proofs.Onward.{Gets, value_inside, source_inside}
 use Rattle.soundness.proofs.Operands.{handed_over, hold_is}
 use Rattle.soundness.proofs.Points.{path_there}
 use Rattle.soundness.proofs.Stays.{Quiet, One}
-use Rattle.soundness.proofs.Standing.{head_of, last_of}
 use Rattle.soundness.proofs.Waits.{waits_of}
 use Rattle.soundness.proofs.Numbers.{index_law}
 use Rattle.soundness.proofs.Lasting.{keeps}
@@ -530,6 +529,7 @@ module _ (table : Table) (typed : TypedProgram) (effects : Effects) (input : Lis
               lends = was.lends;
               writes = was.writes;
               unmoved = was.unmoved;
+              written = was.written;
               uses = was.uses;
               clear = was.clear;
               views = was.views;
@@ -716,8 +716,9 @@ module _ (table : Table) (typed : TypedProgram) (effects : Effects) (input : Lis
         by_result : (r : Option ℕ) → named.sub.result ≡ r → Returns s r (More e last) → Along (steps.hold main_turn (More e last))
         by_result None none never = cc
         by_result (Some of) result (value_there, same, source) =
-            let source_here : Source s of e = subst (Source s of) (sym (ap head_of same)) source in
-            let last_is : last ≡ NoMore = ap last_of same in
+            let value_is : value_there ≡ e = cc in
+            let source_here : Source s of e = subst (Source s of) value_is source in
+            let last_is : last ≡ NoMore = cc in
             value_step e last is of result source_here last_is (elim (innermost.taken_there table typed effects input ready state top below more_frames rest named p frames deep stages running awaiting of_sub at_point path views viewed_before kept scope holds placed_before above) [
               | inl plain ↦ plain_given e last is of result source_here last_is plain
               | inr alone_taken ↦ alone_given e last is of result source_here last_is alone_taken

@@ -46,11 +46,11 @@ use Rattle.viewed_steps.specs.Awaited.{AreValues, lasting_of, awaited, AreAwaite
 use Rattle.viewed_steps.proofs.Waited.{plain_unheld, last_lasting, lasting_last}
 use Rattle.viewed_steps.specs.Sound.{ArePast, HoldsAt, ArePlaced, NoneAbove, ViewStage, stages_of, GoneElsewhere, AreWaiting, AreLeft, leaves_scope, LeadsAlong, IsResting}
 use Rattle.viewed_steps.specs.Ready.{AreOrderly, IsReady}
-use Rattle.viewed_steps.proofs.Inherited.{apart_end, lent_end}
+use Rattle.viewed_steps.proofs.Inherited.{lent_end}
 use Rattle.viewed_steps.proofs.Placed.{scope_on}
 use Rattle.viewed_steps.proofs.Ended.{views_left, ends_well, placed_left, holds_left, leaves, leaves_others}
 use Rattle.viewed_steps.proofs.Beside.{OthersKept, end_scope_keeps}
-use Rattle.viewed_steps.proofs.Waiting.{StandsBetween, KeptElsewhere, beside_them, handed, handed_cases}
+use Rattle.viewed_steps.proofs.Waiting.{StandsBetween, KeptElsewhere, beside_them, handed, handed_lent}
 use Rattle.viewed_steps.proofs.Standing as standing
 use Rattle.viewed_steps.proofs.Packages as packages
 use Rattle.viewed_steps.proofs.Innermost as innermost
@@ -248,19 +248,16 @@ module _ (table : Table) (typed : TypedProgram) (effects : Effects) (input : Lis
           allowed_beside (acts_of_main (EndScope y)) facts_now own_facts handed_on from_both
           (subst (λ i. AllowsAll own_facts (acts_of_main i)) is (standing.allowed table typed effects input ready state top older outer named p frames of_sub at_point path no_call_here))
           (λ a has f there. elim has [
-            | inl end_act ↦ ap (λ z. forbids z f) (sym end_act) ∙ elim (handed_cases table typed effects unmoved_stage local state (suc (length rest)) (below ∷ more_frames) between f there) [
-              | inl (name, same, g, has_stage, fact, shared) ↦ ap (forbids (act.EndScope y (is_borrower s y))) same
-                  ∙ apart_end s name shared borrower_local y (is_borrower s y) not_shared
-              | inr (l, name, same, lent) ↦ ap (forbids (act.EndScope y (is_borrower s y))) same
-                  ∙ lent_end s name lent.5 borrower_local l name.root y (is_borrower s y)
-            ]
+            | inl end_act ↦ ap (λ z. forbids z f) (sym end_act) ∙ (
+                let (l, name, same, lent) = handed_lent table typed effects unmoved_stage local state (suc (length rest)) (below ∷ more_frames) between f there in
+                ap (forbids (act.EndScope y (is_borrower s y))) same ∙ lent_end s name lent.5 borrower_local l name.root y (is_borrower s y))
             | inr never ↦ absurd never
           ])
 
       abbrev left_views : Views
       left_views =
           views_left main_turn ready.accepted.settled ready.owns other alone views ready.class.parts_named no_source frames nothing_taken
-          p at_next_point.0 y is (home_frame y not_shared) not_shared (orderly.over y is) (ready_there (EndScope y) is) ready.orderly.local (λ x within off. orderly.ended y x is within off)
+          p at_next_point.0 y is (home_frame y not_shared) not_shared (orderly.over y is) (ready_there (EndScope y) is) (orderly.variables y (inr is)) (λ x within off. orderly.ended y x is within off)
           (λ x within sees region. orderly.followed y x is at_next_point.0 (next_point.0, next_point.2, at_next_point.1) within sees region)
           lead facts_now end_allowed.0 viewed kept holds placed (not_lent y not_shared)
 
@@ -268,11 +265,11 @@ module _ (table : Table) (typed : TypedProgram) (effects : Effects) (input : Lis
       were_left : AreLeft (home s top.depth) y views left_views
       were_left x w has = (
         ((leaves main_turn ready.accepted.settled ready.owns other alone views ready.class.parts_named no_source frames nothing_taken
-            p at_next_point.0 y is (home_frame y not_shared) not_shared (orderly.over y is) (ready_there (EndScope y) is) ready.orderly.local (λ x within off. orderly.ended y x is within off)
+            p at_next_point.0 y is (home_frame y not_shared) not_shared (orderly.over y is) (ready_there (EndScope y) is) (orderly.variables y (inr is)) (λ x within off. orderly.ended y x is within off)
             (λ x within sees region. orderly.followed y x is at_next_point.0 (next_point.0, next_point.2, at_next_point.1) within sees region)
             lead facts_now end_allowed.0 viewed kept holds placed (not_lent y not_shared)).1.was x w has).2,
         λ at_home. (leaves_others main_turn ready.accepted.settled ready.owns other alone views ready.class.parts_named no_source frames nothing_taken
-            p at_next_point.0 y is (home_frame y not_shared) not_shared (orderly.over y is) (ready_there (EndScope y) is) ready.orderly.local (λ x within off. orderly.ended y x is within off)
+            p at_next_point.0 y is (home_frame y not_shared) not_shared (orderly.over y is) (ready_there (EndScope y) is) (orderly.variables y (inr is)) (λ x within off. orderly.ended y x is within off)
             (λ x within sees region. orderly.followed y x is at_next_point.0 (next_point.0, next_point.2, at_next_point.1) within sees region)
             lead facts_now end_allowed.0 viewed kept holds placed (not_lent y not_shared)).roots x w has
             (subst (λ d. ways.Named (home s d) w) deep at_home),
@@ -289,7 +286,7 @@ module _ (table : Table) (typed : TypedProgram) (effects : Effects) (input : Lis
           let still_holds : HoldsAt s depth left_views after_step.memory at_next_point.0 =
           (subst (λ z. HoldsAt s depth left_views z at_next_point.0) (sym memory)
           (holds_left main_turn ready.accepted.settled ready.owns other alone views ready.class.parts_named no_source frames nothing_taken
-          p at_next_point.0 y is (home_frame y not_shared) not_shared (orderly.over y is) (ready_there (EndScope y) is) ready.orderly.local (λ x within off. orderly.ended y x is within off)
+          p at_next_point.0 y is (home_frame y not_shared) not_shared (orderly.over y is) (ready_there (EndScope y) is) (orderly.variables y (inr is)) (λ x within off. orderly.ended y x is within off)
           (λ x within sees region. orderly.followed y x is at_next_point.0 (next_point.0, next_point.2, at_next_point.1) within sees region)
           lead facts_now end_allowed.0 viewed kept holds placed (not_lent y not_shared))) in
           let frames_there = on.frames next_point.0 (ap (successor main_turn) (only_first on.k (subst (λ z. on.k < z) (ap successors is) on.less)) ∙ next_point.1) in
@@ -303,7 +300,7 @@ module _ (table : Table) (typed : TypedProgram) (effects : Effects) (input : Lis
             (placed_by (after (acts_of_main p.instr) facts_now) (after (acts_of_main p.instr) own_facts) left_views (at_next_point.0).scope (own_loans (acts_of_main p.instr))
                 (subst (λ z. ArePlaced program depth z left_views (at_next_point.0).scope) facts_are_there
                 (placed_left main_turn ready.accepted.settled ready.owns other alone views ready.class.parts_named no_source frames nothing_taken
-                p at_next_point.0 y is (home_frame y not_shared) not_shared (orderly.over y is) (ready_there (EndScope y) is) ready.orderly.local (λ x within off. orderly.ended y x is within off)
+                p at_next_point.0 y is (home_frame y not_shared) not_shared (orderly.over y is) (ready_there (EndScope y) is) (orderly.variables y (inr is)) (λ x within off. orderly.ended y x is within off)
                 (λ x within sees region. orderly.followed y x is at_next_point.0 (next_point.0, next_point.2, at_next_point.1) within sees region)
                 lead facts_now end_allowed.0 viewed kept holds placed (not_lent y not_shared)))),
             still_viewed.past,
@@ -314,7 +311,7 @@ module _ (table : Table) (typed : TypedProgram) (effects : Effects) (input : Lis
       ends_scope =
           then_left (turn main_turn (EndScope y))
           (ends_well main_turn ready.accepted.settled ready.owns other alone views ready.class.parts_named no_source frames nothing_taken
-          p at_next_point.0 y is (home_frame y not_shared) not_shared (orderly.over y is) (ready_there (EndScope y) is) ready.orderly.local (λ x within off. orderly.ended y x is within off)
+          p at_next_point.0 y is (home_frame y not_shared) not_shared (orderly.over y is) (ready_there (EndScope y) is) (orderly.variables y (inr is)) (λ x within off. orderly.ended y x is within off)
           (λ x within sees region. orderly.followed y x is at_next_point.0 (next_point.0, next_point.2, at_next_point.1) within sees region)
           lead facts_now end_allowed.0 viewed kept holds placed (not_lent y not_shared))
           (end_scope_follows main_turn Left left_values IsOld (lasting_of s p.scope) (drop 1 (lasting_of s p.scope)) inside y still_last refl (with_successors (EndScope y) 0 is below_one))

@@ -30,11 +30,10 @@ use Rattle.soundness.specs.Sound.{IsNoCall, Stage, facts_of, AreStages, InScope,
 use Rattle.soundness.proofs.Contents.{bool_cases}
 use Rattle.soundness.specs.Ready.{IsSupplied}
 use Rattle.soundness.proofs.Passing.{plain_type, signature_is}
-use Rattle.soundness.proofs.Beginning.{one_named, one_point}
 use Rattle.soundness.proofs.Typings.{Agree, flow_agrees, instruction_same}
 use Rattle.soundness.proofs.Scalars.{acts}
 use Rattle.soundness.proofs.Paths.{accepted_point, facts_next}
-use Rattle.soundness.proofs.Points.{flow_at, named_has, point_has, sub_there, sub_has, point_there, point_in, path_there, IsLaid, next_there}
+use Rattle.soundness.proofs.Points.{flow_at, named_has, point_has, sub_there, sub_has, point_there, point_in, path_there, IsLaid, next_there, one_named, one_point}
 use Rattle.owned_loans.specs.Views.{known_gone, Views, Viewed}
 use Rattle.viewed_soundness.specs.Holds.{is_view, IsAccess, AllKeep, sees_only, is_fixed}
 use Rattle.viewed_steps.specs.Awaited.{AreFor, AreValues, temporaries_of, lasting_of, WaitsAt, AreAwaited}
@@ -118,7 +117,7 @@ module _ (table : Table) (typed : TypedProgram) (effects : Effects) (input : Lis
   laid named has = ready.scoped.goes named has
 
   pub local : (x : ℕ) → is_view s x ≡ true → is_package_object s x ≡ false
-  local x view = elim (view_cases s x view) [ inl anonymous ↦ (ready.orderly.local x anonymous).1 | inr formal ↦ ready.orderly.passed x formal ]
+  local x view = elim (view_cases s x view) [ inl anonymous ↦ ready.orderly.local x anonymous | inr formal ↦ ready.orderly.passed x formal ]
 
   -- ---- a point
 

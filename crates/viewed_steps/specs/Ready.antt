@@ -25,7 +25,7 @@ use Rattle.typed_laws.specs.Needed.{Matches, Leads, Stays, IsPlace}
 use Rattle.soundness.specs.Seen.{is_view_formal}
 use Rattle.viewed_soundness.specs.Holds.{sees_only, is_fixed, AllKeep}
 use Rattle.viewed_steps.specs.Awaited.{is_held, IsTaken, FillsTyped}
-use Rattle.viewed_steps.specs.Sound.{IsScalarObject, IsViewClass, Lasts}
+use Rattle.viewed_steps.specs.Sound.{IsScalarObject, IsViewClass, Lasts, IsStoredAt}
 
 -- ---- calls
 
@@ -127,7 +127,10 @@ pub record AreOrderly (program : FlowProgram) (p : NamedPoint) (next : NamedPoin
   pub assigned : (q : Pos) (x w : ℕ) (e : TypedTree) → p.instr ≡ Assign (Name q x NoMore w) e → is_anonymous (view_of (flow_typing program) x) ≡ true
       → IsNewSource program p.scope x e
   pub read : (q : Pos) (x w : ℕ) (path : TypedTree) → p.instr ≡ Input (Name q x path w) → sees_only (flow_typing program) x ≡ false
-  -- what is declared, or ends, is no formal that owns nothing
+  -- what is declared, or ends, is no formal that owns nothing; and of an anonymous access type, it is a
+  -- variable, as what is assigned as a whole is
+  pub variables : (x : ℕ) → IsStoredAt p.instr x ⊎ (p.instr ≡ EndScope x) → is_anonymous (view_of (flow_typing program) x) ≡ true
+      → is_variable (object_at (flow_typing program) x).kind ≡ true
   pub begun : (x : ℕ) (e : TypedTree) → p.instr ≡ Declare x e → is_view_formal (flow_typing program) x ≡ false
   pub over : (x : ℕ) → p.instr ≡ EndScope x → is_view_formal (flow_typing program) x ≡ false
   -- where a scope ends: objects of greater numbers have ended before; and of the objects in scope,
@@ -142,8 +145,7 @@ pub record AreOrderly (program : FlowProgram) (p : NamedPoint) (next : NamedPoin
 -- What holds of a program.
 pub record ViewsAreOrderly (table : Table) (typed : TypedProgram) : Type 0 where
   pub local : (x : ℕ) → is_anonymous (view_of (flow_typing (flow_program table typed)) x) ≡ true
-      → (is_variable (object_at (flow_typing (flow_program table typed)) x).kind ≡ true)
-      × (is_package_object (flow_typing (flow_program table typed)) x ≡ false)
+      → is_package_object (flow_typing (flow_program table typed)) x ≡ false
   -- formals that own nothing belong to no package
   pub passed : (x : ℕ) → is_view_formal (flow_typing (flow_program table typed)) x ≡ true
       → is_package_object (flow_typing (flow_program table typed)) x ≡ false

@@ -2,7 +2,7 @@
 --
 -- A frame that waits for a call to end has its views still: what was called names no object of the
 -- frame, and leaves package objects alone of which a part is lent.
-use Rattle.std.specs.Prelude.{◌≡◌, ◌⊎◌, ◌<◌, ℕ, true, false, List, [], ◌∷◌, map, get_or, Option, Some, None, suc}
+use Rattle.std.specs.Prelude.{◌≡◌, ◌⊎◌, ◌<◌, ℕ, true, false, List, [], ◌∷◌, ◌++◌, map, get_or, Option, Some, None, suc}
 use Rattle.spark_base.specs.Lists.{Has}
 use Rattle.spark_base.specs.declared.position.Pos.{Pos}
 use Rattle.place_names.specs.declared.act.Mode.TheVariants as mode
@@ -108,10 +108,11 @@ pub record HoldsAt (s : Typing) (frame : ℕ) (v : Views) (m : Memory) (p : Name
   pub passed : (x : ℕ) (w : Way) → v.way x ≡ Some w → is_given s x ≡ true → Named (home s frame) (v.up x) → ⊥
   pub own : (x : ℕ) (w : Way) → v.way x ≡ Some w → sees_only s x ≡ false → is_given s x ≡ false → Named (home s frame) (v.up x)
 
--- A view is in scope. The roots of its way and of what it was taken from last, and so does the one
+-- A view is in scope, and no temporary. The roots of its way and of what it was taken from last, and so does the one
 -- that holds the loan of an observer, if these are of the frame.
 pub record IsPlaced (program : FlowProgram) (frame : ℕ) (facts : List Fact) (v : Views) (scope : List ℕ) (x : ℕ) (w : Way) : Type 0 where
   pub within : is_within x scope ≡ true
+  pub plain : is_held (flow_typing program) x ≡ false
   pub up : Named (home (flow_typing program) frame) (v.up x) → Lasts program scope (number_of (v.up x)) x
   pub root : Named (home (flow_typing program) frame) w → Lasts program scope (number_of w) x
   pub holder : Named (home (flow_typing program) frame) (v.up x) → sees_only (flow_typing program) x ≡ true
@@ -158,9 +159,19 @@ abbrev pub Disturbs : Effects → Loan → ℕ → ℕ → Type 0
 Disturbs effects Borrowed n x = Uses effects n x
 Disturbs effects Observed n x = Has (written_by effects n) x
 
+-- What is kept from a callee, as a loan: it may use nothing of what was moved, as of what was borrowed.
+abbrev pub loan_by : Fact → Loan
+loan_by (Moved n) = Borrowed
+loan_by (Lent l h n) = l
+
+-- What a frame keeps from what it calls: its facts, and the places that were taken from it, as moved ones.
+abbrev pub withheld : FlowProgram → Effects → Stage → List Fact
+withheld program effects g = facts_of program effects g ++ map (λ (to : Way). Moved (name_of to)) g.returns
+
 -- A frame that waits for a call to end. The points that it has executed form a control path to its
 -- next point. What it owns is in scope there, and so are its views, which have their ways still. The
--- callee disturbs no package object of which a part is lent, and uses none of which a part is moved.
+-- callee disturbs no package object of which a part is lent, and uses none of which a part is moved or was
+-- taken; such a one the frame writes.
 -- What the callee uses or writes, its caller does. What the callee copies back goes to scalar places,
 -- or to those that it took.
 pub record IsWaiting (table : Table) (typed : TypedProgram) (effects : Effects) (state : State) (callee : ℕ) (backs : List Return) (g : ViewStage) : Type 0 where
@@ -176,8 +187,10 @@ pub record IsWaiting (table : Table) (typed : TypedProgram) (effects : Effects) 
       → is_within x (lasting_of (flow_typing (flow_program table typed)) point.scope) ≡ true
   pub lends : (l : Loan) (h : ℕ) (name : PlaceName) → Has (facts_of (flow_program table typed) effects g.stage) (Lent l h name)
       → is_package_object (flow_typing (flow_program table typed)) name.root ≡ true → Disturbs effects l callee name.root → ⊥
-  pub unmoved : (name : PlaceName) → Has (facts_of (flow_program table typed) effects g.stage) (Moved name)
+  pub unmoved : (name : PlaceName) → Has (withheld (flow_program table typed) effects g.stage) (Moved name)
       → is_package_object (flow_typing (flow_program table typed)) name.root ≡ true → Uses effects callee name.root → ⊥
+  pub written : (to : Way) → Has g.stage.returns to → is_package_object (flow_typing (flow_program table typed)) (number_of to) ≡ true
+      → Has (written_by effects g.stage.frame.sub) (number_of to)
   pub uses : (x : ℕ) → Uses effects callee x → Uses effects g.stage.frame.sub x
   pub writes : (x : ℕ) → Has (written_by effects callee) x → Has (written_by effects g.stage.frame.sub) x
   pub clear : AreClear (sees_only (flow_typing (flow_program table typed))) (facts_of (flow_program table typed) effects g.stage)
