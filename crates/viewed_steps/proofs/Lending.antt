@@ -143,7 +143,7 @@ module _ (s : Typing) where
       (λ j. passing_by (lent.of_in j) (is_owning s.table (object_at s y).of) (true && is_named_access (view_of s y)))
       ∙ (λ j. passing_by mode.In (lent.owning j) (lent.access j))
 
-  abbrev copies_of : List ℕ → TypedTree → List Placed
+  abbrev pub copies_of : List ℕ → TypedTree → List Placed
   copies_of formals actuals = actual_acts (map (passing s true) formals) actuals
 
   -- a fact about a name is there after the act of an actual, but where the act covers it

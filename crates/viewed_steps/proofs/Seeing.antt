@@ -9,7 +9,7 @@ use Rattle.type_definitions.specs.Types.{shape_of, full, is_scalar, view_of as v
 use Rattle.typed_tree.specs.Trees.{TypedTree, Number, Literal, Text, Name, Component as IntoComponent, Designated, Element, Call, EndOfFile, Parens, Image, Unary, Binary, Short, IsNull, Aggregate, Alike, New, NoMore, More}
 use Rattle.typed_tree.specs.Trees as typed
 use Rattle.flow_paths.specs.Objects.{Typing, object_at, is_anonymous, is_package_object, view_of}
-use Rattle.flow_paths.specs.Names.{waiting as waits_in, name_of}
+use Rattle.flow_paths.specs.Names.{Written, written, waiting as waits_in, name_of}
 use Rattle.flow_paths.specs.Acts.{acts_in, index_acts}
 use Rattle.machine.specs.Words as machine
 use Rattle.machine.specs.Memory.{Memory}
@@ -85,6 +85,11 @@ module _ (h : Here) (settled : IsSettled h.typing.table) (hands : List Waiting) 
     pub reaches : Reaches (seen h.typing m hands leaks) way (OfCell n)
     pub low : IsLow h.typing h.frame way
     pub whole : (z : Way) → ExcusedBy (home h.typing h.frame) v other facts z → Meets z way → ⊥
+
+  -- what is called by its name is written
+  pub named_written : (e : TypedTree) (w : Way) → IsCalledBy e w → (k : Written) × (written e ≡ Some k) × (k.name ≡ ways.name_of w)
+  named_written (Name p y path u) w called = (record { pos = p; name = name_of y path; of = u }, refl, sym called)
+  named_written e w none = absurd none
 
   abbrev pub IsSeenAs : ℕ → TypedTree → List machine.Word → Type 0
   IsSeenAs x e ws = (z : machine.Word) × (ws ≡ z ∷ []) × IsTyped h.typing m x z × ((n : ℕ) → z ≡ machine.Cell n → Sees e n)
