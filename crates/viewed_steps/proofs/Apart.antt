@@ -136,7 +136,7 @@ module _ (table : Table) (typed : TypedProgram) (effects : Effects) (are : AreEf
           | inr taken ↦ (
               let from = Has-map_from (λ (to : Way). Moved (name_of to)) g.stage.returns (Moved n) taken in
               let same : name_of from.0 ≡ n = moved_same (name_of from.0) n from.2 in
-              taken_unlent s state.memory g.stage.depth (facts_of program effects g.stage) (lasting_of s waits.point.scope) backs g.stage.returns waits.taken from.0 from.1 l h m lent
+              taken_unlent s g.cells state.memory g.stage.depth (facts_of program effects g.stage) (lasting_of s waits.point.scope) backs g.stage.returns waits.taken from.0 from.1 l h m lent
               (overlaps-sym m (name_of from.0) ∙ ap (λ z. overlaps z m) same ∙ over))
         ]
 

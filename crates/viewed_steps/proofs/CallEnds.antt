@@ -55,9 +55,10 @@ use Rattle.viewed_steps.proofs.Packages as packages
 use Rattle.viewed_steps.proofs.Innermost as innermost
 use Rattle.soundness.proofs.Passing.{signature_is}
 use Rattle.owned_ways.proofs.Dropped.{named_base}
-use Rattle.viewed_soundness.specs.Holds.{IsNamed, is_view, sees_only}
-use Rattle.viewed_steps.specs.Taken.{TakenBy, AreCarried}
-use Rattle.viewed_steps.proofs.Between.{taken_from as words_taken, taken_base, base_under, same_variable}
+use Rattle.viewed_soundness.specs.Holds.{IsNamed, sees_only, is_view}
+use Rattle.viewed_steps.specs.Taken.{TakenBy, Lodge, AreCarried}
+use Rattle.viewed_steps.proofs.Between.{base_under, same_variable, taken_from as words_taken, taken_base}
+use Rattle.viewed_steps.proofs.Carried.{past_other}
 use Rattle.viewed_steps.proofs.Backed.{AwayBy, ViewedAway, IsBack, all_given_back}
 use Rattle.viewed_steps.proofs.Whole.{leaves_whole}
 use Rattle.viewed_steps.proofs.Views.{AreAccess, AreFar, lies_far, apart_by_base}
@@ -149,7 +150,7 @@ module _ (table : Table) (typed : TypedProgram) (effects : Effects) (input : Lis
 
     -- where it leads, and how the frames come from those before
     abbrev Along : Outcome → Type 0
-    Along outcome = LeadsAlong table typed effects p.instr state.memory (record { stage = top; views = views }) (below ∷ more_frames) outcome
+    Along outcome = LeadsAlong table typed effects p.instr state.memory (record { stage = top; views = views; cells = [] }) (below ∷ more_frames) outcome
 
     abbrev ends_raised : (how : Exception) (m : Memory) → Along (steps.raised main_turn how m)
     ends_raised = innermost.ends_raised table typed effects input ready state top below more_frames rest named p frames deep stages running awaiting of_sub at_point path views viewed_before kept scope holds placed_before above
@@ -285,16 +286,24 @@ module _ (table : Table) (typed : TypedProgram) (effects : Effects) (input : Lis
       pub far_low : AreFar (home s below.stage.depth) below.views below.stage.depth
       far_low = lies_far s below.stage.depth below.views waits.holds.lies
 
+      -- where the cells of places are: their ways begin at variables of the frames that wait
+      pub begins_low : (c : Lodge) → Has below.cells c → (g : ℕ) × (y : ℕ) × (ways.base_of c.way ≡ OfRoot (OfVariable g y)) × (g ≡ suc below.stage.depth → ⊥)
+      begins_low c has =
+          let root = kept_low table typed effects unmoved_stage local state depth (below ∷ (h ∷ others))
+          (all_between table typed effects unmoved_stage local state top.frame.sub depth top.frame.returns (below ∷ (h ∷ others)) (below.stage.frame ∷ rest) stages_there (omega arith) waiting)
+          c.way c.cell (below, inl refl, inr (c, has, refl, refl)) in
+          (root.0, root.1, root.2, λ same. (let less = root.3 in let same_depth = low_is in omega (arith, less, same, same_depth)))
+
       -- the state as the frame below sees it
       abbrev ViewedLow : List Return → List Way → Memory → Type 0
       ViewedLow returns ways_left m =
           ViewedAway main_turn ready.accepted.settled ready.owns in_formals (waiting_in state) state.leaks below.stage.depth deep_low below.views far_low their_facts
-          (lasting_of s waits.point.scope) around_low free_low whole_low none_kept returns ways_left m
+          (lasting_of s waits.point.scope) around_low free_low whole_low none_kept below.cells begins_low returns ways_left m
 
       abbrev Away : Way → Type 0
       Away w =
           AwayBy main_turn ready.accepted.settled ready.owns in_formals (waiting_in state) state.leaks below.stage.depth deep_low below.views far_low their_facts
-          (lasting_of s waits.point.scope) around_low free_low whole_low none_kept top.frame.returns below.stage.returns w
+          (lasting_of s waits.point.scope) around_low free_low whole_low none_kept below.cells begins_low top.frame.returns below.stage.returns w
 
       known_low : (w : Way) (l : ways.Loc) → ways.IsRooted w → ways.Reaches (view_here s state) w l → (view_here s state).word l ≡ ways.Gone
           → IsAway (home s below.stage.depth) below.views around_low their_facts w ⊎ Away w
@@ -341,7 +350,7 @@ module _ (table : Table) (typed : TypedProgram) (effects : Effects) (input : Lis
       whole_away x w z has foreign (inl gone) meets = waiting.2 x w z has foreign gone meets
       whole_away x w z has foreign (inr (inl taken)) meets =
           let base = taken_base below.stage.returns below.stage.depth
-          (words_taken s state.memory below.stage.depth their_facts (lasting_of s waits.point.scope) top.frame.returns below.stage.returns waits.taken) z taken in
+          (words_taken s below.cells state.memory below.stage.depth their_facts (lasting_of s waits.point.scope) top.frame.returns below.stage.returns waits.taken) z taken in
           apart_by_base w z foreign.0 foreign.1 below.stage.depth base.0 foreign.2 base.1 (λ same. (let under = far_low x w has foreign in omega (arith, under, same))) meets
       whole_away x w z has foreign (inr (inr (y, base, none))) meets =
           apart_by_base w z foreign.0 foreign.1 (suc below.stage.depth) y foreign.2 base (λ same. (let under = far_low x w has foreign in omega (arith, under, same))) meets
@@ -362,12 +371,13 @@ module _ (table : Table) (typed : TypedProgram) (effects : Effects) (input : Lis
       abbrev Backed : Memory → Type 0
       Backed m =
           IsBack main_turn ready.accepted.settled ready.owns in_formals (waiting_in state) state.leaks below.stage.depth deep_low below.views far_low their_facts
-          (lasting_of s waits.point.scope) around_low free_low whole_low none_kept top.frame.returns below.stage.returns state.memory m
+          (lasting_of s waits.point.scope) around_low free_low whole_low none_kept below.cells begins_low top.frame.returns below.stage.returns state.memory m
 
       given_back : Backs Backed (steps.copied_back main_turn top.frame.returns (steps.start main_turn))
       given_back =
           all_given_back main_turn ready.accepted.settled ready.owns in_formals (waiting_in state) state.leaks below.stage.depth deep_low below.views far_low their_facts
-          (lasting_of s waits.point.scope) around_low free_low whole_low none_kept top.frame.returns below.stage.returns (steps.start main_turn) waits.taken kept viewed_low
+          (lasting_of s waits.point.scope) around_low free_low whole_low none_kept below.cells begins_low top.frame.returns below.stage.returns (steps.start main_turn) waits.taken
+          (λ c has. ((waits.kept c has).reaches, (waits.kept c has).aside)) kept viewed_low
 
       module _ (mid : Memory) (on : Backed mid) where
         abbrev left_state : State
@@ -497,9 +507,11 @@ module _ (table : Table) (typed : TypedProgram) (effects : Effects) (input : Lis
             ])
             (λ f x some less view. words_before f x (λ same_depth. (let below_it = low_is in omega (arith, less, same_depth, below_it))) view)
             below.stage.frame.sub below.stage.frame.returns (h ∷ others) rest stages_there.2 (let same_depth = low_is in omega (arith, same_depth))
-            (λ g has x w there. (let root = kept_low table typed effects unmoved_stage local state below.stage.depth (h ∷ others) between_low w (g.views.cell x) (g, has, x, there, refl) in
-            reach_on w (g.views.cell x) (on.low w root.0 root.1 root.2 root.3 (g.views.cell x)
-            (far table typed effects unmoved_stage local state below.stage.depth (h ∷ others) between_low w (g.views.cell x) (g, has, x, there, refl))))) waiting.1
+            (λ w n keeps. (let root = kept_low table typed effects unmoved_stage local state below.stage.depth (h ∷ others) between_low w n keeps in
+            reach_on w n (on.stays w root.0 root.1 root.2 (λ same_depth. (let less = root.3 in omega (arith, less, same_depth)))
+            (λ to has. (let base = words_taken s below.cells state.memory below.stage.depth their_facts (lasting_of s waits.point.scope) top.frame.returns below.stage.returns waits.taken to has in
+            past_other to w below.stage.depth base.0 root.0 root.1 base.1 root.2 (λ same_depth. (let less = root.3 in omega (arith, less, same_depth))))) n
+            (far table typed effects unmoved_stage local state below.stage.depth (h ∷ others) between_low w n keeps)))) waiting.1
 
         -- what was gone stays so in the frames that are left, but in the places that were taken
         left_carried : AreCarried s (λ f. f ≡ top.depth → ⊥) below.stage.returns state.memory left_memory
@@ -538,7 +550,7 @@ module _ (table : Table) (typed : TypedProgram) (effects : Effects) (input : Lis
             past = waiting.3;
             none_above = above_left;
           },
-          ends_one (ap (λ z. below ∷ z) same_more) left_carried,
+          ends_one below.cells (ap (λ z. below ∷ z) same_more) left_carried,
         )
 
     pub ends_call : p.instr ≡ Finish → Along (turn main_turn Finish)

@@ -14,8 +14,9 @@ use Rattle.place_names.specs.declared.fact.Fact.{Fact}
 use Rattle.place_names.specs.declared.fact.Fact.TheVariants.{Moved, Lent}
 use Rattle.place_names.specs.declared.rule.Loan.{Loan}
 use Rattle.place_names.specs.declared.rule.Loan.TheVariants.{Observed}
-use Rattle.place_names.specs.Names.{Name as PlaceName}
-use Rattle.type_definitions.specs.Types.{Table, is_owning}
+use Rattle.place_names.specs.Names.{Name as PlaceName, overlaps}
+use Rattle.place_names.specs.declared.act.Mode.TheVariants as mode
+use Rattle.type_definitions.specs.Types.{Table, full, is_scalar, is_owning}
 use Rattle.typed_tree.specs.Trees.{TypedTree, Name, NoMore, More}
 use Rattle.typed_tree.specs.Programs.{TypedProgram}
 use Rattle.flow_paths.specs.declared.report.Effects.{Effects}
@@ -43,11 +44,13 @@ use Rattle.machine.specs.Owners.{is_in_formal, waiting_in}
 use Rattle.place_names.specs.declared.act.Mode.TheVariants as mode
 use Rattle.owned_ways.specs.Ways.{Step, Way, after, AllowsAll}
 use Rattle.owned_ways.specs.Ways as ways
-use Rattle.owned_ways.proofs.Locations.{reaches_along, named_along as rooted_along}
+use Rattle.owned_ways.proofs.Locations.{reaches_along, named_along as rooted_along, past_under}
 use Rattle.soundness.specs.Seen.{is_view_formal, IsNear, content, seen, home, trunk, word_in}
+use Rattle.owned_ways.proofs.Named.{longer}
+use Rattle.owned_ways.proofs.Dropped.{named_base}
 use Rattle.soundness.proofs.Contents.{word_root}
 use Rattle.soundness.specs.Typed.{Kept}
-use Rattle.soundness.specs.Sound.{Stage, facts_of, AreStages, AreCopied, Uses, IsRunnable, returns_value, InScope, IsNamedSub, IsAtPoint, view_of as view_here}
+use Rattle.soundness.specs.Sound.{Stage, facts_of, AreStages, Uses, IsRunnable, returns_value, InScope, IsNamedSub, IsAtPoint, view_of as view_here}
 use Rattle.soundness.proofs.Stays.{Quiet}
 use Rattle.soundness.proofs.Numbers.{index_law}
 use Rattle.soundness.proofs.Lasting.{keeps}
@@ -63,8 +66,11 @@ use Rattle.soundness.proofs.Eased.{eased}
 use Rattle.soundness.proofs.Scoped.{Inside}
 use Rattle.soundness.proofs.Successors.{below_one, successor_there}
 use Rattle.owned_loans.specs.Views.{expand, Around, known_gone, Views, IsMovedBy, ExcusedBy, AreClear as FactsAreClear, IsForeign, AreViews, Viewed}
+use Rattle.owned_loans.proofs.Ways.{under_on}
 use Rattle.owned_loans.proofs.Meeting.{stands}
-use Rattle.viewed_soundness.proofs.Names.{true_false}
+use Rattle.owned_loans.proofs.Moves.{expand_under}
+use Rattle.owned_loans.proofs.Meeting.{stands}
+use Rattle.viewed_soundness.proofs.Names.{true_false, owner_sees}
 use Rattle.viewed_soundness.proofs.Outcomes.{named_plain}
 use Rattle.viewed_soundness.specs.Holds.{Holds, is_view, sees_only, IsOwners, is_exclusive}
 use Rattle.viewed_soundness.proofs.Evaluated.{live_trunk}
@@ -73,24 +79,29 @@ use Rattle.viewed_steps.specs.Awaited.{AreValuesBut, temporaries_of, lasting_of,
 use Rattle.viewed_steps.proofs.Waited.{late_scope, within_lasting, lasting_more, Shares, plain_unheld}
 use Rattle.viewed_steps.specs.Sound.{IsCopiedBack, IsShown, ArePast, AreUnmet, HoldsAt, ArePlaced, NoneAbove, ViewStage, stages_of, GoneElsewhere, Disturbs, IsWaiting, AreWaiting, calls_one, LeadsAlong, IsResting, IsKindOfFormal, IsScalarObject, AreReturned, withheld}
 use Rattle.viewed_steps.specs.Ready.{IsReady, roots_passed, IsCalled}
-use Rattle.viewed_steps.specs.Taken.{TakenBy, AreTaken, AreCarried}
+use Rattle.viewed_steps.specs.Taken.{TakenBy, AreTaken, AreCarried, Lodge}
 use Rattle.viewed_steps.proofs.Apart.{moved_same}
 use Rattle.viewed_steps.proofs.Lent.{Spare, spare_both, loans_stay}
 use Rattle.viewed_steps.proofs.Placed.{within_on, lasts_more, scope_on, placed_on}
 use Rattle.viewed_steps.proofs.Ended.{none_some}
 use Rattle.viewed_steps.proofs.Waiting.{StandsBetween, gone_low, kept_low, beside_them, handed, elsewhere_excused, all_on}
 use Rattle.viewed_steps.proofs.Between.{same_reaches, gone_also, more_gone, base_along, base_under, same_variable, not_named}
-use Rattle.viewed_steps.proofs.Called.{AreGiven, AreLaidOut, outs_of, all_laid_out, all_given, all_acted, values_are_read, call_adds_none, passes_to, spare_reads, spare_copies}
+use Rattle.viewed_steps.proofs.Called.{AreGiven, all_laid_out, all_given, all_acted, values_are_read, call_adds_none, passes_to, spare_reads, spare_copies}
+use Rattle.viewed_steps.proofs.Carried.{past_other}
+use Rattle.viewed_steps.proofs.Aside.{names_off}
+use Rattle.viewed_steps.proofs.LaidOut.{AreLaidOut, outs_of, cells_of, AreOpenActuals}
 use Rattle.viewed_steps.proofs.Outs.{Out, IsUnderOne, found_in}
-use Rattle.viewed_steps.proofs.Entered.{ArePassedOn, IsOpen, AreBlank, not_above, passed_base, outs_taken, passed_own}
+use Rattle.viewed_steps.proofs.Entered.{ArePassedOn, IsOpen, AreBlank, not_above, passed_base, outs_taken, passed_own, inside_plain, inside_named, inside_number, inside_itself, passed_one}
 use Rattle.viewed_steps.proofs.Entering.{none_emptied, none_taken_same, owns_there, AreDeclared, Enter, formals_of_returns, all_declared}
-use Rattle.viewed_steps.proofs.Passed.{passed_formal, IsNamedBy, apart_or_plain, all_passed_on, found_there, all_returned, call_goes}
+use Rattle.viewed_steps.proofs.Passed.{IsNamedBy, all_passed_on, found_there, all_returned, call_goes, apart_or}
+use Rattle.viewed_steps.proofs.Cells.{passed_apart, passed_formal, are_kept, all_in, all_open, IsCellNamed, named_before, cells_named}
 use Rattle.viewed_steps.proofs.Standing.{or_right}
 use Rattle.viewed_steps.proofs.Uses.{called_writes, lent_spared}
 use Rattle.viewed_steps.proofs.Standing as standing
 use Rattle.viewed_steps.proofs.Packages as packages
 use Rattle.viewed_steps.proofs.Innermost as innermost
 use Rattle.viewed_steps.proofs.Views.{AreAccess, AreFar, apart_by_base, all_held, lies_far, not_elsewhere, formal_view, anonymous_view, scalar_no_view, view_cases}
+use Rattle.viewed_steps.proofs.Shown.{same_cells}
 use Rattle.viewed_steps.proofs.Seeing.{AreClear}
 use Rattle.viewed_steps.proofs.Clear.{all_clear, none_clear}
 use Rattle.viewed_steps.proofs.Opening.{Opens, all_opened, opened_views, opened_whole, opened_lies, opened_held, opened_placed}
@@ -238,7 +249,7 @@ module _ (table : Table) (typed : TypedProgram) (effects : Effects) (input : Lis
 
     -- where it leads, and how the frames come from those before
     abbrev Along : Outcome → Type 0
-    Along outcome = LeadsAlong table typed effects p.instr state.memory (record { stage = top; views = views }) (below ∷ more_frames) outcome
+    Along outcome = LeadsAlong table typed effects p.instr state.memory (record { stage = top; views = views; cells = [] }) (below ∷ more_frames) outcome
 
     abbrev ends_raised : (how : Exception) (m : Memory) → Along (steps.raised main_turn how m)
     ends_raised = innermost.ends_raised table typed effects input ready state top below more_frames rest named p frames deep stages running awaiting of_sub at_point path views viewed_before kept scope holds placed_before above
@@ -256,11 +267,6 @@ module _ (table : Table) (typed : TypedProgram) (effects : Effects) (input : Lis
 
       pub kinds : (x : ℕ) → Has formals x → IsKindOfFormal s x
       kinds x has = ready.class.formals x (called.formals x has)
-
-      pub copied_there : AreCopied s formals actuals
-      copied_there =
-          ready.class.copied (flow_sub own named) (standing.in_program table typed effects input ready state top older outer named p frames of_sub at_point) main_turn.point
-          (standing.in_sub table typed effects input ready state top older outer named p frames of_sub at_point) n actuals result e called.formals
 
       -- results are of no anonymous types
       no_traversal : traverses s.table (sub_of program n).result ≡ false
@@ -338,6 +344,25 @@ module _ (table : Table) (typed : TypedProgram) (effects : Effects) (input : Lis
       pub copies_allowed : AllowsAll facts_now (acts copies)
       copies_allowed = subst (λ z. AllowsAll z (acts copies)) (reads_keep values reads_there facts_now) both_allowed.1
 
+      -- nothing that was moved leads to what is copied back to
+      pub copied_there : AreOpenActuals s depth facts_now formals actuals
+      copied_there = elim modes_there [
+        | inr modes ↦ all_in s ready.owns depth facts_now procedure formals actuals modes
+        | inl none ↦ all_open s ready.owns depth facts_now procedure formals actuals facts_now []
+            (are_kept s formals actuals
+            (ready.class.copied (flow_sub own named) (standing.in_program table typed effects input ready state top older outer named p frames of_sub at_point) main_turn.point
+            (standing.in_sub table typed effects input ready state top older outer named p frames of_sub at_point) n actuals result e called.formals)
+            ((ready.orderly.points named named_there p point_there_now).copied n actuals result e))
+            none copies_allowed (λ f has. inl has) (λ k never. absurd never)
+      ]
+        where
+          modes_there : ((r : Report) → Has (overlap_reports s (alias.passed formals actuals)) r → ⊥) ⊎ ((x : ℕ) → Has formals x → (object_at s x).mode ≡ mode.In)
+          modes_there =
+              apart_or program effects (λ x. (object_at s x).mode ≡ mode.In) ready.accepted.no_reports (flow_sub own named)
+              (standing.in_program table typed effects input ready state top older outer named p frames of_sub at_point) main_turn.point
+              (standing.in_sub table typed effects input ready state top older outer named p frames of_sub at_point) n actuals result e called.answers
+              (λ of answers x has. ready.class.modes n of answers x has)
+
       not_end : (x : ℕ) → p.instr ≡ EndScope x → ⊥
       not_end x is = (let no : Call n actuals result ≡ EndScope x = sym e ∙ is in cc)
 
@@ -380,9 +405,9 @@ module _ (table : Table) (typed : TypedProgram) (effects : Effects) (input : Lis
                   × ((x : ℕ) → Has formals x → is_view_formal s x ≡ true → sees_only s x ≡ true))
               ⊎ ((x : ℕ) → Has formals x → is_view_formal s x ≡ false)
           by_result (Some of) is =
-              let kinds : (x : ℕ) → Has formals x → ((object_at s x).mode ≡ mode.In) × (IsScalarObject s x ⊎ (IsShown s x × (is_exclusive s x ≡ false))) =
-              λ x has. ready.class.functions n of (ap (λ (z : Signature). z.result) (signature_is program n) ∙ is) x (there x has) (called.formals x has) in
-              inl ((λ x has. (kinds x has).0), (λ x has back. back (kinds x has).0), λ x has formal. elim (kinds x has).1 [
+              let answers : (sub_at s n).result ≡ Some of = ap (λ (z : Signature). z.result) (signature_is program n) ∙ is in
+              let modes : (x : ℕ) → Has formals x → (object_at s x).mode ≡ mode.In = (λ x has. ready.class.modes n of answers x (there x has)) in
+              inl (modes, (λ x has back. back (modes x has)), λ x has formal. elim (ready.class.functions n of answers x (there x has) (called.formals x has)) [
                 | inl plain ↦ absurd (scalar_no_view s in_formals x plain (formal_view s x formal))
                 | inr shown ↦ sees_shown (is_observer s x) (is_view_formal s x) (is_in_formal s x && is_anonymous (view_of s x)) (is_exclusive s x) formal shown.1
               ])
@@ -411,7 +436,10 @@ module _ (table : Table) (typed : TypedProgram) (effects : Effects) (input : Lis
           all_given (steps.here main_turn) ready.accepted.settled (waiting_in easy.state) state.leaks state.memory [] other facts_now views (viewed_easy plain_there.0).1 (viewed_easy plain_there.0).0 holds_now alone live_now in_formals
           index_law ready.owns ready.class.parts_named formals_low procedure given_words taken_there.0 formals actuals kinds called.actuals_stay clear_there copied_there taken_there.1 values_allowed
 
-      abbrev pub given_laid : (passed : List Passed) → Given passed → AreLaidOut s state.memory depth formals actuals passed
+      abbrev pub view_now : ways.View
+      view_now = seen s state.memory (waiting_in easy.state) state.leaks
+
+      abbrev pub given_laid : (passed : List Passed) → Given passed → AreLaidOut s state.memory depth views view_now formals actuals passed
       given_laid passed given =
           all_laid_out (steps.here main_turn) ready.accepted.settled (waiting_in easy.state) state.leaks state.memory [] other facts_now views (viewed_easy plain_there.0).1 (viewed_easy plain_there.0).0 holds_now alone live_now in_formals
           index_law ready.owns ready.class.parts_named formals_low procedure formals actuals passed given
@@ -526,12 +554,16 @@ module _ (table : Table) (typed : TypedProgram) (effects : Effects) (input : Lis
         pub far_views : AreFar (home s depth) views depth
         far_views = lies_far s depth views holds.lies
 
-        abbrev laid : AreLaidOut s state.memory depth formals actuals passed
+        abbrev laid : AreLaidOut s state.memory depth views view_now formals actuals passed
         laid = given_laid passed given
 
         -- the places that are emptied
         abbrev pub outs : List Out
-        outs = outs_of s state.memory depth formals actuals passed (given_laid passed given)
+        outs = outs_of s state.memory depth views view_now formals actuals passed (given_laid passed given)
+
+        -- the cells of places that are copied back to
+        abbrev pub cells : List Lodge
+        cells = cells_of s state.memory depth views view_now formals actuals passed (given_laid passed given)
 
         well_before : Viewed (home s depth) (sees_only s) other_all views (view_here s easy.state) own_facts
         well_before = apart_from_them [] views (view_here s easy.state) holds.only (viewed_easy plain_there.0).0
@@ -539,11 +571,10 @@ module _ (table : Table) (typed : TypedProgram) (effects : Effects) (input : Lis
         -- what is taken
         no_overlap : ((r : Report) → Has (overlap_reports s (alias.passed formals actuals)) r → ⊥) ⊎ ((x : ℕ) → Has formals x → IsCopiedBack s x → IsScalarObject s x)
         no_overlap =
-            apart_or_plain program effects ready.accepted.no_reports (flow_sub own named)
+            apart_or program effects (λ x. IsCopiedBack s x → IsScalarObject s x) ready.accepted.no_reports (flow_sub own named)
             (standing.in_program table typed effects input ready state top older outer named p frames of_sub at_point) main_turn.point
             (standing.in_sub table typed effects input ready state top older outer named p frames of_sub at_point) n actuals result e called.answers
-            (λ of answers x has back. absurd (back
-            (ready.class.functions n of answers x has (called.formals x (subst (λ z. Has z x) (ap (λ (z : Signature). z.formals) (signature_is program n)) has))).0))
+            (λ of answers x has back. absurd (back (ready.class.modes n of answers x has)))
 
         within_next : (y : ℕ) → Has (roots_passed actuals) y → is_package_object s y ≡ false → is_owning s.table (object_at s y).of ≡ true → is_within y next_there ≡ true
         within_next y has mine owns =
@@ -557,24 +588,30 @@ module _ (table : Table) (typed : TypedProgram) (effects : Effects) (input : Lis
             (ready.valued.passed named (standing.named_in table typed effects input ready state top older outer named p frames of_sub at_point) p
             (standing.point_in_named table typed effects input ready state top older outer named p frames of_sub at_point) n actuals result e y has)
 
-        pub all_passed_ways : (ways_taken : List Way) × ArePassedOn s state.memory depth facts_called next_there formals passed ways_taken outs
+        copies_leave : facts_called ≡ after (acts copies) own_facts
+        copies_leave =
+            ap (λ z. after z own_facts) (acts_append values copies) ∙ after_append (acts values) (acts copies) own_facts
+            ∙ ap (after (acts copies)) (reads_keep values reads_there own_facts)
+
+        copies_own : AllowsAll own_facts (acts copies)
+        copies_own =
+            subst (λ z. AllowsAll z (acts copies)) (reads_keep values reads_there own_facts)
+            (allows_both own_facts (acts values) (acts copies) (subst (AllowsAll own_facts) (acts_append values copies) each_allowed.0)).1
+
+        pub all_passed_ways : (ways_taken : List Way) × ArePassedOn s state.memory cells depth facts_called next_there formals passed ways_taken outs
             × ((k : Way) → Has ways_taken k → IsNamedBy s formals actuals k)
         all_passed_ways =
-            all_passed_on s ready.owns state.memory depth facts_called next_there procedure formals actuals passed own_facts laid kinds
+            all_passed_on s ready.owns state.memory cells depth views view_now facts_called next_there procedure formals actuals passed own_facts laid kinds
             called.local called.differ
-            within_next no_overlap
-            (ap (λ z. after z own_facts) (acts_append values copies) ∙ after_append (acts values) (acts copies) own_facts
-            ∙ ap (after (acts copies)) (reads_keep values reads_there own_facts))
-            (subst (λ z. AllowsAll z (acts copies)) (reads_keep values reads_there own_facts)
-            (allows_both own_facts (acts values) (acts copies) (subst (AllowsAll own_facts) (acts_append values copies) each_allowed.0)).1)
+            within_next no_overlap copies_leave copies_own (λ c has. has)
 
         abbrev pub ways_taken : List Way
         ways_taken = all_passed_ways.0
 
         out_base : (o : Out) → Has outs o → (y : ℕ) × (ways.base_of o.way ≡ ways.OfRoot (ways.OfVariable depth y))
         out_base o has =
-            passed_base s state.memory depth facts_called next_there formals passed ways_taken outs all_passed_ways.1 o.way
-            (outs_taken s state.memory depth facts_called next_there formals passed ways_taken outs all_passed_ways.1 o has)
+            passed_base s state.memory cells depth facts_called next_there formals passed ways_taken outs all_passed_ways.1 o.way
+            (outs_taken s state.memory cells depth facts_called next_there formals passed ways_taken outs all_passed_ways.1 o has)
 
         abbrev outs_gone : Way → Type 0
         outs_gone w = GoneElsewhere program effects older w ⊎ IsUnderOne outs w
@@ -598,13 +635,74 @@ module _ (table : Table) (typed : TypedProgram) (effects : Effects) (input : Lis
             index_law ready.owns ready.class.parts_named formals_low procedure other_all outs_gone outs_apart formals actuals passed own_facts given (λ w under. inr under)
             (more_gone (home s depth) (sees_only s) views other_all outs_gone outs_apart (view_here s easy.state) own_facts (λ w gone. inl gone) well_before))
 
+        -- the names of those cells
+        pub named_cell : (c : Lodge) → Has cells c → IsCellNamed s depth facts_called views view_now formals actuals c
+        named_cell c has = cells_named s ready.owns state.memory depth facts_called procedure views view_now formals actuals passed own_facts laid copies_leave copies_own c has
+
+        cell_root : (c : Lodge) (has : Has cells c) → ways.number_of c.name ≡ ways.number_of (named_cell c has).whole
+        cell_root c has = sym (longer c.name (named_cell c has).whole (named_cell c has).begins).root
+
+        cell_plain : (c : Lodge) → Has cells c → ways.Named (home s depth) c.name × (sees_only s (ways.number_of c.name) ≡ false)
+        cell_plain c has = (
+          named_before (home s depth) c.name (named_cell c has).whole (named_cell c has).begins (named_cell c has).named,
+          ap (sees_only s) (cell_root c has) ∙ (named_cell c has).plain,
+        )
+
+        -- their ways begin at variables of the frame, or of package objects
+        pub cell_begins : (c : Lodge) → Has cells c → (g : ℕ) × (y : ℕ) × (ways.base_of c.way ≡ ways.OfRoot (ways.OfVariable g y)) × (g ≡ suc depth → ⊥)
+        cell_begins c has =
+            elim (stands (home s depth) (sees_only s) views (view_here s easy.state) facts_called well_all.views c.name (cell_plain c has)) [
+              | inl own ↦ (
+                  let named_there : ways.Named (home s depth) c.way = subst (ways.Named (home s depth)) (named_cell c has).leads own.0 in (
+                    home s depth (ways.number_of c.way),
+                    ways.number_of c.way,
+                    named_base (home s depth) c.way named_there,
+                    not_above s ready.accepted.settled ready.owns in_formals (waiting_in easy.state) state.leaks depth views far_views facts_called next_there (ways.number_of c.way),
+                  ))
+              | inr held_there ↦ (
+                  let foreign = held_there.passed.foreign in (
+                    foreign.0,
+                    foreign.1,
+                    ap ways.base_of (sym (named_cell c has).leads) ∙ base_under held_there.way (expand views c.name) held_there.under ∙ foreign.2,
+                    (λ same. (let low = far_views held_there.object held_there.way held_there.has foreign in omega (arith, low, same))),
+                  ))
+            ]
+
+        -- no place that is taken goes before one
+        pub cell_aside : (c : Lodge) → Has cells c → (to : Way) → Has ways_taken to → ways.Past to c.way → ⊥
+        cell_aside c has to taken past =
+            let one = passed_one s state.memory cells depth facts_called next_there formals passed ways_taken outs all_passed_ways.1 to taken in
+            let inside = (one.2).inside in
+            let itself : expand views to ≡ to = inside_itself s ready.accepted.settled depth one.1 to inside views in
+            let plain_to : sees_only s (ways.number_of to) ≡ false =
+            ap (sees_only s) (inside_number s ready.accepted.settled depth one.1 to inside)
+            ∙ owner_sees s inside.object (inside_plain s ready.accepted.settled depth one.1 to inside) inside.owner in
+            let cell = named_cell c has in
+            let below : ways.Under c.way (expand views cell.whole) =
+            subst (λ z. ways.Under z (expand views cell.whole)) cell.leads (expand_under views c.name cell.whole (λ r is. absurd (cell.deep r is)) cell.begins) in
+            names_off (home s depth) (sees_only s) views (view_here s easy.state) facts_called well_all.views well_all.clear to cell.whole
+            (inside_named s ready.accepted.settled depth one.1 to inside, plain_to) (cell.named, cell.plain) (one.2).unlent cell.unlent
+            (λ over. taken_apart to taken c has over)
+            (under_on (expand views to) c.way (expand views cell.whole) (subst (λ z. ways.Under z c.way) (sym itself) (past_under to c.way past)) below)
+          where
+            taken_apart : (to : Way) → Has ways_taken to → (c : Lodge) (has : Has cells c) → overlaps (ways.name_of to) (ways.name_of (named_cell c has).whole) ≡ true → ⊥
+            taken_apart to taken c has over =
+                let by = all_passed_ways.2 to taken in
+                let cell = named_cell c has in
+                elim no_overlap [
+                  | inr plain ↦ true_false (is_scalar (full s.table (object_at s (by.0).formal).of)) (plain (by.0).formal (passed_formal formals actuals by.0 by.1) by.2) by.4
+                  | inl none ↦ passed_apart s formals actuals none by.0 cell.by by.1 cell.among by.2 cell.back
+                      (λ same. true_false (is_scalar (full s.table (object_at s (by.0).formal).of)) (subst (IsScalarObject s) (sym same) cell.scalar) by.4)
+                      (subst (λ z. overlaps z cell.by.actual.name ≡ true) (sym by.3) (subst (λ z. overlaps (ways.name_of to) z ≡ true) (sym cell.called) over))
+                ]
+
         pub open_there : IsOpen (home s depth) other_all ways_taken
         open_there = record {
           free = λ k w under gone. (let root = gone_low table typed effects unmoved_stage local state depth older between w gone in
               hand_base (sym (base_under (ways.Object (ways.OfHand k)) w under) ∙ root.2));
           whole = λ to has w under gone. (
               let root = gone_low table typed effects unmoved_stage local state depth older between w gone in
-              let base = passed_base s state.memory depth facts_called next_there formals passed ways_taken outs all_passed_ways.1 to has in
+              let base = passed_base s state.memory cells depth facts_called next_there formals passed ways_taken outs all_passed_ways.1 to has in
               let frames_same = (same_variable root.0 root.1 depth base.0 (sym root.2 ∙ base_under to w under ∙ base.1)).0 in
               let less = root.3 in omega (arith, frames_same, less));
           none = λ w k keeps_it. keeps_it;
@@ -658,15 +756,16 @@ module _ (table : Table) (typed : TypedProgram) (effects : Effects) (input : Lis
         leaks_then = state.leaks ++ found_in s state.memory outs
 
         leaks_same : leaks_then ≡ state.leaks ++ flat_map (λ (leaks : List Leak). leaks) checks_there
-        leaks_same = ap (λ z. state.leaks ++ z) (sym (found_there s ready.accepted.settled depth main_turn.point.pos state.memory formals actuals passed laid))
+        leaks_same = ap (λ z. state.leaks ++ z) (sym (found_there s ready.accepted.settled depth views view_now main_turn.point.pos state.memory formals actuals passed laid))
 
-        enters : Enter s ready.accepted.settled ready.owns in_formals (waiting_in easy.state) depth views far_views facts_called next_there other_all state.leaks leaks_then formals passed ways_taken
+        enters : Enter s ready.accepted.settled ready.owns in_formals (waiting_in easy.state) depth views far_views facts_called next_there cells cell_begins other_all state.leaks leaks_then formals passed ways_taken
             state.memory with_all
         enters =
-            all_declared s ready.accepted.settled ready.owns in_formals (waiting_in easy.state) depth views far_views facts_called next_there other_all state.leaks formals passed ways_taken outs
-            state.memory state.memory all_passed_ways.1 open_there (viewed_easy plain_there.0).1 (viewed_easy plain_there.0).1 well_all blank_formals (λ o has y q k is. refl) refl
+            all_declared s ready.accepted.settled ready.owns in_formals (waiting_in easy.state) depth views far_views facts_called next_there cells cell_begins other_all state.leaks formals passed ways_taken outs
+            state.memory state.memory all_passed_ways.1 open_there (viewed_easy plain_there.0).1 (viewed_easy plain_there.0).1
+            (λ c has. ((named_cell c has).reaches, cell_aside c has)) well_all blank_formals (λ o has y q k is. refl) (same_cells state.memory state.memory refl)
 
-        abbrev declared_there : AreDeclared s ready.accepted.settled ready.owns in_formals (waiting_in easy.state) depth views far_views facts_called next_there formals passed state.leaks leaks_then
+        abbrev declared_there : AreDeclared s ready.accepted.settled ready.owns in_formals (waiting_in easy.state) depth views far_views facts_called next_there cells cell_begins formals passed ways_taken state.leaks leaks_then
             state.memory with_all
         declared_there = enters.0
 
@@ -680,7 +779,7 @@ module _ (table : Table) (typed : TypedProgram) (effects : Effects) (input : Lis
         waits_stage = waits_with all_passed_ways.0
 
         abbrev waits_there : ViewStage
-        waits_there = record { stage = waits_with all_passed_ways.0; views = views }
+        waits_there = record { stage = waits_with all_passed_ways.0; views = views; cells = cells }
 
         frames_there : after_call.frames ≡ frame_at_start n (returns_of formals passed) ∷ (waits_stage.frame ∷ outer)
         frames_there =
@@ -726,7 +825,7 @@ module _ (table : Table) (typed : TypedProgram) (effects : Effects) (input : Lis
                   let from = Has-map_from (λ (to : Way). Moved (ways.name_of to)) ways_taken (Moved name) taken in
                   true_false (is_package_object s name.root) shared
                   (subst (λ (z : PlaceName). is_package_object s z.root ≡ false) (moved_same (ways.name_of from.0) name from.2)
-                  (passed_own s state.memory depth facts_called next_there formals passed ways_taken outs all_passed_ways.1 from.0 from.1)))
+                  (passed_own s state.memory cells depth facts_called next_there formals passed ways_taken outs all_passed_ways.1 from.0 from.1)))
             ]
 
         is_waiting : IsWaiting table typed effects after_call n (returns_of formals passed) waits_there
@@ -747,7 +846,7 @@ module _ (table : Table) (typed : TypedProgram) (effects : Effects) (input : Lis
           ];
           lends = lends_there;
           unmoved = λ name has shared uses. kept_unused name has shared uses;
-          written = λ to has shared. absurd (true_false (is_package_object s (ways.number_of to)) shared (passed_own s state.memory depth facts_called next_there formals passed ways_taken outs all_passed_ways.1 to has));
+          written = λ to has shared. absurd (true_false (is_package_object s (ways.number_of to)) shared (passed_own s state.memory cells depth facts_called next_there formals passed ways_taken outs all_passed_ways.1 to has));
           uses = λ x uses. called_used program effects ready.accepted.effects_are top.frame.sub (flow_sub own named) sub_at_all sub_less n callee_less
               main_turn.point (standing.in_sub table typed effects input ready state top older outer named p frames of_sub at_point) actuals result e x uses;
           writes = λ x written. called_writes program effects ready.accepted.effects_are top.frame.sub (flow_sub own named) sub_at_all sub_less n callee_less
@@ -766,8 +865,17 @@ module _ (table : Table) (typed : TypedProgram) (effects : Effects) (input : Lis
           });
           placed = subst (λ d. ArePlaced program d (facts_of program effects (waits_with all_passed_ways.0)) views (at_successor.0).scope) (sym deep)
               (subst (λ z. ArePlaced program depth z views (at_successor.0).scope) (sym facts_there) next_placed);
-          taken = subst (λ z. AreTaken s with_all top.depth z next_there (returns_of formals passed) all_passed_ways.0) (sym facts_there)
-              (subst (λ d. AreTaken s with_all d facts_called next_there (returns_of formals passed) all_passed_ways.0) (sym deep) enters.2);
+          kept = λ c has. record {
+            named = subst (λ d. ways.Named (home s d) c.name) (sym deep) (cell_plain c has).0;
+            own = ap (is_package_object s) (cell_root c has) ∙ (named_cell c has).own;
+            leads = (named_cell c has).leads;
+            reaches = subst (λ z. ways.Reaches z c.way (ways.OfCell c.cell)) view_called
+                (let begin = cell_begins c has in
+                declared_there.stays c.way begin.0 begin.1 begin.2 begin.3 (cell_aside c has) c.cell (named_cell c has).reaches);
+            aside = cell_aside c has;
+          };
+          taken = subst (λ z. AreTaken s cells with_all top.depth z next_there (returns_of formals passed) all_passed_ways.0) (sym facts_there)
+              (subst (λ d. AreTaken s cells with_all d facts_called next_there (returns_of formals passed) all_passed_ways.0) (sym deep) enters.2);
         }
 
         others_wait : AreWaiting table typed effects after_call top.frame.sub top.frame.returns older
@@ -779,10 +887,13 @@ module _ (table : Table) (typed : TypedProgram) (effects : Effects) (input : Lis
               | inr shown ↦ (let up = shown.0 in absurd (omega (arith, less, up)))
             ])
             top.frame.sub top.frame.returns older outer stages (omega arith)
-            (λ g has x w is. (let root = kept_low table typed effects unmoved_stage local state depth older between w (g.views.cell x) (g, has, x, is, refl) in
-            subst (λ z. ways.Reaches z w (ways.OfCell (g.views.cell x))) view_called
-            (declared_there.low w root.0 root.1 root.2 root.3 (g.views.cell x)
-            (((viewed_easy plain_there.0).0).far w (g.views.cell x) (g, has, x, is, refl))))) running.2
+            (λ w k keeps_it. (let root = kept_low table typed effects unmoved_stage local state depth older between w k keeps_it in
+            subst (λ z. ways.Reaches z w (ways.OfCell k)) view_called
+            (declared_there.stays w root.0 root.1 root.2 (λ same. (let less = root.3 in omega (arith, less, same)))
+            (λ to taken. (
+            let base = passed_base s state.memory cells depth facts_called next_there formals passed ways_taken outs all_passed_ways.1 to taken in
+            past_other to w depth base.0 root.0 root.1 base.1 root.2 (λ same. (let less = root.3 in omega (arith, less, same))))) k
+            (((viewed_easy plain_there.0).0).far w k keeps_it)))) running.2
 
         -- what is gone then is known to those that wait
         known_called : (w : Way) (l : ways.Loc) → ways.IsRooted w → ways.Reaches (view_here s after_call) w l → (view_here s after_call).word l ≡ ways.Gone
@@ -801,10 +912,10 @@ module _ (table : Table) (typed : TypedProgram) (effects : Effects) (input : Lis
 
         returned_there : AreReturned s (frame_at_start n (returns_of formals passed))
         returned_there = (
-          λ x has. all_returned s ready.accepted.settled depth state.memory formals actuals passed laid called.actuals_stay kinds x
+          λ x has. all_returned s ready.accepted.settled depth views view_now state.memory formals actuals passed laid called.actuals_stay kinds x
               (subst (λ z. Has z x) (ap (λ (z : Signature). z.formals) (signature_is program n)) has),
           λ r has. called.formals r.formal
-              (formals_of_returns s ready.accepted.settled ready.owns in_formals (waiting_in easy.state) depth views far_views facts_called next_there formals passed r has),
+              (formals_of_returns s ready.accepted.settled ready.owns in_formals (waiting_in easy.state) depth views far_views facts_called next_there cells cell_begins formals passed r has),
         )
 
         -- nothing that is gone meets what its views see of others
@@ -832,7 +943,7 @@ module _ (table : Table) (typed : TypedProgram) (effects : Effects) (input : Lis
               | inr none ↦ absurd (true_false (is_view_formal s y) found.0 (none y found.1))
               | inl modes ↦ none_there all_passed_ways.0 (λ k k_has. (
                   let by_name = all_passed_ways.2 k k_has in
-                  modes.1 (by_name.0).formal (passed_formal s formals actuals by_name.0 by_name.1) by_name.2))
+                  modes.1 (by_name.0).formal (passed_formal formals actuals by_name.0 by_name.1) by_name.2))
             ]
           where
             none_there : (ks : List Way) → ((k : Way) → Has ks k → ⊥) → ks ≡ []
@@ -851,14 +962,14 @@ module _ (table : Table) (typed : TypedProgram) (effects : Effects) (input : Lis
         reach_called : (y : ℕ) (w : Way) (k : ℕ) → callee_views.way y ≡ Some w → ways.Reaches (seen s state.memory (waiting_in easy.state) state.leaks) w (ways.OfCell k)
             → ways.Reaches (view_here s after_call) w (ways.OfCell k)
         reach_called y w k has reach =
-            let are = subst (λ z. ArePassedOn s state.memory depth facts_called next_there formals passed z outs) (takes_none y w has) all_passed_ways.1 in
-            let empty = none_emptied s ready.accepted.settled ready.owns in_formals (waiting_in easy.state) depth views far_views facts_called next_there formals passed outs state.memory are in
+            let are = subst (λ z. ArePassedOn s state.memory cells depth facts_called next_there formals passed z outs) (takes_none y w has) all_passed_ways.1 in
+            let empty = none_emptied s ready.accepted.settled ready.owns in_formals (waiting_in easy.state) depth views far_views facts_called next_there cells cell_begins formals passed outs state.memory are in
             let leaks_are : state.leaks ≡ leaks_then = sym (ap (λ z. state.leaks ++ found_in s state.memory z) empty ∙ append-nil state.leaks) in
             subst (λ z. ways.Reaches z w (ways.OfCell k)) view_called
             (subst (λ z. ways.Reaches (seen s with_all (waiting_in easy.state) z) w (ways.OfCell k)) leaks_are
             (same_reaches (seen s state.memory (waiting_in easy.state) state.leaks) (seen s with_all (waiting_in easy.state) state.leaks)
-            (none_taken_same s ready.accepted.settled ready.owns in_formals (waiting_in easy.state) depth views far_views facts_called next_there state.leaks formals passed outs
-            state.memory state.memory are refl (viewed_easy plain_there.0).1) w (ways.OfCell k) reach))
+            (none_taken_same s ready.accepted.settled ready.owns in_formals (waiting_in easy.state) depth views far_views facts_called next_there cells cell_begins state.leaks formals passed outs
+            state.memory state.memory are (same_cells state.memory state.memory refl) (viewed_easy plain_there.0).1 (λ c has. (named_cell c has).reaches)) w (ways.OfCell k) reach))
 
         -- what is gone for the caller and the frames around it is excused by its facts before the call
         excused_called : all_passed_ways.0 ≡ [] → (z : Way) → GoneElsewhere program effects (waits_there ∷ older) z → ExcusedBy (home s depth) views other facts_now z
@@ -950,7 +1061,7 @@ module _ (table : Table) (typed : TypedProgram) (effects : Effects) (input : Lis
               | inr shown ↦ (let up = shown.0 in omega (arith, less, up))
             ];
           },
-          calls_one waits_stage refl (refl, refl, refl) refl none_new (subst (λ d. AreCarried s (λ f. f ≡ suc d → ⊥) [] state.memory with_all) (sym deep) declared_there.carried),
+          calls_one waits_stage cells refl (refl, refl, refl) refl none_new (subst (λ d. AreCarried s (λ f. f ≡ suc d → ⊥) [] state.memory with_all) (sym deep) declared_there.carried),
         )
           where
             formal_lasts : (k : ObjectKind) → is_formal_kind k ≡ true → is_temporary k ≡ false

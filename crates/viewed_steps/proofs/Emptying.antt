@@ -1,14 +1,14 @@
 -- A formal of mode `out` that isn't scalar: what the place of its actual has is leaked, and is gone; the formal
 -- has what an object has without a value.
-use Rattle.std.proofs.Common.{◌≡◌, refl, sym, ap, ◌∙◌, subst, ◌⊎◌, inl, inr, ℕ, suc, ◌<◌, ◌+◌, true, false, not, List, [], ◌++◌, take, drop, length, get_or, arith, append-nil, Some}
+use Rattle.std.proofs.Common.{◌≡◌, refl, sym, ap, ◌∙◌, subst, ◌⊎◌, inl, inr, ℕ, suc, ◌+◌, true, false, not, List, [], ◌++◌, take, drop, length, get_or, arith, append-nil, Some}
 use Rattle.place_names.specs.declared.fact.Fact.{Fact}
 use Rattle.flow_paths.specs.Objects.{Typing, object_at, is_anonymous, view_of}
 use Rattle.machine.specs.Words.{access_offsets, default}
 use Rattle.machine.specs.Memory.{Slot, Memory, Place, fresh, no_slot, variable_slots, slots_at, slots_of, words_of, gone_at, moved_out, declared}
 use Rattle.machine.specs.Memory as memory
 use Rattle.machine.specs.States.{Waiting, Leak}
-use Rattle.owned_ways.specs.Ways.{Step, OfVariable, Loc, OfRoot, OfCell, IsSame, Reaches, Way, Empty, Gone, Held, Under, Past, part, along, base_of, number_of}
-use Rattle.owned_ways.proofs.Locations.{below, past_under}
+use Rattle.owned_ways.specs.Ways.{Step, OfVariable, Loc, OfRoot, OfCell, IsSame, Reaches, Way, Empty, Gone, Held, Under, Past, part, along, number_of}
+use Rattle.owned_ways.proofs.Locations.{below}
 use Rattle.part_offsets.specs.Parts.{IsSettled}
 use Rattle.soundness.specs.Seen.{content, trunk, steps_in, word_in, seen, home, is_view_formal}
 use Rattle.soundness.specs.Changes.{Checks}
@@ -24,8 +24,8 @@ use Rattle.viewed_soundness.specs.Holds.{is_view, sees_only}
 use Rattle.viewed_soundness.proofs.Names.{owner_sees, both_no, true_false, not_view}
 use Rattle.viewed_soundness.proofs.Evaluated.{matches_named}
 use Rattle.viewed_steps.specs.Taken.{AreCarried, IsPassedOn, IsBare}
-use Rattle.viewed_steps.proofs.Between.{gone_also, same_reaches, IsClearOf, base_under, same_variable}
-use Rattle.viewed_steps.proofs.Carried.{trunk_is, cell_off, inside_at, inside_spot, inside_reached, inside_base, inside_rooted, inside_owns, inside_word}
+use Rattle.viewed_steps.proofs.Between.{gone_also, same_reaches, IsClearOf, same_variable}
+use Rattle.viewed_steps.proofs.Carried.{trunk_is, cell_off, inside_at, inside_spot, inside_reached, inside_rooted, inside_owns, inside_word}
 use Rattle.viewed_steps.proofs.Beside.{put_beside}
 use Rattle.viewed_steps.proofs.Emptied.{IsEmptied, none_left, owner_before, keeps_off, emptied}
 use Rattle.viewed_steps.proofs.Vacated.{vacated, vacated_gone, default_same}
@@ -190,14 +190,10 @@ module _ (s : Typing) (settled : IsSettled s.table) (own_law : OwnsByShape s.tab
         ∙ sym (word_root s.table (content s mid hands) (OfVariable depth (passed.inside).object) (p ++ (passed.inside).steps))
         ∙ sym (seen_next depth (passed.inside).object (p ++ (passed.inside).steps)) ∙ held)
 
-    pub out_low : (w : Way) (g y : ℕ) → base_of w ≡ OfRoot (OfVariable g y) → g < depth → (c : ℕ)
-        → Reaches (seen s m hands leaks) w (OfCell c) → Reaches (seen s next hands found) w (OfCell c)
-    out_low w g y base less c reach =
+    pub out_stays : (w : Way) → (Past to w → ⊥) → (c : ℕ) → Reaches (seen s m hands leaks) w (OfCell c) → Reaches (seen s next hands found) w (OfCell c)
+    out_stays w aside c reach =
         same_reaches (seen s mid hands found) (seen s next hands found) declared_same w (OfCell c)
-        (keeps_off (seen s m hands leaks) (seen s mid hands found) at change viewed.owned to (inside_rooted s depth k to passed.inside) reached w (OfCell c) reach
-        (λ past. (
-        let same = (same_variable g y depth (passed.inside).object
-        (sym base ∙ base_under to w (past_under to w past) ∙ inside_base s depth k to passed.inside)).0 in omega (arith, less, same))))
+        (keeps_off (seen s m hands leaks) (seen s mid hands found) at change viewed.owned to (inside_rooted s depth k to passed.inside) reached w (OfCell c) reach aside)
 
     -- a place that is apart from it has what it had
     pub out_still : (z : Way) → (Under to z → ⊥) × (Under z to → ⊥) → HasStill s depth m next z

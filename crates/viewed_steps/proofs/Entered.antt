@@ -2,7 +2,7 @@
 -- caller. A formal of mode `in out` has what its actual had; the place of the actual is gone meanwhile, and
 -- has no number.
 use Rattle.viewed_soundness.specs.Holds.{is_view, sees_only}
-use Rattle.std.proofs.Common.{◌≡◌, refl, sym, ap, ◌∙◌, subst, ◌⊎◌, inl, inr, ℕ, suc, ◌<◌, ◌+◌, Bool, true, false, not, ◌&&◌, ◌||◌, List, [], ◌∷◌, ◌++◌, take, drop, length, get_or, arith, if◌then◌else◌, Some}
+use Rattle.std.proofs.Common.{◌≡◌, refl, sym, ap, ◌∙◌, subst, ◌⊎◌, inl, inr, ℕ, suc, ◌+◌, Bool, true, false, not, ◌&&◌, ◌||◌, List, [], ◌∷◌, ◌++◌, take, drop, length, get_or, arith, if◌then◌else◌, Some}
 use Rattle.std.proofs.lemmas.List.{length-map}
 use Rattle.spark_base.specs.Lists.{Has}
 use Rattle.spark_base.specs.declared.position.Pos.{Pos}
@@ -16,7 +16,7 @@ use Rattle.machine.specs.Words.{access_offsets}
 use Rattle.machine.specs.Memory.{Slot, Memory, Base, Place, fresh, no_slot, variable_slots, slots_at, slots_of, words_of, gone_at, moved_out, declared}
 use Rattle.machine.specs.Memory as memory
 use Rattle.machine.specs.Words as machine
-use Rattle.machine.specs.Calls.{Passed, From, To, Value}
+use Rattle.machine.specs.Calls.{Passed, Value, From, To}
 use Rattle.machine.specs.States.{Waiting, Leak}
 use Rattle.owned_ways.specs.Ways.{Step, OfVariable, OfHand, Loc, OfRoot, OfCell, Reaches, Way, Object, Empty, Held, Under, Past, Named, along, base_of, number_of, name_of}
 use Rattle.owned_ways.proofs.Locations.{same_loc}
@@ -28,16 +28,16 @@ use Rattle.soundness.proofs.Memories.{put_other}
 use Rattle.soundness.proofs.Moments.{number_part}
 use Rattle.soundness.proofs.Steps.{matches_words, plain_end, alike, taken_slots, room}
 use Rattle.soundness.proofs.Lasting.{keeps, declared_kept}
-use Rattle.soundness.proofs.Passing.{IsLaid}
+use Rattle.soundness.proofs.Stays.{One}
 use Rattle.owned_loans.specs.Views.{Around, Views, expand, ExcusedBy, Viewed, IsForeign}
 use Rattle.owned_loans.proofs.Safe.{off_view}
 use Rattle.owned_loans.proofs.Others.{clean_away}
 use Rattle.owned_loans.proofs.Moves.{expand_along}
 use Rattle.viewed_soundness.proofs.Names.{both_no, true_false, view_access, not_view, owner_sees}
 use Rattle.viewed_soundness.proofs.Evaluated.{matches_named}
-use Rattle.viewed_steps.specs.Taken.{AreCarried, IsInside, IsPassedOn, IsBare, IsApartFrom}
+use Rattle.viewed_steps.specs.Taken.{Lodge, IsPlainPlace, AreCarried, IsInside, IsPassedOn, IsBare, IsApartFrom}
 use Rattle.viewed_steps.proofs.Between.{gone_also, IsClearOf, base_along, base_under, same_variable}
-use Rattle.viewed_steps.proofs.Carried.{trunk_is, carried_gone, carried_cells, inside_at, inside_spot, inside_reached, inside_base, inside_rooted, inside_owns, inside_word, carried_bare, carried_held, carried_beside, carried_off_low, carried_off}
+use Rattle.viewed_steps.proofs.Carried.{trunk_is, carried_gone, carried_cells, inside_at, inside_spot, inside_reached, inside_base, inside_rooted, inside_owns, inside_word, carried_bare, carried_held, carried_beside, carried_off_stays, carried_off}
 use Rattle.viewed_steps.proofs.Outs.{Out, HasStill, places_apart}
 use Rattle.viewed_steps.proofs.Beside.{put_beside}
 use Rattle.viewed_steps.proofs.Declared.{declared_viewed, declared_low}
@@ -98,9 +98,15 @@ IsTyped s m x z = (d : ℕ) (c n : Bool) (k : ℕ) → shape_of s.table (object_
 abbrev pub IsShownOne : Typing → Memory → ℕ → Passed → Type 0
 IsShownOne s m x a = (is_view_formal s x ≡ true) × (z : machine.Word) × (a ≡ Value (z ∷ [])) × IsTyped s m x z
 
--- A scalar value, or a scalar place in a variable; or such an access value.
-abbrev pub IsPlainOne : Typing → Memory → ℕ → Passed → Type 0
-IsPlainOne s m x a = ((is_scalar (full s.table (object_at s x).of) ≡ true) × IsLaid s a) ⊎ IsShownOne s m x a
+-- A scalar value, or a scalar place in a variable or in one of these cells.
+abbrev pub IsPlainPassed : Typing → List Lodge → Passed → Type 0
+IsPlainPassed s cells (Value ws) = One ws
+IsPlainPassed s cells (From k) = IsPlainPlace s cells k
+IsPlainPassed s cells (To k) = IsPlainPlace s cells k
+
+-- Such a one, or such an access value.
+abbrev pub IsPlainOne : Typing → Memory → List Lodge → ℕ → Passed → Type 0
+IsPlainOne s m cells x a = ((is_scalar (full s.table (object_at s x).of) ≡ true) × IsPlainPassed s cells a) ⊎ IsShownOne s m x a
 
 -- A value of one word is passed for a formal.
 abbrev pub IsShownTo : List ℕ → List Passed → ℕ → machine.Word → Type 0
@@ -121,52 +127,64 @@ IsTakenAs facts k to a outs later =
     ((a ≡ From k) × IsWhole facts to × (outs ≡ later)) ⊎ ((pos : Pos) × (a ≡ To k) × (outs ≡ record { way = to; place = k; pos = pos } ∷ later))
 
 -- What is passed, with the ways of the places that are taken, and those of them that are emptied.
-abbrev pub ArePassedOn : Typing → Memory → ℕ → List Fact → List ℕ → List ℕ → List Passed → List Way → List Out → Type 0
-ArePassedOn s m depth facts scope [] passed ways outs = (ways ≡ []) × (outs ≡ [])
-ArePassedOn s m depth facts scope (x ∷ formals) [] ways outs = (ways ≡ []) × (outs ≡ [])
-ArePassedOn s m depth facts scope (x ∷ formals) (a ∷ passed) [] outs = IsPlainOne s m x a × ArePassedOn s m depth facts scope formals passed [] outs
-ArePassedOn s m depth facts scope (x ∷ formals) (a ∷ passed) (to ∷ ways) outs =
-    (IsPlainOne s m x a × ArePassedOn s m depth facts scope formals passed (to ∷ ways) outs)
+abbrev pub ArePassedOn : Typing → Memory → List Lodge → ℕ → List Fact → List ℕ → List ℕ → List Passed → List Way → List Out → Type 0
+ArePassedOn s m cells depth facts scope [] passed ways outs = (ways ≡ []) × (outs ≡ [])
+ArePassedOn s m cells depth facts scope (x ∷ formals) [] ways outs = (ways ≡ []) × (outs ≡ [])
+ArePassedOn s m cells depth facts scope (x ∷ formals) (a ∷ passed) [] outs = IsPlainOne s m cells x a × ArePassedOn s m cells depth facts scope formals passed [] outs
+ArePassedOn s m cells depth facts scope (x ∷ formals) (a ∷ passed) (to ∷ ways) outs =
+    (IsPlainOne s m cells x a × ArePassedOn s m cells depth facts scope formals passed (to ∷ ways) outs)
     ⊎ ((k : Place) × (later : List Out) × IsTakenAs facts k to a outs later × IsPassedOn s depth facts scope x k to × IsApartFrom to ways × DiffersFrom x formals
-    × ArePassedOn s m depth facts scope formals passed ways later)
+    × ArePassedOn s m cells depth facts scope formals passed ways later)
 
 -- the ways of such places begin at variables of the frame
-pub passed_base : (s : Typing) (m : Memory) (depth : ℕ) (facts : List Fact) (scope : List ℕ) (formals : List ℕ) (passed : List Passed) (ways : List Way) (outs : List Out)
-    → ArePassedOn s m depth facts scope formals passed ways outs → (k : Way) → Has ways k → (y : ℕ) × (base_of k ≡ OfRoot (OfVariable depth y))
-passed_base s m depth facts scope [] passed ways outs none k has = absurd (subst (λ z. Has z k) none.0 has)
-passed_base s m depth facts scope (x ∷ formals) [] ways outs none k has = absurd (subst (λ z. Has z k) none.0 has)
-passed_base s m depth facts scope (x ∷ formals) (a ∷ passed) [] outs are k has = absurd has
-passed_base s m depth facts scope (x ∷ formals) (a ∷ passed) (to ∷ ways) outs (inl are) k has = passed_base s m depth facts scope formals passed (to ∷ ways) outs are.1 k has
-passed_base s m depth facts scope (x ∷ formals) (a ∷ passed) (to ∷ ways) outs (inr (place, later, how, one, apart, differ, more)) k (inl same) =
+pub passed_base : (s : Typing) (m : Memory) (cells : List Lodge) (depth : ℕ) (facts : List Fact) (scope : List ℕ) (formals : List ℕ) (passed : List Passed) (ways : List Way) (outs : List Out)
+    → ArePassedOn s m cells depth facts scope formals passed ways outs → (k : Way) → Has ways k → (y : ℕ) × (base_of k ≡ OfRoot (OfVariable depth y))
+passed_base s m cells depth facts scope [] passed ways outs none k has = absurd (subst (λ z. Has z k) none.0 has)
+passed_base s m cells depth facts scope (x ∷ formals) [] ways outs none k has = absurd (subst (λ z. Has z k) none.0 has)
+passed_base s m cells depth facts scope (x ∷ formals) (a ∷ passed) [] outs are k has = absurd has
+passed_base s m cells depth facts scope (x ∷ formals) (a ∷ passed) (to ∷ ways) outs (inl are) k has = passed_base s m cells depth facts scope formals passed (to ∷ ways) outs are.1 k has
+passed_base s m cells depth facts scope (x ∷ formals) (a ∷ passed) (to ∷ ways) outs (inr (place, later, how, one, apart, differ, more)) k (inl same) =
     (one.inside.object, ap base_of (sym same) ∙ inside_base s depth place to one.inside)
-passed_base s m depth facts scope (x ∷ formals) (a ∷ passed) (to ∷ ways) outs (inr (place, later, how, one, apart, differ, more)) k (inr has) =
-    passed_base s m depth facts scope formals passed ways later more k has
+passed_base s m cells depth facts scope (x ∷ formals) (a ∷ passed) (to ∷ ways) outs (inr (place, later, how, one, apart, differ, more)) k (inr has) =
+    passed_base s m cells depth facts scope formals passed ways later more k has
+
+-- each is the way of a place that is passed on
+pub passed_one : (s : Typing) (m : Memory) (cells : List Lodge) (depth : ℕ) (facts : List Fact) (scope : List ℕ) (formals : List ℕ) (passed : List Passed) (ways : List Way) (outs : List Out)
+    → ArePassedOn s m cells depth facts scope formals passed ways outs → (to : Way) → Has ways to → (x : ℕ) × (k : Place) × IsPassedOn s depth facts scope x k to
+passed_one s m cells depth facts scope [] passed ways outs none to has = absurd (subst (λ z. Has z to) none.0 has)
+passed_one s m cells depth facts scope (x ∷ formals) [] ways outs none to has = absurd (subst (λ z. Has z to) none.0 has)
+passed_one s m cells depth facts scope (x ∷ formals) (a ∷ passed) [] outs are to has = absurd has
+passed_one s m cells depth facts scope (x ∷ formals) (a ∷ passed) (k ∷ ways) outs (inl are) to has = passed_one s m cells depth facts scope formals passed (k ∷ ways) outs are.1 to has
+passed_one s m cells depth facts scope (x ∷ formals) (a ∷ passed) (k ∷ ways) outs (inr (place, later, how, one, apart, differ, more)) to (inl same) =
+    (x, place, subst (IsPassedOn s depth facts scope x place) same one)
+passed_one s m cells depth facts scope (x ∷ formals) (a ∷ passed) (k ∷ ways) outs (inr (place, later, how, one, apart, differ, more)) to (inr has) =
+    passed_one s m cells depth facts scope formals passed ways later more to has
 
 -- they belong to no package
-pub passed_own : (s : Typing) (m : Memory) (depth : ℕ) (facts : List Fact) (scope : List ℕ) (formals : List ℕ) (passed : List Passed) (ways : List Way) (outs : List Out)
-    → ArePassedOn s m depth facts scope formals passed ways outs → (k : Way) → Has ways k → is_package_object s (number_of k) ≡ false
-passed_own s m depth facts scope [] passed ways outs none k has = absurd (subst (λ z. Has z k) none.0 has)
-passed_own s m depth facts scope (x ∷ formals) [] ways outs none k has = absurd (subst (λ z. Has z k) none.0 has)
-passed_own s m depth facts scope (x ∷ formals) (a ∷ passed) [] outs are k has = absurd has
-passed_own s m depth facts scope (x ∷ formals) (a ∷ passed) (to ∷ ways) outs (inl are) k has = passed_own s m depth facts scope formals passed (to ∷ ways) outs are.1 k has
-passed_own s m depth facts scope (x ∷ formals) (a ∷ passed) (to ∷ ways) outs (inr (place, later, how, one, apart, differ, more)) k (inl same) =
+pub passed_own : (s : Typing) (m : Memory) (cells : List Lodge) (depth : ℕ) (facts : List Fact) (scope : List ℕ) (formals : List ℕ) (passed : List Passed) (ways : List Way) (outs : List Out)
+    → ArePassedOn s m cells depth facts scope formals passed ways outs → (k : Way) → Has ways k → is_package_object s (number_of k) ≡ false
+passed_own s m cells depth facts scope [] passed ways outs none k has = absurd (subst (λ z. Has z k) none.0 has)
+passed_own s m cells depth facts scope (x ∷ formals) [] ways outs none k has = absurd (subst (λ z. Has z k) none.0 has)
+passed_own s m cells depth facts scope (x ∷ formals) (a ∷ passed) [] outs are k has = absurd has
+passed_own s m cells depth facts scope (x ∷ formals) (a ∷ passed) (to ∷ ways) outs (inl are) k has = passed_own s m cells depth facts scope formals passed (to ∷ ways) outs are.1 k has
+passed_own s m cells depth facts scope (x ∷ formals) (a ∷ passed) (to ∷ ways) outs (inr (place, later, how, one, apart, differ, more)) k (inl same) =
     ap (is_package_object s) (ap number_of (sym same ∙ one.inside.way) ∙ number_part (Object (OfVariable depth one.inside.object)) one.inside.steps) ∙ one.inside.own
-passed_own s m depth facts scope (x ∷ formals) (a ∷ passed) (to ∷ ways) outs (inr (place, later, how, one, apart, differ, more)) k (inr has) =
-    passed_own s m depth facts scope formals passed ways later more k has
+passed_own s m cells depth facts scope (x ∷ formals) (a ∷ passed) (to ∷ ways) outs (inr (place, later, how, one, apart, differ, more)) k (inr has) =
+    passed_own s m cells depth facts scope formals passed ways later more k has
 
 -- what is emptied is among them
-pub outs_taken : (s : Typing) (m : Memory) (depth : ℕ) (facts : List Fact) (scope : List ℕ) (formals : List ℕ) (passed : List Passed) (ways : List Way) (outs : List Out)
-    → ArePassedOn s m depth facts scope formals passed ways outs → (o : Out) → Has outs o → Has ways o.way
-outs_taken s m depth facts scope [] passed ways outs none o has = absurd (subst (λ z. Has z o) none.1 has)
-outs_taken s m depth facts scope (x ∷ formals) [] ways outs none o has = absurd (subst (λ z. Has z o) none.1 has)
-outs_taken s m depth facts scope (x ∷ formals) (a ∷ passed) [] outs are o has = outs_taken s m depth facts scope formals passed [] outs are.1 o has
-outs_taken s m depth facts scope (x ∷ formals) (a ∷ passed) (to ∷ ways) outs (inl are) o has = outs_taken s m depth facts scope formals passed (to ∷ ways) outs are.1 o has
-outs_taken s m depth facts scope (x ∷ formals) (a ∷ passed) (to ∷ ways) outs (inr (place, later, inl (from, whole, same), one, apart, differ, more)) o has =
-    inr (outs_taken s m depth facts scope formals passed ways later more o (subst (λ z. Has z o) same has))
-outs_taken s m depth facts scope (x ∷ formals) (a ∷ passed) (to ∷ ways) outs (inr (place, later, inr (pos, goes, same), one, apart, differ, more)) o has =
+pub outs_taken : (s : Typing) (m : Memory) (cells : List Lodge) (depth : ℕ) (facts : List Fact) (scope : List ℕ) (formals : List ℕ) (passed : List Passed) (ways : List Way) (outs : List Out)
+    → ArePassedOn s m cells depth facts scope formals passed ways outs → (o : Out) → Has outs o → Has ways o.way
+outs_taken s m cells depth facts scope [] passed ways outs none o has = absurd (subst (λ z. Has z o) none.1 has)
+outs_taken s m cells depth facts scope (x ∷ formals) [] ways outs none o has = absurd (subst (λ z. Has z o) none.1 has)
+outs_taken s m cells depth facts scope (x ∷ formals) (a ∷ passed) [] outs are o has = outs_taken s m cells depth facts scope formals passed [] outs are.1 o has
+outs_taken s m cells depth facts scope (x ∷ formals) (a ∷ passed) (to ∷ ways) outs (inl are) o has = outs_taken s m cells depth facts scope formals passed (to ∷ ways) outs are.1 o has
+outs_taken s m cells depth facts scope (x ∷ formals) (a ∷ passed) (to ∷ ways) outs (inr (place, later, inl (from, whole, same), one, apart, differ, more)) o has =
+    inr (outs_taken s m cells depth facts scope formals passed ways later more o (subst (λ z. Has z o) same has))
+outs_taken s m cells depth facts scope (x ∷ formals) (a ∷ passed) (to ∷ ways) outs (inr (place, later, inr (pos, goes, same), one, apart, differ, more)) o has =
     elim (subst (λ z. Has z o) same has) [
       | inl first ↦ inl (ap (λ (z : Out). z.way) first)
-      | inr others ↦ inr (outs_taken s m depth facts scope formals passed ways later more o others)
+      | inr others ↦ inr (outs_taken s m cells depth facts scope formals passed ways later more o others)
     ]
 
 -- Nothing is gone elsewhere in hands, or in the places that are still to be taken; and others keep no way.
@@ -373,14 +391,15 @@ module _ (s : Typing) (settled : IsSettled s.table) (own_law : OwnsByShape s.tab
         bare_mid p c
         (sym (new_word depth (passed.inside).object (frames_differ (suc depth) x depth (passed.inside).object (λ e. omega (arith, e))) (p ++ (passed.inside).steps)) ∙ held)
 
-    pub one_low : (w : Way) (g y : ℕ) → base_of w ≡ OfRoot (OfVariable g y) → g < depth → (c : ℕ)
+    -- a way from another frame that doesn't go on after the place reaches what it reached
+    pub one_stays : (w : Way) (g y : ℕ) → base_of w ≡ OfRoot (OfVariable g y) → (g ≡ suc depth → ⊥) → (Past to w → ⊥) → (c : ℕ)
         → Reaches (seen s m hands leaks) w (OfCell c) → Reaches (seen s next hands leaks) w (OfCell c)
-    one_low w g y base less c reach =
-        declared_low s mid got hands leaks (suc depth) x w g y base (frames_differ (suc depth) x g y (λ e. omega (arith, less, e))) c
-        (carried_off_low s settled (home s depth) (sees_only s) v other with_it.gone with_apart m hands leaks facts k at to viewed typed spot
+    one_stays w g y base other_frame aside c reach =
+        declared_low s mid got hands leaks (suc depth) x w g y base (frames_differ (suc depth) x g y (λ e. other_frame (sym e))) c
+        (carried_off_stays s settled (home s depth) (sees_only s) v other with_it.gone with_apart m hands leaks facts k at to viewed typed spot
         (inside_rooted s depth k to passed.inside) (inside_reached s depth k to passed.inside (seen s m hands leaks))
         (inside_owns s depth k to passed.inside m hands (passed.inside).owner) clean
-        depth (passed.inside).object (inside_base s depth k to passed.inside) w g y base (λ e. omega (arith, less, e)) c reach)
+        depth (passed.inside).object (inside_base s depth k to passed.inside) w g y base aside c reach)
 
     -- what is left to be declared has nothing still
     pub one_blank : (y : ℕ) → (y ≡ x → ⊥) → (p : List Step) → word_in s.table (content s m [] (OfRoot (OfVariable (suc depth) y))) p ≡ Empty

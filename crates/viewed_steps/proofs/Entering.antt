@@ -1,6 +1,6 @@
 -- All formals of a call are declared. The places of those that aren't scalar and are copied back are gone
 -- meanwhile, and have no number.
-use Rattle.std.proofs.Common.{◌≡◌, refl, sym, ap, ◌∙◌, subst, ◌⊎◌, inl, inr, ℕ, suc, ◌<◌, List, [], ◌∷◌, ◌++◌, get_or, arith, append-nil, append_assoc, Bool, true, false, Some}
+use Rattle.std.proofs.Common.{◌≡◌, refl, sym, ap, ◌∙◌, subst, ◌⊎◌, inl, inr, ℕ, suc, List, [], ◌∷◌, ◌++◌, get_or, arith, append-nil, append_assoc, Bool, true, false, Some}
 use Rattle.spark_base.specs.Lists.{Has}
 use Rattle.spark_base.specs.declared.position.Pos.{Pos}
 use Rattle.place_names.specs.declared.fact.Fact.{Fact}
@@ -9,7 +9,7 @@ use Rattle.machine.specs.Words.{default}
 use Rattle.machine.specs.Memory.{Memory, Place, no_slot, variable_slots, words_of, moved_out, declared}
 use Rattle.machine.specs.Calls.{Passed, Value, From, To, with_formal, with_formals, returns_of}
 use Rattle.machine.specs.States.{Waiting, Leak, Return}
-use Rattle.owned_ways.specs.Ways.{IsSame, Step, OfVariable, OfHand, Loc, OfRoot, OfCell, Reaches, Way, Object, Empty, Held, Under, along, base_of}
+use Rattle.owned_ways.specs.Ways.{IsSame, Step, OfVariable, OfHand, Loc, OfRoot, OfCell, Reaches, Way, Object, Empty, Held, Under, Past, along, base_of}
 use Rattle.owned_ways.proofs.Locations.{under_along, under_itself}
 use Rattle.type_definitions.specs.Types.{is_owning}
 use Rattle.part_offsets.specs.Parts.{IsSettled}
@@ -21,17 +21,18 @@ use Rattle.soundness.specs.Typed.{OwnsByShape, Kept}
 use Rattle.owned_loans.specs.Views.{Around, Views, Viewed, IsForeign}
 use Rattle.owned_loans.proofs.Ways.{beginnings}
 use Rattle.owned_loans.proofs.Moves.{same_viewed}
-use Rattle.viewed_soundness.specs.Holds.{is_view, sees_only}
-use Rattle.viewed_steps.specs.Taken.{AreCarried, TakenBy, IsPassedOn, IsBare, IsApartFrom, AreTaken}
+use Rattle.viewed_soundness.specs.Holds.{sees_only, is_view}
+use Rattle.viewed_steps.specs.Taken.{Lodge, AreCarried, TakenBy, IsPassedOn, IsBare, IsApartFrom, AreTaken}
 use Rattle.viewed_steps.proofs.Left.{cells_same}
 use Rattle.viewed_steps.proofs.Between.{carried_same, carried_then, same_reaches, gone_also, more_gone, base_along, base_under, taken_more}
 use Rattle.viewed_steps.proofs.Carried.{inside_at, inside_spot, inside_base, inside_owns, inside_word}
-use Rattle.viewed_steps.proofs.Shown.{Stands, one_stands, moved_cells}
+use Rattle.viewed_steps.proofs.Alike.{IsLaidIn, plain_place}
+use Rattle.viewed_steps.proofs.Shown.{HasCells, then_cells, taken_cells, Stands, one_stands}
 use Rattle.viewed_steps.proofs.Views.{AreAccess, AreFar, apart_by_base}
 use Rattle.viewed_steps.proofs.Vacated.{place_checks}
 use Rattle.viewed_steps.proofs.Outs.{Out, IsUnderOne, found_in, HasStill, HaveStill, still_then}
-use Rattle.viewed_steps.proofs.Entered.{IsShownTo, IsPlainOne, DiffersFrom, ArePassedOn, IsOpen, AreBlank, passed_base, outs_taken, viewed_next, kept_next, one_held, one_carried, one_views, one_bare, one_low, one_blank, one_still}
-use Rattle.viewed_steps.proofs.Emptying.{out_viewed, out_kept, out_views, out_blank, out_held, out_carried, out_bare, out_low, out_still}
+use Rattle.viewed_steps.proofs.Entered.{IsPlainPassed, IsPlainOne, DiffersFrom, ArePassedOn, IsOpen, AreBlank, passed_base, outs_taken, viewed_next, kept_next, one_held, one_carried, one_views, one_bare, one_stays, one_blank, one_still, IsShownTo}
+use Rattle.viewed_steps.proofs.Emptying.{out_viewed, out_kept, out_views, out_blank, out_held, out_carried, out_bare, out_stays, out_still}
 
 -- what has a number owns
 pub owns_there : (s : Typing) → IsSettled s.table → OwnsByShape s.table → (m : Memory) (f x : ℕ) (q : List Step) (k : ℕ)
@@ -47,7 +48,8 @@ owns_there s settled own_law m f x q k held = by_type (is_owning s.table (object
         absurd (no_number (sym (word_no s.table (content s m [] (OfRoot (OfVariable f x))) q ((keeps s settled own_law).ownerless (object_at s x).of is q)) ∙ held))
 
 module _ (s : Typing) (settled : IsSettled s.table) (own_law : OwnsByShape s.table) (in_formals : AreAccess s)
-    (hands : List Waiting) (depth : ℕ) (v : Views) (far : AreFar (home s depth) v depth) (facts : List Fact) (scope : List ℕ) where
+    (hands : List Waiting) (depth : ℕ) (v : Views) (far : AreFar (home s depth) v depth) (facts : List Fact) (scope : List ℕ)
+    (cells : List Lodge) (begins : (c : Lodge) → Has cells c → (g : ℕ) × (y : ℕ) × (base_of c.way ≡ OfRoot (OfVariable g y)) × (g ≡ suc depth → ⊥)) where
   abbrev ViewedIn : Around (home s depth) → List Leak → Memory → Type 0
   ViewedIn other leaks m = Viewed (home s depth) (sees_only s) other v (seen s m hands leaks) facts
 
@@ -63,9 +65,13 @@ module _ (s : Typing) (settled : IsSettled s.table) (own_law : OwnsByShape s.tab
   abbrev away : Around (home s depth) → Way → Around (home s depth)
   away other to = gone_also (home s depth) other (λ w. other.gone w ⊎ ((p : List Step) × (w ≡ along to p)))
 
+  -- The cells of places are there, and no way that is to be taken goes before one.
+  abbrev pub AreThere : List Way → List Leak → Memory → Type 0
+  AreThere ways leaks m = (c : Lodge) → Has cells c → Reaches (seen s m hands leaks) c.way (OfCell c.cell) × ((to : Way) → Has ways to → Past to c.way → ⊥)
+
   -- Words are typed; a variable that has a number had it before, or is a formal; views keep their words, or are
   -- formals with what is passed; and what was gone stays so.
-  pub record AreDeclared (formals : List ℕ) (passed : List Passed) (leaks found : List Leak) (m n : Memory) : Type 0 where
+  pub record AreDeclared (formals : List ℕ) (passed : List Passed) (ways : List Way) (leaks found : List Leak) (m n : Memory) : Type 0 where
     pub typed : Kept s n hands
     pub held : (g y : ℕ) (p : List Step) (c : ℕ) → word_in s.table (content s n [] (OfRoot (OfVariable g y))) p ≡ Held c
         → (word_in s.table (content s m [] (OfRoot (OfVariable g y))) p ≡ Held c) ⊎ ((g ≡ suc depth) × Has formals y)
@@ -73,13 +79,13 @@ module _ (s : Typing) (settled : IsSettled s.table) (own_law : OwnsByShape s.tab
         → ((get_or (variable_slots s g y n.variables) 0 no_slot).word ≡ (get_or (variable_slots s g y m.variables) 0 no_slot).word)
         ⊎ ((g ≡ suc depth) × IsShownTo formals passed y (get_or (variable_slots s g y n.variables) 0 no_slot).word)
     pub carried : AreCarried s (λ g. g ≡ suc depth → ⊥) [] m n
-    -- ways from the variables of frames around reach what they reached
-    pub low : (w : Way) (g y : ℕ) → base_of w ≡ OfRoot (OfVariable g y) → g < depth → (c : ℕ)
+    -- ways from the variables of other frames that don't go on after a place reach what they reached
+    pub stays : (w : Way) (g y : ℕ) → base_of w ≡ OfRoot (OfVariable g y) → (g ≡ suc depth → ⊥) → ((to : Way) → Has ways to → Past to w → ⊥) → (c : ℕ)
         → Reaches (seen s m hands leaks) w (OfCell c) → Reaches (seen s n hands found) w (OfCell c)
 
   abbrev pub Enter : Around (home s depth) → List Leak → List Leak → List ℕ → List Passed → List Way → Memory → Memory → Type 0
   Enter other leaks found formals passed ways m n =
-      AreDeclared formals passed leaks found m n × ViewedIn (taken_also other ways) found n × AreTaken s n depth facts scope (returns_of formals passed) ways
+      AreDeclared formals passed ways leaks found m n × ViewedIn (taken_also other ways) found n × AreTaken s cells n depth facts scope (returns_of formals passed) ways
 
   pub formals_of_returns : (formals : List ℕ) (passed : List Passed) (r : Return) → Has (returns_of formals passed) r → Has formals r.formal
   formals_of_returns [] passed r has = absurd has
@@ -90,8 +96,8 @@ module _ (s : Typing) (settled : IsSettled s.table) (own_law : OwnsByShape s.tab
   formals_of_returns (x ∷ formals) (To k ∷ passed) r (inl e) = inl (ap (λ (z : Return). z.formal) e)
   formals_of_returns (x ∷ formals) (To k ∷ passed) r (inr has) = inr (formals_of_returns formals passed r has)
 
-  plain_returns : (n : Memory) (x : ℕ) (a : Passed) (formals : List ℕ) (passed : List Passed) (ways : List Way) (before : Memory) → IsPlainOne s before x a
-      → AreTaken s n depth facts scope (returns_of formals passed) ways → AreTaken s n depth facts scope (returns_of (x ∷ formals) (a ∷ passed)) ways
+  plain_returns : (n : Memory) (x : ℕ) (a : Passed) (formals : List ℕ) (passed : List Passed) (ways : List Way) (before : Memory) → IsPlainOne s before cells x a
+      → AreTaken s cells n depth facts scope (returns_of formals passed) ways → AreTaken s cells n depth facts scope (returns_of (x ∷ formals) (a ∷ passed)) ways
   plain_returns n x (Value ws) formals passed ways before plain taken = taken
   plain_returns n x (From k) formals passed [] before (inl plain) taken = (plain, taken)
   plain_returns n x (From k) formals passed (to ∷ ways) before (inl plain) taken = inl (plain, taken)
@@ -100,13 +106,13 @@ module _ (s : Typing) (settled : IsSettled s.table) (own_law : OwnsByShape s.tab
   plain_returns n x (From k) formals passed ways before (inr (shown, z, is, typed)) taken = (let never : From k ≡ Value (z ∷ []) = is in cc)
   plain_returns n x (To k) formals passed ways before (inr (shown, z, is, typed)) taken = (let never : To k ≡ Value (z ∷ []) = is in cc)
 
-  nothing_declared : (formals : List ℕ) (passed : List Passed) (leaks : List Leak) (m : Memory) → Kept s m hands → AreDeclared formals passed leaks leaks m m
-  nothing_declared formals passed leaks m typed = record {
+  nothing_declared : (formals : List ℕ) (passed : List Passed) (ways : List Way) (leaks : List Leak) (m : Memory) → Kept s m hands → AreDeclared formals passed ways leaks leaks m m
+  nothing_declared formals passed ways leaks m typed = record {
     typed = typed;
     held = λ g y p c held. inl held;
     views = λ g y view. inl refl;
     carried = carried_same s (λ g. g ≡ suc depth → ⊥) [] m m (λ g y p. refl) (λ c p. refl);
-    low = λ w g y base less c reach. reach;
+    stays = λ w g y base other_frame aside c reach. reach;
   }
 
   nothing_entered : (other : Around (home s depth)) (leaks : List Leak) (formals : List ℕ) (passed : List Passed) (ways : List Way) (outs : List Out) (before m : Memory)
@@ -114,7 +120,7 @@ module _ (s : Typing) (settled : IsSettled s.table) (own_law : OwnsByShape s.tab
       → Enter other leaks (leaks ++ found_in s before outs) formals passed ways m m
   nothing_entered other leaks formals passed ways outs before m none (no_ways, no_outs) typed viewed =
       subst (λ z. Enter other leaks z formals passed ways m m) (sym (ap (λ z. leaks ++ found_in s before z) no_outs ∙ append-nil leaks)) (
-        nothing_declared formals passed leaks m typed,
+        nothing_declared formals passed ways leaks m typed,
         more_gone (home s depth) (sees_only s) v (outs_also other outs) (λ w. other.gone w ⊎ TakenBy ways w)
             (λ y w z has foreign o meets. elim o [
               | inl gone ↦ viewed.whole y w z has foreign (inl gone) meets
@@ -123,12 +129,12 @@ module _ (s : Typing) (settled : IsSettled s.table) (own_law : OwnsByShape s.tab
               | inl gone ↦ inl gone
               | inr under ↦ absurd (subst (λ ks. Has ks under.0) no_outs under.1)
             ]) viewed,
-        subst (λ z. AreTaken s m depth facts scope z ways) (sym none) no_ways,
+        subst (λ z. AreTaken s cells m depth facts scope z ways) (sym none) no_ways,
       )
 
   -- scalar ones change nothing that owners see
   plain_then : (other : Around (home s depth)) (leaks found : List Leak) (x : ℕ) (a : Passed) (formals : List ℕ) (passed : List Passed) (ways : List Way) (before m then_m n : Memory)
-      → IsPlainOne s before x a → Stands s settled own_law in_formals hands leaks (suc depth) x a m then_m → Enter other leaks found formals passed ways then_m n
+      → IsPlainOne s before cells x a → Stands s settled own_law in_formals hands leaks (suc depth) x a m then_m → Enter other leaks found formals passed ways then_m n
       → Enter other leaks found (x ∷ formals) (a ∷ passed) ways m n
   plain_then other leaks found x a formals passed ways before m then_m n plain on later = (
     record {
@@ -146,7 +152,7 @@ module _ (s : Typing) (settled : IsSettled s.table) (own_law : OwnsByShape s.tab
       ];
       carried = carried_then s (λ g. g ≡ suc depth → ⊥) [] [] [] m then_m n (λ w taken. taken) (λ w taken. taken)
           (carried_same s (λ g. g ≡ suc depth → ⊥) [] m then_m on.hold (λ c p. cells_same s m then_m hands leaks on.same c p)) later.0.carried;
-      low = λ w g y base less c reach. later.0.low w g y base less c (same_reaches (seen s m hands leaks) (seen s then_m hands leaks) on.same w (OfCell c) reach);
+      stays = λ w g y base other_frame aside c reach. later.0.stays w g y base other_frame aside c (same_reaches (seen s m hands leaks) (seen s then_m hands leaks) on.same w (OfCell c) reach);
     },
     later.1,
     plain_returns n x a formals passed ways before plain later.2,
@@ -160,10 +166,10 @@ module _ (s : Typing) (settled : IsSettled s.table) (own_law : OwnsByShape s.tab
       → ((g y : ℕ) → is_view s y ≡ true
       → (get_or (variable_slots s g y next.variables) 0 no_slot).word ≡ (get_or (variable_slots s g y m.variables) 0 no_slot).word)
       → IsBare s depth k to next one.inside → AreCarried s (λ g. g ≡ suc depth → ⊥) [] m next
-      → ((w : Way) (g y : ℕ) → base_of w ≡ OfRoot (OfVariable g y) → g < depth → (c : ℕ)
+      → ((w : Way) (g y : ℕ) → base_of w ≡ OfRoot (OfVariable g y) → (g ≡ suc depth → ⊥) → (Past to w → ⊥) → (c : ℕ)
       → Reaches (seen s m hands leaks) w (OfCell c) → Reaches (seen s next hands mid) w (OfCell c))
       → Enter (away other to) mid found formals passed ways next n → Enter other leaks found (x ∷ formals) (a ∷ passed) (to ∷ ways) m n
-  taken_then other leaks mid found x k a to formals passed ways m next n return_is one apart differ held views bare carried low later = (
+  taken_then other leaks mid found x k a to formals passed ways m next n return_is one apart differ held views bare carried one_stays later = (
     record {
       typed = later.0.typed;
       held = λ g y p c is. elim (later.0.held g y p c is) [
@@ -175,7 +181,7 @@ module _ (s : Typing) (settled : IsSettled s.table) (own_law : OwnsByShape s.tab
         | inl same ↦ inl (same ∙ views g y view)
       ];
       carried = carried_then s (λ g. g ≡ suc depth → ⊥) [] [] [] m next n (λ w taken. taken) (λ w taken. taken) carried later.0.carried;
-      low = λ w g y base less c reach. later.0.low w g y base less c (low w g y base less c reach);
+      stays = λ w g y base other_frame aside c reach. later.0.stays w g y base other_frame (λ z has. aside z (inr has)) c (one_stays w g y base other_frame (aside to (inl refl)) c reach);
     },
     more_gone (home s depth) (sees_only s) v
         (taken_also (away other to) ways)
@@ -188,7 +194,7 @@ module _ (s : Typing) (settled : IsSettled s.table) (own_law : OwnsByShape s.tab
           | inr taken ↦ inr (taken_more to ways w taken)
           | inl before ↦ elim before [ inl away ↦ inl away | inr (p, is) ↦ inr (to, inl refl, p, is) ]
         ]) later.1,
-    subst (λ z. AreTaken s n depth facts scope z (to ∷ ways)) (sym return_is) (inr (
+    subst (λ z. AreTaken s cells n depth facts scope z (to ∷ ways)) (sym return_is) (inr (
       (
         one,
         (λ p c is. elim (later.0.held depth (one.inside).object (p ++ (one.inside).steps) c is) [
@@ -295,35 +301,44 @@ module _ (s : Typing) (settled : IsSettled s.table) (own_law : OwnsByShape s.tab
 
   -- ---- all of them
 
+  -- what is passed for a formal of a scalar type
+  laid_in : (leaks : List Leak) (m : Memory) (a : Passed) → IsPlainPassed s cells a → Kept s m hands
+      → ((c : Lodge) → Has cells c → Reaches (seen s m hands leaks) c.way (OfCell c.cell)) → IsLaidIn s settled own_law in_formals hands leaks m a
+  laid_in leaks m (Value ws) plain typed there = plain
+  laid_in leaks m (From k) plain typed there = plain_place s settled own_law in_formals hands leaks (suc depth) cells begins m k plain typed there
+  laid_in leaks m (To k) plain typed there = plain_place s settled own_law in_formals hands leaks (suc depth) cells begins m k plain typed there
+
   pub all_declared : (other : Around (home s depth)) (leaks : List Leak) (formals : List ℕ) (passed : List Passed) (ways : List Way) (outs : List Out) (before m : Memory)
-      → ArePassedOn s before depth facts scope formals passed ways outs → IsOpen (home s depth) other ways → Kept s before hands → Kept s m hands
-      → ViewedIn (outs_also other outs) leaks m → AreBlank s depth m formals → HaveStill s depth before m outs → m.cells ≡ before.cells
+      → ArePassedOn s before cells depth facts scope formals passed ways outs → IsOpen (home s depth) other ways → Kept s before hands → Kept s m hands
+      → AreThere ways leaks m → ViewedIn (outs_also other outs) leaks m → AreBlank s depth m formals → HaveStill s depth before m outs → HasCells before m
       → Enter other leaks (leaks ++ found_in s before outs) formals passed ways m (with_formals s (suc depth) formals passed m)
-  all_declared other leaks [] passed ways outs before m are open_there at_first typed viewed blank still cells =
+  all_declared other leaks [] passed ways outs before m are open_there at_first typed cells_there viewed blank still had =
       nothing_entered other leaks [] passed ways outs before m refl are typed viewed
-  all_declared other leaks (x ∷ formals) [] ways outs before m are open_there at_first typed viewed blank still cells =
+  all_declared other leaks (x ∷ formals) [] ways outs before m are open_there at_first typed cells_there viewed blank still had =
       nothing_entered other leaks (x ∷ formals) [] ways outs before m refl are typed viewed
-  all_declared other leaks (x ∷ formals) (a ∷ passed) [] outs before m are open_there at_first typed viewed blank still cells =
-      let on = one_stands s settled own_law in_formals hands leaks (suc depth) x a before m are.0 cells typed in
+  all_declared other leaks (x ∷ formals) (a ∷ passed) [] outs before m are open_there at_first typed cells_there viewed blank still had =
+      let on = one_stands s settled own_law in_formals hands leaks (suc depth) x a before m cells are.0 (λ plain. laid_in leaks m a plain typed (λ c has. (cells_there c has).0)) had typed in
       let mid : Memory = with_formal s (suc depth) x a m in
       plain_then other leaks (leaks ++ found_in s before outs) x a formals passed [] before m mid (with_formals s (suc depth) formals passed mid) are.0 on
       (all_declared other leaks formals passed [] outs before mid are.1 open_there at_first on.typed
+      (λ c has. (same_reaches (seen s m hands leaks) (seen s mid hands leaks) on.same c.way (OfCell c.cell) (cells_there c has).0, (cells_there c has).1))
       (same_viewed (home s depth) (sees_only s) (outs_also other outs) v (seen s m hands leaks) (seen s mid hands leaks) facts on.same viewed)
       (λ y has p. on.hold (suc depth) y p ∙ blank y (inr has) p)
-      (λ o has. still_then s depth before m mid o.way (still o has) (λ y q p is. on.hold depth y (p ++ q))) (on.cells ∙ cells))
-  all_declared other leaks (x ∷ formals) (a ∷ passed) (to ∷ ways) outs before m (inl are) open_there at_first typed viewed blank still cells =
-      let on = one_stands s settled own_law in_formals hands leaks (suc depth) x a before m are.0 cells typed in
+      (λ o has. still_then s depth before m mid o.way (still o has) (λ y q p is. on.hold depth y (p ++ q))) (then_cells before m mid had on.cells))
+  all_declared other leaks (x ∷ formals) (a ∷ passed) (to ∷ ways) outs before m (inl are) open_there at_first typed cells_there viewed blank still had =
+      let on = one_stands s settled own_law in_formals hands leaks (suc depth) x a before m cells are.0 (λ plain. laid_in leaks m a plain typed (λ c has. (cells_there c has).0)) had typed in
       let mid : Memory = with_formal s (suc depth) x a m in
       plain_then other leaks (leaks ++ found_in s before outs) x a formals passed (to ∷ ways) before m mid (with_formals s (suc depth) formals passed mid) are.0 on
       (all_declared other leaks formals passed (to ∷ ways) outs before mid are.1 open_there at_first on.typed
+      (λ c has. (same_reaches (seen s m hands leaks) (seen s mid hands leaks) on.same c.way (OfCell c.cell) (cells_there c has).0, (cells_there c has).1))
       (same_viewed (home s depth) (sees_only s) (outs_also other outs) v (seen s m hands leaks) (seen s mid hands leaks) facts on.same viewed)
       (λ y has p. on.hold (suc depth) y p ∙ blank y (inr has) p)
-      (λ o has. still_then s depth before m mid o.way (still o has) (λ y q p is. on.hold depth y (p ++ q))) (on.cells ∙ cells))
-  all_declared other leaks (x ∷ formals) (a ∷ passed) (to ∷ ways) outs before m (inr (k, later, inl (is, whole, same), one, apart, differ, more)) open_there at_first typed viewed blank still cells =
+      (λ o has. still_then s depth before m mid o.way (still o has) (λ y q p is. on.hold depth y (p ++ q))) (then_cells before m mid had on.cells))
+  all_declared other leaks (x ∷ formals) (a ∷ passed) (to ∷ ways) outs before m (inr (k, later, inl (is, whole, same), one, apart, differ, more)) open_there at_first typed cells_there viewed blank still had =
       let new = blank x (inl refl) in
       let next : Memory = declared (suc depth) x (words_of s m k) (moved_out s k m) in
-      let among = outs_taken s before depth facts scope formals passed ways later more in
-      let from = passed_base s before depth facts scope formals passed ways later more in
+      let among = outs_taken s before cells depth facts scope formals passed ways later more in
+      let from = passed_base s before cells depth facts scope formals passed ways later more in
       let root : IsFrom to = ((one.inside).object, inside_base s depth k to one.inside) in
       let mine = taken_open other to ways later among from apart open_there in
       let here : ViewedIn (outs_also other later) leaks m = subst (λ z. ViewedIn (outs_also other z) leaks m) same viewed in
@@ -334,19 +349,25 @@ module _ (s : Typing) (settled : IsSettled s.table) (own_law : OwnsByShape s.tab
       (one_views s settled own_law in_formals hands leaks depth v far facts scope (outs_also other later) x k to one whole mine m typed here new)
       (one_bare s settled own_law in_formals hands leaks depth v far facts scope (outs_also other later) x k to one whole mine m typed here new)
       (one_carried s settled own_law in_formals hands leaks depth v far facts scope (outs_also other later) x k to one whole mine m typed here new)
-      (one_low s settled own_law in_formals hands leaks depth v far facts scope (outs_also other later) x k to one whole mine m typed here new)
+      (one_stays s settled own_law in_formals hands leaks depth v far facts scope (outs_also other later) x k to one whole mine m typed here new)
       (all_declared (away other to) leaks formals passed ways later before next more (others_open other to ways root apart open_there) at_first
       (kept_next s settled own_law in_formals hands leaks depth v far facts scope (outs_also other later) x k to one whole mine m typed here new)
+      (λ c has. (
+        (let begin = begins c has in
+            one_stays s settled own_law in_formals hands leaks depth v far facts scope (outs_also other later) x k to one whole mine m typed here new
+            c.way begin.0 begin.1 begin.2 begin.3 ((cells_there c has).1 to (inl refl)) c.cell (cells_there c has).0),
+        (λ z there. (cells_there c has).1 z (inr there)),
+      ))
       (beside_outs other to later leaks next (viewed_next s settled own_law in_formals hands leaks depth v far facts scope (outs_also other later) x k to one whole mine m typed here new))
       (λ y has p. one_blank s settled own_law in_formals hands leaks depth v far facts scope (outs_also other later) x k to one whole mine m typed here new y (differ y has) p (blank y (inr has) p))
       (λ o has. still_then s depth before m next o.way (still o (subst (λ z. Has z o) (sym same) has))
       (one_still s settled own_law in_formals hands leaks depth v far facts scope (outs_also other later) x k to one whole mine m typed here new o.way (apart o.way (among o has))))
-      (moved_cells s settled own_law in_formals hands leaks k m depth (one.inside).object (one.inside).base ∙ cells))))
-  all_declared other leaks (x ∷ formals) (a ∷ passed) (to ∷ ways) outs before m (inr (k, later, inr (pos, is, same), one, apart, differ, more)) open_there at_first typed viewed blank still cells =
+      (then_cells before m next had (taken_cells s k (suc depth) x (words_of s m k) m)))))
+  all_declared other leaks (x ∷ formals) (a ∷ passed) (to ∷ ways) outs before m (inr (k, later, inr (pos, is, same), one, apart, differ, more)) open_there at_first typed cells_there viewed blank still had =
       let new = blank x (inl refl) in
       let next : Memory = declared (suc depth) x (default s.table (object_at s x).of) (moved_out s k m) in
-      let among = outs_taken s before depth facts scope formals passed ways later more in
-      let from = passed_base s before depth facts scope formals passed ways later more in
+      let among = outs_taken s before cells depth facts scope formals passed ways later more in
+      let from = passed_base s before cells depth facts scope formals passed ways later more in
       let root : IsFrom to = ((one.inside).object, inside_base s depth k to one.inside) in
       let out : Out = record { way = to; place = k; pos = pos } in
       let here : ViewedIn (outs_also other (out ∷ later)) leaks m = subst (λ z. ViewedIn (outs_also other z) leaks m) same viewed in
@@ -372,11 +393,17 @@ module _ (s : Typing) (settled : IsSettled s.table) (own_law : OwnsByShape s.tab
       open_there.none m typed here new found mine)
       (out_carried s settled own_law in_formals hands leaks depth v facts scope (outs_also other (out ∷ later)) ((outs_also (away other to) later).gone) gone_apart x k to one
       open_there.none m typed here new found mine)
-      (out_low s settled own_law in_formals hands leaks depth v facts scope (outs_also other (out ∷ later)) ((outs_also (away other to) later).gone) gone_apart x k to one
-      open_there.none m typed here new found mine)
+      (λ w g y base other_frame aside c reach.
+      out_stays s settled own_law in_formals hands leaks depth v facts scope (outs_also other (out ∷ later)) ((outs_also (away other to) later).gone) gone_apart x k to one
+      open_there.none m typed here new found mine w aside c reach)
       (all_declared (away other to) found formals passed ways later before next more (others_open other to ways root apart open_there) at_first
       (out_kept s settled own_law in_formals hands leaks depth v facts scope (outs_also other (out ∷ later)) ((outs_also (away other to) later).gone) gone_apart x k to one
       open_there.none m typed here new found)
+      (λ c has. (
+        out_stays s settled own_law in_formals hands leaks depth v facts scope (outs_also other (out ∷ later)) ((outs_also (away other to) later).gone) gone_apart x k to one
+            open_there.none m typed here new found mine c.way ((cells_there c has).1 to (inl refl)) c.cell (cells_there c has).0,
+        (λ z there. (cells_there c has).1 z (inr there)),
+      ))
       (out_viewed s settled own_law in_formals hands leaks depth v facts scope (outs_also other (out ∷ later)) ((outs_also (away other to) later).gone) gone_apart x k to one
       open_there.none m typed here new found mine
       (λ w o off. elim o [
@@ -391,24 +418,28 @@ module _ (s : Typing) (settled : IsSettled s.table) (own_law : OwnsByShape s.tab
       (λ o has. still_then s depth before m next o.way (still o (subst (λ z. Has z o) (sym same) (inr has)))
       (out_still s settled own_law in_formals hands leaks depth v facts scope (outs_also other (out ∷ later)) ((outs_also (away other to) later).gone) gone_apart x k to one
       open_there.none m typed here new found mine o.way (apart o.way (among o has))))
-      (moved_cells s settled own_law in_formals hands leaks k m depth (one.inside).object (one.inside).base ∙ cells)))))
+      (then_cells before m next had (taken_cells s k (suc depth) x (default s.table (object_at s x).of) m))))))
 
   -- ---- where no place is taken
 
   -- nothing is emptied
-  pub none_emptied : (formals : List ℕ) (passed : List Passed) (outs : List Out) (before : Memory) → ArePassedOn s before depth facts scope formals passed [] outs → outs ≡ []
+  pub none_emptied : (formals : List ℕ) (passed : List Passed) (outs : List Out) (before : Memory) → ArePassedOn s before cells depth facts scope formals passed [] outs → outs ≡ []
   none_emptied [] passed outs before are = are.1
   none_emptied (x ∷ formals) [] outs before are = are.1
   none_emptied (x ∷ formals) (a ∷ passed) outs before are = none_emptied formals passed outs before are.1
 
   -- and owners see the same
-  pub none_taken_same : (leaks : List Leak) (formals : List ℕ) (passed : List Passed) (outs : List Out) (before m : Memory) → ArePassedOn s before depth facts scope formals passed [] outs
-      → m.cells ≡ before.cells → Kept s m hands → IsSame (seen s m hands leaks) (seen s (with_formals s (suc depth) formals passed m) hands leaks)
-  none_taken_same leaks [] passed outs before m are cells typed = record { word = λ l. refl; made = refl; freed = λ n. refl; leaked = λ n. refl }
-  none_taken_same leaks (x ∷ formals) [] outs before m are cells typed = record { word = λ l. refl; made = refl; freed = λ n. refl; leaked = λ n. refl }
-  none_taken_same leaks (x ∷ formals) (a ∷ passed) outs before m are cells typed =
-      let on = one_stands s settled own_law in_formals hands leaks (suc depth) x a before m are.0 cells typed in
-      let more = none_taken_same leaks formals passed outs before (with_formal s (suc depth) x a m) are.1 (on.cells ∙ cells) on.typed in
+  pub none_taken_same : (leaks : List Leak) (formals : List ℕ) (passed : List Passed) (outs : List Out) (before m : Memory) → ArePassedOn s before cells depth facts scope formals passed [] outs
+      → HasCells before m → Kept s m hands → ((c : Lodge) → Has cells c → Reaches (seen s m hands leaks) c.way (OfCell c.cell))
+      → IsSame (seen s m hands leaks) (seen s (with_formals s (suc depth) formals passed m) hands leaks)
+  none_taken_same leaks [] passed outs before m are had typed there = record { word = λ l. refl; made = refl; freed = λ n. refl; leaked = λ n. refl }
+  none_taken_same leaks (x ∷ formals) [] outs before m are had typed there = record { word = λ l. refl; made = refl; freed = λ n. refl; leaked = λ n. refl }
+  none_taken_same leaks (x ∷ formals) (a ∷ passed) outs before m are had typed there =
+      let mid : Memory = with_formal s (suc depth) x a m in
+      let on = one_stands s settled own_law in_formals hands leaks (suc depth) x a before m cells are.0 (λ plain. laid_in leaks m a plain typed there) had typed in
+      let more =
+      none_taken_same leaks formals passed outs before mid are.1 (then_cells before m mid had on.cells) on.typed
+      (λ c has. same_reaches (seen s m hands leaks) (seen s mid hands leaks) on.same c.way (OfCell c.cell) (there c has)) in
       record {
         word = λ l. more.word l ∙ on.same.word l;
         made = more.made ∙ on.same.made;

@@ -1,7 +1,6 @@
 -- What is passed of package objects and copied back: the callee uses nothing of the object, and the caller
 -- writes it.
-use Rattle.std.proofs.Common.{◌≡◌, refl, sym, ap, ◌∙◌, subst, ◌⊎◌, inl, inr, ℕ, Bool, true, false, not, ◌&&◌, ◌||◌, ◌==◌, eq-eqb, List, [], ◌∷◌, ◌++◌, map, flat_map, Option, Some, None, is_some, if◌then◌else◌}
-use Rattle.std.specs.List.{list_any}
+use Rattle.std.proofs.Common.{◌≡◌, refl, sym, ap, ◌∙◌, subst, ◌⊎◌, inl, inr, ℕ, Bool, true, false, not, ◌&&◌, ◌||◌, ◌==◌, eq-eqb, List, [], ◌∷◌, map, flat_map, Option, Some, None, is_some, if◌then◌else◌}
 use Rattle.spark_base.specs.Lists.{Has}
 use Rattle.spark_base.proofs.Lists.{Has-append_left, Has-append_right, Has-append_cases}
 use Rattle.place_names.specs.declared.act.Act.TheVariants as act
@@ -9,15 +8,14 @@ use Rattle.place_names.specs.declared.act.Mode.{Mode}
 use Rattle.place_names.specs.declared.act.Mode.TheVariants as mode
 use Rattle.place_names.specs.declared.act.Placed.{Placed}
 use Rattle.place_names.specs.declared.rule.Rule.TheVariants.{A2}
-use Rattle.place_names.specs.Reports.{Report}
 use Rattle.type_definitions.specs.Types.{is_owning}
 use Rattle.typed_tree.specs.Trees.{TypedTree, More}
 use Rattle.flow_paths.specs.declared.report.Effects.{Effects}
 use Rattle.flow_paths.specs.Instructions.{Call}
-use Rattle.flow_paths.specs.Objects.{Typing, Signature, Passing, object_at, sub_at, is_package_object, is_named_access, is_variable_access, view_of, passing, passing_by}
+use Rattle.flow_paths.specs.Objects.{Typing, Signature, object_at, sub_at, is_package_object, is_named_access, is_variable_access, view_of, passing, passing_by}
 use Rattle.flow_paths.specs.Names.{Written, written}
 use Rattle.flow_paths.specs.Acts.{naming, actual_act, actual_acts}
-use Rattle.flow_paths.specs.Effects.{is_in, read_by, written_by, act_writes, actual_writes}
+use Rattle.flow_paths.specs.Effects.{is_in, read_by, written_by, act_writes}
 use Rattle.flow_paths.specs.Views.{is_in_mode, text_report}
 use Rattle.flow_paths.specs.Points.{FlowPoint}
 use Rattle.flow_paths.specs.Laid.{FlowSub, FlowProgram, flow_typing}

@@ -555,7 +555,7 @@ module _ (table : Table) (typed : TypedProgram) (effects : Effects) (input : Lis
     wait_still next after_scope in_there stay reach =
         all_on table typed effects unmoved_stage local state next depth (still next.memory stay)
         (λ f x some less view. (stay f x (λ first. omega (arith, some, first)) (λ same_depth. omega (arith, less, same_depth)) 0).word)
-        top.frame.sub top.frame.returns older outer stages (omega arith) (λ g has x w is. reach w (g.views.cell x) (g, has, x, is, refl)) running.2
+        top.frame.sub top.frame.returns older outer stages (omega arith) reach running.2
 
     pub with_successors : (i : Instruction) (n : ℕ) → p.instr ≡ i → n < successors i → n < successors main_turn.point.instr
     with_successors i n e less = subst (λ z. n < successors z) (sym e) less

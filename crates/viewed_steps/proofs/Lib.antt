@@ -19,6 +19,9 @@ pub mod Waiting
 pub mod Apart
 pub mod Left
 pub mod Between
+pub mod Lodged
+pub mod Aside
+pub mod Opened
 pub mod Emptied
 pub mod Vacated
 pub mod Carried
@@ -30,6 +33,8 @@ pub mod Emptying
 -- formals that own nothing
 pub mod Shown
 pub mod Entering
+pub mod Direct
+pub mod LaidOut
 -- what formals are shown that own nothing
 pub mod Seeing
 pub mod Clear
@@ -42,6 +47,7 @@ pub mod Whole
 pub mod Passed
 pub mod Lending
 pub mod Globals
+pub mod Cells
 pub mod Eased
 pub mod Blank
 pub mod Standing

@@ -82,7 +82,7 @@ module _ (table : Table) (typed : TypedProgram) (effects : Effects) (input : Lis
   abbrev pub IsFresh : State → Type 0
   IsFresh state =
       (sound : IsSound table typed effects state)
-      × ((g : ViewStage) → Has (record { stage = sound.top; views = sound.views } ∷ sound.older) g → g.stage.before ≡ [])
+      × ((g : ViewStage) → Has (record { stage = sound.top; views = sound.views; cells = [] } ∷ sound.older) g → g.stage.before ≡ [])
 
   -- the package objects are declared first
   packages_start : (p : NamedPoint) (rest : List NamedPoint) → ready.packages.points ≡ p ∷ rest → IsFresh (started (frame_at_start 0 [] ∷ []))
@@ -92,7 +92,7 @@ module _ (table : Table) (typed : TypedProgram) (effects : Effects) (input : Lis
       views = no_views;
       older = [];
       stages = (refl, refl, tt);
-      running = (refl, (refl, refl, refl), (λ x. refl), refl);
+      running = (refl, (refl, refl, refl), (λ x. refl), refl, refl);
       awaited = (refl, refl);
       path = begins (first_point table typed effects input ready 0 ready.packages ready.stands p rest is);
       viewed = empty_viewed s (home s 0) (GoneElsewhere program effects []);
@@ -124,12 +124,12 @@ module _ (table : Table) (typed : TypedProgram) (effects : Effects) (input : Lis
     record {
       top = stage_of ready.main 1;
       views = no_views;
-      older = record { stage = stage_of 0 0; views = no_views } ∷ [];
+      older = record { stage = stage_of 0 0; views = no_views; cells = [] } ∷ [];
       stages = (refl, refl, (refl, refl, tt));
       running = (
         main_runs table typed effects input ready,
         ((λ x has. inl (ready.main_plain x has)), (λ r has. absurd has)),
-        ((refl, (refl, refl, refl), (λ x. refl), refl), refl),
+        ((refl, (refl, refl, refl), (λ x. refl), refl, refl), refl),
       );
       awaited = (
         first_waits table typed effects input ready 1 ready.main [] ready.main_there.named ready.main_there.stands ready.main_there.point
@@ -138,7 +138,7 @@ module _ (table : Table) (typed : TypedProgram) (effects : Effects) (input : Lis
       );
       path = begins (first_point table typed effects input ready ready.main ready.main_there.named ready.main_there.stands
           ready.main_there.point ready.main_there.points ready.main_there.begins);
-      viewed = empty_viewed s (home s 1) (GoneElsewhere program effects (record { stage = stage_of 0 0; views = no_views } ∷ []));
+      viewed = empty_viewed s (home s 1) (GoneElsewhere program effects (record { stage = stage_of 0 0; views = no_views; cells = [] } ∷ []));
       kept = empty_kept s;
       named = ready.main_there.named;
       of_sub = ready.main_there.stands;

@@ -254,7 +254,7 @@ module _ (table : Table) (typed : TypedProgram) (effects : Effects) (input : Lis
       (kept : Kept s state.memory (waiting_in state)) (scope : InScope s state.memory 0 (lasting_of s p.scope)) (holds : HoldsAt s 0 views state.memory p) where
     -- where it leads, and how the frames come from those before
     abbrev Along : Outcome → Type 0
-    Along outcome = LeadsAlong table typed effects p.instr state.memory (record { stage = top; views = views }) [] outcome
+    Along outcome = LeadsAlong table typed effects p.instr state.memory (record { stage = top; views = views; cells = [] }) [] outcome
 
     abbrev first_turn : Turn
     first_turn = standing.t table typed effects input ready state top [] [] named p frames of_sub at_point
@@ -389,7 +389,7 @@ module _ (table : Table) (typed : TypedProgram) (effects : Effects) (input : Lis
                 let lead : Leads s (scope_behind p) (q.0).scope = q.2 in
                 standing.goes_to_next table typed effects input ready state top [] [] named p frames of_sub at_point path (calls_plain x v e) after_step [] top.frame.loops found.0 found.2 q.0 q.1
                 (on.frames ∙ ap (led first_turn (record top.frame { waits = [] })) found.1) deep tt turned_views
-                (running.0, (refl, running.1.1, running.1.2), none_now, deep) (refl, refl)
+                (running.0, (refl, running.1.1, running.1.2), none_now, deep, refl) (refl, refl)
                 (subst (Viewed (home s 0) (sees_only s) nowhere turned_views (view_here s after_step)) facts_on_e well.viewed) well.kept
                 (scope_on s ready.owns after_step.memory 0 (scope_behind p) (q.0).scope (subst (λ z. InScope s after_step.memory 0 (lasting_of s z)) (sym scope_first) on.inside) lead)
                 (record {
@@ -413,13 +413,13 @@ module _ (table : Table) (typed : TypedProgram) (effects : Effects) (input : Lis
                 let same_facts : after (acts_first p.instr) facts_first ≡ facts_of program effects below =
                 sym (standing.facts_on table typed effects input ready state top [] [] named p frames of_sub at_point path (calls_plain x v e))
                 ∙ ap (λ (z : FlowSub). facts_before (path_points program effects z) (top.frame.next ∷ top.before)) (sym (standing.sub_is table typed effects input ready state top [] [] named p frames of_sub at_point)) in (
-                  main_begun (record { stage = below; views = turned_views }) (running.0, (refl, running.1.1, refl), none_now, refl) refl after_step turned_views none_now main_frames (after (acts_first (Declare x v)) facts_first) well.viewed
+                  main_begun (record { stage = below; views = turned_views; cells = [] }) (running.0, (refl, running.1.1, refl), none_now, refl, refl) refl after_step turned_views none_now main_frames (after (acts_first (Declare x v)) facts_first) well.viewed
                       (λ name has. unmoved_stage below running.0 name (subst (λ z. Has z (Moved name)) (facts_on_e ∙ same_facts) has)) well.kept
                       (λ f y q n held. elim (on.inside f y q n held) [
                         | inl less ↦ absurd (omega (arith, less))
                         | inr mine ↦ (let same_frame = mine.0 in omega (arith, same_frame))
                       ]) nones,
-                  begins_main (record { stage = below; views = turned_views }) refl refl (refl, sym deep, refl) refl,
+                  begins_main (record { stage = below; views = turned_views; cells = [] }) refl refl (refl, sym deep, refl) refl,
                 ))
           ]
 

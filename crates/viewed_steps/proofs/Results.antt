@@ -53,7 +53,7 @@ use Rattle.viewed_soundness.specs.Holds.{IsNamed, AllKeep, is_view, sees_only, i
 use Rattle.viewed_soundness.proofs.Outcomes.{named_plain, IsGood, Leads_on}
 use Rattle.viewed_steps.specs.Awaited.{AreFor, AreValues, AreValuesBut, temporaries_of, lasting_of, awaited, AreAwaited, AreScalar, FillsTyped, TakesScalars, IsTakenBy, TakesAlone}
 use Rattle.viewed_steps.proofs.Waited.{temporary_first, lasting_more, Shares}
-use Rattle.viewed_steps.specs.Sound.{ArePast, HoldsAt, ArePlaced, NoneAbove, ViewStage, stages_of, GoneElsewhere, AreWaiting, IsStoredAt, returns_one, LeadsAlong, IsResting}
+use Rattle.viewed_steps.specs.Sound.{IsWayOf, ArePast, HoldsAt, ArePlaced, NoneAbove, ViewStage, stages_of, GoneElsewhere, AreWaiting, IsStoredAt, returns_one, LeadsAlong, IsResting}
 use Rattle.viewed_steps.specs.Taken.{TakenBy}
 use Rattle.viewed_steps.specs.Ready.{IsReady}
 use Rattle.viewed_steps.proofs.Lent.{Spare, loans_stay}
@@ -256,7 +256,7 @@ module _ (table : Table) (typed : TypedProgram) (effects : Effects) (input : Lis
 
     -- where it leads, and how the frames come from those before
     abbrev Along : Outcome → Type 0
-    Along outcome = LeadsAlong table typed effects p.instr state.memory (record { stage = top; views = views }) (below ∷ more_frames) outcome
+    Along outcome = LeadsAlong table typed effects p.instr state.memory (record { stage = top; views = views; cells = [] }) (below ∷ more_frames) outcome
 
     abbrev may : ℕ → ℕ → Type 0
     may x y = MayBe program (scope_behind p) x y × IsStoredAt p.instr x
@@ -535,6 +535,13 @@ module _ (table : Table) (typed : TypedProgram) (effects : Effects) (input : Lis
               views = was.views;
               holds = was.holds;
               placed = was.placed;
+              kept = λ c has. record {
+                named = (was.kept c has).named;
+                own = (was.kept c has).own;
+                leads = (was.kept c has).leads;
+                reaches = (was.kept c has).reaches;
+                aside = (was.kept c has).aside;
+              };
               taken = was.taken;
             },
             waits.1,
@@ -543,10 +550,12 @@ module _ (table : Table) (typed : TypedProgram) (effects : Effects) (input : Lis
           )
 
       past_with : (v : Waiting) → ArePast s depth views (below ∷ more_frames) → ArePast s depth views (below_with v ∷ more_frames)
-      past_with v past x w has given sees k n (g, inr there, y, is, cell) goes = past x w has given sees k n (g, inr there, y, is, cell) goes
-      past_with v past x w has given sees k n (g, inl same, y, is, cell) goes =
-          past x w has given sees k n
-          (below, inl refl, y, ap (λ (z : ViewStage). z.views.way y) same ∙ is, ap (λ (z : ViewStage). z.views.cell y) same ∙ cell) goes
+      past_with v past x w has given sees k n (g, inr there, way) goes = past x w has given sees k n (g, inr there, way) goes
+      past_with v past x w has given sees k n (g, inl same, way) goes =
+          past x w has given sees k n (below, inl refl, way_from way) goes
+        where
+          way_from : IsWayOf g k n → IsWayOf below k n
+          way_from way = subst (λ (z : ViewStage). IsWayOf z k n → IsWayOf below k n) same (λ there. there) way
 
       elsewhere_from : (v : Waiting) (w : Way) → GoneElsewhere program effects (below_with v ∷ more_frames) w → GoneElsewhere program effects (below ∷ more_frames) w
       elsewhere_from v w (g, inr has, what) = (g, inr has, what)

@@ -1,11 +1,12 @@
 -- A formal that owns nothing gets its value: owners see what they saw, and the variables of other views
 -- stay.
-use Rattle.std.proofs.Common.{◌≡◌, refl, sym, ap, ◌∙◌, subst, ◌⊎◌, inl, inr, ℕ, true, false, not, List, [], ◌∷◌, get_or}
+use Rattle.std.proofs.Common.{◌≡◌, refl, sym, ap, ◌∙◌, subst, ◌⊎◌, inl, inr, ℕ, zero, suc, arith, ◌+◌, true, false, not, List, [], ◌∷◌, ◌++◌, take, drop, length, get_or}
 use Rattle.type_definitions.specs.declared.table.Shape.TheVariants as shape
 use Rattle.type_definitions.specs.Types.{shape_of, components_of, words, words_of as shape_words}
 use Rattle.flow_paths.specs.Objects.{Typing, object_at}
+use Rattle.machine.specs.Words.{access_offsets}
 use Rattle.machine.specs.Words as machine
-use Rattle.machine.specs.Memory.{Slot, Memory, Base, Place, fresh, no_slot, variable_slots, put, words_of, moved_out, declared}
+use Rattle.machine.specs.Memory.{Slot, Memory, Base, Place, HeapCell, fresh, cell, no_cell, no_slot, variable_slots, slots_at, slots_of, at_number, gone_at, put, with_slots, words_of, moved_out, declared}
 use Rattle.machine.specs.Memory as memory
 use Rattle.machine.specs.Calls.{Passed, Value, From, To, with_formal}
 use Rattle.machine.specs.States.{Waiting, Leak}
@@ -13,17 +14,53 @@ use Rattle.owned_ways.specs.Ways.{Step, OfVariable, OfHand, Loc, OfRoot, OfCell,
 use Rattle.owned_ways.proofs.Locations.{same_loc}
 use Rattle.part_offsets.specs.Parts.{type_in, offset_in, IsSettled}
 use Rattle.soundness.specs.Seen.{content, trunk, steps_in, word_in, seen, is_view_formal}
-use Rattle.soundness.specs.Typed.{Points, OwnsByShape, Kept}
+use Rattle.soundness.specs.Typed.{Matches, Points, OwnsByShape, Kept}
 use Rattle.soundness.proofs.Contents.{word_dead}
 use Rattle.soundness.proofs.Keeping.{kept_with}
 use Rattle.soundness.proofs.Lasting.{declared_kept}
-use Rattle.soundness.proofs.Memories.{put_other, put_same}
-use Rattle.soundness.proofs.Passing.{IsLaid}
+use Rattle.soundness.proofs.Memories.{put_other, put_same, at_length}
 use Rattle.soundness.proofs.Steps.{plain_end}
 use Rattle.viewed_soundness.specs.Holds.{is_view, IsAccess}
-use Rattle.viewed_steps.proofs.Alike.{with_one}
-use Rattle.viewed_steps.proofs.Entered.{IsPlainOne, IsTyped, IsShownOne}
+use Rattle.viewed_steps.specs.Taken.{Lodge}
+use Rattle.viewed_steps.proofs.Alike.{IsLaidIn, with_one}
+use Rattle.viewed_steps.proofs.Entered.{IsPlainPassed, IsPlainOne, IsTyped, IsShownOne}
 use Rattle.viewed_steps.proofs.Views.{AreAccess}
+
+-- A memory has the cells of another one, with their types.
+pub record HasCells (m n : Memory) : Type 0 where
+  pub count : length n.cells ≡ length m.cells
+  pub same : (k : ℕ) → (cell n k).of ≡ (cell m k).of
+
+pub same_cells : (m n : Memory) → n.cells ≡ m.cells → HasCells m n
+same_cells m n e = record { count = ap length e; same = λ k. subst (λ cells. (cell (record m { cells = cells }) k).of ≡ (cell m k).of) (sym e) refl }
+
+pub then_cells : (a b c : Memory) → HasCells a b → HasCells b c → HasCells a c
+then_cells a b c first second = record { count = second.count ∙ first.count; same = λ k. second.same k ∙ first.same k }
+
+put_cells : (b : Base) (slots : List Slot) (m : Memory) → HasCells m (put b slots m)
+put_cells (memory.OfVariable f x) slots m = record { count = refl; same = λ k. refl }
+put_cells (memory.OfCell zero) slots m = record { count = refl; same = λ k. refl }
+put_cells (memory.OfCell (suc n)) slots m = record { count = at_length n (λ (c : HeapCell). record c { slots = slots }) m.cells; same = by_number }
+  where
+    one : (k : ℕ) (cs : List HeapCell) (i : ℕ) → (get_or (at_number k (λ (c : HeapCell). record c { slots = slots }) cs) i no_cell).of ≡ (get_or cs i no_cell).of
+    one k [] i = refl
+    one zero (c ∷ cs) zero = refl
+    one zero (c ∷ cs) (suc i) = refl
+    one (suc k) (c ∷ cs) zero = refl
+    one (suc k) (c ∷ cs) (suc i) = one k cs i
+
+    by_number : (k : ℕ) → (cell (put (memory.OfCell (suc n)) slots m) k).of ≡ (cell m k).of
+    by_number zero = refl
+    by_number (suc k) = one n m.cells k
+
+with_slots_cells : (s : Typing) (k : Place) (slots : List Slot) (m : Memory) → HasCells m (with_slots s k slots m)
+with_slots_cells s k slots m = put_cells k.base (take k.at (slots_at s m k.base) ++ slots ++ drop (k.at + length slots) (slots_at s m k.base)) m
+
+moved_cells : (s : Typing) (k : Place) (m : Memory) → HasCells m (moved_out s k m)
+moved_cells s k m = with_slots_cells s k (gone_at (access_offsets s.table k.of) (slots_of s m k)) m
+
+pub taken_cells : (s : Typing) (k : Place) (f x : ℕ) (ws : List machine.Word) (m : Memory) → HasCells m (declared f x ws (moved_out s k m))
+taken_cells s k f x ws m = (let moved = moved_cells s k m in record { count = moved.count; same = moved.same })
 
 same_variable : (f x g y : ℕ) → OfVariable f x ≡ OfVariable g y → (f ≡ g) × (x ≡ y)
 same_variable f x g y e = (cc, cc)
@@ -38,7 +75,7 @@ module _ (s : Typing) (settled : IsSettled s.table) (own_law : OwnsByShape s.tab
     pub views : (g y : ℕ) → is_view s y ≡ true
         → ((get_or (variable_slots s g y n.variables) 0 no_slot).word ≡ (get_or (variable_slots s g y m.variables) 0 no_slot).word)
         ⊎ ((g ≡ f) × (x ≡ y) × (a ≡ Value ((get_or (variable_slots s g y n.variables) 0 no_slot).word ∷ [])))
-    pub cells : n.cells ≡ m.cells
+    pub cells : HasCells m n
 
   module _ (f x : ℕ) (z : machine.Word) (m : Memory) (shown : is_view_formal s x ≡ true) (typed : IsTyped s m x z) (kept : Kept s m hands) where
     abbrev next : Memory
@@ -86,27 +123,24 @@ module _ (s : Typing) (settled : IsSettled s.table) (own_law : OwnsByShape s.tab
             inr (sym here, same, ap (λ w. Value (w ∷ []))
             (sym (ap (λ q. (get_or q 0 no_slot).word) ((λ j. variable_slots s (sym here j) (sym same j) next.variables) ∙ put_same s f x (fresh (z ∷ [])) m.variables)))))
       ];
-      cells = refl;
+      cells = record { count = refl; same = λ k. refl };
     }
 
-  pub moved_cells : (k : Place) (m : Memory) (f x : ℕ) → k.base ≡ memory.OfVariable f x → (moved_out s k m).cells ≡ m.cells
-  moved_cells k m f x is = at_base _ k.base is
-    where
-      at_base : (slots : List Slot) (b : Base) → b ≡ memory.OfVariable f x → (put b slots m).cells ≡ m.cells
-      at_base slots b e = ap (λ (z : Base). (put z slots m).cells) e
-
-  plain_cells : (f x : ℕ) (a : Passed) (m : Memory) → IsLaid s a → (with_formal s f x a m).cells ≡ m.cells
-  plain_cells f x (Value ws) m laid = refl
-  plain_cells f x (From k) m laid = moved_cells k m laid.frame laid.object laid.base
-  plain_cells f x (To k) m laid = moved_cells k m laid.frame laid.object laid.base
+  plain_cells : (f x : ℕ) (a : Passed) (m : Memory) → HasCells m (with_formal s f x a m)
+  plain_cells f x (Value ws) m = record { count = refl; same = λ k. refl }
+  plain_cells f x (From k) m = taken_cells s k f x (words_of s m k) m
+  plain_cells f x (To k) m = taken_cells s k f x (machine.default s.table (object_at s x).of) m
 
   -- one for which no place is taken that owns
-  pub one_stands : (f x : ℕ) (a : Passed) (before m : Memory) → IsPlainOne s before x a → m.cells ≡ before.cells → Kept s m hands → Stands f x a m (with_formal s f x a m)
-  one_stands f x a before m (inl (scalar, laid)) same kept =
-      let on = with_one s settled own_law in_formals hands leaks f x a m scalar laid kept in
-      record { same = on.same; typed = on.typed; hold = on.hold; views = λ g y view. inl (on.views g y view); cells = plain_cells f x a m laid }
-  one_stands f x a before m (inr (shown, z, is, typed)) same kept =
-      subst (λ q. Stands f x q m (with_formal s f x q m)) (sym is) (shown_stands f x z m shown (typed_there same) kept)
+  pub one_stands : (f x : ℕ) (a : Passed) (before m : Memory) (cells : List Lodge) → IsPlainOne s before cells x a
+      → (IsPlainPassed s cells a → IsLaidIn s settled own_law in_formals hands leaks m a) → HasCells before m → Kept s m hands → Stands f x a m (with_formal s f x a m)
+  one_stands f x a before m cells (inl (scalar, plain)) laid had kept =
+      let on = with_one s settled own_law in_formals hands leaks f x a m scalar (laid plain) kept in
+      record { same = on.same; typed = on.typed; hold = on.hold; views = λ g y view. inl (on.views g y view); cells = plain_cells f x a m }
+  one_stands f x a before m cells (inr (shown, z, is, typed)) laid had kept =
+      subst (λ q. Stands f x q m (with_formal s f x q m)) (sym is) (shown_stands f x z m shown typed_there kept)
     where
-      typed_there : m.cells ≡ before.cells → IsTyped s m x z
-      typed_there same d c n k shape_is e = subst (λ cells. IsTyped s (record m { cells = cells }) x z) (sym same) typed d c n k shape_is e
+      typed_there : IsTyped s m x z
+      typed_there d c n k shape_is e =
+          let there = typed d c n k shape_is e in
+          (there.0, (let low = there.1 in let count = had.count in omega (arith, low, count)), subst (Matches s.table d) (sym (had.same k)) there.2)

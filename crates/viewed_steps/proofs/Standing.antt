@@ -270,15 +270,15 @@ module _ (table : Table) (typed : TypedProgram) (effects : Effects) (input : Lis
       pub goes_to_next : IsNoCall p.instr → (after_step : State) (waits : List Waiting) (loops : List Loop) (n : ℕ) (next : Has here.next n) (q : NamedPoint) → IsAtPoint named.points n q
           → after_step.frames ≡ record top.frame { waits = waits; loops = loops; next = n } ∷ outer
           → top.depth ≡ length outer → AreStages (stages_of older) outer → (views : Views)
-          → IsRunning table typed effects after_step (record { stage = at_next waits loops n; views = views }) older
+          → IsRunning table typed effects after_step (record { stage = at_next waits loops n; views = views; cells = [] }) older
           → AreAwaited table typed None (at_next waits loops n ∷ stages_of older)
           → Viewed (home s (length outer)) (sees_only s) (known_gone (home s (length outer)) (GoneElsewhere program effects older)) views (view_here s after_step) (after (acts_here p.instr) facts)
           → Kept s after_step.memory (waiting_in after_step) → InScope s after_step.memory (length outer) (lasting_of s q.scope)
           → HoldsAt s (length outer) views after_step.memory q
           → ArePlaced program (length outer) (after (acts_here p.instr) facts) views q.scope × ArePast s (length outer) views older
           → NoneAbove s (length outer) after_step.memory → (before : Views)
-          → Follows program effects p.instr state.memory (record { stage = top; views = before }) older after_step.memory (record { stage = at_next waits loops n; views = views }) older
-          → LeadsAlong table typed effects p.instr state.memory (record { stage = top; views = before }) older (Goes after_step)
+          → Follows program effects p.instr state.memory (record { stage = top; views = before; cells = [] }) older after_step.memory (record { stage = at_next waits loops n; views = views; cells = [] }) older
+          → LeadsAlong table typed effects p.instr state.memory (record { stage = top; views = before; cells = [] }) older (Goes after_step)
       goes_to_next plain after_step waits loops n next q at is deep stages views running awaited viewed kept scope holds placed above before follows =
           let step_on : Has (path_point points top.frame.next).next n =
           subst (λ (z : PathPoint). Has z.next n) (sym (path_there own named top.frame.next p at_point program effects)) next in

@@ -28,16 +28,17 @@ use Rattle.soundness.specs.Sound.{Stage, facts_of, AreStages, Uses, view_of as v
 use Rattle.soundness.proofs.Around.{near_or_far, IsFar, near_package, package_named}
 use Rattle.soundness.proofs.Contents.{bool_cases}
 use Rattle.soundness.proofs.Inherited.{Splits}
-use Rattle.owned_loans.specs.Views.{on, Around, known_gone, Views, expand, IsThrough, ExcusedBy, HasLoan, IsForeign, Viewed}
-use Rattle.owned_loans.proofs.Ways.{under_on, on_under, on_named, lifts, lifted_root, lifted_way}
+use Rattle.owned_loans.specs.Views.{on, Around, known_gone, Views, expand, IsThrough, ExcusedBy, HasLoan, IsForeign, Viewed, Go}
+use Rattle.owned_loans.proofs.Ways.{under_on, on_under, on_named, lifts, lifted_root, lifted_way, base_on}
 use Rattle.owned_loans.proofs.Meeting.{stands}
 use Rattle.owned_loans.proofs.Moves.{view_on, own_loan, reached}
-use Rattle.viewed_steps.specs.Taken.{TakenBy}
+use Rattle.viewed_steps.specs.Taken.{TakenBy, Lodge}
+use Rattle.owned_loans.proofs.Meeting.{stands}
 use Rattle.viewed_steps.proofs.Between.{taken_from as words_taken, taken_base, still_taken, near_base}
 use Rattle.viewed_steps.proofs.Roots.{borrower_goes, view_goes}
 use Rattle.viewed_steps.specs.Awaited.{lasting_of}
 use Rattle.viewed_steps.proofs.Whole.{flat_has}
-use Rattle.viewed_steps.specs.Sound.{loan_by, withheld, KeptBy, ArePast, ViewStage, stages_of, Lies, GoneElsewhere, IsWaiting, IsFirst, AreWaiting}
+use Rattle.viewed_steps.specs.Sound.{loan_by, withheld, KeptBy, ArePast, ViewStage, stages_of, Lies, GoneElsewhere, IsWaiting, IsFirst, AreWaiting, IsWayOf}
 use Rattle.viewed_steps.proofs.Views.{base_named, same_lies}
 
 flat_from : {A B : Type 0} (f : A → List B) (xs : List A) (y : B) → Has (flat_map f xs) y → (x : A) × Has xs x × Has (f x) y
@@ -138,9 +139,14 @@ module _ (table : Table) (typed : TypedProgram) (effects : Effects)
   none_some : {A : Type 0} (o : ℕ) (w : Way) (v : Views) → v.way o ≡ None → v.way o ≡ Some w → A
   none_some o w v none has = (let no : None ≡ Some w = sym none ∙ has in cc)
 
-  -- The ways of the views of others, with their cells.
+  -- The ways of others, with their cells.
   abbrev pub KeptElsewhere : List ViewStage → Way → ℕ → Type 0
   KeptElsewhere older w n = KeptBy older w n
+
+  -- the frame of the package objects has none
+  no_cells : (g : ViewStage) (w : Way) (n : ℕ) → IsFirst g → IsWayOf g w n → ⊥
+  no_cells g w n first (inl (x, is, cell)) = (let no : None ≡ Some w = sym (first.2 x) ∙ is in cc)
+  no_cells g w n first (inr (c, has, is, cell)) = subst (λ z. Has z c) first.4 has
 
   -- What a frame keeps of package objects, as loans that the objects hold themselves.
   loan_of : Fact → List Fact
@@ -198,6 +204,15 @@ module _ (table : Table) (typed : TypedProgram) (effects : Effects)
       (subst (λ b. Has (if b then flat_map loan_of (withheld program effects g.stage) else []) (Lent (loan_by f) (place f).root (place f))) (sym (lt-ltb 0 g.stage.depth some))
       (flat_has loan_of (withheld program effects g.stage) f (Lent (loan_by f) (place f).root (place f)) there
       (one_has f (ap (λ (z : Name). is_package_object s z.root) is ∙ shared))))))
+
+  -- such a way reaches its cell
+  way_reaches : (state : State) (callee : ℕ) (backs : List Return) (g : ViewStage) → IsWaiting table typed effects state callee backs g → (w : Way) (n : ℕ) → IsWayOf g w n
+      → Reaches (view_here s state) w (OfCell n)
+  way_reaches state callee backs g waits w n (inl (x, is, cell)) =
+      subst (λ z. Reaches (view_here s state) w (OfCell z)) cell
+      (reached (home s g.stage.depth) (sees_only s) (known_gone (home s g.stage.depth) (λ z. ⊥)) g.views (view_here s state) (facts_of program effects g.stage) x w (waits.views x w is))
+  way_reaches state callee backs g waits w n (inr (c, has, is, cell)) =
+      subst (λ z. Reaches (view_here s state) z (OfCell n)) is (subst (λ z. Reaches (view_here s state) c.way (OfCell z)) cell (waits.kept c has).reaches)
 
   module _ (state : State) (depth : ℕ) (older : List ViewStage) (between : (g : ViewStage) → Has older g → StandsBetween state depth g) where
     -- A way goes on from such a place.
@@ -270,10 +285,43 @@ module _ (table : Table) (typed : TypedProgram) (effects : Effects)
           ];
         }
 
+    -- the way of a cell of a place begins at an own variable, or goes on from that of a view
+    cell_begins : (callee : ℕ) (backs : List Return) (g : ViewStage) → Has older g → 0 < g.stage.depth → g.stage.depth < depth
+        → IsWaiting table typed effects state callee backs g → (c : Lodge) → Has g.cells c → Begins c.way
+    cell_begins callee backs g has some less waits c there =
+        let kept = waits.kept c there in
+        subst Begins kept.leads (elim (lifts g.views c.name) [
+          | inl itself ↦ subst Begins (sym itself) (record {
+            frame = home s g.stage.depth (number_of c.name);
+            object = number_of c.name;
+            base = named_base (home s g.stage.depth) c.name kept.named;
+            low = low_home (is_package_object s (number_of c.name)) g.stage.depth less;
+            other = inl (λ e. other_frame s g.stage.depth depth some less (number_of c.name) kept.own
+                (sym (ap (λ z. if z then 0 else g.stage.depth) kept.own) ∙ e));
+          })
+          | inr l ↦ subst Begins (sym (lifted_way g.views c.name l))
+              (goes_on l.way l.rest (way_begins callee backs g has some less waits l.object l.way l.has (waits.holds.lies l.object l.way l.has)))
+        ])
+      where
+        goes_on : (w : Way) (rest : List Go) → Begins w → Begins (on w rest)
+        goes_on w rest b = record {
+          frame = b.frame;
+          object = b.object;
+          base = base_on w rest ∙ b.base;
+          low = b.low;
+          other = elim b.other [
+            | inl away ↦ inl away
+            | inr (l, (k, named, under, lent)) ↦ inr (l, (k, named, under_on k w (on w rest) under (on_under w rest), lent))
+          ];
+        }
+
     begins_there : (w : Way) (n : ℕ) → KeptElsewhere older w n → Begins w
-    begins_there w n (g, has, x, is, cell) = elim (between g has) [
-      | inl first ↦ none_some x w g.views (first.2 x) is
-      | inr (some, less, callee, backs, waits) ↦ way_begins callee backs g has some less waits x w is (waits.holds.lies x w is)
+    begins_there w n (g, has, way) = elim (between g has) [
+      | inl first ↦ absurd (no_cells g w n first way)
+      | inr (some, less, callee, backs, waits) ↦ elim way [
+        | inl (x, is, cell) ↦ way_begins callee backs g has some less waits x w is (waits.holds.lies x w is)
+        | inr (c, there, is, cell) ↦ subst Begins is (cell_begins callee backs g has some less waits c there)
+      ]
     ]
 
     pub begins_elsewhere : (w : Way) (n : ℕ) → KeptElsewhere older w n
@@ -308,7 +356,7 @@ module _ (table : Table) (typed : TypedProgram) (effects : Effects)
       | inl first ↦ absurd (subst (λ z. TakenBy z w) (first.1).2 taken).1
       | inr (some, less, callee, backs, waits) ↦ (
           let base = taken_base g.stage.returns g.stage.depth
-          (words_taken s state.memory g.stage.depth (facts_of program effects g.stage) (lasting_of s waits.point.scope) backs g.stage.returns waits.taken) w taken in
+          (words_taken s g.cells state.memory g.stage.depth (facts_of program effects g.stage) (lasting_of s waits.point.scope) backs g.stage.returns waits.taken) w taken in
           (g.stage.depth, base.0, base.1, less))
     ]
     gone_low w (g, has, inl (u, moved, leads)) = elim (between g has) [
@@ -332,7 +380,7 @@ module _ (table : Table) (typed : TypedProgram) (effects : Effects)
       | inl first ↦ absurd (subst (λ z. TakenBy z w) (first.1).2 taken).1
       | inr (some, less, callee, backs, waits) ↦ absurd (
           let base = taken_base g.stage.returns g.stage.depth
-          (words_taken s state.memory g.stage.depth (facts_of program effects g.stage) (lasting_of s waits.point.scope) backs g.stage.returns waits.taken) w taken in
+          (words_taken s g.cells state.memory g.stage.depth (facts_of program effects g.stage) (lasting_of s waits.point.scope) backs g.stage.returns waits.taken) w taken in
           elim (near_base depth w g.stage.depth base.0 near base.1) [
             | inl none ↦ omega (arith, some, none)
             | inr same ↦ omega (arith, less, same)
@@ -403,10 +451,9 @@ module _ (table : Table) (typed : TypedProgram) (effects : Effects)
         ]
 
     pub far : (w : Way) (n : ℕ) → KeptElsewhere older w n → Reaches (view_here s state) w (OfCell n)
-    far w n (g, has, x, is, cell) = elim (between g has) [
-      | inl first ↦ none_some x w g.views (first.2 x) is
-      | inr (some, less, callee, backs, waits) ↦ subst (λ z. Reaches (view_here s state) w (OfCell z)) cell
-          (reached (home s g.stage.depth) (sees_only s) (known_gone (home s g.stage.depth) (λ z. ⊥)) g.views (view_here s state) (facts_of program effects g.stage) x w (waits.views x w is))
+    far w n (g, has, way) = elim (between g has) [
+      | inl first ↦ absurd (no_cells g w n first way)
+      | inr (some, less, callee, backs, waits) ↦ way_reaches state callee backs g waits w n way
     ]
 
     -- What concerns the innermost frame when it has their facts on package objects beside its own.
@@ -587,7 +634,7 @@ module _ (table : Table) (typed : TypedProgram) (effects : Effects)
       (words : (f x : ℕ) → 0 < f → f < depth → is_view s x ≡ true
       → (get_or (variable_slots s f x next.memory.variables) 0 no_slot).word ≡ (get_or (variable_slots s f x state.memory.variables) 0 no_slot).word) where
     waits_on : (callee : ℕ) (backs : List Return) (g : ViewStage) → 0 < g.stage.depth → g.stage.depth < depth
-        → ((x : ℕ) (w : Way) → g.views.way x ≡ Some w → Reaches (view_here s next) w (OfCell (g.views.cell x)))
+        → ((w : Way) (n : ℕ) → IsWayOf g w n → Reaches (view_here s next) w (OfCell n))
         → IsWaiting table typed effects state callee backs g → IsWaiting table typed effects next callee backs g
     waits_on callee backs g some less reach waits = record {
       runs = waits.runs;
@@ -606,7 +653,7 @@ module _ (table : Table) (typed : TypedProgram) (effects : Effects)
       clear = waits.clear;
       views = λ x w has.
           view_on (home s g.stage.depth) (sees_only s) (known_gone (home s g.stage.depth) (λ z. ⊥)) g.views (view_here s state) (view_here s next)
-          (facts_of program effects g.stage) (facts_of program effects g.stage) x w (waits.views x w has) (λ b n loan. loan) (reach x w has);
+          (facts_of program effects g.stage) (facts_of program effects g.stage) x w (waits.views x w has) (λ b n loan. loan) (reach w (g.views.cell x) (inl (x, has, refl)));
       holds = record {
         held = λ x n lasts view e. waits.holds.held x n lasts view (word_before x n view e);
         within = λ x n view e. waits.holds.within x n view (word_before x n view e);
@@ -617,7 +664,14 @@ module _ (table : Table) (typed : TypedProgram) (effects : Effects)
         own = waits.holds.own;
       };
       placed = waits.placed;
-      taken = still_taken s state.memory next.memory g.stage.depth (facts_of program effects g.stage) (lasting_of s waits.point.scope)
+      kept = λ c has. (let kept = waits.kept c has in record {
+        named = kept.named;
+        own = kept.own;
+        leads = kept.leads;
+        reaches = reach c.way c.cell (inr (c, has, refl, refl));
+        aside = kept.aside;
+      });
+      taken = still_taken s g.cells state.memory next.memory g.stage.depth (facts_of program effects g.stage) (lasting_of s waits.point.scope)
           (λ y p c held. still g.stage.depth y p c some less held) backs g.stage.returns waits.taken;
     }
       where
@@ -631,7 +685,7 @@ module _ (table : Table) (typed : TypedProgram) (effects : Effects)
             ∙ subst (λ f. (get_or (variable_slots s f x next.memory.variables) 0 no_slot).word ≡ machine.Cell n) own e)
 
     pub all_on : (callee : ℕ) (backs : List Return) (older : List ViewStage) (outer : List Frame) → AreStages (stages_of older) outer → length outer ≤ depth
-        → ((g : ViewStage) → Has older g → (x : ℕ) (w : Way) → g.views.way x ≡ Some w → Reaches (view_here s next) w (OfCell (g.views.cell x)))
+        → ((w : Way) (n : ℕ) → KeptElsewhere older w n → Reaches (view_here s next) w (OfCell n))
         → AreWaiting table typed effects state callee backs older → AreWaiting table typed effects next callee backs older
     all_on callee backs [] outer stages less reach waiting = waiting
     all_on callee backs (e ∷ []) outer stages less reach waiting = waiting
@@ -639,8 +693,8 @@ module _ (table : Table) (typed : TypedProgram) (effects : Effects)
     all_on callee backs (g ∷ (h ∷ older)) (f ∷ outer) stages less reach waiting =
         let some = some_frames h older outer stages.2 in
         let deep = stages.1 in (
-          waits_on callee backs g (omega (arith, some, deep)) (omega (arith, less, deep)) (reach g (inl refl)) waiting.0,
-          all_on g.stage.frame.sub g.stage.frame.returns (h ∷ older) outer stages.2 (omega (arith, less)) (λ k has. reach k (inr has)) waiting.1,
+          waits_on callee backs g (omega (arith, some, deep)) (omega (arith, less, deep)) (λ w n way. reach w n (g, inl refl, way)) waiting.0,
+          all_on g.stage.frame.sub g.stage.frame.returns (h ∷ older) outer stages.2 (omega (arith, less)) (λ w n (k, has, way). reach w n (k, inr has, way)) waiting.1,
           waiting.2,
           waiting.3,
         )
@@ -650,7 +704,5 @@ module _ (table : Table) (typed : TypedProgram) (effects : Effects)
         → length outer ≤ depth → AreWaiting table typed effects state callee backs older → AreWaiting table typed effects next callee backs older
     all_same same callee backs older outer stages less waiting =
         all_on callee backs older outer stages less
-        (λ g has x w there. elim (all_between state callee depth backs older outer stages less waiting g has) [
-          | inl first ↦ none_some x w g.views (first.2 x) there
-          | inr (some, under, below, backs_there, waits) ↦ same_reaches (view_here s state) (view_here s next) same w (OfCell (g.views.cell x)) (reached (home s g.stage.depth) (sees_only s) (known_gone (home s g.stage.depth) (λ z. ⊥)) g.views (view_here s state) (facts_of program effects g.stage) x w (waits.views x w there))
-        ]) waiting
+        (λ w n kept. same_reaches (view_here s state) (view_here s next) same w (OfCell n)
+        (far state depth older (all_between state callee depth backs older outer stages less waiting) w n kept)) waiting

@@ -18,6 +18,7 @@ use Rattle.flow_paths.specs.Laid.{FlowSub, FlowProgram, NamedSub, number_in, flo
 use Rattle.flow_paths.specs.Scopes.{taken, is_within}
 use Rattle.flow_paths.specs.Views.{encloses, scope_of}
 use Rattle.machine.specs.States.{sub_of}
+use Rattle.machine.specs.Owners.{is_in}
 use Rattle.soundness.specs.Typed.{OwnsByShape}
 use Rattle.soundness.specs.Sound.{Accepted, IsNamedSub, IsAtPoint, IsProcedure, IsRunnable}
 use Rattle.soundness.specs.Ready.{root_of, stored_at, AreScoped, AreNew, AreElaborated, AreReturning}
@@ -121,11 +122,19 @@ IsNewSource program scope x e =
     × (is_observer (flow_typing program) x ≡ true → Lasts program scope y x)
     × (is_observer (flow_typing program) x ≡ false → y ≡ x)
 
+-- Nothing is copied back to through what only sees.
+abbrev pub AreUnobserved : Typing → List ℕ → TypedTree → Type 0
+AreUnobserved s (x ∷ formals) (More e rest) =
+    (is_in (object_at s x).mode ≡ false → (y : ℕ) → Has (root_of e) y → sees_only s y ≡ false) × AreUnobserved s formals rest
+AreUnobserved s formals actuals = Unit {0}
+
 -- Views at a point with its successors.
 pub record AreOrderly (program : FlowProgram) (p : NamedPoint) (next : NamedPoint → Type 0) : Type 0 where
   pub declared : (x : ℕ) (e : TypedTree) → p.instr ≡ Declare x e → is_anonymous (view_of (flow_typing program) x) ≡ true → IsSource program p.scope x e
   pub assigned : (q : Pos) (x w : ℕ) (e : TypedTree) → p.instr ≡ Assign (Name q x NoMore w) e → is_anonymous (view_of (flow_typing program) x) ≡ true
       → IsNewSource program p.scope x e
+  pub copied : (n : ℕ) (actuals : TypedTree) (result : Option ℕ) → p.instr ≡ Call n actuals result
+      → AreUnobserved (flow_typing program) (sub_of program n).formals actuals
   pub read : (q : Pos) (x w : ℕ) (path : TypedTree) → p.instr ≡ Input (Name q x path w) → sees_only (flow_typing program) x ≡ false
   -- what is declared, or ends, is no formal that owns nothing; and of an anonymous access type, it is a
   -- variable, as what is assigned as a whole is

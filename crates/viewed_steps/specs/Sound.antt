@@ -12,7 +12,7 @@ use Rattle.place_names.specs.declared.rule.Loan.{Loan}
 use Rattle.place_names.specs.declared.rule.Loan.TheVariants.{Borrowed, Observed}
 use Rattle.place_names.specs.Names.{Name as PlaceName}
 use Rattle.type_definitions.specs.Types.{Table, full, is_scalar}
-use Rattle.typed_tree.specs.Trees.{TypedTree, Name, NoMore}
+use Rattle.typed_tree.specs.Trees.{TypedTree, Name, NoMore, More}
 use Rattle.typed_tree.specs.Programs.{TypedProgram}
 use Rattle.flow_paths.specs.declared.report.Effects.{Effects}
 use Rattle.flow_paths.specs.Instructions.{Instruction, Declare, Assign, Call, EndScope, Finish}
@@ -26,17 +26,18 @@ use Rattle.flow_paths.specs.Views.{encloses, scope_of}
 use Rattle.machine.specs.Words.{Cell}
 use Rattle.machine.specs.Memory.{Memory, variable_slots, no_slot}
 use Rattle.machine.specs.States.{Return, Waiting, Frame, State, Outcome, Goes, Ends, sub_of}
-use Rattle.machine.specs.Owners.{WellOwned, waiting_in}
+use Rattle.machine.specs.Owners.{is_in, WellOwned, waiting_in}
 use Rattle.machine.specs.Run.{step}
-use Rattle.owned_ways.specs.Ways.{Step, OfVariable, OfRoot, Held, Way, Named, Under, Past, name_of, number_of}
+use Rattle.owned_ways.specs.Ways.{Step, OfVariable, OfRoot, Held, Way, Named, Under, Past, name_of, number_of, OfCell, Reaches}
 use Rattle.soundness.specs.Seen.{content, word_in, home, is_view_formal}
 use Rattle.soundness.specs.Typed.{Kept}
-use Rattle.soundness.specs.Sound.{AreCopied, is_temporary_object, IsNamedSub, IsAtPoint, IsRunnable, Stage, facts_of, AreStages, Uses, IsPlain, InScope, IsTrap}
+use Rattle.soundness.specs.Sound.{goes_through_none, is_temporary_object, IsNamedSub, IsAtPoint, IsRunnable, Stage, facts_of, AreStages, Uses, IsPlain, InScope, IsTrap}
 use Rattle.soundness.specs.Sound as owners
-use Rattle.owned_loans.specs.Views.{known_gone, Views, IsMovedBy, AreClear, IsForeign, AreViews, Viewed}
+use Rattle.owned_loans.specs.Views.{known_gone, Views, IsMovedBy, AreClear, IsForeign, AreViews, Viewed, expand}
 use Rattle.viewed_soundness.specs.Holds.{IsNamed, IsAccess, PartsAreNamed, is_view, sees_only, IsOwners, is_given, is_exclusive}
+use Rattle.soundness.specs.Ready.{root_of}
 use Rattle.viewed_steps.specs.Awaited.{is_held, lasting_of, AreNamedResults, AreAwaited}
-use Rattle.viewed_steps.specs.Taken.{TakenBy, AreTaken, AreCarried}
+use Rattle.viewed_steps.specs.Taken.{TakenBy, Lodge, AreTaken, AreCarried}
 
 -- ---- the class
 
@@ -54,21 +55,31 @@ IsShown s x = (is_view_formal s x ≡ true) × IsAccess s x
 abbrev pub IsKindOfFormal : Typing → ℕ → Type 0
 IsKindOfFormal s x = IsScalarObject s x ⊎ ((IsCopiedBack s x × IsNamed s.table (object_at s x).of) ⊎ IsShown s x)
 
+-- Actuals that are copied back to go through no access value; or they are for formals of scalar types, and are
+-- rooted in objects that belong to no package.
+abbrev pub AreKeptPlaces : Typing → List ℕ → TypedTree → Type 0
+AreKeptPlaces s (x ∷ formals) (More e rest) =
+    (is_in (object_at s x).mode ≡ false → (goes_through_none e ≡ true)
+    ⊎ (IsScalarObject s x × ((y : ℕ) → Has (root_of e) y → is_package_object s y ≡ false))) × AreKeptPlaces s formals rest
+AreKeptPlaces s formals actuals = Unit {0}
+
 -- Anonymous access types are those of objects alone, and functions that are called have no results of
 -- such types; formals are such, those of functions of mode `in`, and those of procedures of mode `in` of
--- scalar types; actuals that are copied back to go through no access value.
+-- scalar types; actuals are copied back to as above.
 pub record IsViewClass (program : FlowProgram) : Type 0 where
   pub parts_named : PartsAreNamed program.table
   pub results : AreNamedResults program
   pub formals : (x : ℕ) → is_formal (flow_typing program) x ≡ true → IsKindOfFormal (flow_typing program) x
   pub functions : (n t : ℕ) → (sub_at (flow_typing program) n).result ≡ Some t → (x : ℕ) → Has (sub_at (flow_typing program) n).formals x
-      → is_formal (flow_typing program) x ≡ true → ((object_at (flow_typing program) x).mode ≡ mode.In) 
-      × (IsScalarObject (flow_typing program) x ⊎ (IsShown (flow_typing program) x × (is_exclusive (flow_typing program) x ≡ false)))
+      → is_formal (flow_typing program) x ≡ true
+      → IsScalarObject (flow_typing program) x ⊎ (IsShown (flow_typing program) x × (is_exclusive (flow_typing program) x ≡ false))
+  pub modes : (n t : ℕ) → (sub_at (flow_typing program) n).result ≡ Some t → (x : ℕ) → Has (sub_at (flow_typing program) n).formals x
+      → (object_at (flow_typing program) x).mode ≡ mode.In
   pub procedures : (n : ℕ) → (sub_at (flow_typing program) n).result ≡ None → (x : ℕ) → Has (sub_at (flow_typing program) n).formals x
       → is_formal (flow_typing program) x ≡ true → is_view_formal (flow_typing program) x ≡ false
   pub copied : (sub : FlowSub) → Has program.subs sub → (p : FlowPoint) → Has sub.points p → (n : ℕ) (actuals : TypedTree) (result : Option ℕ)
       → p.instr ≡ Call n actuals result → ((x : ℕ) → Has (sub_of program n).formals x → is_formal (flow_typing program) x ≡ true)
-      → AreCopied (flow_typing program) (sub_of program n).formals actuals
+      → AreKeptPlaces (flow_typing program) (sub_of program n).formals actuals
 
 -- ---- where objects last
 
@@ -138,10 +149,12 @@ AreReturned s f =
 abbrev pub IsResting : Typing → Stage → Type 0
 IsResting s g = AreReturned s g.frame
 
--- A frame with its executed points and the ways of its views.
+-- A frame with its executed points and the ways of its views, and the cells in which places stand that what
+-- it called copies back to.
 pub record ViewStage : Type 0 where
   pub stage : Stage
   pub views : Views
+  pub cells : List Lodge
 
 abbrev pub stages_of : List ViewStage → List Stage
 stages_of older = map (λ (g : ViewStage). g.stage) older
@@ -167,6 +180,15 @@ loan_by (Lent l h n) = l
 -- What a frame keeps from what it calls: its facts, and the places that were taken from it, as moved ones.
 abbrev pub withheld : FlowProgram → Effects → Stage → List Fact
 withheld program effects g = facts_of program effects g ++ map (λ (to : Way). Moved (name_of to)) g.returns
+
+-- A cell of a place that is copied back to is there: it is named by the frame, by a variable of its own or a
+-- view, and no way that was taken goes before the name's way.
+pub record IsKept (s : Typing) (state : State) (g : ViewStage) (c : Lodge) : Type 0 where
+  pub named : Named (home s g.stage.depth) c.name
+  pub own : is_package_object s (number_of c.name) ≡ false
+  pub leads : expand g.views c.name ≡ c.way
+  pub reaches : Reaches (owners.view_of s state) c.way (OfCell c.cell)
+  pub aside : (to : Way) → Has g.stage.returns to → Past to c.way → ⊥
 
 -- A frame that waits for a call to end. The points that it has executed form a control path to its
 -- next point. What it owns is in scope there, and so are its views, which have their ways still. The
@@ -198,12 +220,13 @@ pub record IsWaiting (table : Table) (typed : TypedProgram) (effects : Effects) 
       (owners.view_of (flow_typing (flow_program table typed)) state) (facts_of (flow_program table typed) effects g.stage)
   pub holds : HoldsAt (flow_typing (flow_program table typed)) g.stage.depth g.views state.memory point
   pub placed : ArePlaced (flow_program table typed) g.stage.depth (facts_of (flow_program table typed) effects g.stage) g.views point.scope
-  pub taken : AreTaken (flow_typing (flow_program table typed)) state.memory g.stage.depth (facts_of (flow_program table typed) effects g.stage)
+  pub kept : (c : Lodge) → Has g.cells c → IsKept (flow_typing (flow_program table typed)) state g c
+  pub taken : AreTaken (flow_typing (flow_program table typed)) g.cells state.memory g.stage.depth (facts_of (flow_program table typed) effects g.stage)
       (lasting_of (flow_typing (flow_program table typed)) point.scope) backs g.stage.returns
 
 -- The frame of the package objects has no views, and nothing waits in it.
 abbrev pub IsFirst : ViewStage → Type 0
-IsFirst e = (e.stage.frame.sub ≡ 0) × IsPlain e.stage × ((x : ℕ) → e.views.way x ≡ None) × (e.stage.depth ≡ 0)
+IsFirst e = (e.stage.frame.sub ≡ 0) × IsPlain e.stage × ((x : ℕ) → e.views.way x ≡ None) × (e.stage.depth ≡ 0) × (e.cells ≡ [])
 
 -- Nothing that is gone for the frames around meets what a view of a frame sees that belongs to them.
 abbrev pub AreUnmet : FlowProgram → Effects → ViewStage → List ViewStage → Type 0
@@ -211,9 +234,13 @@ AreUnmet program effects g older =
     (x : ℕ) (w z : Way) → g.views.way x ≡ Some w → IsForeign (home (flow_typing program) g.stage.depth) w → GoneElsewhere program effects older z
     → Under z w ⊎ Under w z → ⊥
 
--- The ways of views of some frames, with their cells.
+-- A way of a frame that waits, with its cell: one of a view, or one to a place that is copied back to.
+abbrev pub IsWayOf : ViewStage → Way → ℕ → Type 0
+IsWayOf g w n =
+    ((x : ℕ) × (g.views.way x ≡ Some w) × (g.views.cell x ≡ n)) ⊎ ((c : Lodge) × Has g.cells c × (c.way ≡ w) × (c.cell ≡ n))
+
 abbrev pub KeptBy : List ViewStage → Way → ℕ → Type 0
-KeptBy older w n = (g : ViewStage) × Has older g × (x : ℕ) × (g.views.way x ≡ Some w) × (g.views.cell x ≡ n)
+KeptBy older w n = (g : ViewStage) × Has older g × IsWayOf g w n
 
 -- None of the frames around goes past what a view of a frame changes that belongs to them.
 abbrev pub ArePast : Typing → ℕ → Views → List ViewStage → Type 0
@@ -243,7 +270,7 @@ pub record IsSound (table : Table) (typed : TypedProgram) (effects : Effects) (s
   pub views : Views
   pub older : List ViewStage
   pub stages : AreStages (top ∷ stages_of older) state.frames
-  pub running : IsRunning table typed effects state (record { stage = top; views = views }) older
+  pub running : IsRunning table typed effects state (record { stage = top; views = views; cells = [] }) older
   -- what waits is what is in scope
   pub awaited : AreAwaited table typed None (top ∷ stages_of older)
   pub path : ControlPath (path_points (flow_program table typed) effects (sub_of (flow_program table typed) top.frame.sub)) top.before top.frame.next
@@ -294,10 +321,10 @@ pub data Follows (program : FlowProgram) (effects : Effects) (i : Instruction) (
       → older ≡ below ∷ more → owners.IsOnward top.stage next.stage → AreTurned i top.views next.views
       → around ≡ record below { stage = record below.stage { frame = record below.stage.frame { waits = waits } } } ∷ more
       → Follows program effects i m top older n next around
-  calls_one : (waits : Stage) → around ≡ record { stage = waits; views = top.views } ∷ older → owners.IsOnward top.stage waits → next.stage.before ≡ []
+  calls_one : (waits : Stage) (cells : List Lodge) → around ≡ record { stage = waits; views = top.views; cells = cells } ∷ older → owners.IsOnward top.stage waits → next.stage.before ≡ []
       → ((f : Fact) → Has (facts_of program effects waits) f → Has (facts_of program effects top.stage) f)
       → AreCarried (flow_typing program) (λ f. f ≡ suc top.stage.depth → ⊥) [] m n → Follows program effects i m top older n next around
-  ends_one : older ≡ next ∷ around
+  ends_one : (cells : List Lodge) → older ≡ record { stage = next.stage; views = next.views; cells = cells } ∷ around
       → AreCarried (flow_typing program) (λ f. f ≡ top.stage.depth → ⊥) next.stage.returns m n
       → Follows program effects i m top older n next around
 
@@ -305,14 +332,14 @@ pub data Follows (program : FlowProgram) (effects : Effects) (i : Instruction) (
 abbrev pub LeadsAlong : Table → TypedProgram → Effects → Instruction → Memory → ViewStage → List ViewStage → Outcome → Type 0
 LeadsAlong table typed effects i m top older (Goes state) =
     (next : IsSound table typed effects state)
-    × Follows (flow_program table typed) effects i m top older state.memory (record { stage = next.top; views = next.views }) next.older
+    × Follows (flow_program table typed) effects i m top older state.memory (record { stage = next.top; views = next.views; cells = [] }) next.older
 LeadsAlong table typed effects i m top older (Ends e state) = (IsTrap e → ⊥) × WellOwned (flow_typing (flow_program table typed)) state
 
 -- So it is of each step.
 abbrev pub StepsLeadAlong : Table → TypedProgram → Effects → List ℕ → Type 0
 StepsLeadAlong table typed effects input =
     (state : State) (sound : IsSound table typed effects state)
-    → LeadsAlong table typed effects sound.point.instr state.memory (record { stage = sound.top; views = sound.views }) sound.older
+    → LeadsAlong table typed effects sound.point.instr state.memory (record { stage = sound.top; views = sound.views; cells = [] }) sound.older
     (step (flow_program table typed) input state)
 
 -- ---- what is to be proved
