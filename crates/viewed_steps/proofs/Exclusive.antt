@@ -1,6 +1,6 @@
 -- What a formal sees that a procedure changes through it: no view sees past it, and neither what another
 -- such formal sees nor a place that the call takes meets it.
-use Rattle.std.proofs.Common.{◌≡◌, refl, sym, ap, ◌∙◌, subst, ◌⊎◌, inl, inr, ℕ, ◌<◌, Bool, true, false, not, ◌&&◌, List, [], ◌∷◌, ◌++◌, Option, Some, None, arith}
+use Rattle.std.proofs.Common.{◌≡◌, refl, sym, ap, ◌∙◌, subst, ◌⊎◌, inl, inr, ℕ, Bool, true, false, not, ◌&&◌, List, [], ◌∷◌, ◌++◌, Some}
 use Rattle.spark_base.specs.Lists.{Has}
 use Rattle.place_names.specs.declared.fact.Fact.{Fact}
 use Rattle.place_names.specs.declared.fact.Fact.TheVariants.{Moved, Lent}
@@ -12,7 +12,7 @@ use Rattle.spark_base.proofs.Lists.{Has-append_right}
 use Rattle.place_names.specs.Names.{Name as PlaceName, overlaps}
 use Rattle.place_names.specs.Reports.{Report}
 use Rattle.place_names.specs.Rules.{moved_or_lent}
-use Rattle.typed_tree.specs.Trees.{TypedTree, Name, NoMore, More}
+use Rattle.typed_tree.specs.Trees.{TypedTree, Name, More}
 use Rattle.flow_paths.specs.Objects.{Typing, object_at, is_named_access, is_variable_access, view_of}
 use Rattle.flow_paths.specs.Names.{Written, written, name_of}
 use Rattle.flow_paths.specs.Aliases.{overlap_reports}
@@ -23,13 +23,13 @@ use Rattle.soundness.specs.Seen.{home, is_view_formal}
 use Rattle.soundness.proofs.Scalars.{acts}
 use Rattle.owned_loans.specs.Views.{Around, Views, expand, Viewed}
 use Rattle.owned_loans.proofs.Safe.{Unlent, Unborrowed}
-use Rattle.owned_loans.proofs.Ways.{Meet, flip, meets_front}
+use Rattle.owned_loans.proofs.Ways.{Meet}
 use Rattle.viewed_soundness.specs.Holds.{sees_only, is_fixed, AllKeep}
 use Rattle.viewed_soundness.proofs.Given.{lent_past, lent_far, lent_apart, lent_beside}
 use Rattle.viewed_steps.specs.Ready.{AreDifferent}
 use Rattle.viewed_steps.proofs.Seeing.{IsClear, AreClear}
+use Rattle.viewed_steps.specs.Sound.{IsCopiedBack}
 use Rattle.viewed_steps.proofs.Lending.{IsNameOf, IsChanged, IsLentTo, lent_clear, lent_free, apart_listed, copies_of}
-use Rattle.viewed_steps.proofs.Passed.{IsNamedBy}
 
 -- What is lent to a formal: it isn't seen only, nothing of it is moved or lent, and it doesn't overlap what is
 -- passed for others that may change.
@@ -131,16 +131,13 @@ module _ (s : Typing) (frame : ℕ) (v : Views) (facts : List Fact) (all : List 
       unlent_there : Unborrowed facts to.from
       unlent_there h n has over = to.lent.clear (Lent Borrowed h n) has (subst (λ (q : PlaceName). overlaps n q ≡ true) (sym to.called) over)
 
-  -- nor a place that the call takes
-  pub from_taken : (other : Around (home s frame)) (view : View) (known : List Fact) (viewed : Viewed (home s frame) (sees_only s) other v view known)
-      → ((f : Fact) → Has known f → Has facts f) → (formals : List ℕ) (actuals : TypedTree) → all ≡ alias.passed formals actuals
-      → (to : Way) → IsNamedBy s formals actuals to → Named (home s frame) to → sees_only s (number_of to) ≡ false → expand v to ≡ to → Unborrowed known to
-      → (z : Way) → Under to z → Under z w ⊎ Under w z → ⊥
-  from_taken other view known viewed less formals actuals same to by named plain itself free z under meets =
-      lent_beside s frame other v view known viewed is.from to is.named named from_plain plain (λ h n has over. from_unlent Borrowed h n (less (Lent Borrowed h n) has) over) free
-      (λ over. is.lent.apart by.0 (subst (λ q. Has q by.0) (sym same) by.1) other_formal (inl by.2)
-      (subst (λ (q : PlaceName). overlaps is.actual.name q ≡ true) (sym by.3) (subst (λ (q : PlaceName). overlaps q (ways.name_of to) ≡ true) (sym is.called) over)))
-      (subst (Meet (expand v (All is.from))) (sym itself) (subst (λ q. Meet q to) is.leads (meets_front to z w under (flip z w meets))))
-    where
-      other_formal : y ≡ (by.0).formal → ⊥
-      other_formal same_formal = by.2 (ap (λ q. (object_at s q).mode) (sym same_formal) ∙ is.lent.of_in)
+  -- nor a place that is copied back to
+  pub from_place : (other : Around (home s frame)) (view : View) (known : List Fact) (viewed : Viewed (home s frame) (sees_only s) other v view known)
+      → ((f : Fact) → Has known f → Has facts f) → (b : alias.Passed) → Has all b → IsCopiedBack s b.formal
+      → (to : Way) → b.actual.name ≡ ways.name_of to → Named (home s frame) to → sees_only s (number_of to) ≡ false → Unlent known to → Meet w (expand v to) → ⊥
+  from_place other view known viewed less b has back to called named plain free meets =
+      lent_beside s frame other v view known viewed is.from to is.named named from_plain plain
+      (λ h n has_it over. from_unlent Borrowed h n (less (Lent Borrowed h n) has_it) over) (λ h n has_it over. free Borrowed h n has_it over)
+      (λ over. is.lent.apart b has (λ same. back (ap (λ q. (object_at s q).mode) (sym same) ∙ is.lent.of_in)) (inl back)
+      (subst (λ (q : PlaceName). overlaps is.actual.name q ≡ true) (sym called) (subst (λ (q : PlaceName). overlaps q (ways.name_of to) ≡ true) (sym is.called) over)))
+      (subst (λ q. Meet q (expand v to)) is.leads meets)

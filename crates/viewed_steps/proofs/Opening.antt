@@ -1,5 +1,5 @@
 -- The views of what is called: its formals that own nothing, with the ways of what they are shown.
-use Rattle.std.proofs.Common.{◌≡◌, refl, sym, ap, ◌∙◌, subst, ◌⊎◌, inl, inr, ℕ, suc, ◌<◌, get_or, arith, Bool, true, false, ◌&&◌, ◌==◌, eqb-true, eq-eqb, List, [], ◌∷◌, Option, Some, None, if◌then◌else◌}
+use Rattle.std.proofs.Common.{◌≡◌, refl, sym, ap, ◌∙◌, subst, ◌⊎◌, inl, inr, ℕ, suc, ◌<◌, get_or, arith, Bool, true, false, ◌&&◌, ◌==◌, eqb-true, eq-eqb, List, [], ◌∷◌, Some, None, if◌then◌else◌}
 use Rattle.spark_base.specs.Lists.{Has}
 use Rattle.place_names.specs.declared.act.Mode.{Mode}
 use Rattle.place_names.specs.declared.act.Mode.TheVariants as mode
@@ -31,8 +31,10 @@ use Rattle.viewed_steps.specs.Awaited.{is_held}
 use Rattle.viewed_steps.specs.Ready.{AreDifferent}
 use Rattle.viewed_steps.proofs.Called.{IsGiven, AreGiven}
 use Rattle.viewed_steps.proofs.Entered.{IsShownTo}
-use Rattle.viewed_steps.proofs.Seeing.{Sees}
-use Rattle.viewed_steps.proofs.Lending.{IsActualOf}
+use Rattle.flow_paths.specs.Aliases as alias
+use Rattle.viewed_steps.proofs.Seeing.{Sees, named_written}
+use Rattle.viewed_steps.proofs.Exclusive.{AreLent, IsFrom}
+use Rattle.viewed_steps.proofs.Lending.{IsActualOf, actual_named}
 use Rattle.viewed_steps.proofs.Views.{AreAccess, not_elsewhere}
 use Rattle.viewed_steps.proofs.Waited.{plain_unheld}
 
@@ -234,6 +236,23 @@ module _ (h : Here) (settled : IsSettled h.typing.table) (hands : List Waiting) 
           alone = λ plain x u there differs given meets. apart y x w u has there differs plain meets;
           reaches = on y w (t.cell y) has (subst (λ z. Reaches (seen s m hands leaks) z (OfCell (t.cell y))) found.3 ((found.2).1).reaches);
         })
+
+    -- with the name of its actual
+    pub opened_from : AreLent h.typing facts formals actuals → (y : ℕ) (w : Way) → t.way y ≡ Some w → IsFrom h.typing h.frame v facts (alias.passed formals actuals) y w
+    opened_from lent y w has =
+        let found = opened.way y w has in
+        let sees = (found.2).1 in
+        let actual = named_written h settled hands leaks m waits other facts v kept well holds alone live index_law own_law parts_named formals_low (found.2).0 sees.from sees.called in
+        let of = actual_named formals actuals y (found.2).0 actual.0 found.4 actual.1 in
+        record {
+          from = sees.from;
+          named = sees.from_named;
+          leads = sym found.3 ∙ sees.leads;
+          actual = actual.0;
+          of = of;
+          called = actual.2;
+          lent = lent y found.1 found.0 actual.0 of;
+        }
 
     pub opened_whole : (gone : Way → Type 0) → ((z : Way) → gone z → ExcusedBy (home h.typing h.frame) v other facts z)
         → (y : ℕ) (w z : Way) → t.way y ≡ Some w → gone z → Under z w ⊎ Under w z → ⊥

@@ -5,12 +5,12 @@ use Rattle.spark_base.specs.declared.position.Pos.{Pos}
 use Rattle.place_names.specs.declared.fact.Fact.{Fact}
 use Rattle.place_names.specs.Names.{Name as PlaceName}
 use Rattle.type_definitions.specs.declared.table.Shape.TheVariants as shape
-use Rattle.type_definitions.specs.Types.{shape_of, full, is_scalar, view_of as view_of_shape}
+use Rattle.type_definitions.specs.Types.{shape_of, is_scalar, view_of as view_of_shape}
 use Rattle.typed_tree.specs.Trees.{TypedTree, Number, Literal, Text, Name, Component as IntoComponent, Designated, Element, Call, EndOfFile, Parens, Image, Unary, Binary, Short, IsNull, Aggregate, Alike, New, NoMore, More}
 use Rattle.typed_tree.specs.Trees as typed
 use Rattle.flow_paths.specs.Objects.{Typing, object_at, is_anonymous, is_package_object, view_of}
 use Rattle.flow_paths.specs.Names.{Written, written, waiting as waits_in, name_of}
-use Rattle.flow_paths.specs.Acts.{acts_in, index_acts}
+use Rattle.flow_paths.specs.Acts.{index_acts}
 use Rattle.machine.specs.Words as machine
 use Rattle.machine.specs.Memory.{Memory}
 use Rattle.machine.specs.Evaluate.{Here, Now, AsView, Evaluated, Done, Raises, Traps, evaluate, viewed}
@@ -19,15 +19,14 @@ use Rattle.owned_ways.specs.Ways.{Root, OfVariable, OfHand, Loc, OfCell, Way, Ob
 use Rattle.owned_ways.specs.Ways as ways
 use Rattle.part_offsets.specs.Parts.{IsSettled}
 use Rattle.soundness.specs.Seen.{IsNear, content, trunk, seen, home, is_view_formal}
-use Rattle.soundness.specs.Typed.{Matches, IsCell, OwnsByShape, Kept}
-use Rattle.typed_laws.specs.Needed.{Leads, IndexLaw}
+use Rattle.soundness.specs.Typed.{IsCell, OwnsByShape, Kept}
+use Rattle.typed_laws.specs.Needed.{IndexLaw}
 use Rattle.soundness.proofs.Scalars.{acts}
 use Rattle.soundness.proofs.Stays.{Quiet}
 use Rattle.soundness.proofs.Taking.{Takes, takes_zero}
 use Rattle.owned_loans.specs.Views.{Around, Views, expand, ExcusedBy, IsForeign, Viewed}
 use Rattle.owned_loans.proofs.Allowed.{Cleared}
 use Rattle.owned_loans.proofs.Ended.{stands_itself}
-use Rattle.owned_loans.proofs.Moves.{IsPlace}
 use Rattle.owned_loans.proofs.Ways.{Lifted, lifted_way, base_on}
 use Rattle.viewed_soundness.specs.Holds.{PartsAreNamed, is_view, sees_only, IsOwners, Holds, IsAccess}
 use Rattle.viewed_soundness.proofs.Given.{IsLow, lent_whole, seen_whole}
