@@ -213,6 +213,19 @@ IsNamedBy s formals actuals to =
     (b : alias.Passed) × Has (alias.passed formals actuals) b × IsCopiedBack s b.formal × (b.actual.name ≡ ways.name_of to)
 
 module _ (s : Typing) where
+  -- the name of one doesn't overlap those of later ones
+  pub first_apart : (x : ℕ) (e : TypedTree) (m : Written) (formals : List ℕ) (actuals : TypedTree) → IsCopiedBack s x → written e ≡ Some m
+      → ((r : Report) → Has (overlap_reports s (alias.passed (x ∷ formals) (More e actuals))) r → ⊥)
+      → (b : alias.Passed) → Has (alias.passed formals actuals) b → IsCopiedBack s b.formal → overlaps m.name b.actual.name ≡ true → ⊥
+  first_apart x e m formals actuals back is none b has also over =
+      let first : alias.Passed = record { formal = x; actual = m } in
+      let all : alias.passed (x ∷ formals) (More e actuals) ≡ first ∷ alias.passed formals actuals =
+      ap (λ z. alias.passed_as x z ++ alias.passed formals actuals) is in
+      apart_pair s first b back also
+      (λ r report. none r (subst (λ z. Has (overlap_reports s z) r) (sym all)
+      (Has-append_left (flat_map (pair_reports s first) (alias.passed formals actuals)) (overlap_reports s (alias.passed formals actuals)) r
+      (flat_has (pair_reports s first) (alias.passed formals actuals) b r has report)))) over
+
   -- what is apart from all later ones
   pub apart_from : (x : ℕ) (e : TypedTree) (m : Written) (formals : List ℕ) (actuals : TypedTree) (to : Way) (ways_left : List Way) → IsCopiedBack s x
       → written e ≡ Some m → m.name ≡ ways.name_of to
@@ -220,14 +233,8 @@ module _ (s : Typing) where
       → ((k : Way) → Has ways_left k → IsNamedBy s formals actuals k) → IsApartFrom to ways_left
   apart_from x e m formals actuals to ways_left in_out is called none names k has =
       let b = names k has in
-      let first : alias.Passed = record { formal = x; actual = m } in
-      let all : alias.passed (x ∷ formals) (More e actuals) ≡ first ∷ alias.passed formals actuals =
-      ap (λ z. alias.passed_as x z ++ alias.passed formals actuals) is in
       let apart : overlaps (ways.name_of to) (ways.name_of k) ≡ true → ⊥ =
-      (λ over. apart_pair s first b.0 in_out b.2
-      (λ r report. none r (subst (λ z. Has (overlap_reports s z) r) (sym all)
-      (Has-append_left (flat_map (pair_reports s first) (alias.passed formals actuals)) (overlap_reports s (alias.passed formals actuals)) r
-      (flat_has (pair_reports s first) (alias.passed formals actuals) b.0 r b.1 report))))
+      (λ over. first_apart x e m formals actuals in_out is none b.0 b.1 b.2
       (subst (λ z. overlaps z b.0.actual.name ≡ true) (sym called) (subst (λ z. overlaps (ways.name_of to) z ≡ true) (sym b.3) over))) in (
         λ under. apart (under_front to k under),
         λ under. apart (under_overlaps k to under),
