@@ -53,7 +53,7 @@ root_in (Name p y steps t) x (inl e) = inl e
 root_in (Name p y steps t) x (inr never) = absurd never
 root_in _ x has = absurd has
 
-stored_named : (i : Instruction) (x : ℕ) → Has (stored_at i) x → Has (named_in i) x
+pub stored_named : (i : Instruction) (x : ℕ) → Has (stored_at i) x → Has (named_in i) x
 stored_named (Assign target e) x has = Has-append_right (roots e) (roots target) x (root_in target x has)
 stored_named (Input target) x has = root_in target x has
 stored_named (Release e) x has = root_in e x has

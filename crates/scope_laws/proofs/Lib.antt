@@ -14,3 +14,5 @@ pub mod Temporaries
 -- what follows a return
 pub mod Returning
 pub mod Given
+pub mod Results
+pub mod Alone

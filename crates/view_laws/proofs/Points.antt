@@ -20,8 +20,8 @@ use Rattle.place_names.specs.Names.{Name as PlaceName}
 use Rattle.type_definitions.specs.declared.judgement.View.{View}
 use Rattle.type_definitions.specs.declared.judgement.View.TheVariants as view
 use Rattle.type_definitions.specs.Types.{Table, is_nil, full}
-use Rattle.typed_tree.specs.Trees.{TypedTree, Name, NoMore, More}
-use Rattle.typed_tree.specs.Programs.{TypedSub, TypedProgram}
+use Rattle.typed_tree.specs.Trees.{TypedTree, Name, Call, NoMore, More}
+use Rattle.typed_tree.specs.Programs.{TypedProgram}
 use Rattle.flow_paths.specs.declared.report.Effects.{Effects}
 use Rattle.flow_paths.specs.Instructions.{Instruction, Declare, Assign, Input, EndScope}
 use Rattle.flow_paths.specs.Objects.{Typing, object_at, is_variable, is_borrower, is_observer, is_borrowing, is_observing, is_anonymous, is_formal, is_package_object, has_scope_end, view_of}
@@ -41,11 +41,9 @@ use Rattle.scope_laws.specs.Order.{named_in}
 use Rattle.scope_laws.specs.Code.{roots}
 use Rattle.scope_laws.proofs.Lists.{all_has, within_has, and_first, and_second}
 use Rattle.layered_scopes.specs.Layered.{is_older}
-use Rattle.layered_scopes.specs.Points.{IsAbove, GoesOn, AreFading}
-use Rattle.layered_scopes.proofs.Layered.{sub_good}
-use Rattle.ready_laws.proofs.Subs.{setting_from}
+use Rattle.layered_scopes.specs.Points.{GoesOn, AreFading}
 use Rattle.ready_laws.proofs.Ready.{seen_has}
-use Rattle.view_laws.specs.InOrder.{is_name_of, is_list_end, is_one_name_of, is_any, is_call, NamesSource, fits}
+use Rattle.view_laws.specs.InOrder.{is_name_of, is_list_end, is_one_name_of, is_any, is_call, gives_view, NamesSource, fits}
 use Rattle.view_laws.specs.Program.{IsViewProgram}
 use Rattle.view_laws.proofs.Acts.{source_lasts}
 use Rattle.view_laws.proofs.Calls.{point_good}
@@ -255,6 +253,11 @@ all_keep observer (a ∷ acts) h = (one a.act (λ m e. h a (inl refl) m e), all_
     one (act.Free m) h = h m refl
     one _ h = tt
 
+-- what is no call is no view that a function gives
+no_view : (s : Typing) (e : TypedTree) → is_call e ≡ false → gives_view s e ≡ false
+no_view s (Call p sub actuals) none = cc
+no_view s e none = refl
+
 -- ---- programs
 
 module _ (table : Table) (typed : TypedProgram) (effects : Effects) (given : IsViewProgram table typed effects) where
@@ -271,13 +274,13 @@ module _ (table : Table) (typed : TypedProgram) (effects : Effects) (given : IsV
   text_local x anonymous = (given.views.local x anonymous).0
 
   anonymous_same : (x : ℕ) → is_anonymous (view_of s x) ≡ is_anonymous (view_of own x)
-  anonymous_same = same.anonymous_same table typed given.temporaries text_local
+  anonymous_same = same.anonymous_same table typed (valued.temporaries_named table typed effects given) text_local
 
   observer_same : (x : ℕ) → is_observer s x ≡ is_observer own x
-  observer_same = same.observer_same table typed given.temporaries text_local
+  observer_same = same.observer_same table typed (valued.temporaries_named table typed effects given) text_local
 
   scope_same : (x : ℕ) → scope_of s x ≡ scope_of own x
-  scope_same = same.scope_same table typed given.temporaries text_local
+  scope_same = same.scope_same table typed (valued.temporaries_named table typed effects given) text_local
 
   scopes_same : program.scopes ≡ typed.scopes
   unfolding flow_program
@@ -358,15 +361,10 @@ module _ (table : Table) (typed : TypedProgram) (effects : Effects) (given : IsV
 
   module _ (named : NamedSub) (has : Has (flow_named table typed) named) (body : scoped.OfBody table typed effects given named) where
     abbrev Above : NamedPoint → Type 0
-    Above p = IsAbove (is_older own typed.scopes) (fits own) p
+    Above p = scoped.Above table typed effects given p
 
     good : AllByRecursion Above named.points × AreFading own named.points
-    good =
-        let text : TypedSub = body.0 in
-        let layered = given.views.layered text body.1 in
-        subst (λ (z : NamedSub). AllByRecursion Above z.points × AreFading own z.points) body.4
-        (sub_good (setting_from own body.2 text) (is_older own typed.scopes) (fits own) layered.0 text
-        (given.order.bodies text (scoped.in_subs table typed effects given text body.1)).settled layered.1)
+    good = scoped.body_good table typed effects given named body
 
     formals_known : (x : ℕ) → Has named.sub.formals x → is_formal s x ≡ true
     formals_known x there =
@@ -391,7 +389,7 @@ module _ (table : Table) (typed : TypedProgram) (effects : Effects) (given : IsV
           → (is_within y left ≡ true → encloses program.scopes (scope_of s y) (scope_of s x) ≡ true) → Outlives p.scope y x
       outlives y x names lasts around = elim (seen_there y names) [
         | inl shared ↦ inl shared
-        | inr within ↦ inr (within_whole y (taken p.instr) p.scope within, lasts, around within, valued.unheld table typed effects given y)
+        | inr within ↦ inr (within_whole y (taken p.instr) p.scope within, lasts, around within, scoped.named_unheld table typed effects given named has p there y names)
       ]
 
       older_encloses : (y x : ℕ) → is_older own typed.scopes x y ≡ true → encloses program.scopes (scope_of s y) (scope_of s x) ≡ true
@@ -432,8 +430,8 @@ module _ (table : Table) (typed : TypedProgram) (effects : Effects) (given : IsV
           let test : ℕ → Bool = λ y. is_observer own x || nat_lt y x in
           let mine : is_anonymous (view_of own x) ≡ true = sym (anonymous_same x) ∙ anonymous in
           let names : NamesSource s (Declare x e) = subst (NamesSource s) is (source_there named has p there) in
-          let found = one_name_is test e (or_first (is_one_name_of test e) (is_call (first e)) (ap not (names anonymous))
-          (not_test (is_anonymous (view_of own x)) (is_one_name_of test e || is_call (first e)) mine (sym (ap (fits own) is) ∙ above.declared x e is))) in
+          let found = one_name_is test e (or_first (is_one_name_of test e) (gives_view own (first e)) (ap not (no_view own (first e) (names anonymous)))
+          (not_test (is_anonymous (view_of own x)) (is_one_name_of test e || gives_view own (first e)) mine (sym (ap (fits own) is) ∙ above.declared x e is))) in
           let value : TypedTree = More (Name found.0 found.1 found.2 found.3) NoMore in
           let whole_is : p.instr ≡ Declare x value = is ∙ ap (Declare x) found.4 in
           let fine : IsFine s named.sub.result (Declare x value) = subst (IsFine s named.sub.result) whole_is (fine_there named has p there) in (
@@ -457,7 +455,7 @@ module _ (table : Table) (typed : TypedProgram) (effects : Effects) (given : IsV
           let mine : is_anonymous (view_of own x) ≡ true = sym (anonymous_same x) ∙ anonymous in
           let names : NamesSource s (Assign target e) = subst (NamesSource s) is (source_there named has p there) in
           let found = name_is is_any e (not_test (is_anonymous (view_of own x)) (is_name_of is_any e) mine
-          (or_first (not (is_anonymous (view_of own x)) || is_name_of is_any e) (is_call e) (ap not (names x refl anonymous)) (sym (ap (fits own) is) ∙ above.assigned target e is))) in
+          (or_first (not (is_anonymous (view_of own x)) || is_name_of is_any e) (gives_view own e) (ap not (no_view own e (names x refl anonymous))) (sym (ap (fits own) is) ∙ above.assigned target e is))) in
           let y : ℕ = found.1 in
           let n : TypedTree = Name found.0 y found.2 found.3 in
           let whole_is : p.instr ≡ Assign target n = is ∙ ap (Assign target) found.4 in
