@@ -1,6 +1,6 @@
 -- A move keeps owners, what is known and the ways of views, where the facts allow its act on a name
 -- that may be rooted in a borrower. So does a cell that is made.
-use Rattle.std.proofs.Common.{◌≡◌, refl, sym, ap, ◌∙◌, subst, ◌⊎◌, inl, inr, ℕ, Bool, true, false, not, List, [], ◌∷◌, suc, ◌<◌, arith, Some, None}
+use Rattle.std.proofs.Common.{◌≡◌, refl, sym, ap, ◌∙◌, subst, ◌⊎◌, inl, inr, ℕ, Bool, true, false, not, List, [], ◌∷◌, Some, None}
 use Rattle.std.specs.List.{filter}
 use Rattle.spark_base.specs.Lists.{Has}
 use Rattle.spark_base.proofs.Lists.{Has-append_right, Has-map}
@@ -17,12 +17,12 @@ use Rattle.place_names.specs.Rules.{lent}
 use Rattle.owned_ways.specs.Ways.{Step, Root, OfVariable, OfHand, Loc, OfRoot, OfCell, Way, Object, Lost, Into, All, Gone, View, part, along, Reaches, IsRooted, Under, Past, Known, IsMove, IsFresh, IsSame, base_of, name_of, number_of, Named, Excused, Spares, Allows, Sound}
 use Rattle.owned_ways.proofs.Locations.{past_under}
 use Rattle.owned_ways.proofs.Named.{longer, covered_under}
-use Rattle.owned_ways.proofs.Assigned.{kept_fact, is_false, Apart, given_apart, named_rooted, InHand, same_sound}
+use Rattle.owned_ways.proofs.Assigned.{kept_fact, is_false, Apart, given_apart, InHand, same_sound}
 use Rattle.owned_ways.proofs.Moving.{Given, keeps, owned_after, covered_after, known_after}
 use Rattle.owned_ways.proofs.Released.{freshly, fresh_on}
 use Rattle.owned_ways.proofs.Dropped.{named_base}
 use Rattle.owned_loans.specs.Views.{on, Views, Around, way_at, expand, expand_root, IsMovedBy, IsAway, ExcusedBy, AreClear, HasLoan, IsView, IsForeign, IsPassed, AreViews, IsLentToOthers, Viewed}
-use Rattle.owned_loans.proofs.Meeting.{IsPlain, stands_named}
+use Rattle.owned_loans.proofs.Meeting.{IsPlain, stands, stands_base}
 use Rattle.owned_loans.proofs.Clear.{nothing_new, clear_move, clear_same}
 use Rattle.owned_loans.proofs.Safe.{off_view}
 use Rattle.owned_loans.proofs.Others.{off_kept, clean_away}
@@ -107,8 +107,8 @@ hand_rooted (Lost x) n = absurd n
 hand_rooted (Into w i) n = hand_rooted w n
 hand_rooted (All w) n = hand_rooted w n
 
-pub hand_apart : (home : ℕ → ℕ) (f k : Way) → Named home f → InHand k → base_of f ≡ base_of k → ⊥
-hand_apart home f k named inhand e = variable_hand (named_base home f named) (hand_base k inhand) e
+pub variable_apart : {g x : ℕ} (f k : Way) → base_of f ≡ OfRoot (OfVariable g x) → InHand k → base_of f ≡ base_of k → ⊥
+variable_apart f k base inhand e = variable_hand base (hand_base k inhand) e
   where
     variable_hand : {a b : Loc} {g x h : ℕ} → a ≡ OfRoot (OfVariable g x) → b ≡ OfRoot (OfHand h) → a ≡ b → ⊥
     variable_hand p q e = cc
@@ -119,6 +119,15 @@ hand_apart home f k named inhand e = variable_hand (named_base home f named) (ha
     hand_base (Lost n) i = absurd i
     hand_base (Into w i) n = hand_base w n
     hand_base (All w) n = hand_base w n
+
+pub hand_apart : (home : ℕ → ℕ) (f k : Way) → Named home f → InHand k → base_of f ≡ base_of k → ⊥
+hand_apart home f k named inhand e = variable_apart f k (named_base home f named) inhand e
+
+pub base_rooted : {f x : ℕ} (w : Way) → base_of w ≡ OfRoot (OfVariable f x) → IsRooted w
+base_rooted (Object r) e = tt
+base_rooted (Lost n) e = cc
+base_rooted (Into w i) e = base_rooted w e
+base_rooted (All w) e = base_rooted w e
 
 -- ---- where loans stay
 
@@ -168,7 +177,8 @@ module _ (home : ℕ → ℕ) (observer : ℕ → Bool) (other : Around home) (v
   pub view_on : (s t : View) (facts facts' : List Fact) (x : ℕ) (w : Way) → Either s facts x w
       → ((seen : Bool) (n : Name) → HasLoan observer seen x facts n → HasLoan observer seen x facts' n) → Reaches t w (OfCell (v.cell x)) → Either t facts' x w
   view_on s t facts facts' x w (inl view) loans reaches = inl (own_on s t facts facts' x w view loans reaches)
-  view_on s t facts facts' x w (inr passed) loans reaches = inr (record { sees = passed.sees; foreign = passed.foreign; reaches = reaches })
+  view_on s t facts facts' x w (inr passed) loans reaches =
+      inr (record { foreign = passed.foreign; given = passed.given; alone = passed.alone; reaches = reaches })
 
   -- No way of a view goes past a place.
   abbrev pub Off : Way → Type 0
@@ -195,24 +205,26 @@ module _ (home : ℕ → ℕ) (observer : ℕ → Bool) (other : Around home) (v
         view_on s t facts facts' x w view (λ seen n. own_loan observer facts facts' loans seen x n)
         (keeps s t f k from to given w (OfCell (v.cell x)) (reached s facts x w view) (λ p. off x w has p) (λ p. away x w has p)));
     whole = viewed.whole;
+    past = viewed.past;
     lends = λ l n lent. lends_on observer v facts facts' loans l n (viewed.lends l n lent);
     far = λ w n held. keeps s t f k from to given w (OfCell n) (viewed.far w n held) (λ p. far_off w n held p) (λ p. far_away w n held p);
   }
 
-  -- what a name stands for is named
-  pub named_way : (s : View) (facts : List Fact) (views : AreViews home observer v s facts) (n : ℕ) (u : Way) → number_of u < n
-      → IsPlain home observer v s facts views u → Named home (expand v u)
-  named_way s facts views n u less plain = stands_named home observer v s facts views n u less plain
-
-  pub view_named : (s : View) (facts : List Fact) (views : AreViews home observer v s facts) (x : ℕ) (w : Way) → IsView home observer v s facts x w → Named home w
-  view_named s facts views x w view =
-      subst (Named home) view.leads (named_way s facts views (suc (number_of (v.up x))) (v.up x) (omega arith) (view.named, view.plain))
+  -- what a name stands for begins at a variable
+  pub rooted_way : (s : View) (facts : List Fact) (views : AreViews home observer v s facts) (u : Way) → IsPlain home observer v s facts views u → IsRooted (expand v u)
+  rooted_way s facts views u plain = (let base = stands_base home observer v s facts views u plain in base_rooted (expand v u) base.2)
 
   -- the way of each view begins at a variable
   pub view_rooted : (s : View) (facts : List Fact) (views : AreViews home observer v s facts) (x : ℕ) (w : Way) → v.way x ≡ Some w
       → (f : ℕ) × (y : ℕ) × (base_of w ≡ OfRoot (OfVariable f y)) × (Named home w ⊎ IsForeign home w)
   view_rooted s facts views x w has = elim (views x w has) [
-    | inl view ↦ (let named = view_named s facts views x w view in (home (number_of w), number_of w, named_base home w named, inl named))
+    | inl view ↦ elim (stands home observer v s facts views (v.up x) (view.named, view.plain)) [
+      | inl own ↦ (let named = subst (Named home) view.leads own.0 in (home (number_of w), number_of w, named_base home w named, inl named))
+      | inr held ↦ (
+          let foreign = held.passed.foreign in
+          let base : base_of w ≡ OfRoot (OfVariable foreign.0 foreign.1) = ap base_of (sym view.leads) ∙ (longer held.way (expand v (v.up x)) held.under).base ∙ foreign.2 in
+          (foreign.0, foreign.1, base, inr (foreign.0, foreign.1, base, foreign.3)))
+    ]
     | inr passed ↦ (passed.foreign.0, passed.foreign.1, passed.foreign.2, inr passed.foreign)
   ]
 
@@ -229,9 +241,8 @@ module _ (home : ℕ → ℕ) (observer : ℕ → Bool) (other : Around home) (v
       let t = other.through w away in
       hand_apart home t.0 f t.1 inhand (sym (longer t.0 w t.2).base ∙ (longer f w under).base)
   no_hand s facts viewed f w inhand under (inl (u, moved, same)) =
-      unnamed home w (hand_under f w inhand under)
-      (subst (Named home) same
-      (named_way s facts viewed.views (suc (number_of u)) u (omega arith) (moved.0, viewed.clear.owned (name_of u) moved.1)))
+      (let base = stands_base home observer v s facts viewed.views u (moved.0, viewed.clear.owned (name_of u) moved.1) in
+      no_hand_base w (hand_under f w inhand under) (ap base_of (sym same) ∙ base.2))
 
   -- ---- taking into a hand, or a part of one
 
@@ -244,12 +255,12 @@ module _ (home : ℕ → ℕ) (observer : ℕ → Bool) (other : Around home) (v
   taken s t u k from to parts facts viewed move named plain spares source inhand target allowed marks =
       let act : Act = Move (name_of u) parts in
       let name : IsPlain home observer v s facts viewed.views u = (named, plain) in
-      let whole = named_way s facts viewed.views (suc (number_of u)) u (omega arith) name in
+      let base = stands_base home observer v s facts viewed.views u name in
       let unlent = move_unlent facts u parts allowed in
       let unmoved = move_unmoved facts u parts allowed in
       moved_on s t (expand v u) k from to facts (effect act facts)
-      (given_apart s t (expand v u) k from to viewed.owned move source target (hand_apart home (expand v u) k whole inhand)) viewed
-      (named_rooted home (expand v u) whole)
+      (given_apart s t (expand v u) k from to viewed.owned move source target (variable_apart (expand v u) k base.2 inhand)) viewed
+      (base_rooted (expand v u) base.2)
       (λ w under known. elim known [
         | inl h ↦ clean_away home observer other v s facts viewed u w name (λ h n. unlent Borrowed h n) unmoved under h
         | inr o ↦ spares w under o
@@ -267,7 +278,7 @@ module _ (home : ℕ → ℕ) (observer : ℕ → Bool) (other : Around home) (v
       (clear_move observer facts viewed.clear (name_of u) parts plain allowed)
       (loan_kept act facts (λ l h m. refl))
       (λ x w has past. off_view home observer v s facts viewed.views viewed.clear u x w name unlent has past)
-      (hand_off s facts viewed.views k inhand) (λ w n keeps past. off_kept home observer other v s facts viewed u w n name whole unlent keeps past) (hand_far k inhand)
+      (hand_off s facts viewed.views k inhand) (λ w n keeps past. off_kept home observer other v s facts viewed u w n name unlent keeps past) (hand_far k inhand)
 
   -- ---- from a hand to where no view's way goes: to another hand, or to a new variable or cell
 
@@ -289,9 +300,9 @@ module _ (home : ℕ → ℕ) (observer : ℕ → Bool) (other : Around home) (v
   put s t f k from to facts viewed move inhand spares source named plain place target allowed empty =
       let act : Act = Write (name_of k) in
       let name : IsPlain home observer v s facts viewed.views k = (named, plain) in
-      let whole = named_way s facts viewed.views (suc (number_of k)) k (omega arith) name in
+      let base = stands_base home observer v s facts viewed.views k name in
       moved_on s t f (expand v k) from to facts (effect act facts)
-      (given_apart s t f (expand v k) from to viewed.owned move source target (λ e. hand_apart home (expand v k) f whole inhand (sym e))) viewed
+      (given_apart s t f (expand v k) from to viewed.owned move source target (λ e. variable_apart (expand v k) f base.2 inhand (sym e))) viewed
       (hand_rooted f inhand)
       (λ w under known. elim known [ inl h ↦ no_hand s facts viewed f w inhand under h | inr o ↦ spares w under o ])
       (λ w moved off. (
@@ -309,7 +320,7 @@ module _ (home : ℕ → ℕ) (observer : ℕ → Bool) (other : Around home) (v
       (loan_kept act facts (λ l h m. refl))
       (hand_off s facts viewed.views f inhand)
       (λ x w has past. off_view home observer v s facts viewed.views viewed.clear k x w name (write_unlent facts k allowed) has past)
-      (hand_far f inhand) (λ w n keeps past. off_kept home observer other v s facts viewed k w n name whole (write_unlent facts k allowed) keeps past)
+      (hand_far f inhand) (λ w n keeps past. off_kept home observer other v s facts viewed k w n name (write_unlent facts k allowed) keeps past)
 
   -- ---- a new cell, and nothing
 
@@ -329,6 +340,7 @@ module _ (home : ℕ → ℕ) (observer : ℕ → Bool) (other : Around home) (v
         known = all_known t facts sound.known;
         clear = viewed.clear;
         whole = viewed.whole;
+        past = viewed.past;
         lends = viewed.lends;
         views = λ x w has. (let view = viewed.views x w has in
             view_on s t facts facts x w view (λ seen n has. has) (fresh_on s t at fresh w (OfCell (v.cell x)) (reached s facts x w view)));
@@ -343,6 +355,7 @@ module _ (home : ℕ → ℕ) (observer : ℕ → Bool) (other : Around home) (v
         known = all_known t facts sound.known;
         clear = viewed.clear;
         whole = viewed.whole;
+        past = viewed.past;
         lends = viewed.lends;
         views = λ x w has. (let view = viewed.views x w has in
             view_on s t facts facts x w view (λ seen n has. has) (same_reaches s t same w (OfCell (v.cell x)) (reached s facts x w view)));
@@ -364,6 +377,7 @@ module _ (home : ℕ → ℕ) (observer : ℕ → Bool) (other : Around home) (v
     views = λ x w has. (let view = viewed.views x w has in
         view_on s s facts facts' x w view (λ seen n. own_loan observer facts facts' (λ l h m. on (Lent l h m)) seen x n) (reached s facts x w view));
     whole = viewed.whole;
+    past = viewed.past;
     lends = λ l n lent. lends_on observer v facts facts' (λ k h m. on (Lent k h m)) l n (viewed.lends l n lent);
     far = viewed.far;
   }

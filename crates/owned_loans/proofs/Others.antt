@@ -7,13 +7,13 @@ use Rattle.place_names.specs.declared.rule.Loan.TheVariants.{Borrowed, Observed}
 use Rattle.place_names.specs.declared.fact.Fact.{Fact}
 use Rattle.place_names.specs.declared.fact.Fact.TheVariants.{Lent}
 use Rattle.place_names.specs.Names.{overlaps}
-use Rattle.owned_ways.specs.Ways.{OfVariable, OfRoot, Way, View, Under, Past, Named, base_of, name_of, number_of, sels_of}
+use Rattle.owned_ways.specs.Ways.{OfVariable, OfRoot, Way, Object, Lost, Into, All, View, Under, Past, Named, base_of, name_of, number_of, sels_of}
 use Rattle.owned_ways.proofs.Locations.{past_under, not_past, under_itself}
 use Rattle.owned_ways.proofs.Named.{longer, under_leads}
 use Rattle.owned_ways.proofs.Dropped.{named_base}
 use Rattle.owned_loans.specs.Views.{Around, Views, expand, HasLoan, IsAway, IsView, IsLentToOthers, Viewed}
 use Rattle.owned_loans.proofs.Ways.{Meet, base_on, lifted_way, flip, meets_on, beginnings, under_on, meet_overlaps, Lifted, next_of, lifts, lifted_root}
-use Rattle.owned_loans.proofs.Meeting.{IsPlain, next, Lends, Both, meeting}
+use Rattle.owned_loans.proofs.Meeting.{IsPlain, stands, next, Lends, Both, meeting}
 use Rattle.owned_loans.proofs.Safe.{under_shorter, Open, OpenWhole, Unlent, Unborrowed, Unmoved, loan_of, no_both, open_way, open_above, seen_above, seen_way, clean_below, seen_below}
 
 -- what a way begins with doesn't go past it
@@ -28,6 +28,13 @@ past_front k w under past = elim (under_shorter w k (past_under w k past)) [
   where
     not_past_itself : (w k : Way) → w ≡ k → Past w k → ⊥
     not_past_itself w k e past = not_past w [] (subst (Past w) (sym e) past)
+
+-- what goes past a way goes past what begins it
+pub under_past : (a b w : Way) → Under a b → Past b w → Past a w
+under_past a b (Object r) u p = p
+under_past a b (Lost n) u p = p
+under_past a b (Into w i) u p = under_past a b w u p
+under_past a b (All w) u p = under_on a b w u p
 
 root_variable : (f x g y : ℕ) → OfRoot (OfVariable f x) ≡ OfRoot (OfVariable g y) → (f ≡ g) × (x ≡ y)
 root_variable f x g y e = (cc, cc)
@@ -204,15 +211,18 @@ module _ (home : ℕ → ℕ) (observer : ℕ → Bool) (other : Around home) (v
   -- ---- all of it
 
   -- what is changed lies above no way of others
-  pub off_kept : (u w : Way) (n : ℕ) → IsName u → Named home (expand v u) → Unlent facts u → other.kept w n → Past (expand v u) w → ⊥
-  off_kept u w n name whole unlent keeps past =
-      let root = other.begins w n keeps in
-      elim root.3 [
-        | inl away ↦ (
-            let base = sym root.2 ∙ (longer (expand v u) w (past_under (expand v u) w past)).base ∙ named_base home (expand v u) whole in
-            let same = root_variable root.0 root.1 (home (number_of (expand v u))) (number_of (expand v u)) base in
-            away (same.0 ∙ ap home (sym same.1)))
-        | inr (l, (k, named, under, lent)) ↦ off_through l k named lent u w name unlent under past
+  pub off_kept : (u w : Way) (n : ℕ) → IsName u → Unlent facts u → other.kept w n → Past (expand v u) w → ⊥
+  off_kept u w n name unlent keeps past =
+      elim (stands home observer v s facts viewed.views u name) [
+        | inr held ↦ viewed.past held.object held.way held.has held.passed.given held.plain w n keeps
+            (under_past held.way (expand v u) w held.under past)
+        | inl own ↦ (let root = other.begins w n keeps in elim root.3 [
+          | inl away ↦ (
+              let base = sym root.2 ∙ (longer (expand v u) w (past_under (expand v u) w past)).base ∙ named_base home (expand v u) own.0 in
+              let same = root_variable root.0 root.1 (home (number_of (expand v u))) (number_of (expand v u)) base in
+              away (same.0 ∙ ap home (sym same.1)))
+          | inr (l, (k, named, under, lent)) ↦ off_through l k named lent u w name unlent under past
+        ])
       ]
 
   -- nothing that is away lies above a name that is open

@@ -7,7 +7,7 @@ use Rattle.place_names.specs.declared.fact.Fact.TheVariants.{Moved, Lent}
 use Rattle.place_names.specs.declared.rule.Loan.{Loan}
 use Rattle.place_names.specs.declared.rule.Loan.TheVariants.{Borrowed, Observed}
 use Rattle.place_names.specs.Names.{Name, overlaps}
-use Rattle.owned_ways.specs.Ways.{Step, Root, OfVariable, OfHand, OfRoot, OfCell, Way, Object, Lost, Into, All, View, Reaches, Under, Owned, Covered, Known, Named, IsMoved, name_of, number_of, base_of}
+use Rattle.owned_ways.specs.Ways.{Step, Root, OfVariable, OfHand, OfRoot, OfCell, Way, Object, Lost, Into, All, View, Reaches, Under, Past, Owned, Covered, Known, Named, IsMoved, name_of, number_of, base_of}
 
 -- ---- how a way goes on
 
@@ -130,11 +130,14 @@ pub record IsView (home : ℕ → ℕ) (observer : ℕ → Bool) (v : Views) (s 
 abbrev pub IsForeign : (ℕ → ℕ) → Way → Type 0
 IsForeign home w = (f : ℕ) × (y : ℕ) × (base_of w ≡ OfRoot (OfVariable f y)) × (f ≡ home y → ⊥)
 
--- A view that sees what belongs to another frame: a formal that nothing is changed through, or what
--- was taken from one. It needs no loan of its own frame.
+-- A view that the frame was given, of what belongs to another frame: a formal that owns nothing, or
+-- what was observed through one. It needs no loan of its own frame. What it designates is changed
+-- through it alone, and no other view that was given meets its way; or nothing is changed through it.
 pub record IsPassed (home : ℕ → ℕ) (observer : ℕ → Bool) (v : Views) (s : View) (x : ℕ) (w : Way) : Type 0 where
-  pub sees : observer x ≡ true
   pub foreign : IsForeign home w
+  pub given : Named home (v.up x) → ⊥
+  pub alone : observer x ≡ false
+      → (y : ℕ) (u : Way) → v.way y ≡ Some u → (y ≡ x → ⊥) → (Named home (v.up y) → ⊥) → Under w u ⊎ Under u w → ⊥
   pub reaches : Reaches s w (OfCell (v.cell x))
 
 abbrev pub AreViews : (ℕ → ℕ) → (ℕ → Bool) → Views → View → List Fact → Type 0
@@ -157,6 +160,9 @@ pub record Viewed (home : ℕ → ℕ) (observer : ℕ → Bool) (other : Around
   pub views : AreViews home observer v s facts
   -- nothing that is gone for others meets what a view of theirs sees
   pub whole : (x : ℕ) (w z : Way) → v.way x ≡ Some w → IsForeign home w → other.gone z → Under z w ⊎ Under w z → ⊥
+  -- no view of others goes by what is changed through a view that was given
+  pub past : (x : ℕ) (w : Way) → v.way x ≡ Some w → (Named home (v.up x) → ⊥) → observer x ≡ false
+      → (k : Way) (n : ℕ) → other.kept k n → Past w k → ⊥
   pub lends : (l : Loan) (n : Name) → other.lent l n → IsLentToOthers observer v facts l n
   pub far : (w : Way) (n : ℕ) → other.kept w n → Reaches s w (OfCell n)
 
@@ -186,4 +192,4 @@ with_view v b way loan up cell = record {
 pub record Unused (home : ℕ → ℕ) (lent : Loan → Name → Type 0) (v : Views) (facts : List Fact) (b : ℕ) : Type 0 where
   pub unmoved : (n : Name) → Has facts (Moved n) → n.root ≡ b → ⊥
   pub unlent : (l : Loan) (n : Name) → lent l n → n.root ≡ b → ⊥
-  pub untaken : (x : ℕ) (w : Way) → v.way x ≡ Some w → Named home w → (x ≡ b → ⊥) → number_of (v.up x) ≡ b → ⊥
+  pub untaken : (x : ℕ) (w : Way) → v.way x ≡ Some w → Named home (v.up x) → (x ≡ b → ⊥) → number_of (v.up x) ≡ b → ⊥

@@ -16,3 +16,4 @@ pub mod Returning
 pub mod Given
 pub mod Results
 pub mod Alone
+pub mod Followed

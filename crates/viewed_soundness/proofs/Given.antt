@@ -7,14 +7,14 @@ use Rattle.owned_ways.specs.Ways.{Way, All, View, Under, Named, number_of}
 use Rattle.owned_ways.proofs.Dropped.{named_base}
 use Rattle.owned_ways.proofs.Locations.{under_itself}
 use Rattle.soundness.specs.Seen.{IsNear, home}
-use Rattle.soundness.proofs.Near.{named_near, near_under, under_near}
 use Rattle.owned_loans.specs.Views.{on, Around, Views, expand, ExcusedBy, IsForeign, Viewed}
-use Rattle.owned_loans.proofs.Ways.{beginnings, under_on, on_under, Lifted, lifted_way, next_of}
+use Rattle.owned_loans.proofs.Ways.{meets_front, beginnings, under_on, on_under, Lifted, lifted_way, next_of}
 use Rattle.owned_loans.proofs.Meeting.{next}
 use Rattle.owned_loans.proofs.Allowed.{Cleared, cleared_whole}
 use Rattle.owned_loans.proofs.Others.{above_away, clean_away, seen_above_away, seen_away_below}
-use Rattle.owned_loans.proofs.Moves.{IsPlace, named_way}
+use Rattle.owned_loans.proofs.Moves.{IsPlace}
 use Rattle.viewed_soundness.specs.Holds.{sees_only}
+use Rattle.viewed_soundness.proofs.Spared.{gone_off}
 use Rattle.viewed_soundness.proofs.Viewing.{expand_down}
 
 module _ (s : Typing) (frame : ℕ) (other : Around (home s frame)) (v : Views) (view : View) (facts : List Fact)
@@ -23,13 +23,6 @@ module _ (s : Typing) (frame : ℕ) (other : Around (home s frame)) (v : Views) 
   abbrev Meets : Way → Way → Type 0
   Meets z w = Under z w ⊎ Under w z
 
-  near_met : (w z : Way) → Named (home s frame) w → Meets z w → IsNear frame z
-  near_met w z named (inl above) = under_near frame z w above (named_near s frame w named)
-  near_met w z named (inr below) = near_under frame w z below (named_near s frame w named)
-
-  stands : (u : Way) → Named (home s frame) u → sees_only s (number_of u) ≡ false → Named (home s frame) (expand v u)
-  stands u named plain = named_way (home s frame) (sees_only s) other v view facts viewed.views (suc (number_of u)) u (omega arith) (named, plain)
-
   -- by a name of an owner or a borrower
   pub owner_whole : (u : Way) → Named (home s frame) u → sees_only s (number_of u) ≡ false → IsPlace v u → Cleared facts u
       → (z : Way) → ExcusedBy (home s frame) v other facts z → Meets z (expand v (All u)) → ⊥
@@ -37,7 +30,7 @@ module _ (s : Typing) (frame : ℕ) (other : Around (home s frame)) (v : Views) 
       by_case excused (subst (Meets z) (expand_down v u place) meets)
     where
       by_case : ExcusedBy (home s frame) v other facts z → Meets z (All (expand v u)) → ⊥
-      by_case (inr gone) met = alone z (near_met (All (expand v u)) z (stands u named plain) met) gone
+      by_case (inr gone) met = gone_off s frame other v view facts viewed alone u z named plain (meets_front (expand v u) (All (expand v u)) z (inr (under_itself (expand v u))) met) gone
       by_case (inl away) (inr below) =
           clean_away (home s frame) (sees_only s) other v view facts viewed u z (named, plain) clear.0 clear.1
           (under_on (expand v u) (All (expand v u)) z (inr (under_itself (expand v u))) below) away
@@ -57,7 +50,7 @@ module _ (s : Typing) (frame : ℕ) (other : Around (home s frame)) (v : Views) 
   seen_whole u named l sees z (inr gone) meets = elim (viewed.views l.object l.way l.has) [
     | inl own ↦ (
         let on = next (home s frame) (sees_only s) v view facts viewed.views (All u) l own named in
-        alone z (near_met (expand v (All u)) z (subst (Named (home s frame)) on.same (stands (next_of v (All u) l) on.plain.0 on.plain.1)) meets) gone)
+        gone_off s frame other v view facts viewed alone (next_of v (All u) l) z on.plain.0 on.plain.1 (subst (Meets z) (sym on.same) meets) gone)
     | inr passed ↦ viewed.whole l.object l.way z l.has passed.foreign gone (nearer (subst (Meets z) (lifted_way v (All u) l) meets))
   ]
     where

@@ -38,7 +38,7 @@ use Rattle.machine.specs.Step.{Turn, turn, start, successor}
 use Rattle.machine.specs.Step as steps
 use Rattle.machine.specs.Owners.{waiting_in}
 use Rattle.owned_ways.specs.Ways.{Step, OfVariable, OfRoot, Way, Held, after, AllowsAll}
-use Rattle.soundness.specs.Seen.{IsNear, is_view_formal, content, word_in, home, seen}
+use Rattle.soundness.specs.Seen.{IsNear, content, word_in, home, seen}
 use Rattle.soundness.specs.Typed.{Kept, Matches}
 use Rattle.typed_laws.specs.Needed.{IsFine, Source, Gives, Leads}
 use Rattle.soundness.specs.Sound.{IsNoCall, Stage, facts_of, AreStages, IsRunnable, returns_value, InScope, IsNamedSub, IsAtPoint, view_of as view_here, is_temporary_object, temporaries_in}
@@ -51,11 +51,11 @@ use Rattle.soundness.proofs.Waited.{FillsNone}
 use Rattle.soundness.proofs.Eased.{eased, goes_same}
 use Rattle.soundness.proofs.Successors.{below_one}
 use Rattle.owned_loans.specs.Views.{Around, known_gone, Views, Viewed}
-use Rattle.viewed_soundness.specs.Holds.{IsNamed, AllKeep, sees_only}
+use Rattle.viewed_soundness.specs.Holds.{IsNamed, AllKeep, is_view, sees_only, is_fixed}
 use Rattle.viewed_soundness.proofs.Outcomes.{named_plain, Leads_on, stored_goes, not_views, assigned_acts}
 use Rattle.viewed_steps.specs.Awaited.{AreFor, AreValues, temporaries_of, lasting_of, AreAwaited, TakesAlone}
 use Rattle.viewed_steps.proofs.Waited.{temporary_first, Shares, others_only}
-use Rattle.viewed_steps.specs.Sound.{IsResting, HoldsAt, ArePlaced, NoneAbove, ViewStage, stages_of, GoneElsewhere, AreWaiting, IsStoredAt, LeadsAlong}
+use Rattle.viewed_steps.specs.Sound.{ArePast, IsResting, HoldsAt, ArePlaced, NoneAbove, ViewStage, stages_of, GoneElsewhere, AreWaiting, IsStoredAt, LeadsAlong}
 use Rattle.viewed_steps.specs.Ready.{IsReady, AreOrderly}
 use Rattle.viewed_steps.proofs.Lent.{Spare}
 use Rattle.viewed_steps.proofs.Placed.{MayBe}
@@ -79,7 +79,7 @@ use Rattle.soundness.proofs.Lasting.{keeps}
 use Rattle.viewed_soundness.proofs.Evaluated.{Given, Ready, checked_given, call_given, keep_both}
 use Rattle.viewed_steps.proofs.Declared.{declared_goes, first_fades}
 use Rattle.viewed_steps.proofs.EachInstruction as each
-use Rattle.viewed_steps.proofs.Views.{all_held}
+use Rattle.viewed_steps.proofs.Views.{AreAccess, all_held}
 
 module _ (table : Table) (typed : TypedProgram) (effects : Effects) (input : List ℕ) (ready : IsReady table typed effects) where
   abbrev program : FlowProgram
@@ -91,10 +91,10 @@ module _ (table : Table) (typed : TypedProgram) (effects : Effects) (input : Lis
   abbrev own : Typing
   own = typing_of table typed
 
-  abbrev no_in_formals : (x : ℕ) → is_view_formal s x ≡ false
-  no_in_formals = standing.no_in_formals table typed effects input ready
+  abbrev in_formals : AreAccess s
+  in_formals = standing.in_formals table typed effects input ready
 
-  abbrev local : (x : ℕ) → is_anonymous (view_of s x) ≡ true → is_package_object s x ≡ false
+  abbrev local : (x : ℕ) → is_view s x ≡ true → is_package_object s x ≡ false
   local = standing.local table typed effects input ready
 
   abbrev unmoved_stage : (e : Stage) → e.frame.sub ≡ 0 → (name : PlaceName) → Has (facts_of program effects e) (Moved name) → ⊥
@@ -110,7 +110,7 @@ module _ (table : Table) (typed : TypedProgram) (effects : Effects) (input : Lis
       (viewed_before : Viewed (home s (suc (length rest))) (sees_only s) (known_gone (home s (suc (length rest))) (GoneElsewhere program effects (below ∷ more_frames))) views
       (view_here s state) (facts_of program effects top))
       (kept : Kept s state.memory (waiting_in state)) (scope : InScope s state.memory (suc (length rest)) (lasting_of s p.scope)) (holds : HoldsAt s (suc (length rest)) views state.memory p)
-      (placed_before : ArePlaced program (facts_of program effects top) views p.scope) (above : NoneAbove s (suc (length rest)) state.memory) where
+      (placed_before : ArePlaced program (suc (length rest)) (facts_of program effects top) views p.scope × ArePast s (suc (length rest)) views (below ∷ more_frames)) (above : NoneAbove s (suc (length rest)) state.memory) where
     abbrev outer : List Frame
     outer = below.stage.frame ∷ rest
 
@@ -182,7 +182,7 @@ module _ (table : Table) (typed : TypedProgram) (effects : Effects) (input : Lis
 
     -- where it leads, and how the frames come from those before
     abbrev Along : Outcome → Type 0
-    Along outcome = LeadsAlong table typed effects p.instr state.memory (record { stage = top; views = views }) (below ∷ more_frames) outcome
+    Along outcome = LeadsAlong table typed effects p.instr state.memory (record { stage = top; views = views; cells = [] }) (below ∷ more_frames) outcome
 
     abbrev may : ℕ → ℕ → Type 0
     may x y = MayBe program (scope_behind p) x y × IsStoredAt p.instr x
@@ -263,7 +263,7 @@ module _ (table : Table) (typed : TypedProgram) (effects : Effects) (input : Lis
       ready_value = record {
         viewed = subst (λ z. Viewed (home s depth) (sees_only s) other views (seen s state.memory z state.leaks) facts_now) first_value.1.2 viewed;
         kept = subst (Kept s state.memory) first_value.1.2 kept;
-        holds = all_held s no_in_formals depth views state.memory (λ y n view e. holds.held y n (λ fading. going fading.0 fading.1) view e) holds.only holds.named;
+        holds = all_held s in_formals depth views state.memory (λ y n view e. holds.held y n (λ fading. going fading.0 fading.1) view e) holds.only holds.owners holds.own;
       }
 
       pub source_alone : (u : ℕ) → IsNamed s.table u → Source s u call
@@ -302,7 +302,7 @@ module _ (table : Table) (typed : TypedProgram) (effects : Effects) (input : Lis
           allowed_now (each.spares table typed effects input ready state top below more_frames rest named p frames deep stages running awaiting of_sub at_point path views viewed_before kept scope holds placed_before above going no_calls end)
           (standing.allowed table typed effects input ready state top older outer named p frames of_sub at_point path no_calls)
 
-      keeps_there : AllKeep (sees_only s) (acts_of_main p.instr)
+      keeps_there : AllKeep (is_fixed s) (acts_of_main p.instr)
       keeps_there = standing.keeps_there table typed effects input ready state top older outer named p frames of_sub at_point
 
       no_name : (r : Pos) (y : ℕ) (steps : TypedTree) (w : ℕ) → ◌≡◌ {A = TypedTree} (More held_call NoMore) (More (Name r y steps w) NoMore) → ⊥
@@ -345,8 +345,8 @@ module _ (table : Table) (typed : TypedProgram) (effects : Effects) (input : Lis
         declared_value (Done ws n) given faint =
             each.goes_too table typed effects input ready state top below more_frames rest named p frames deep stages running awaiting of_sub at_point path views viewed_before kept scope holds placed_before above going no_calls
             (Declare y v) (declared depth y ws n.memory) 0
-            (declared_goes easy ready.accepted.settled ready.owns other alone no_in_formals views ready.class.parts_named may refl refl y (after (acts_of_main (Declare y v)) facts_now)
-            named_object ws n given faint
+            (declared_goes easy ready.accepted.settled ready.owns other alone in_formals views ready.class.parts_named may refl refl y (after (acts_of_main (Declare y v)) facts_now)
+            named_object (orderly.begun y v is) ws n given faint
             (λ q. each.blank table typed effects input ready state top below more_frames rest named p frames deep stages running awaiting of_sub at_point path views viewed_before kept scope holds placed_before above going no_calls y v is q
             (word_in s.table (content s state.memory [] (OfRoot (OfVariable depth y))) q) refl)
             (each.after_it table typed effects input ready state top below more_frames rest named p frames deep stages running awaiting of_sub at_point path views viewed_before kept scope holds placed_before above going no_calls y v is)
@@ -363,7 +363,7 @@ module _ (table : Table) (typed : TypedProgram) (effects : Effects) (input : Lis
             (subst (λ z. Given (steps.here main_turn) ready.accepted.settled state.leaks [] other alone (keeps s ready.accepted.settled ready.owns) index_law ready.owns views
             ready.class.parts_named (object_at s y).of (waiting_in easy.state) z (steps.taken_by main_turn (object_at s y).of held_call (start main_turn))) facts_same
             (source_alone going alone_taken (object_at s y).of named_object source_here))
-            (first_fades easy ready.accepted.settled ready.owns other alone no_in_formals views ready.class.parts_named may refl refl given_words (object_at s y).of v (refl, source_here))
+            (first_fades easy ready.accepted.settled ready.owns other alone in_formals views ready.class.parts_named may refl refl given_words (object_at s y).of v (refl, source_here))
 
       -- a place that is no view
       module _ (r : Pos) (y : ℕ) (path_there : TypedTree) (u : ℕ) (is : p.instr ≡ Assign (Name r y path_there u) held_call) (calls : has_call path_there ≡ false) (end : p.instr ≡ Finish → ⊥) where
@@ -408,10 +408,10 @@ module _ (table : Table) (typed : TypedProgram) (effects : Effects) (input : Lis
         pub allowed_steps : AllowsAll facts_now (acts (acts_in s path_there) ++ act.Write (name_of y path_there) ∷ [])
         allowed_steps = subst (AllowsAll facts_now) acts_there (subst (λ i. AllowsAll facts_now (acts_of_main i)) is (allowed_there end))
 
-        pub plain_root : sees_only s y ≡ false
+        pub plain_root : is_fixed s (name_of y path_there) ≡ false
         plain_root =
-            (keep_both (sees_only s) (acts (acts_in s path_there)) (act.Write (name_of y path_there) ∷ [])
-            (subst (AllKeep (sees_only s)) acts_there (subst (λ i. AllKeep (sees_only s) (acts_of_main i)) is keeps_there))).1.0
+            (keep_both (is_fixed s) (acts (acts_in s path_there)) (act.Write (name_of y path_there) ∷ [])
+            (subst (AllKeep (is_fixed s)) acts_there (subst (λ i. AllKeep (is_fixed s) (acts_of_main i)) is keeps_there))).1.0
 
         abbrev facts_then : List Fact
         facts_then = effect (act.Write (name_of y path_there)) (after (acts (acts_in s path_there)) facts_now)

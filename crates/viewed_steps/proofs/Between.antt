@@ -1,8 +1,11 @@
 -- A move that a call makes, or its end: no fact changes, and what is gone after it is known otherwise.
-use Rattle.std.proofs.Common.{◌≡◌, refl, sym, ap, ◌∙◌, subst, ◌⊎◌, inl, inr, ℕ, Bool, List, [], ◌∷◌, ◌++◌, Some}
+use Rattle.std.proofs.Common.{◌≡◌, refl, sym, ap, ◌∙◌, subst, ◌⊎◌, inl, inr, ℕ, Bool, true, List, [], ◌∷◌, ◌++◌, Some}
 use Rattle.spark_base.specs.Lists.{Has}
 use Rattle.place_names.specs.declared.fact.Fact.{Fact}
-use Rattle.owned_ways.specs.Ways.{Step, OfVariable, OfHand, Loc, OfRoot, OfCell, Way, Object, Lost, Into, All, Gone, Held, View, Reaches, IsSame, part, along, IsRooted, Under, Past, Named, base_of, number_of}
+use Rattle.place_names.specs.declared.fact.Fact.TheVariants.{Lent}
+use Rattle.place_names.specs.declared.rule.Loan.{Loan}
+use Rattle.place_names.specs.Names.{Name as PlaceName, overlaps}
+use Rattle.owned_ways.specs.Ways.{Step, OfVariable, OfHand, Loc, OfRoot, OfCell, Way, Object, Lost, Into, All, Gone, Held, View, Reaches, IsSame, part, along, IsRooted, Under, Past, Named, base_of, number_of, name_of}
 use Rattle.owned_ways.proofs.Locations.{under_along, under_itself}
 use Rattle.owned_ways.proofs.Named.{longer}
 use Rattle.owned_ways.proofs.Moving.{Given, keeps, owned_after, covered_after, known_after}
@@ -14,7 +17,7 @@ use Rattle.flow_paths.specs.Objects.{Typing}
 use Rattle.machine.specs.Memory.{Memory}
 use Rattle.machine.specs.States.{Return}
 use Rattle.soundness.specs.Seen.{IsNear, content, word_in}
-use Rattle.viewed_steps.specs.Taken.{TakenBy, AreTaken, AreCarried}
+use Rattle.viewed_steps.specs.Taken.{TakenBy, Lodge, AreTaken, AreCarried}
 
 -- where owners see the same, ways reach the same
 pub same_reaches : (s t : View) → IsSame s t → (w : Way) (l : Loc) → Reaches s w l → Reaches t w l
@@ -49,6 +52,7 @@ module _ (home : ℕ → ℕ) (observer : ℕ → Bool) (v : Views) (other : Aro
     views = λ x w has. view_on home observer other v s s facts facts x w (viewed.views x w has) (λ seen n loan. loan)
         (reached home observer other v s facts x w (viewed.views x w has));
     whole = apart;
+    past = viewed.past;
     lends = viewed.lends;
     far = viewed.far;
   }
@@ -74,6 +78,7 @@ module _ (home : ℕ → ℕ) (observer : ℕ → Bool) (v : Views) (other : Aro
         view_on home observer other v s t facts facts x w view (λ seen n loan. loan)
         (keeps s t f k from to given w (OfCell (v.cell x)) (reached home observer other v s facts x w view) (λ p. off.own x w has p) (λ p. away.own x w has p)));
     whole = apart;
+    past = viewed.past;
     lends = viewed.lends;
     far = λ w n held. keeps s t f k from to given w (OfCell n) (viewed.far w n held) (λ p. off.far w n held p) (λ p. away.far w n held p);
   }
@@ -143,34 +148,45 @@ not_named home e x other w named base =
     other (number_of w) (same_variable (home (number_of w)) (number_of w) e x (sym (named_base home w named) ∙ base)).0
 
 -- what was taken is in variables of the frame
-pub taken_from : (s : Typing) (m : Memory) (depth : ℕ) (facts : List Fact) (scope : List ℕ) (returns : List Return) (ways : List Way)
-    → AreTaken s m depth facts scope returns ways → (k : Way) → Has ways k → (y : ℕ) × (base_of k ≡ OfRoot (OfVariable depth y))
-taken_from s m depth facts scope [] ways none k has = absurd (subst (λ z. Has z k) none has)
-taken_from s m depth facts scope (r ∷ rest) [] taken k has = absurd has
-taken_from s m depth facts scope (r ∷ rest) (to ∷ ways) (inl copied) k has = taken_from s m depth facts scope rest (to ∷ ways) copied.1 k has
-taken_from s m depth facts scope (r ∷ rest) (to ∷ ways) (inr (one, apart, another, more)) k (inl same) = (
+pub taken_from : (s : Typing) (cells : List Lodge) (m : Memory) (depth : ℕ) (facts : List Fact) (scope : List ℕ) (returns : List Return) (ways : List Way)
+    → AreTaken s cells m depth facts scope returns ways → (k : Way) → Has ways k → (y : ℕ) × (base_of k ≡ OfRoot (OfVariable depth y))
+taken_from s cells m depth facts scope [] ways none k has = absurd (subst (λ z. Has z k) none has)
+taken_from s cells m depth facts scope (r ∷ rest) [] taken k has = absurd has
+taken_from s cells m depth facts scope (r ∷ rest) (to ∷ ways) (inl copied) k has = taken_from s cells m depth facts scope rest (to ∷ ways) copied.1 k has
+taken_from s cells m depth facts scope (r ∷ rest) (to ∷ ways) (inr (one, apart, another, more)) k (inl same) = (
   (one.0).inside.object,
   ap base_of (sym same ∙ (one.0).inside.way) ∙ base_along (Object (OfVariable depth (one.0).inside.object)) (one.0).inside.steps,
 )
-taken_from s m depth facts scope (r ∷ rest) (to ∷ ways) (inr (one, apart, another, more)) k (inr has) = taken_from s m depth facts scope rest ways more k has
+taken_from s cells m depth facts scope (r ∷ rest) (to ∷ ways) (inr (one, apart, another, more)) k (inr has) = taken_from s cells m depth facts scope rest ways more k has
+
+-- nor is it lent
+pub taken_unlent : (s : Typing) (cells : List Lodge) (m : Memory) (depth : ℕ) (facts : List Fact) (scope : List ℕ) (returns : List Return) (ways : List Way)
+    → AreTaken s cells m depth facts scope returns ways → (k : Way) → Has ways k → (l : Loan) (h : ℕ) (n : PlaceName) → Has facts (Lent l h n) → overlaps n (name_of k) ≡ true → ⊥
+taken_unlent s cells m depth facts scope [] ways none k has l h n lent over = absurd (subst (λ z. Has z k) none has)
+taken_unlent s cells m depth facts scope (r ∷ rest) [] taken k has l h n lent over = absurd has
+taken_unlent s cells m depth facts scope (r ∷ rest) (to ∷ ways) (inl copied) k has l h n lent over = taken_unlent s cells m depth facts scope rest (to ∷ ways) copied.1 k has l h n lent over
+taken_unlent s cells m depth facts scope (r ∷ rest) (to ∷ ways) (inr (one, apart, another, more)) k (inl same) l h n lent over =
+    (one.0).unlent l h n lent (subst (λ z. overlaps n (name_of z) ≡ true) (sym same) over)
+taken_unlent s cells m depth facts scope (r ∷ rest) (to ∷ ways) (inr (one, apart, another, more)) k (inr has) l h n lent over =
+    taken_unlent s cells m depth facts scope rest ways more k has l h n lent over
 
 pub taken_base : (ways : List Way) (depth : ℕ) → ((k : Way) → Has ways k → (y : ℕ) × (base_of k ≡ OfRoot (OfVariable depth y))) → (w : Way) → TakenBy ways w
     → (y : ℕ) × (base_of w ≡ OfRoot (OfVariable depth y))
 taken_base ways depth begin w (k, has, p, is) = (let base = begin k has in (base.0, ap base_of is ∙ base_along k p ∙ base.1))
 
 -- it stays so where nothing gets a number in them
-pub still_taken : (s : Typing) (m n : Memory) (depth : ℕ) (facts : List Fact) (scope : List ℕ)
+pub still_taken : (s : Typing) (cells : List Lodge) (m n : Memory) (depth : ℕ) (facts : List Fact) (scope : List ℕ)
     → ((y : ℕ) (p : List Step) (c : ℕ) → word_in s.table (content s n [] (OfRoot (OfVariable depth y))) p ≡ Held c
     → word_in s.table (content s m [] (OfRoot (OfVariable depth y))) p ≡ Held c)
-    → (returns : List Return) (ways : List Way) → AreTaken s m depth facts scope returns ways → AreTaken s n depth facts scope returns ways
-still_taken s m n depth facts scope still [] ways none = none
-still_taken s m n depth facts scope still (r ∷ rest) [] taken = (taken.0, still_taken s m n depth facts scope still rest [] taken.1)
-still_taken s m n depth facts scope still (r ∷ rest) (to ∷ ways) (inl copied) = inl (copied.0, still_taken s m n depth facts scope still rest (to ∷ ways) copied.1)
-still_taken s m n depth facts scope still (r ∷ rest) (to ∷ ways) (inr (one, apart, another, more)) = inr (
+    → (returns : List Return) (ways : List Way) → AreTaken s cells m depth facts scope returns ways → AreTaken s cells n depth facts scope returns ways
+still_taken s cells m n depth facts scope still [] ways none = none
+still_taken s cells m n depth facts scope still (r ∷ rest) [] taken = (taken.0, still_taken s cells m n depth facts scope still rest [] taken.1)
+still_taken s cells m n depth facts scope still (r ∷ rest) (to ∷ ways) (inl copied) = inl (copied.0, still_taken s cells m n depth facts scope still rest (to ∷ ways) copied.1)
+still_taken s cells m n depth facts scope still (r ∷ rest) (to ∷ ways) (inr (one, apart, another, more)) = inr (
   (one.0, (λ p c held. one.1 p c (still (one.0).inside.object (p ++ (one.0).inside.steps) c held))),
   apart,
   another,
-  still_taken s m n depth facts scope still rest ways more,
+  still_taken s cells m n depth facts scope still rest ways more,
 )
 
 -- what begins at a variable of a frame between isn't near

@@ -37,14 +37,14 @@ use Rattle.soundness.proofs.Steps.{no_leaf}
 use Rattle.soundness.proofs.Typings.{package_same, formal_same}
 use Rattle.soundness.proofs.Around.{same_or_not}
 use Rattle.soundness.proofs.Returning.{returned_kept, left_same, left_held, returns_lead, ends_lead, left_waits, ended_owned, Backs}
-use Rattle.owned_loans.specs.Views.{known_gone, Views, IsMovedBy, Viewed, ExcusedBy, Around, IsAway}
+use Rattle.owned_loans.specs.Views.{known_gone, Views, IsMovedBy, IsForeign, Viewed, ExcusedBy, Around, IsAway}
 use Rattle.owned_loans.proofs.Moves.{view_on, reached}
 use Rattle.owned_loans.proofs.Ended.{stands_itself}
-use Rattle.viewed_soundness.proofs.Names.{true_false}
+use Rattle.viewed_soundness.proofs.Names.{both_no, true_false}
 use Rattle.viewed_soundness.proofs.Outcomes.{named_plain}
 use Rattle.viewed_steps.specs.Awaited.{AreFor, AreValues, temporaries_of, lasting_of, awaited, AreAwaited}
 use Rattle.viewed_steps.proofs.Waited.{others_only, lasting_within}
-use Rattle.viewed_steps.specs.Sound.{HoldsAt, ArePlaced, NoneAbove, ViewStage, stages_of, GoneElsewhere, IsWaiting, AreWaiting, ends_one, LeadsAlong, IsResting, IsKindOfFormal}
+use Rattle.viewed_steps.specs.Sound.{ArePast, HoldsAt, ArePlaced, NoneAbove, ViewStage, stages_of, GoneElsewhere, IsWaiting, AreWaiting, ends_one, LeadsAlong, IsResting, IsKindOfFormal}
 use Rattle.viewed_steps.specs.Ready.{IsReady}
 use Rattle.viewed_steps.proofs.Read.{scalar_named}
 use Rattle.viewed_steps.proofs.Waiting.{StandsBetween, all_between, handed, all_on, gone_low, kept_low, far}
@@ -55,12 +55,13 @@ use Rattle.viewed_steps.proofs.Packages as packages
 use Rattle.viewed_steps.proofs.Innermost as innermost
 use Rattle.soundness.proofs.Passing.{signature_is}
 use Rattle.owned_ways.proofs.Dropped.{named_base}
-use Rattle.viewed_soundness.specs.Holds.{IsNamed, sees_only}
-use Rattle.viewed_steps.specs.Taken.{TakenBy, AreCarried}
-use Rattle.viewed_steps.proofs.Between.{base_under, same_variable}
+use Rattle.viewed_soundness.specs.Holds.{IsNamed, sees_only, is_view}
+use Rattle.viewed_steps.specs.Taken.{TakenBy, Lodge, AreCarried}
+use Rattle.viewed_steps.proofs.Between.{base_under, same_variable, taken_from as words_taken, taken_base}
+use Rattle.viewed_steps.proofs.Carried.{past_other}
 use Rattle.viewed_steps.proofs.Backed.{AwayBy, ViewedAway, IsBack, all_given_back}
 use Rattle.viewed_steps.proofs.Whole.{leaves_whole}
-use Rattle.viewed_steps.proofs.Views.{not_elsewhere, AreFar}
+use Rattle.viewed_steps.proofs.Views.{AreAccess, AreFar, lies_far, apart_by_base}
 
 smaller : (f b low : ℕ) → f < suc b → (f ≡ low → ⊥) → low ≡ b → f < low
 smaller f b low less ne is =
@@ -82,11 +83,11 @@ module _ (table : Table) (typed : TypedProgram) (effects : Effects) (input : Lis
   abbrev own : Typing
   own = typing_of table typed
 
-  abbrev local : (x : ℕ) → is_anonymous (view_of s x) ≡ true → is_package_object s x ≡ false
+  abbrev local : (x : ℕ) → is_view s x ≡ true → is_package_object s x ≡ false
   local = standing.local table typed effects input ready
 
-  abbrev no_in_formals : (x : ℕ) → is_view_formal s x ≡ false
-  no_in_formals = standing.no_in_formals table typed effects input ready
+  abbrev in_formals : AreAccess s
+  in_formals = standing.in_formals table typed effects input ready
 
   abbrev unmoved_stage : (e : Stage) → e.frame.sub ≡ 0 → (name : PlaceName) → Has (facts_of program effects e) (Moved name) → ⊥
   unmoved_stage = packages.unmoved_stage table typed effects input ready
@@ -101,7 +102,7 @@ module _ (table : Table) (typed : TypedProgram) (effects : Effects) (input : Lis
       (viewed_before : Viewed (home s (suc (length rest))) (sees_only s) (known_gone (home s (suc (length rest))) (GoneElsewhere program effects (below ∷ more_frames))) views
       (view_here s state) (facts_of program effects top))
       (kept : Kept s state.memory (waiting_in state)) (scope : InScope s state.memory (suc (length rest)) (lasting_of s p.scope)) (holds : HoldsAt s (suc (length rest)) views state.memory p)
-      (placed_before : ArePlaced program (facts_of program effects top) views p.scope) (above : NoneAbove s (suc (length rest)) state.memory) where
+      (placed_before : ArePlaced program (suc (length rest)) (facts_of program effects top) views p.scope × ArePast s (suc (length rest)) views (below ∷ more_frames)) (above : NoneAbove s (suc (length rest)) state.memory) where
     abbrev outer : List Frame
     outer = below.stage.frame ∷ rest
 
@@ -138,7 +139,7 @@ module _ (table : Table) (typed : TypedProgram) (effects : Effects) (input : Lis
     abbrev viewed_own : Viewed (home s depth) (sees_only s) (known_gone (home s depth) (GoneElsewhere program effects older)) views (view_here s state) own_facts
     viewed_own = innermost.viewed_own table typed effects input ready state top below more_frames rest named p frames deep stages running awaiting of_sub at_point path views viewed_before kept scope holds placed_before above
 
-    abbrev placed : ArePlaced program facts_now views p.scope
+    abbrev placed : ArePlaced program (suc (length rest)) facts_now views p.scope
     placed = innermost.placed table typed effects input ready state top below more_frames rest named p frames deep stages running awaiting of_sub at_point path views viewed_before kept scope holds placed_before above
 
     abbrev named_there : Has (flow_named table typed) named
@@ -149,7 +150,7 @@ module _ (table : Table) (typed : TypedProgram) (effects : Effects) (input : Lis
 
     -- where it leads, and how the frames come from those before
     abbrev Along : Outcome → Type 0
-    Along outcome = LeadsAlong table typed effects p.instr state.memory (record { stage = top; views = views }) (below ∷ more_frames) outcome
+    Along outcome = LeadsAlong table typed effects p.instr state.memory (record { stage = top; views = views; cells = [] }) (below ∷ more_frames) outcome
 
     abbrev ends_raised : (how : Exception) (m : Memory) → Along (steps.raised main_turn how m)
     ends_raised = innermost.ends_raised table typed effects input ready state top below more_frames rest named p frames deep stages running awaiting of_sub at_point path views viewed_before kept scope holds placed_before above
@@ -226,7 +227,8 @@ module _ (table : Table) (typed : TypedProgram) (effects : Effects) (input : Lis
         by_way None e = e
         by_way (Some w) e =
             let formal = ready.scoped.finishes named named_there p point_there_now is x (placed x w e).within in
-            absurd (true_false (is_anonymous (view_of s x)) (holds.only x w e) (named_plain s.table (object_at s x).of (named_formal (ready.class.formals x formal))))
+            absurd (true_false (is_view s x) (holds.only x w e)
+            (both_no (is_anonymous (view_of s x)) (is_view_formal s x) (named_plain s.table (object_at s x).of (named_formal (ready.class.formals x formal))) (standing.no_in_formals table typed effects input ready x)))
 
     -- no part of a formal or package object is moved then
     whole_roots : p.instr ≡ Finish → (name : PlaceName) → Has own_facts (Moved name) → is_formal s name.root || is_package_object s name.root ≡ true → ⊥
@@ -283,18 +285,26 @@ module _ (table : Table) (typed : TypedProgram) (effects : Effects) (input : Lis
       deep_low = ap suc (sym low_is)
 
       pub far_low : AreFar (home s below.stage.depth) below.views below.stage.depth
-      far_low x w has foreign = absurd (not_elsewhere (home s below.stage.depth) w (waits.holds.named x w has) foreign)
+      far_low = lies_far s below.stage.depth below.views waits.holds.lies
+
+      -- where the cells of places are: their ways begin at variables of the frames that wait
+      pub begins_low : (c : Lodge) → Has below.cells c → (g : ℕ) × (y : ℕ) × (ways.base_of c.way ≡ OfRoot (OfVariable g y)) × (g ≡ suc below.stage.depth → ⊥)
+      begins_low c has =
+          let root = kept_low table typed effects unmoved_stage local state depth (below ∷ (h ∷ others))
+          (all_between table typed effects unmoved_stage local state top.frame.sub depth top.frame.returns (below ∷ (h ∷ others)) (below.stage.frame ∷ rest) stages_there (omega arith) waiting)
+          c.way c.cell (below, inl refl, inr (c, has, refl, refl)) in
+          (root.0, root.1, root.2, λ same. (let less = root.3 in let same_depth = low_is in omega (arith, less, same, same_depth)))
 
       -- the state as the frame below sees it
       abbrev ViewedLow : List Return → List Way → Memory → Type 0
       ViewedLow returns ways_left m =
-          ViewedAway main_turn ready.accepted.settled ready.owns no_in_formals (waiting_in state) state.leaks below.stage.depth deep_low below.views far_low their_facts
-          (lasting_of s waits.point.scope) around_low free_low whole_low none_kept returns ways_left m
+          ViewedAway main_turn ready.accepted.settled ready.owns in_formals (waiting_in state) state.leaks below.stage.depth deep_low below.views far_low their_facts
+          (lasting_of s waits.point.scope) around_low free_low whole_low none_kept below.cells begins_low returns ways_left m
 
       abbrev Away : Way → Type 0
       Away w =
-          AwayBy main_turn ready.accepted.settled ready.owns no_in_formals (waiting_in state) state.leaks below.stage.depth deep_low below.views far_low their_facts
-          (lasting_of s waits.point.scope) around_low free_low whole_low none_kept top.frame.returns below.stage.returns w
+          AwayBy main_turn ready.accepted.settled ready.owns in_formals (waiting_in state) state.leaks below.stage.depth deep_low below.views far_low their_facts
+          (lasting_of s waits.point.scope) around_low free_low whole_low none_kept below.cells begins_low top.frame.returns below.stage.returns w
 
       known_low : (w : Way) (l : ways.Loc) → ways.IsRooted w → ways.Reaches (view_here s state) w l → (view_here s state).word l ≡ ways.Gone
           → IsAway (home s below.stage.depth) below.views around_low their_facts w ⊎ Away w
@@ -332,6 +342,19 @@ module _ (table : Table) (typed : TypedProgram) (effects : Effects) (input : Lis
               named_base (home s depth) w at_home
               ∙ ap (λ f. OfRoot (OfVariable f (number_of w))) (ap (λ z. if z then 0 else depth) own_object ∙ deep_low)
 
+      -- nothing of that meets what views of the frame see that belongs to others
+      whole_away : (x : ℕ) (w z : Way) → below.views.way x ≡ Some w → IsForeign (home s below.stage.depth) w
+          → GoneElsewhere program effects (h ∷ others) z ⊎ (TakenBy below.stage.returns z
+          ⊎ ((y : ℕ) × (ways.base_of z ≡ OfRoot (OfVariable (suc below.stage.depth) y)) × ((r : Return) → Has top.frame.returns r → r.formal ≡ y → ⊥)))
+          → ways.Under z w ⊎ ways.Under w z → ⊥
+      whole_away x w z has foreign (inl gone) meets = waiting.2 x w z has foreign gone meets
+      whole_away x w z has foreign (inr (inl taken)) meets =
+          let base = taken_base below.stage.returns below.stage.depth
+          (words_taken s below.cells state.memory below.stage.depth their_facts (lasting_of s waits.point.scope) top.frame.returns below.stage.returns waits.taken) z taken in
+          apart_by_base w z foreign.0 foreign.1 below.stage.depth base.0 foreign.2 base.1 (λ same. (let under = far_low x w has foreign in omega (arith, under, same))) meets
+      whole_away x w z has foreign (inr (inr (y, base, none))) meets =
+          apart_by_base w z foreign.0 foreign.1 (suc below.stage.depth) y foreign.2 base (λ same. (let under = far_low x w has foreign in omega (arith, under, same))) meets
+
       pub viewed_low : ViewedLow top.frame.returns below.stage.returns state.memory
       viewed_low = record {
         owned = well.owned;
@@ -339,20 +362,22 @@ module _ (table : Table) (typed : TypedProgram) (effects : Effects) (input : Lis
         known = known_low;
         clear = waits.clear;
         views = waits.views;
-        whole = λ x w z has foreign gone meets. not_elsewhere (home s below.stage.depth) w (waits.holds.named x w has) foreign;
+        whole = whole_away;
+        past = λ x w has given plain k n none. absurd none;
         lends = λ l n none. absurd none;
         far = λ w n none. absurd none;
       }
 
       abbrev Backed : Memory → Type 0
       Backed m =
-          IsBack main_turn ready.accepted.settled ready.owns no_in_formals (waiting_in state) state.leaks below.stage.depth deep_low below.views far_low their_facts
-          (lasting_of s waits.point.scope) around_low free_low whole_low none_kept top.frame.returns below.stage.returns state.memory m
+          IsBack main_turn ready.accepted.settled ready.owns in_formals (waiting_in state) state.leaks below.stage.depth deep_low below.views far_low their_facts
+          (lasting_of s waits.point.scope) around_low free_low whole_low none_kept below.cells begins_low top.frame.returns below.stage.returns state.memory m
 
       given_back : Backs Backed (steps.copied_back main_turn top.frame.returns (steps.start main_turn))
       given_back =
-          all_given_back main_turn ready.accepted.settled ready.owns no_in_formals (waiting_in state) state.leaks below.stage.depth deep_low below.views far_low their_facts
-          (lasting_of s waits.point.scope) around_low free_low whole_low none_kept top.frame.returns below.stage.returns (steps.start main_turn) waits.taken kept viewed_low
+          all_given_back main_turn ready.accepted.settled ready.owns in_formals (waiting_in state) state.leaks below.stage.depth deep_low below.views far_low their_facts
+          (lasting_of s waits.point.scope) around_low free_low whole_low none_kept below.cells begins_low top.frame.returns below.stage.returns (steps.start main_turn) waits.taken
+          (λ c has. ((waits.kept c has).reaches, (waits.kept c has).aside)) kept viewed_low
 
       module _ (mid : Memory) (on : Backed mid) where
         abbrev left_state : State
@@ -397,7 +422,7 @@ module _ (table : Table) (typed : TypedProgram) (effects : Effects) (input : Lis
         held_before f x q n held = left_held s mid depth (waiting_in state) state.leaks nothing_mid f x q n held
 
         -- and views have there what they had
-        words_before : (f x : ℕ) → (f ≡ depth → ⊥) → is_anonymous (view_of s x) ≡ true
+        words_before : (f x : ℕ) → (f ≡ depth → ⊥) → is_view s x ≡ true
             → (get_or (variable_slots s f x left_memory.variables) 0 no_slot).word ≡ (get_or (variable_slots s f x state.memory.variables) 0 no_slot).word
         words_before f x ne view = other_word s mid depth f x ne ∙ on.views f x view
 
@@ -441,7 +466,8 @@ module _ (table : Table) (typed : TypedProgram) (effects : Effects) (input : Lis
               (facts_of program effects below.stage) (facts_of program effects below.stage) x w (on.viewed.views x w has) (λ b n loan. loan)
               (reach_left s mid depth (waiting_in state) state.leaks nothing_mid w (ways.OfCell (below.views.cell x))
               (reached (home s low) (sees_only s) (known_gone (home s low) (λ z. ⊥)) below.views mid_view (facts_of program effects below.stage) x w (on.viewed.views x w has)));
-          whole = λ x w z has foreign gone meets. not_elsewhere (home s low) w (waits.holds.named x w has) foreign;
+          whole = λ x w z has foreign gone meets. waiting.2 x w z has foreign gone meets;
+          past = λ x w has given plain k n none. absurd none;
           lends = λ l n none. absurd none;
           far = λ w n none. absurd none;
         }
@@ -451,10 +477,13 @@ module _ (table : Table) (typed : TypedProgram) (effects : Effects) (input : Lis
           held = λ x n lasts view e. waits.holds.held x n lasts view (word_there x n view e);
           within = λ x n view e. waits.holds.within x n view (word_there x n view e);
           only = waits.holds.only;
-          named = waits.holds.named;
+          lies = waits.holds.lies;
+          owners = waits.holds.owners;
+          passed = waits.holds.passed;
+          own = waits.holds.own;
         }
           where
-            word_there : (x n : ℕ) → is_anonymous (view_of s x) ≡ true
+            word_there : (x n : ℕ) → is_view s x ≡ true
                 → (get_or (variable_slots s (home s low x) x left_memory.variables) 0 no_slot).word ≡ machine.Cell n
                 → (get_or (variable_slots s (home s low x) x state.memory.variables) 0 no_slot).word ≡ machine.Cell n
             word_there x n view e =
@@ -478,9 +507,11 @@ module _ (table : Table) (typed : TypedProgram) (effects : Effects) (input : Lis
             ])
             (λ f x some less view. words_before f x (λ same_depth. (let below_it = low_is in omega (arith, less, same_depth, below_it))) view)
             below.stage.frame.sub below.stage.frame.returns (h ∷ others) rest stages_there.2 (let same_depth = low_is in omega (arith, same_depth))
-            (λ g has x w there. (let root = kept_low table typed effects unmoved_stage local state below.stage.depth (h ∷ others) between_low w (g.views.cell x) (g, has, x, there, refl) in
-            reach_on w (g.views.cell x) (on.low w root.0 root.1 root.2 root.3 (g.views.cell x)
-            (far table typed effects unmoved_stage local state below.stage.depth (h ∷ others) between_low w (g.views.cell x) (g, has, x, there, refl))))) waiting.1
+            (λ w n keeps. (let root = kept_low table typed effects unmoved_stage local state below.stage.depth (h ∷ others) between_low w n keeps in
+            reach_on w n (on.stays w root.0 root.1 root.2 (λ same_depth. (let less = root.3 in omega (arith, less, same_depth)))
+            (λ to has. (let base = words_taken s below.cells state.memory below.stage.depth their_facts (lasting_of s waits.point.scope) top.frame.returns below.stage.returns waits.taken to has in
+            past_other to w below.stage.depth base.0 root.0 root.1 base.1 root.2 (λ same_depth. (let less = root.3 in omega (arith, less, same_depth))))) n
+            (far table typed effects unmoved_stage local state below.stage.depth (h ∷ others) between_low w n keeps)))) waiting.1
 
         -- what was gone stays so in the frames that are left, but in the places that were taken
         left_carried : AreCarried s (λ f. f ≡ top.depth → ⊥) below.stage.returns state.memory left_memory
@@ -516,9 +547,10 @@ module _ (table : Table) (typed : TypedProgram) (effects : Effects) (input : Lis
             scope = scope_left;
             holds = holds_there;
             placed = waits.placed;
+            past = waiting.3;
             none_above = above_left;
           },
-          ends_one (ap (λ z. below ∷ z) same_more) left_carried,
+          ends_one below.cells (ap (λ z. below ∷ z) same_more) left_carried,
         )
 
     pub ends_call : p.instr ≡ Finish → Along (turn main_turn Finish)

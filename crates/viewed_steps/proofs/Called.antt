@@ -12,7 +12,7 @@ use Rattle.place_names.specs.declared.act.Placed.{Placed}
 use Rattle.place_names.specs.declared.fact.Fact.{Fact}
 use Rattle.place_names.specs.Names.{Name as PlaceName}
 use Rattle.place_names.specs.Facts.{adds, effect}
-use Rattle.type_definitions.specs.Types.{Table, full, is_scalar, is_owning, parts}
+use Rattle.type_definitions.specs.Types.{full, is_scalar, is_owning, parts}
 use Rattle.typed_tree.specs.Trees.{TypedTree, Number, Literal, Text, Name, Component as IntoComponent, Designated, Element, Call, EndOfFile, Parens, Image, Unary, Binary, Short, IsNull, Aggregate, Alike, New, NoMore, More}
 use Rattle.typed_tree.specs.Trees as typed
 use Rattle.flow_paths.specs.Objects.{Typing, Signature, object_at, sub_at, is_anonymous, is_observer, is_named_access, is_package_object, view_of, traverses, first_traversed, Passing, ByValue, passing, passing_by, passings}
@@ -31,10 +31,11 @@ use Rattle.machine.specs.States.{Waiting, Leak, sub_of}
 use Rattle.machine.specs.Owners.{is_in}
 use Rattle.owned_ways.specs.Ways.{Step, Root, Component, OfVariable, Loc, OfRoot, Way, Object, Into, Empty, Named, Past, Under, IsRooted, Reaches, IsSame, AllowsAll, after, part, along}
 use Rattle.owned_ways.specs.Ways as ways
+use Rattle.owned_ways.proofs.Locations.{under_along, under_itself}
 use Rattle.part_offsets.specs.Parts.{type_in, offset_in, has_part, IsSettled}
 use Rattle.soundness.specs.Seen.{IsNear, Content, content, trunk, steps_in, seen, home, is_view_formal}
 use Rattle.soundness.specs.Typed.{Matches, OwnsByShape, Kept, Spot, IsFixed, loc_of}
-use Rattle.soundness.specs.Sound.{goes_through_none, AreCopied}
+use Rattle.soundness.specs.Sound.{goes_through_none}
 use Rattle.typed_laws.specs.Needed.{Stays, Leads, IndexLaw, IsPlace as IsPlaceOf}
 use Rattle.soundness.proofs.Contents.{bool_cases, word_no, word_part}
 use Rattle.soundness.proofs.Joined.{leaf_join, steps_part}
@@ -43,110 +44,31 @@ use Rattle.soundness.proofs.Fixed.{matches_scalar}
 use Rattle.soundness.proofs.Scalars.{acts, acts_append, after_append, allows_both, read_effect, number_along, named_along}
 use Rattle.soundness.proofs.Stays.{One, Quiet, quiet_then, quiet_from}
 use Rattle.soundness.proofs.Taking.{Takes}
-use Rattle.soundness.proofs.Walks.{Lead, way_along, Walked}
+use Rattle.soundness.proofs.Walks.{way_along, Walked}
 use Rattle.viewed_soundness.proofs.Walks.{walk}
 use Rattle.soundness.proofs.Passing.{IsRead, AreReads, AddNone, IsValue, TakesAll, plain_type, reads_keep, read_adds_none, signature_is}
 use Rattle.owned_loans.specs.Views.{Around, Views, expand, ExcusedBy, Viewed, IsForeign}
-use Rattle.owned_loans.proofs.Moves.{IsPlace}
+use Rattle.owned_loans.proofs.Moves.{IsPlace, expand_along, reached}
+use Rattle.owned_loans.proofs.Meeting.{stands_base}
 use Rattle.owned_loans.proofs.Ended.{stands_itself}
 use Rattle.viewed_soundness.specs.Holds.{IsNamed, PartsAreNamed, Holds, sees_only, is_view, IsOwners}
-use Rattle.viewed_soundness.proofs.Names.{Starts, true_false, is_place}
-use Rattle.viewed_soundness.proofs.Stays.{Goes as GoesAlong, taking, steps_taking}
+use Rattle.viewed_soundness.proofs.Names.{true_false, is_place}
+use Rattle.viewed_soundness.proofs.Stays.{Goes as GoesAlong, taking, steps_taking, name_quiet}
 use Rattle.viewed_soundness.proofs.Evaluated.{matches_named}
-use Rattle.viewed_steps.specs.Taken.{IsInside}
+use Rattle.viewed_steps.specs.Taken.{Lodge}
 use Rattle.viewed_steps.specs.Sound.{IsScalarObject, IsKindOfFormal}
 use Rattle.viewed_steps.specs.Ready.{IsOwnPlace, IsActualTo, AreActualsTo}
 use Rattle.viewed_steps.proofs.Read.{scalar_named}
-use Rattle.viewed_steps.proofs.Between.{gone_also, number_under}
+use Rattle.viewed_steps.proofs.Between.{gone_also, number_under, base_along}
+use Rattle.viewed_steps.proofs.Lodged.{spot_lodged}
+use Rattle.viewed_steps.proofs.Aside.{cell_name}
 use Rattle.viewed_steps.proofs.Emptied.{out_left, taken_back}
 use Rattle.viewed_steps.proofs.Outs.{Out, IsUnderOne}
+use Rattle.viewed_steps.proofs.Direct.{IsDirect, steps_direct, past_none, direct_leads, direct_itself, IsIn, walked_in, both_quiet, direct_part, part_reached}
+use Rattle.viewed_steps.proofs.LaidOut.{IsOwnPut, IsPlainAt, IsPlaceLaid, IsLaidOne, AreLaidOut, own_out, place_out, out_of, outs_of, IsOpenActual, AreOpenActuals}
 use Rattle.viewed_steps.proofs.Entered.{inside_plain, inside_named, inside_number}
 use Rattle.viewed_steps.proofs.Released.{nothing_written}
 use Rattle.viewed_steps.proofs.Lent.{ends, Spare, spare_both, spare_naming}
-
--- ---- names that go through no access value
-
--- Steps of a name that dereference nothing.
-abbrev IsDirect : List run.Step → Type 0
-IsDirect [] = Unit {0}
-IsDirect (run.ToComponent i ∷ way) = IsDirect way
-IsDirect (run.ToElement n ∷ way) = IsDirect way
-IsDirect (run.ToDesignated ∷ way) = ⊥
-
-abbrev GivesDirect : Evaluated (List run.Step) → Type 0
-GivesDirect (Done way n) = IsDirect way
-GivesDirect (Raises e n) = Unit {0}
-GivesDirect (Traps t n) = Unit {0}
-
-direct_then : {A : Type 0} (y : Evaluated A) (f : A → Now → Evaluated (List run.Step)) → ((a : A) (n : Now) → GivesDirect (f a n)) → GivesDirect (followed_by y f)
-direct_then (Done a n) f each = each a n
-direct_then (Raises e n) f each = tt
-direct_then (Traps t n) f each = tt
-
-direct_on : (y : Evaluated (List run.Step)) (f : List run.Step → Now → Evaluated (List run.Step)) → GivesDirect y
-    → ((way : List run.Step) (n : Now) → IsDirect way → GivesDirect (f way n)) → GivesDirect (followed_by y f)
-direct_on (Done way n) f direct each = each way n direct
-direct_on (Raises e n) f direct each = tt
-direct_on (Traps t n) f direct each = tt
-
-steps_direct : (h : Here) (path : TypedTree) → goes_through_none path ≡ true → (now : Now) → GivesDirect (steps_of h path now)
-unfolding goes_through_none steps_of
-steps_direct h (IntoComponent i rest) direct now =
-    direct_on (steps_of h rest now) (λ way n. Done (run.ToComponent i ∷ way) n) (steps_direct h rest direct now) (λ way n d. d)
-steps_direct h (Designated rest) direct now = cc
-steps_direct h (Element index low high rest) direct now =
-    direct_then (evaluate h AsValue index now)
-    (λ ws n. followed_by (indexed low high ws n) (λ i n. followed_by (steps_of h rest n) (λ way n. Done (run.ToElement i ∷ way) n)))
-    (λ ws n. direct_then (indexed low high ws n) (λ i n. followed_by (steps_of h rest n) (λ way n. Done (run.ToElement i ∷ way) n))
-    (λ i m. direct_on (steps_of h rest m) (λ way n. Done (run.ToElement i ∷ way) n) (steps_direct h rest direct m) (λ way n d. d)))
-steps_direct h path direct now = tt
-
--- they stay in their variable, and go through nothing
-past_none : (way : List run.Step) → IsDirect way → (w : Way) → ((v : Way) → Past v w → ⊥) → (v : Way) → Past v (way_along way w) → ⊥
-past_none [] direct w none v past = none v past
-past_none (run.ToComponent i ∷ way) direct w none v past = past_none way direct (Into w (Component i)) none v past
-past_none (run.ToElement n ∷ way) direct w none v past = past_none way direct (Into w (ways.Element n)) none v past
-past_none (run.ToDesignated ∷ way) direct w none v past = direct
-
-direct_leads : (table : Table) (t u : ℕ) (way : List run.Step) → IsDirect way → Starts table t way u → Lead table t way u
-direct_leads table t u [] direct lead = lead
-direct_leads table t u (run.ToComponent i ∷ way) direct lead = lead
-direct_leads table t u (run.ToElement n ∷ way) direct lead = lead
-direct_leads table t u (run.ToDesignated ∷ way) direct lead = absurd direct
-
--- and stand for themselves
-direct_itself : (v : Views) (way : List run.Step) → IsDirect way → (w : Way) → expand v w ≡ w → expand v (way_along way w) ≡ way_along way w
-direct_itself v [] direct w e = e
-direct_itself v (run.ToComponent i ∷ way) direct w e = direct_itself v way direct (Into w (Component i)) (ap (λ z. Into z (Component i)) e)
-direct_itself v (run.ToElement n ∷ way) direct w e = direct_itself v way direct (Into w (ways.Element n)) (ap (λ z. Into z (ways.Element n)) e)
-direct_itself v (run.ToDesignated ∷ way) direct w e = absurd direct
-
-abbrev IsIn : Base → Evaluated Place → Type 0
-IsIn b (Done k n) = k.base ≡ b
-IsIn b (Raises e n) = Unit {0}
-IsIn b (Traps t n) = Unit {0}
-
-walked_in : (s : Typing) (way : List run.Step) → IsDirect way → (k : Place) (now : Now) → IsIn k.base (walked s way k now)
-walked_in s [] direct k now = refl
-walked_in s (run.ToComponent i ∷ way) direct k now = walked_in s way direct (component_place s.table i k) now
-walked_in s (run.ToElement n ∷ way) direct k now = walked_in s way direct (element_place s.table n k) now
-walked_in s (run.ToDesignated ∷ way) direct k now = absurd direct
-
-both_quiet : (now : Now) (P : List run.Step → Type 0) (y : Evaluated (List run.Step)) → Quiet now P y → GivesDirect y → Quiet now (λ way. P way × IsDirect way) y
-both_quiet now P (Done way n) is direct = (is.0, (is.1, direct))
-both_quiet now P (Raises e n) is direct = is
-both_quiet now P (Traps t n) is direct = is
-
--- the ways of such names are parts of variables
-direct_part : (r : Root) (way : List run.Step) → IsDirect way → (p : List Step) → (q : List Step) × (way_along way (along (Object r) p) ≡ along (Object r) q)
-direct_part r [] direct p = (p, refl)
-direct_part r (run.ToComponent i ∷ way) direct p = direct_part r way direct (Component i ∷ p)
-direct_part r (run.ToElement n ∷ way) direct p = direct_part r way direct (ways.Element n ∷ p)
-direct_part r (run.ToDesignated ∷ way) direct p = absurd direct
-
-part_reached : (view : ways.View) (r : Root) (q : List Step) (l : Loc) → Reaches view (along (Object r) q) l → l ≡ part (OfRoot r) q
-part_reached view r [] l is = is
-part_reached view r (i ∷ q) l (m, reach, is) = is ∙ ap (λ z. ways.Inside z i) (part_reached view r q m reach)
 
 -- ---- acts that read
 
@@ -337,49 +259,6 @@ spare_reads s (p ∷ ps) reads = (one p (reads p (inl refl)), spare_reads s ps (
 neither : (a b : Bool) → a ≡ false → b ≡ false → a || b ≡ false
 neither a b e f = ap (λ z. z || b) e ∙ f
 
--- ---- what is passed
-
--- A place in a variable of a frame: the way of the name.
-abbrev pub IsOwnPut : Typing → ℕ → ℕ → TypedTree → Place → Type 0
-IsOwnPut s depth x (Name p y path u) k =
-    (to : Way) × (inside : IsInside s depth k to) × (ways.name_of to ≡ name_of y path) × (inside.object ≡ y) × Matches s.table k.of (object_at s x).of
-IsOwnPut s depth x e k = ⊥
-
--- A scalar place in a variable, or another place in a variable of the frame.
-abbrev pub IsPlaceLaid : Typing → ℕ → ℕ → TypedTree → Place → Type 0
-IsPlaceLaid s depth x e k =
-    (IsScalarObject s x × IsFixed s k) ⊎ ((is_scalar (full s.table (object_at s x).of) ≡ false) × IsOwnPut s depth x e k)
-
--- By the mode: a scalar value, or a place.
-abbrev pub IsLaidOne : Typing → ℕ → ℕ → Mode → TypedTree → Passed → Type 0
-IsLaidOne s depth x mode.In e (Value ws) = One ws
-IsLaidOne s depth x mode.Out e (To k) = IsPlaceLaid s depth x e k
-IsLaidOne s depth x mode.InOut e (From k) = IsPlaceLaid s depth x e k
-IsLaidOne s depth x m e a = ⊥
-
-abbrev pub AreLaidOut : Typing → ℕ → List ℕ → TypedTree → List Passed → Type 0
-AreLaidOut s depth (x ∷ formals) (More e rest) (a ∷ passed) = IsLaidOne s depth x (object_at s x).mode e a × AreLaidOut s depth formals rest passed
-AreLaidOut s depth (x ∷ formals) (More e rest) [] = ⊥
-AreLaidOut s depth formals actuals passed = passed ≡ []
-
--- Those that are emptied.
-abbrev pub own_out : (s : Typing) (depth x : ℕ) (e : TypedTree) (k : Place) → IsOwnPut s depth x e k → List Out
-own_out s depth x (Name p y path u) k own = record { way = own.0; place = k; pos = p } ∷ []
-own_out s depth x e k own = []
-
-abbrev pub place_out : (s : Typing) (depth x : ℕ) (e : TypedTree) (k : Place) → IsPlaceLaid s depth x e k → List Out
-place_out s depth x e k (inl plain) = []
-place_out s depth x e k (inr own) = own_out s depth x e k own.1
-
-abbrev pub out_of : (s : Typing) (depth x : ℕ) (m : Mode) (e : TypedTree) (a : Passed) → IsLaidOne s depth x m e a → List Out
-out_of s depth x mode.Out e (To k) laid = place_out s depth x e k laid
-out_of s depth x m e a laid = []
-
-abbrev pub outs_of : (s : Typing) (depth : ℕ) (formals : List ℕ) (actuals : TypedTree) (passed : List Passed) → AreLaidOut s depth formals actuals passed → List Out
-outs_of s depth (x ∷ formals) (More e rest) (a ∷ passed) laid =
-    out_of s depth x (object_at s x).mode e a laid.0 ++ outs_of s depth formals rest passed laid.1
-outs_of s depth formals actuals passed laid = []
-
 -- ---- the actuals
 
 module _ (h : Here) (settled : IsSettled h.typing.table) (hands : List Waiting) (leaks : List Leak) (m : Memory) (waits : List (List machine.Word))
@@ -436,25 +315,77 @@ module _ (h : Here) (settled : IsSettled h.typing.table) (hands : List Waiting) 
   Reached e k = ⊥
 
   abbrev IsPut : TypedTree → Place → Type 0
-  IsPut e k = IsFixed h.typing k × Reached e k
+  IsPut e k = IsPlainAt h.typing h.frame v (seen h.typing m hands leaks) e k × Reached e k
+
+  plain_type_at : (e : TypedTree) (k : Place) → IsPlainAt h.typing h.frame v (seen h.typing m hands leaks) e k → is_scalar (full h.typing.table k.of) ≡ true
+  plain_type_at (Name p y path u) k (inl fixed) = fixed.scalar
+  plain_type_at (Name p y path u) k (inr (c, there, plain)) = plain
+  plain_type_at e k never = absurd never
+
+  -- a scalar place in a variable
+  fixed_there : (k : Place) (l : Loc) (f x : ℕ) → Spot h.typing m hands k l → k.base ≡ memory.OfVariable f x → is_scalar (full h.typing.table k.of) ≡ true → IsFixed h.typing k
+  fixed_there k l f x spot base plain =
+      let b : trunk l ≡ OfRoot (OfVariable f x) = spot.base ∙ ap loc_of base in
+      record {
+        frame = f;
+        object = x;
+        steps = steps_in l;
+        base = base;
+        there = ap (λ z. has_part h.typing.table (content h.typing m hands z).of (steps_in l)) (sym b) ∙ spot.there;
+        at = spot.at ∙ ap (λ z. offset_in h.typing.table (content h.typing m hands z).of (steps_in l)) b;
+        of = subst (λ z. Matches h.typing.table k.of (type_in h.typing.table (content h.typing m hands z).of (steps_in l))) b spot.of;
+        scalar = plain;
+      }
+
+  -- a name that may go through access values
+  through_walked : (on : List (List machine.Word)) (p : Pos) (x u : ℕ) (path : TypedTree) (w : Way) → is_scalar (full h.typing.table u) ≡ true → Named (home h.typing h.frame) w
+      → ways.number_of w ≡ x → ways.name_of w ≡ name_of x path → IsPlace v w → is_package_object h.typing x ≡ false → sees_only h.typing x ≡ false
+      → (y : Evaluated Place) → Walked h.typing settled hands leaks m on (expand v w) u y → Quiet (at on) (λ k. IsPut (Name p x path u) k) y
+  through_walked on p x u path w plain named root called place local sees (Raises e n) is = is
+  through_walked on p x u path w plain named root called place local sees (Traps t n) never = absurd never
+  through_walked on p x u path w plain named root called place local sees (Done k n) (l, same, spot, reaches, of) =
+      (same, (by_base k.base refl, (w, l, named, called, place, reaches, spot)))
+    where
+      scalar_there : is_scalar (full h.typing.table k.of) ≡ true
+      scalar_there = ap (λ z. is_scalar (full h.typing.table z)) of ∙ plain
+
+      home_base : (f : ℕ) × (y : ℕ) × (ways.base_of (expand v w) ≡ OfRoot (OfVariable f y))
+      home_base =
+          stands_base (home h.typing h.frame) (sees_only h.typing) v (seen h.typing m hands leaks) facts well.views w (named, ap (sees_only h.typing) root ∙ sees)
+
+      by_base : (b : Base) → k.base ≡ b → IsPlainAt h.typing h.frame v (seen h.typing m hands leaks) (Name p x path u) k
+      by_base (memory.OfVariable f y) base = inl (fixed_there k l f y spot base scalar_there)
+      by_base (memory.OfCell c) base =
+          let found = cell_name v (seen h.typing m hands leaks)
+          (λ y z has. reached (home h.typing h.frame) (sees_only h.typing) other v (seen h.typing m hands leaks) facts y z (well.views y z has)) w l c reaches (spot.base ∙ ap loc_of base) in
+          let cell : Lodge = record { name = found.name; way = expand v found.name; cell = c } in
+          let stands : expand v w ≡ along (expand v found.name) found.rest = ap (expand v) found.is ∙ expand_along v found.name found.rest in
+          inr (
+            cell,
+            record {
+              lodged = spot_lodged h.typing settled m hands leaks kept k l cell home_base.0 home_base.1 spot base
+                  (sym (base_along (expand v found.name) found.rest) ∙ ap ways.base_of (sym stands) ∙ home_base.2) found.reaches;
+              whole = w;
+              named = named;
+              called = called;
+              begins = subst (ways.Under found.name) (sym found.is) (under_along found.name found.name found.rest (under_itself found.name));
+              deep = found.deep;
+              own = local;
+              plain = sees;
+              leads = refl;
+              reaches = found.reaches;
+            },
+            scalar_there,
+          )
 
   from_walked : (on : List (List machine.Word)) (p : Pos) (x u : ℕ) (path : TypedTree) (w : Way) → is_scalar (full h.typing.table u) ≡ true → Named (home h.typing h.frame) w
       → ways.name_of w ≡ name_of x path → IsPlace v w → expand v w ≡ w → (y : Evaluated Place) → Walked h.typing settled hands leaks m on w u y
       → IsIn (memory.OfVariable (home h.typing h.frame x) x) y → Quiet (at on) (λ k. IsPut (Name p x path u) k) y
   from_walked on p x u path w plain named called place itself (Done k n) (l, same, spot, reaches, of) base =
-      let b : trunk l ≡ OfRoot (OfVariable (home h.typing h.frame x) x) = spot.base ∙ ap loc_of base in (
+      (
         same,
         (
-          record {
-            frame = home h.typing h.frame x;
-            object = x;
-            steps = steps_in l;
-            base = base;
-            there = ap (λ z. has_part h.typing.table (content h.typing m hands z).of (steps_in l)) (sym b) ∙ spot.there;
-            at = spot.at ∙ ap (λ z. offset_in h.typing.table (content h.typing m hands z).of (steps_in l)) b;
-            of = subst (λ z. Matches h.typing.table k.of (type_in h.typing.table (content h.typing m hands z).of (steps_in l))) b spot.of;
-            scalar = ap (λ z. is_scalar (full h.typing.table z)) of ∙ plain;
-          },
+          inl (fixed_there k l (home h.typing h.frame x) x spot base (ap (λ z. is_scalar (full h.typing.table z)) of ∙ plain)),
           (w, l, named, called, place, subst (λ z. Reaches (seen h.typing m hands leaks) z l) (sym itself) reaches, spot),
         ),
       )
@@ -469,7 +400,8 @@ module _ (h : Here) (settled : IsSettled h.typing.table) (hands : List Waiting) 
       let named : Named (home h.typing h.frame) (way_along way root) = named_along (home h.typing h.frame) way root refl in
       from_walked on p x u path (way_along way root) plain named
       (λ j. record { root = number_along way root j; sels = goes.sels root j })
-      (is_place h.typing v (home h.typing h.frame x) x u way goes.lead (scalar_named h.typing.table u plain) (no_formals x) holds.only)
+      (is_place h.typing v (home h.typing h.frame x) x u way goes.lead (scalar_named h.typing.table u plain)
+      (λ formal none. true_false (is_view_formal h.typing x) formal (no_formals x)) holds.only)
       (direct_itself v way direct root refl)
       (walked h.typing way (variable_place h x) (at on))
       (walk h.typing settled hands leaks m on (ExcusedBy (home h.typing h.frame) v other facts) kept well.owned well.known live way (variable_place h x)
@@ -488,6 +420,25 @@ module _ (h : Here) (settled : IsSettled h.typing.table) (hands : List Waiting) 
       (both_quiet (at on) (λ way. GoesAlong h.typing.table (object_at h.typing x).of u path way) (steps_of h path (at before)) inner.0 (steps_direct h path direct (at before)))
       (λ way both. walk_given on p x u path way (subst (λ z. is_scalar (full h.typing.table z) ≡ true) (sym type) plain) both.0 both.1)
   place_given before on e t place plain takes direct allowed = absurd place
+
+  through_given : (before on : List (List machine.Word)) (e : TypedTree) (t : ℕ) → IsPlaceOf h.typing e t → is_scalar (full h.typing.table t) ≡ true → Takes (waits_in e) before on
+      → IsOpenActual h.typing h.frame facts e → AllowsAll facts (acts (index_acts h.typing e)) → Quiet (at on) (λ k. IsPut e k) (place_of h e (at before))
+  unfolding waits_in goes_through_none
+  through_given before on (Name p x path u) t (leads, type) plain takes (inl direct) allowed = place_given before on (Name p x path u) t (leads, type) plain takes direct allowed
+  through_given before on (Name p x path u) t (leads, type) plain takes (inr (local, sees, opens)) allowed =
+      let inner = steps_taking h settled hands leaks m waits other facts v kept well holds alone live index_law own_law parts_named (object_at h.typing x).of u path leads before on takes allowed in
+      let plain_there : is_scalar (full h.typing.table u) ≡ true = subst (λ z. is_scalar (full h.typing.table z) ≡ true) (sym type) plain in
+      quiet_then (at on) (λ way. GoesAlong h.typing.table (object_at h.typing x).of u path way) (λ k. IsPut (Name p x path u) k) (steps_of h path (at before))
+      (λ way now. walked h.typing way (variable_place h x) now) inner.0
+      (λ way goes.
+      let root : Way = Object (OfVariable (home h.typing h.frame x) x) in
+      through_walked on p x u path (way_along way root) plain_there (named_along (home h.typing h.frame) way root refl) (number_along way root)
+      (λ j. record { root = number_along way root j; sels = goes.sels root j })
+      (is_place h.typing v (home h.typing h.frame x) x u way goes.lead (scalar_named h.typing.table u plain_there)
+      (λ formal none. true_false (is_view_formal h.typing x) formal (no_formals x)) holds.only) local sees
+      (walked h.typing way (variable_place h x) (at on))
+      (name_quiet h settled hands leaks m on other facts v kept well holds alone live index_law own_law parts_named x path u way goes opens))
+  through_given before on e t place plain takes opens allowed = absurd place
 
   own_walked : (on : List (List machine.Word)) (p : Pos) (x y u : ℕ) (path : TypedTree) (q : List Step) (w : Way) → IsNamed h.typing.table u → Matches h.typing.table u (object_at h.typing x).of
       → is_package_object h.typing y ≡ false → w ≡ along (Object (OfVariable (home h.typing h.frame y) y)) q
@@ -508,6 +459,7 @@ module _ (h : Here) (settled : IsSettled h.typing.table) (hands : List Waiting) 
             way = is ∙ (λ j. along (Object (OfVariable (at_home j) y)) (sym steps_are j));
             base = base ∙ ap (λ z. memory.OfVariable z y) at_home;
             own = local;
+            owner = no_formals y;
             there = ap (λ z. has_part h.typing.table (content h.typing m hands z).of (steps_in l)) (sym b) ∙ spot.there;
             at = spot.at ∙ ap (λ z. offset_in h.typing.table (content h.typing m hands z).of (steps_in l)) b;
             of = subst (λ z. Matches h.typing.table k.of (type_in h.typing.table (content h.typing m hands z).of (steps_in l))) b spot.of;
@@ -575,8 +527,8 @@ module _ (h : Here) (settled : IsSettled h.typing.table) (hands : List Waiting) 
   value_is on x e (Raises y n) is = is
   value_is on x e (Traps y n) is = is
 
-  abbrev IsCopiedName : Mode → TypedTree → Type 0
-  IsCopiedName m' e = is_in m' ≡ false → goes_through_none e ≡ true
+  abbrev IsCopiedName : ℕ → Mode → TypedTree → Type 0
+  IsCopiedName x m' e = is_in m' ≡ false → (goes_through_none e ≡ true) ⊎ (IsScalarObject h.typing x × IsOpenActual h.typing h.frame facts e)
 
   abbrev from_place : ℕ → Place → Now → Evaluated Passed
   from_place x k now = followed_by (checked h (type_of h x) (words_of h.typing now.memory k) now) (λ ws now. Done (From k) now)
@@ -597,20 +549,32 @@ module _ (h : Here) (settled : IsSettled h.typing.table) (hands : List Waiting) 
   scalar_type t u (inl e) plain = matches_scalar h.typing u t (inl (sym e)) plain
   scalar_type t u (inr both) plain = both.0
 
-  copied_given : (before on : List (List machine.Word)) (x : ℕ) (e : TypedTree) → IsKind x → IsActualTo h.typing x mode.InOut e → goes_through_none e ≡ true
+  scalar_given : (before on : List (List machine.Word)) (x : ℕ) (e : TypedTree) (t : ℕ) → IsPlaceOf h.typing e t → is_scalar (full h.typing.table t) ≡ true → Takes (waits_in e) before on
+      → (goes_through_none e ≡ true) ⊎ (IsScalarObject h.typing x × IsOpenActual h.typing h.frame facts e)
+      → AllowsAll facts (acts (index_acts h.typing e)) → Quiet (at on) (λ k. IsPut e k) (place_of h e (at before))
+  scalar_given before on x e t place plain takes (inl direct) allowed = place_given before on e t place plain takes direct allowed
+  scalar_given before on x e t place plain takes (inr (scalar, opens)) allowed = through_given before on e t place plain takes opens allowed
+
+  copied_given : (before on : List (List machine.Word)) (x : ℕ) (e : TypedTree) → IsKind x → IsActualTo h.typing x mode.InOut e
+      → (goes_through_none e ≡ true) ⊎ (IsScalarObject h.typing x × IsOpenActual h.typing h.frame facts e)
       → Takes (waits_in e) before on
       → AllowsAll facts (acts (index_acts h.typing e)) → Quiet (at on) (λ k. IsPlaceGiven x e k) (place_of h e (at before))
   copied_given before on x e kind (t, place, fits, which) direct takes allowed = elim (bool_cases (is_scalar (full h.typing.table (object_at h.typing x).of))) [
     | inl plain ↦ quiet_on on (λ k. IsPut e k) (λ k. IsPlaceGiven x e k) (λ k put. inl (plain, put)) (place_of h e (at before))
-        (place_given before on e t place (scalar_type t (object_at h.typing x).of fits plain) takes direct allowed)
+        (scalar_given before on x e t place (scalar_type t (object_at h.typing x).of fits plain) takes direct allowed)
     | inr other_type ↦ quiet_on on (λ k. IsOwnPut h.typing h.frame x e k) (λ k. IsPlaceGiven x e k) (λ k put. inr (other_type, put)) (place_of h e (at before))
         (own_place_given before on x e t place
-        (matches_named h.typing.table (object_at h.typing x).of t (matches_flip t (object_at h.typing x).of fits) (named_there kind other_type)) fits (own_there which other_type) takes direct allowed)
+        (matches_named h.typing.table (object_at h.typing x).of t (matches_flip t (object_at h.typing x).of fits) (named_there kind other_type)) fits (own_there which other_type) takes (direct_there direct other_type) allowed)
   ]
     where
       matches_flip : (t u : ℕ) → Matches h.typing.table t u → Matches h.typing.table u t
       matches_flip t u (inl e) = inl (sym e)
       matches_flip t u (inr (a, b)) = inr (b, a)
+
+      direct_there : (goes_through_none e ≡ true) ⊎ (IsScalarObject h.typing x × IsOpenActual h.typing h.frame facts e)
+          → is_scalar (full h.typing.table (object_at h.typing x).of) ≡ false → goes_through_none e ≡ true
+      direct_there (inl none) other_type = none
+      direct_there (inr (scalar, opens)) other_type = absurd (true_false (is_scalar (full h.typing.table (object_at h.typing x).of)) scalar other_type)
 
       named_there : IsKind x → is_scalar (full h.typing.table (object_at h.typing x).of) ≡ false → IsNamed h.typing.table (object_at h.typing x).of
       named_there (inl plain) other_type = absurd (true_false (is_scalar (full h.typing.table (object_at h.typing x).of)) plain other_type)
@@ -622,7 +586,7 @@ module _ (h : Here) (settled : IsSettled h.typing.table) (hands : List Waiting) 
       own_there (inr own) other_type = own
 
   pub one_given : (before on : List (List machine.Word)) (mode_of : Mode) (owning access : Bool) (x : ℕ) (e : TypedTree) → ByModeFor mode_of owning → IsKind x → IsActualTo h.typing x mode_of e
-      → IsCopiedName mode_of e → Takes (waits_in e) before on
+      → IsCopiedName x mode_of e → Takes (waits_in e) before on
       → AllowsAll facts (acts (head_of h.typing own_law procedure mode_of e)) → Quiet (at on) (λ a. IsGiven x mode_of e a) (passed h (passing_by mode_of owning access) x e (at before))
   one_given before on mode.In owning access x e fits kind actual copied takes allowed =
       subst (λ b. Quiet (at on) (λ a. IsGiven x mode.In e a) (passed h (if b then objects.Place mode.In b access else ByValue) x e (at before))) (sym (fits refl))
@@ -634,7 +598,7 @@ module _ (h : Here) (settled : IsSettled h.typing.table) (hands : List Waiting) 
       from_given before on x e (copied_given before on x e kind actual (copied refl) takes allowed)
 
   pub all_given : (before on : List (List machine.Word)) (formals : List ℕ) (actuals : TypedTree) → ((x : ℕ) → Has formals x → IsKind x) → AreActualsTo h.typing formals actuals
-      → AreCopied h.typing formals actuals → TakesAll formals actuals before on
+      → AreOpenActuals h.typing h.frame facts formals actuals → TakesAll formals actuals before on
       → AllowsAll facts (acts (actual_values h.typing (ways_of formals) actuals))
       → Quiet (at on) (λ passed. AreGiven formals actuals passed) (all_passed h (ways_of formals) formals actuals (at before))
   all_given before on [] actuals kinds stay copied takes allowed = ((ap at takes), refl)
@@ -658,11 +622,11 @@ module _ (h : Here) (settled : IsSettled h.typing.table) (hands : List Waiting) 
       (λ more are. (refl, (is, are))))
   all_given before on (x ∷ formals) actuals kinds stay copied takes allowed = ((ap at takes), refl)
 
-  abbrev pub place_laid : (x : ℕ) (e : TypedTree) (k : Place) → IsPlaceGiven x e k → IsPlaceLaid h.typing h.frame x e k
+  abbrev pub place_laid : (x : ℕ) (e : TypedTree) (k : Place) → IsPlaceGiven x e k → IsPlaceLaid h.typing h.frame v (seen h.typing m hands leaks) x e k
   place_laid x e k (inl (plain, put)) = inl (plain, put.0)
   place_laid x e k (inr own) = inr own
 
-  abbrev pub laid_one : (x : ℕ) (mode_of : Mode) (e : TypedTree) (a : Passed) → IsGiven x mode_of e a → IsLaidOne h.typing h.frame x mode_of e a
+  abbrev pub laid_one : (x : ℕ) (mode_of : Mode) (e : TypedTree) (a : Passed) → IsGiven x mode_of e a → IsLaidOne h.typing h.frame v (seen h.typing m hands leaks) x mode_of e a
   laid_one x mode.In e (Value ws) is = is
   laid_one x mode.In e (From k) is = absurd is
   laid_one x mode.In e (To k) is = absurd is
@@ -673,7 +637,7 @@ module _ (h : Here) (settled : IsSettled h.typing.table) (hands : List Waiting) 
   laid_one x mode.InOut e (From k) is = place_laid x e k is
   laid_one x mode.InOut e (To k) is = absurd is
 
-  abbrev pub all_laid_out : (formals : List ℕ) (actuals : TypedTree) (passed : List Passed) → AreGiven formals actuals passed → AreLaidOut h.typing h.frame formals actuals passed
+  abbrev pub all_laid_out : (formals : List ℕ) (actuals : TypedTree) (passed : List Passed) → AreGiven formals actuals passed → AreLaidOut h.typing h.frame v (seen h.typing m hands leaks) formals actuals passed
   all_laid_out (x ∷ formals) (More e rest) (a ∷ passed) are = (laid_one x (object_at h.typing x).mode e a are.0, all_laid_out formals rest passed are.1)
   all_laid_out (x ∷ formals) (More e rest) [] are = absurd are
   all_laid_out [] actuals passed are = are
@@ -729,18 +693,18 @@ module _ (h : Here) (settled : IsSettled h.typing.table) (hands : List Waiting) 
                 (no_formals inside.object)))
 
     place_acted : (owning access : Bool) (x : ℕ) (e : TypedTree) (k : Place) (known : List Fact) → (given : IsPlaceGiven x e k)
-        → AreGone (place_out h.typing h.frame x e k (place_laid x e k given)) → ViewedWith known
+        → AreGone (place_out h.typing h.frame v (seen h.typing m hands leaks) x e k (place_laid x e k given)) → ViewedWith known
         → ViewedWith (after (acts (actual_act (passing_by mode.Out owning access) e)) known)
-    place_acted owning access x (Name p y path u) k known (inl (plain, (fixed, (w, l, named, called, place, reaches, spot)))) adds there =
+    place_acted owning access x (Name p y path u) k known (inl (plain, (at_place, (w, l, named, called, place, reaches, spot)))) adds there =
         subst (λ z. ViewedWith (effect (act.Write z) known)) called
         (nothing_written (home h.typing h.frame) (sees_only h.typing) (gone_also (home h.typing h.frame) around gone) v (seen h.typing m hands leaks) known there w l named place reaches
-        (plain_there k l spot fixed.scalar))
+        (plain_there k l spot (plain_type_at (Name p y path u) k at_place)))
     place_acted owning access x (Name p y path u) k known (inr (many, own)) adds there = own_acted owning access x p y u path k known own adds there
     place_acted owning access x e k known (inl (plain, (fixed, never))) adds there = absurd never
     place_acted owning access x e k known (inr (many, never)) adds there = absurd never
 
     pub head_acted : (mode_of : Mode) (owning access : Bool) (x : ℕ) (e : TypedTree) (a : Passed) (known : List Fact) → ByModeFor mode_of owning
-        → (given : IsGiven x mode_of e a) → AreGone (out_of h.typing h.frame x mode_of e a (laid_one x mode_of e a given)) → ViewedWith known
+        → (given : IsGiven x mode_of e a) → AreGone (out_of h.typing h.frame v (seen h.typing m hands leaks) x mode_of e a (laid_one x mode_of e a given)) → ViewedWith known
         → ViewedWith (after (acts (actual_act (passing_by mode_of owning access) e)) known)
     head_acted mode.In owning access x e a known fits is adds there =
         subst (λ b. ViewedWith (after (acts (actual_act (if b then objects.Place mode.In b access else ByValue) e)) known)) (sym (fits refl)) there
@@ -750,13 +714,13 @@ module _ (h : Here) (settled : IsSettled h.typing.table) (hands : List Waiting) 
     head_acted mode.Out owning access x e (From k) known fits is adds there = absurd is
 
     pub all_acted : (formals : List ℕ) (actuals : TypedTree) (passed : List Passed) (known : List Fact) → ((x : ℕ) → Has formals x → IsKind x)
-        → (given : AreGiven formals actuals passed) → AreGone (outs_of h.typing h.frame formals actuals passed (all_laid_out formals actuals passed given)) → ViewedWith known
+        → (given : AreGiven formals actuals passed) → AreGone (outs_of h.typing h.frame v (seen h.typing m hands leaks) formals actuals passed (all_laid_out formals actuals passed given)) → ViewedWith known
         → ViewedWith (after (acts (actual_acts (ways_of formals) actuals)) known)
     all_acted (x ∷ formals) (More e rest) (a ∷ passed) known kinds are adds there =
         let first : List Placed = actual_act (way_to h.typing own_law procedure x) e in
         let others : List Placed = actual_acts (ways_of formals) rest in
-        let out : List Out = out_of h.typing h.frame x (object_at h.typing x).mode e a (laid_one x (object_at h.typing x).mode e a are.0) in
-        let outs : List Out = outs_of h.typing h.frame formals rest passed (all_laid_out formals rest passed are.1) in
+        let out : List Out = out_of h.typing h.frame v (seen h.typing m hands leaks) x (object_at h.typing x).mode e a (laid_one x (object_at h.typing x).mode e a are.0) in
+        let outs : List Out = outs_of h.typing h.frame v (seen h.typing m hands leaks) formals rest passed (all_laid_out formals rest passed are.1) in
         subst ViewedWith (sym (ap (λ z. after z known) (acts_append first others) ∙ after_append (acts first) (acts others) known))
         (all_acted formals rest passed (after (acts first) known) (λ y has. kinds y (inr has)) are.1
         (λ w under. adds w (under.0, Has-append_right out outs under.0 under.1, under.2))

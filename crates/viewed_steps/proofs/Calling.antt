@@ -2,11 +2,10 @@
 use Rattle.typed_tree.specs.declared.object.ObjectKind.{ObjectKind}
 use Rattle.typed_tree.specs.declared.object.ObjectKind.TheVariants as object_kind
 use Rattle.place_names.specs.Facts.{adds}
-use Rattle.spark_base.proofs.Lists.{Has-map_from}
 use Rattle.std.proofs.Common.{◌≡◌, refl, sym, ap, ◌∙◌, subst, ◌⊎◌, inl, inr, ℕ, suc, ◌<◌, true, false, ◌==◌, List, [], ◌∷◌, ◌++◌, map, take, drop, length, get_or, arith, Option, Some, None, if◌then◌else◌, is_some, Bool, not, ◌||◌, flat_map}
 use Rattle.std.specs.Prelude.{is_some}
 use Rattle.spark_base.specs.Lists.{Has}
-use Rattle.spark_base.proofs.Lists.{Has-map_from}
+use Rattle.spark_base.proofs.Lists.{Has-append_cases, Has-map_from}
 use Rattle.place_names.specs.declared.act.Act.{Act}
 use Rattle.place_names.specs.declared.act.Act.TheVariants as act
 use Rattle.place_names.specs.declared.act.Placed.{Placed}
@@ -14,14 +13,14 @@ use Rattle.place_names.specs.declared.fact.Fact.{Fact}
 use Rattle.place_names.specs.declared.fact.Fact.TheVariants.{Moved, Lent}
 use Rattle.place_names.specs.declared.rule.Loan.{Loan}
 use Rattle.place_names.specs.declared.rule.Loan.TheVariants.{Observed}
-use Rattle.place_names.specs.Names.{Name as PlaceName}
-use Rattle.type_definitions.specs.Types.{Table, is_owning}
+use Rattle.place_names.specs.Names.{Name as PlaceName, overlaps}
+use Rattle.place_names.specs.declared.act.Mode.TheVariants as mode
+use Rattle.type_definitions.specs.Types.{Table, full, is_scalar, is_owning}
 use Rattle.typed_tree.specs.Trees.{TypedTree, Name, NoMore, More}
 use Rattle.typed_tree.specs.Programs.{TypedProgram}
 use Rattle.flow_paths.specs.declared.report.Effects.{Effects}
 use Rattle.flow_paths.specs.Instructions.{Instruction, Call, EndScope, Declare, Assign, Hold}
 use Rattle.flow_paths.specs.Objects.{Typing, object_at, sub_at, is_anonymous, is_package_object, view_of, traverses, passings, Passing, Signature, passing, is_formal_kind}
-use Rattle.place_names.specs.Facts.{adds}
 use Rattle.place_names.specs.Reports.{Report}
 use Rattle.flow_paths.specs.Aliases.{overlap_reports, passed_reports, call_reports}
 use Rattle.flow_paths.specs.Aliases as alias
@@ -42,11 +41,13 @@ use Rattle.machine.specs.Calls.{Passed, all_passed, with_formals, returns_of, ou
 use Rattle.machine.specs.Owners.{waiting_in}
 use Rattle.owned_ways.specs.Ways.{Step, Way, after, AllowsAll}
 use Rattle.owned_ways.specs.Ways as ways
-use Rattle.owned_ways.proofs.Locations.{reaches_along, named_along as rooted_along}
-use Rattle.soundness.specs.Seen.{IsNear, is_view_formal, content, seen, home, trunk, word_in}
+use Rattle.owned_ways.proofs.Locations.{past_under, reaches_along, named_along as rooted_along}
+use Rattle.owned_ways.proofs.Named.{longer}
+use Rattle.owned_ways.proofs.Dropped.{named_base}
+use Rattle.soundness.specs.Seen.{IsNear, content, seen, home, trunk, word_in}
 use Rattle.soundness.proofs.Contents.{word_root}
 use Rattle.soundness.specs.Typed.{Kept}
-use Rattle.soundness.specs.Sound.{Stage, facts_of, AreStages, AreCopied, Uses, IsRunnable, returns_value, InScope, IsNamedSub, IsAtPoint, view_of as view_here}
+use Rattle.soundness.specs.Sound.{Stage, facts_of, AreStages, Uses, IsRunnable, returns_value, InScope, IsNamedSub, IsAtPoint, view_of as view_here}
 use Rattle.soundness.proofs.Stays.{Quiet}
 use Rattle.soundness.proofs.Numbers.{index_law}
 use Rattle.soundness.proofs.Lasting.{keeps}
@@ -61,33 +62,41 @@ use Rattle.soundness.proofs.Taking.{Takes}
 use Rattle.soundness.proofs.Eased.{eased}
 use Rattle.soundness.proofs.Scoped.{Inside}
 use Rattle.soundness.proofs.Successors.{below_one, successor_there}
-use Rattle.owned_loans.specs.Views.{Around, known_gone, Views, IsMovedBy, AreClear, AreViews, Viewed, IsForeign}
-use Rattle.owned_loans.proofs.Moves.{named_way}
-use Rattle.viewed_soundness.proofs.Names.{true_false}
-use Rattle.viewed_soundness.specs.Holds.{Holds, sees_only, IsOwners}
+use Rattle.owned_loans.specs.Views.{expand, Around, known_gone, Views, IsMovedBy, AreClear, AreViews, Viewed, IsForeign}
+use Rattle.owned_loans.proofs.Ways.{under_on}
+use Rattle.owned_loans.proofs.Meeting.{stands}
+use Rattle.owned_loans.proofs.Moves.{expand_under}
+use Rattle.owned_loans.proofs.Meeting.{stands}
+use Rattle.viewed_soundness.proofs.Names.{true_false, owner_sees}
+use Rattle.viewed_soundness.specs.Holds.{Holds, is_view, sees_only, IsOwners}
 use Rattle.viewed_soundness.proofs.Evaluated.{live_trunk}
 use Rattle.soundness.specs.Ready.{IsSupplied, Fills}
 use Rattle.viewed_steps.specs.Awaited.{AreValuesBut, temporaries_of, lasting_of, awaited, WaitsAt, AreAwaited, AreScalar, FillsTyped, TakesScalars, IsTakenBy}
 use Rattle.viewed_steps.proofs.Waited.{late_scope, within_lasting, lasting_more, Shares, plain_unheld}
-use Rattle.viewed_steps.specs.Sound.{HoldsAt, ArePlaced, NoneAbove, ViewStage, stages_of, GoneElsewhere, Disturbs, IsWaiting, AreWaiting, calls_one, LeadsAlong, IsResting, IsKindOfFormal, IsScalarObject, AreReturned}
+use Rattle.viewed_steps.specs.Sound.{withheld, ArePast, AreUnmet, HoldsAt, ArePlaced, NoneAbove, ViewStage, stages_of, GoneElsewhere, Disturbs, IsWaiting, AreWaiting, calls_one, LeadsAlong, IsResting, IsKindOfFormal, IsScalarObject, AreReturned}
 use Rattle.viewed_steps.specs.Ready.{IsReady, roots_passed, IsCalled}
-use Rattle.viewed_steps.specs.Taken.{TakenBy, AreTaken, AreCarried}
+use Rattle.viewed_steps.specs.Taken.{TakenBy, AreTaken, AreCarried, Lodge}
+use Rattle.viewed_steps.proofs.Apart.{moved_same}
 use Rattle.viewed_steps.proofs.Lent.{Spare, spare_both, loans_stay}
 use Rattle.viewed_steps.proofs.Placed.{within_on, lasts_more, scope_on, placed_on}
 use Rattle.viewed_steps.proofs.Ended.{none_some}
 use Rattle.viewed_steps.proofs.Waiting.{StandsBetween, gone_low, kept_low, beside_them, handed, all_on}
 use Rattle.viewed_steps.proofs.Between.{gone_also, more_gone, base_along, base_under, same_variable, not_named}
-use Rattle.viewed_steps.proofs.Called.{AreGiven, AreLaidOut, outs_of, all_laid_out, all_given, all_acted, values_are_read, call_adds_none, passes_to, spare_reads, spare_copies}
+use Rattle.viewed_steps.proofs.Carried.{past_other}
+use Rattle.viewed_steps.proofs.Aside.{names_off}
+use Rattle.viewed_steps.proofs.LaidOut.{AreLaidOut, outs_of, cells_of, AreOpenActuals}
+use Rattle.viewed_steps.proofs.Called.{AreGiven, all_laid_out, all_given, all_acted, values_are_read, call_adds_none, passes_to, spare_reads, spare_copies}
 use Rattle.viewed_steps.proofs.Outs.{Out, IsUnderOne, found_in}
-use Rattle.viewed_steps.proofs.Entered.{ArePassedOn, IsOpen, AreBlank, not_above, passed_base, outs_taken}
+use Rattle.viewed_steps.proofs.Entered.{passed_own, ArePassedOn, IsOpen, AreBlank, not_above, passed_base, outs_taken, inside_plain, inside_named, inside_number, inside_itself, passed_one}
 use Rattle.viewed_steps.proofs.Entering.{owns_there, AreDeclared, Enter, formals_of_returns, all_declared}
-use Rattle.viewed_steps.proofs.Passed.{IsNamedBy, apart_or_plain, all_passed_on, found_there, all_returned, call_goes}
+use Rattle.viewed_steps.proofs.Cells.{passed_apart, passed_formal, are_kept, all_in, all_open, IsCellNamed, named_before, cells_named}
+use Rattle.viewed_steps.proofs.Passed.{IsNamedBy, apart_or, all_passed_on, found_there, all_returned, call_goes}
 use Rattle.viewed_steps.proofs.Standing.{or_right}
 use Rattle.viewed_steps.proofs.Uses.{called_writes, lent_spared}
 use Rattle.viewed_steps.proofs.Standing as standing
 use Rattle.viewed_steps.proofs.Packages as packages
 use Rattle.viewed_steps.proofs.Innermost as innermost
-use Rattle.viewed_steps.proofs.Views.{all_held, anonymous_is_view, AreFar, apart_by_base, not_elsewhere}
+use Rattle.viewed_steps.proofs.Views.{all_held, AreFar, apart_by_base, AreAccess, lies_far}
 
 module _ (table : Table) (typed : TypedProgram) (effects : Effects) (input : List ℕ) (ready : IsReady table typed effects) where
   abbrev program : FlowProgram
@@ -99,10 +108,10 @@ module _ (table : Table) (typed : TypedProgram) (effects : Effects) (input : Lis
   abbrev own : Typing
   own = typing_of table typed
 
-  abbrev no_in_formals : (x : ℕ) → is_view_formal s x ≡ false
-  no_in_formals = standing.no_in_formals table typed effects input ready
+  abbrev in_formals : AreAccess s
+  in_formals = standing.in_formals table typed effects input ready
 
-  abbrev local : (x : ℕ) → is_anonymous (view_of s x) ≡ true → is_package_object s x ≡ false
+  abbrev local : (x : ℕ) → is_view s x ≡ true → is_package_object s x ≡ false
   local = standing.local table typed effects input ready
 
   abbrev unmoved_stage : (e : Stage) → e.frame.sub ≡ 0 → (name : PlaceName) → Has (facts_of program effects e) (Moved name) → ⊥
@@ -125,7 +134,7 @@ module _ (table : Table) (typed : TypedProgram) (effects : Effects) (input : Lis
       (viewed_before : Viewed (home s (suc (length rest))) (sees_only s) (known_gone (home s (suc (length rest))) (GoneElsewhere program effects (below ∷ more_frames))) views
       (view_here s state) (facts_of program effects top))
       (kept : Kept s state.memory (waiting_in state)) (scope : InScope s state.memory (suc (length rest)) (lasting_of s p.scope)) (holds : HoldsAt s (suc (length rest)) views state.memory p)
-      (placed_before : ArePlaced program (facts_of program effects top) views p.scope) (above : NoneAbove s (suc (length rest)) state.memory) where
+      (placed_before : ArePlaced program (suc (length rest)) (facts_of program effects top) views p.scope × ArePast s (suc (length rest)) views (below ∷ more_frames)) (above : NoneAbove s (suc (length rest)) state.memory) where
     abbrev outer : List Frame
     outer = below.stage.frame ∷ rest
 
@@ -172,13 +181,12 @@ module _ (table : Table) (typed : TypedProgram) (effects : Effects) (input : Lis
     abbrev viewed : Viewed (home s depth) (sees_only s) other views (view_here s state) facts_now
     viewed = innermost.viewed table typed effects input ready state top below more_frames rest named p frames deep stages running awaiting of_sub at_point path views viewed_before kept scope holds placed_before above
 
-    abbrev apart_from_them : (done : List Act) (v : Views) (view : ways.View) → ((x : ℕ) (w : Way) → v.way x ≡ Some w → is_anonymous (view_of s x) ≡ true)
-        → ((x : ℕ) (w : Way) → v.way x ≡ Some w → ways.Named (home s depth) w)
+    abbrev apart_from_them : (done : List Act) (v : Views) (view : ways.View) → ((x : ℕ) (w : Way) → v.way x ≡ Some w → is_view s x ≡ true)
         → Viewed (home s depth) (sees_only s) other v view (after done facts_now)
         → Viewed (home s depth) (sees_only s) (known_gone (home s depth) (GoneElsewhere program effects older)) v view (after done own_facts)
     apart_from_them = innermost.apart_from_them table typed effects input ready state top below more_frames rest named p frames deep stages running awaiting of_sub at_point path views viewed_before kept scope holds placed_before above
 
-    abbrev placed_own : ArePlaced program own_facts views p.scope
+    abbrev placed_own : ArePlaced program (suc (length rest)) own_facts views p.scope
     placed_own = innermost.placed_own table typed effects input ready state top below more_frames rest named p frames deep stages running awaiting of_sub at_point path views viewed_before kept scope holds placed_before above
 
     abbrev left_scope : List ℕ
@@ -214,7 +222,7 @@ module _ (table : Table) (typed : TypedProgram) (effects : Effects) (input : Lis
     abbrev viewed_easy : Plain → Viewed (home s depth) (sees_only s) other views (view_here s easy.state) facts_now × Kept s state.memory (waiting_in easy.state)
     viewed_easy = innermost.viewed_easy table typed effects input ready state top below more_frames rest named p frames deep stages running awaiting of_sub at_point path views viewed_before kept scope holds placed_before above
 
-    abbrev placed_left : (facts : List Fact) → ArePlaced program facts views p.scope → ArePlaced program facts views left_scope
+    abbrev placed_left : (facts : List Fact) → ArePlaced program (suc (length rest)) facts views p.scope → ArePlaced program (suc (length rest)) facts views left_scope
     placed_left = innermost.placed_left table typed effects input ready state top below more_frames rest named p frames deep stages running awaiting of_sub at_point path views viewed_before kept scope holds placed_before above
 
     abbrev IsOld : ℕ → ℕ → Type 0
@@ -233,7 +241,7 @@ module _ (table : Table) (typed : TypedProgram) (effects : Effects) (input : Lis
 
     -- where it leads, and how the frames come from those before
     abbrev Along : Outcome → Type 0
-    Along outcome = LeadsAlong table typed effects p.instr state.memory (record { stage = top; views = views }) (below ∷ more_frames) outcome
+    Along outcome = LeadsAlong table typed effects p.instr state.memory (record { stage = top; views = views; cells = [] }) (below ∷ more_frames) outcome
 
     abbrev ends_raised : (how : Exception) (m : Memory) → Along (steps.raised main_turn how m)
     ends_raised = innermost.ends_raised table typed effects input ready state top below more_frames rest named p frames deep stages running awaiting of_sub at_point path views viewed_before kept scope holds placed_before above
@@ -251,11 +259,6 @@ module _ (table : Table) (typed : TypedProgram) (effects : Effects) (input : Lis
 
       pub kinds : (x : ℕ) → Has formals x → IsKindOfFormal s x
       kinds x has = ready.class.formals x (called.formals x has)
-
-      pub copied_there : AreCopied s formals actuals
-      copied_there =
-          ready.class.copied (flow_sub own named) (standing.in_program table typed effects input ready state top older outer named p frames of_sub at_point) main_turn.point
-          (standing.in_sub table typed effects input ready state top older outer named p frames of_sub at_point) n actuals result e called.formals
 
       -- results are of no anonymous types
       no_traversal : traverses s.table (sub_of program n).result ≡ false
@@ -333,11 +336,30 @@ module _ (table : Table) (typed : TypedProgram) (effects : Effects) (input : Lis
       pub copies_allowed : AllowsAll facts_now (acts copies)
       copies_allowed = subst (λ z. AllowsAll z (acts copies)) (reads_keep values reads_there facts_now) both_allowed.1
 
+      -- nothing that was moved leads to what is copied back to
+      pub copied_there : AreOpenActuals s depth facts_now formals actuals
+      copied_there = elim modes_there [
+        | inr modes ↦ all_in s ready.owns depth facts_now procedure formals actuals modes
+        | inl none ↦ all_open s ready.owns depth facts_now procedure formals actuals facts_now []
+            (are_kept s formals actuals
+            (ready.class.copied (flow_sub own named) (standing.in_program table typed effects input ready state top older outer named p frames of_sub at_point) main_turn.point
+            (standing.in_sub table typed effects input ready state top older outer named p frames of_sub at_point) n actuals result e called.formals)
+            ((ready.orderly.points named named_there p point_there_now).copied n actuals result e))
+            none copies_allowed (λ f has. inl has) (λ k never. absurd never)
+      ]
+        where
+          modes_there : ((r : Report) → Has (overlap_reports s (alias.passed formals actuals)) r → ⊥) ⊎ ((x : ℕ) → Has formals x → (object_at s x).mode ≡ mode.In)
+          modes_there =
+              apart_or program effects (λ x. (object_at s x).mode ≡ mode.In) ready.accepted.no_reports (flow_sub own named)
+              (standing.in_program table typed effects input ready state top older outer named p frames of_sub at_point) main_turn.point
+              (standing.in_sub table typed effects input ready state top older outer named p frames of_sub at_point) n actuals result e called.answers
+              (λ of answers x has. ready.class.modes n of answers x has)
+
       not_end : (x : ℕ) → p.instr ≡ EndScope x → ⊥
       not_end x is = (let no : Call n actuals result ≡ EndScope x = sym e ∙ is in cc)
 
       pub holds_now : Holds s depth views state.memory
-      holds_now = all_held s no_in_formals depth views state.memory (λ x k view at. holds.held x k (λ fading. not_end fading.0 fading.1) view at) holds.only holds.named
+      holds_now = all_held s in_formals depth views state.memory (λ x k view at. holds.held x k (λ fading. not_end fading.0 fading.1) view at) holds.only holds.owners holds.own
 
       pub live_now : (w : Way) (l : ways.Loc) → IsOwners s w → ways.Reaches (seen s state.memory (waiting_in easy.state) state.leaks) w l
           → (content s state.memory (waiting_in easy.state) (trunk l)).owns ≡ true
@@ -347,7 +369,7 @@ module _ (table : Table) (typed : TypedProgram) (effects : Effects) (input : Lis
 
       abbrev pub Given : List Passed → Type 0
       Given passed =
-          AreGiven (steps.here main_turn) ready.accepted.settled (waiting_in easy.state) state.leaks state.memory [] other facts_now views (viewed_easy plain_there.0).1 (viewed_easy plain_there.0).0 holds_now alone live_now no_in_formals
+          AreGiven (steps.here main_turn) ready.accepted.settled (waiting_in easy.state) state.leaks state.memory [] other facts_now views (viewed_easy plain_there.0).1 (viewed_easy plain_there.0).0 holds_now alone live_now (standing.no_in_formals table typed effects input ready)
           index_law ready.owns ready.class.parts_named procedure formals actuals passed
 
       -- the values that the actuals take
@@ -359,12 +381,15 @@ module _ (table : Table) (typed : TypedProgram) (effects : Effects) (input : Lis
 
       pub passed_quiet : Quiet then_now Given (all_passed (steps.here main_turn) ways_there formals actuals (start main_turn))
       passed_quiet =
-          all_given (steps.here main_turn) ready.accepted.settled (waiting_in easy.state) state.leaks state.memory [] other facts_now views (viewed_easy plain_there.0).1 (viewed_easy plain_there.0).0 holds_now alone live_now no_in_formals
+          all_given (steps.here main_turn) ready.accepted.settled (waiting_in easy.state) state.leaks state.memory [] other facts_now views (viewed_easy plain_there.0).1 (viewed_easy plain_there.0).0 holds_now alone live_now (standing.no_in_formals table typed effects input ready)
           index_law ready.owns ready.class.parts_named procedure given_words taken_there.0 formals actuals kinds called.actuals_stay copied_there taken_there.1 values_allowed
 
-      abbrev pub given_laid : (passed : List Passed) → Given passed → AreLaidOut s depth formals actuals passed
+      abbrev pub view_now : ways.View
+      view_now = seen s state.memory (waiting_in easy.state) state.leaks
+
+      abbrev pub given_laid : (passed : List Passed) → Given passed → AreLaidOut s depth views view_now formals actuals passed
       given_laid passed given =
-          all_laid_out (steps.here main_turn) ready.accepted.settled (waiting_in easy.state) state.leaks state.memory [] other facts_now views (viewed_easy plain_there.0).1 (viewed_easy plain_there.0).0 holds_now alone live_now no_in_formals
+          all_laid_out (steps.here main_turn) ready.accepted.settled (waiting_in easy.state) state.leaks state.memory [] other facts_now views (viewed_easy plain_there.0).1 (viewed_easy plain_there.0).0 holds_now alone live_now (standing.no_in_formals table typed effects input ready)
           index_law ready.owns ready.class.parts_named procedure formals actuals passed given
 
       -- loans stay
@@ -437,14 +462,15 @@ module _ (table : Table) (typed : TypedProgram) (effects : Effects) (input : Lis
       next_scope : InScope s state.memory depth (lasting_of s (at_successor.0).scope)
       next_scope = scope_on s ready.owns state.memory depth (scope_behind p) (at_successor.0).scope behind_scope at_successor.2
 
-      next_placed : ArePlaced program facts_called views (at_successor.0).scope
+      next_placed : ArePlaced program (suc (length rest)) facts_called views (at_successor.0).scope
       next_placed =
-          placed_on program facts_called views (scope_behind p) (at_successor.0).scope holds.only at_successor.2
+          placed_on program depth facts_called views (scope_behind p) (at_successor.0).scope holds.only at_successor.2
           (λ x w has. (let own_place = placed_left own_facts placed_own x w has in record {
             within = more x own_place.within;
-            up = lasts_more program left_scope (scope_behind p) (ways.number_of (views.up x)) x more own_place.up;
-            root = lasts_more program left_scope (scope_behind p) (ways.number_of w) x more own_place.root;
-            holder = λ sees. (let h = own_place.holder sees in
+            plain = own_place.plain;
+            up = λ up_named. lasts_more program left_scope (scope_behind p) (ways.number_of (views.up x)) x more (own_place.up up_named);
+            root = λ at_home. lasts_more program left_scope (scope_behind p) (ways.number_of w) x more (own_place.root at_home);
+            holder = λ up_named sees. (let h = own_place.holder up_named sees in
                 (h.0, loans_called h.0 (ways.name_of (views.loan x)) h.1, lasts_more program left_scope (scope_behind p) h.0 x more h.2, h.3));
           }))
 
@@ -474,22 +500,26 @@ module _ (table : Table) (typed : TypedProgram) (effects : Effects) (input : Lis
         other_all = known_gone (home s depth) (GoneElsewhere program effects older)
 
         pub far_views : AreFar (home s depth) views depth
-        far_views x w has foreign = absurd (not_elsewhere (home s depth) w (holds.named x w has) foreign)
+        far_views = lies_far s depth views holds.lies
 
-        abbrev laid : AreLaidOut s depth formals actuals passed
+        abbrev laid : AreLaidOut s depth views view_now formals actuals passed
         laid = given_laid passed given
 
         -- the places that are emptied
         abbrev pub outs : List Out
-        outs = outs_of s depth formals actuals passed (given_laid passed given)
+        outs = outs_of s depth views view_now formals actuals passed (given_laid passed given)
+
+        -- the cells of places that are copied back to
+        abbrev pub cells : List Lodge
+        cells = cells_of s depth views view_now formals actuals passed (given_laid passed given)
 
         well_before : Viewed (home s depth) (sees_only s) other_all views (view_here s easy.state) own_facts
-        well_before = apart_from_them [] views (view_here s easy.state) holds.only holds.named (viewed_easy plain_there.0).0
+        well_before = apart_from_them [] views (view_here s easy.state) holds.only (viewed_easy plain_there.0).0
 
         -- what is taken
         no_overlap : ((r : Report) → Has (overlap_reports s (alias.passed formals actuals)) r → ⊥) ⊎ ((x : ℕ) → Has formals x → IsScalarObject s x)
         no_overlap =
-            apart_or_plain program effects ready.accepted.no_reports (flow_sub own named)
+            apart_or program effects (λ x. IsScalarObject s x) ready.accepted.no_reports (flow_sub own named)
             (standing.in_program table typed effects input ready state top older outer named p frames of_sub at_point) main_turn.point
             (standing.in_sub table typed effects input ready state top older outer named p frames of_sub at_point) n actuals result e called.answers
             (λ of answers x has. ready.class.functions n of answers x has (called.formals x (subst (λ z. Has z x) (ap (λ (z : Signature). z.formals) (signature_is program n)) has)))
@@ -506,24 +536,30 @@ module _ (table : Table) (typed : TypedProgram) (effects : Effects) (input : Lis
             (ready.valued.passed named (standing.named_in table typed effects input ready state top older outer named p frames of_sub at_point) p
             (standing.point_in_named table typed effects input ready state top older outer named p frames of_sub at_point) n actuals result e y has)
 
-        pub all_passed_ways : (ways_taken : List Way) × ArePassedOn s depth facts_called next_there formals passed ways_taken outs
+        copies_leave : facts_called ≡ after (acts copies) own_facts
+        copies_leave =
+            ap (λ z. after z own_facts) (acts_append values copies) ∙ after_append (acts values) (acts copies) own_facts
+            ∙ ap (after (acts copies)) (reads_keep values reads_there own_facts)
+
+        copies_own : AllowsAll own_facts (acts copies)
+        copies_own =
+            subst (λ z. AllowsAll z (acts copies)) (reads_keep values reads_there own_facts)
+            (allows_both own_facts (acts values) (acts copies) (subst (AllowsAll own_facts) (acts_append values copies) each_allowed.0)).1
+
+        pub all_passed_ways : (ways_taken : List Way) × ArePassedOn s cells depth facts_called next_there formals passed ways_taken outs
             × ((k : Way) → Has ways_taken k → IsNamedBy s formals actuals k)
         all_passed_ways =
-            all_passed_on s ready.owns depth facts_called next_there procedure formals actuals passed own_facts laid kinds
+            all_passed_on s ready.owns cells depth views view_now facts_called next_there procedure formals actuals passed own_facts laid kinds
             called.local called.differ
-            within_next no_overlap
-            (ap (λ z. after z own_facts) (acts_append values copies) ∙ after_append (acts values) (acts copies) own_facts
-            ∙ ap (after (acts copies)) (reads_keep values reads_there own_facts))
-            (subst (λ z. AllowsAll z (acts copies)) (reads_keep values reads_there own_facts)
-            (allows_both own_facts (acts values) (acts copies) (subst (AllowsAll own_facts) (acts_append values copies) each_allowed.0)).1)
+            within_next no_overlap copies_leave copies_own (λ c has. has)
 
         abbrev pub ways_taken : List Way
         ways_taken = all_passed_ways.0
 
         out_base : (o : Out) → Has outs o → (y : ℕ) × (ways.base_of o.way ≡ ways.OfRoot (ways.OfVariable depth y))
         out_base o has =
-            passed_base s depth facts_called next_there formals passed ways_taken outs all_passed_ways.1 o.way
-            (outs_taken s depth facts_called next_there formals passed ways_taken outs all_passed_ways.1 o has)
+            passed_base s cells depth facts_called next_there formals passed ways_taken outs all_passed_ways.1 o.way
+            (outs_taken s cells depth facts_called next_there formals passed ways_taken outs all_passed_ways.1 o has)
 
         abbrev outs_gone : Way → Type 0
         outs_gone w = GoneElsewhere program effects older w ⊎ IsUnderOne outs w
@@ -543,9 +579,70 @@ module _ (table : Table) (typed : TypedProgram) (effects : Effects) (input : Lis
             subst (Viewed (home s depth) (sees_only s) around_outs views (view_here s easy.state))
             (sym (ap (λ z. after z own_facts) (acts_append values copies) ∙ after_append (acts values) (acts copies) own_facts
             ∙ ap (after (acts copies)) (reads_keep values reads_there own_facts)))
-            (all_acted (steps.here main_turn) ready.accepted.settled (waiting_in easy.state) state.leaks state.memory [] other facts_now views (viewed_easy plain_there.0).1 (viewed_easy plain_there.0).0 holds_now alone live_now no_in_formals
+            (all_acted (steps.here main_turn) ready.accepted.settled (waiting_in easy.state) state.leaks state.memory [] other facts_now views (viewed_easy plain_there.0).1 (viewed_easy plain_there.0).0 holds_now alone live_now (standing.no_in_formals table typed effects input ready)
             index_law ready.owns ready.class.parts_named procedure other_all outs_gone outs_apart formals actuals passed own_facts kinds given (λ w under. inr under)
             (more_gone (home s depth) (sees_only s) views other_all outs_gone outs_apart (view_here s easy.state) own_facts (λ w gone. inl gone) well_before))
+
+        -- the names of those cells
+        pub named_cell : (c : Lodge) → Has cells c → IsCellNamed s depth facts_called views view_now formals actuals c
+        named_cell c has = cells_named s ready.owns depth facts_called procedure views view_now formals actuals passed own_facts laid copies_leave copies_own c has
+
+        cell_root : (c : Lodge) (has : Has cells c) → ways.number_of c.name ≡ ways.number_of (named_cell c has).whole
+        cell_root c has = sym (longer c.name (named_cell c has).whole (named_cell c has).begins).root
+
+        cell_plain : (c : Lodge) → Has cells c → ways.Named (home s depth) c.name × (sees_only s (ways.number_of c.name) ≡ false)
+        cell_plain c has = (
+          named_before (home s depth) c.name (named_cell c has).whole (named_cell c has).begins (named_cell c has).named,
+          ap (sees_only s) (cell_root c has) ∙ (named_cell c has).plain,
+        )
+
+        -- their ways begin at variables of the frame, or of package objects
+        pub cell_begins : (c : Lodge) → Has cells c → (g : ℕ) × (y : ℕ) × (ways.base_of c.way ≡ ways.OfRoot (ways.OfVariable g y)) × (g ≡ suc depth → ⊥)
+        cell_begins c has =
+            elim (stands (home s depth) (sees_only s) views (view_here s easy.state) facts_called well_all.views c.name (cell_plain c has)) [
+              | inl own ↦ (
+                  let named_there : ways.Named (home s depth) c.way = subst (ways.Named (home s depth)) (named_cell c has).leads own.0 in (
+                    home s depth (ways.number_of c.way),
+                    ways.number_of c.way,
+                    named_base (home s depth) c.way named_there,
+                    not_above s ready.accepted.settled ready.owns in_formals (waiting_in easy.state) state.leaks depth views far_views facts_called next_there (ways.number_of c.way),
+                  ))
+              | inr held_there ↦ (
+                  let foreign = held_there.passed.foreign in (
+                    foreign.0,
+                    foreign.1,
+                    ap ways.base_of (sym (named_cell c has).leads) ∙ base_under held_there.way (expand views c.name) held_there.under ∙ foreign.2,
+                    (λ same. (let low = far_views held_there.object held_there.way held_there.has foreign in omega (arith, low, same))),
+                  ))
+            ]
+
+        -- no place that is taken goes before one
+        pub cell_aside : (c : Lodge) → Has cells c → (to : Way) → Has ways_taken to → ways.Past to c.way → ⊥
+        cell_aside c has to taken past =
+            let one = passed_one s cells depth facts_called next_there formals passed ways_taken outs all_passed_ways.1 to taken in
+            let inside = (one.2).inside in
+            let itself : expand views to ≡ to = inside_itself s ready.accepted.settled depth one.1 to inside views in
+            let plain_to : sees_only s (ways.number_of to) ≡ false =
+            ap (sees_only s) (inside_number s ready.accepted.settled depth one.1 to inside)
+            ∙ owner_sees s inside.object (inside_plain s ready.accepted.settled depth one.1 to inside) inside.owner in
+            let cell = named_cell c has in
+            let below : ways.Under c.way (expand views cell.whole) =
+            subst (λ z. ways.Under z (expand views cell.whole)) cell.leads (expand_under views c.name cell.whole (λ r is. absurd (cell.deep r is)) cell.begins) in
+            names_off (home s depth) (sees_only s) views (view_here s easy.state) facts_called well_all.views well_all.clear to cell.whole
+            (inside_named s ready.accepted.settled depth one.1 to inside, plain_to) (cell.named, cell.plain) (one.2).unlent cell.unlent
+            (λ over. taken_apart to taken c has over)
+            (under_on (expand views to) c.way (expand views cell.whole) (subst (λ z. ways.Under z c.way) (sym itself) (past_under to c.way past)) below)
+          where
+            taken_apart : (to : Way) → Has ways_taken to → (c : Lodge) (has : Has cells c) → overlaps (ways.name_of to) (ways.name_of (named_cell c has).whole) ≡ true → ⊥
+            taken_apart to taken c has over =
+                let by = all_passed_ways.2 to taken in
+                let cell = named_cell c has in
+                elim no_overlap [
+                  | inr plain ↦ true_false (is_scalar (full s.table (object_at s (by.0).formal).of)) (plain (by.0).formal (passed_formal formals actuals by.0 by.1)) by.4
+                  | inl none ↦ passed_apart s formals actuals none by.0 cell.by by.1 cell.among by.2 cell.back
+                      (λ same. true_false (is_scalar (full s.table (object_at s (by.0).formal).of)) (subst (IsScalarObject s) (sym same) cell.scalar) by.4)
+                      (subst (λ z. overlaps z cell.by.actual.name ≡ true) (sym by.3) (subst (λ z. overlaps (ways.name_of to) z ≡ true) (sym cell.called) over))
+                ]
 
         pub open_there : IsOpen (home s depth) other_all ways_taken
         open_there = record {
@@ -553,7 +650,7 @@ module _ (table : Table) (typed : TypedProgram) (effects : Effects) (input : Lis
               hand_base (sym (base_under (ways.Object (ways.OfHand k)) w under) ∙ root.2));
           whole = λ to has w under gone. (
               let root = gone_low table typed effects unmoved_stage local state depth older between w gone in
-              let base = passed_base s depth facts_called next_there formals passed ways_taken outs all_passed_ways.1 to has in
+              let base = passed_base s cells depth facts_called next_there formals passed ways_taken outs all_passed_ways.1 to has in
               let frames_same = (same_variable root.0 root.1 depth base.0 (sym root.2 ∙ base_under to w under ∙ base.1)).0 in
               let less = root.3 in omega (arith, frames_same, less));
           none = λ w k keeps_it. keeps_it;
@@ -584,11 +681,17 @@ module _ (table : Table) (typed : TypedProgram) (effects : Effects) (input : Lis
                       let frames_same = (same_variable there.0 there.1 (suc depth) x (sym there.2 ∙ base_along (ways.Object root) q)).0 in
                       let less = there.3 in omega (arith, frames_same, less))
                   | inl (inr none) ↦ absurd none
-                  | inl (inl (u, moved, leads)) ↦ not_named (home s depth) (suc depth) x
-                      (not_above s ready.accepted.settled ready.owns no_in_formals (waiting_in easy.state) state.leaks depth views far_views facts_called next_there) w
-                      (subst (ways.Named (home s depth)) leads
-                      (named_way (home s depth) (sees_only s) other_all views (view_here s easy.state) own_facts well_before.views (suc (ways.number_of u)) u (omega arith)
-                      (moved.0, well_before.clear.owned (ways.name_of u) moved.1))) (base_along (ways.Object root) q)
+                  | inl (inl (u, moved, leads)) ↦ elim (stands (home s depth) (sees_only s) views (view_here s easy.state) own_facts well_before.views u
+                      (moved.0, well_before.clear.owned (ways.name_of u) moved.1)) [
+                        | inl own ↦ not_named (home s depth) (suc depth) x
+                            (not_above s ready.accepted.settled ready.owns in_formals (waiting_in easy.state) state.leaks depth views far_views facts_called next_there) w
+                            (subst (ways.Named (home s depth)) leads own.0) (base_along (ways.Object root) q)
+                        | inr held_there ↦ (
+                            let foreign = held_there.passed.foreign in
+                            let low = far_views held_there.object held_there.way held_there.has foreign in
+                            let at = sym foreign.2 ∙ sym (base_under held_there.way (expand views u) held_there.under) ∙ ap ways.base_of leads ∙ base_along (ways.Object root) q in
+                            let frames_same = (same_variable foreign.0 foreign.1 (suc depth) x at).0 in omega (arith, low, frames_same))
+                      ]
                 ])
 
         abbrev with_all : Memory
@@ -601,15 +704,16 @@ module _ (table : Table) (typed : TypedProgram) (effects : Effects) (input : Lis
         leaks_then = state.leaks ++ found_in s state.memory outs
 
         leaks_same : leaks_then ≡ state.leaks ++ flat_map (λ (leaks : List Leak). leaks) checks_there
-        leaks_same = ap (λ z. state.leaks ++ z) (sym (found_there s ready.accepted.settled depth main_turn.point.pos state.memory formals actuals passed laid))
+        leaks_same = ap (λ z. state.leaks ++ z) (sym (found_there s ready.accepted.settled depth views view_now main_turn.point.pos state.memory formals actuals passed laid))
 
-        enters : Enter s ready.accepted.settled ready.owns no_in_formals (waiting_in easy.state) depth views far_views facts_called next_there other_all state.leaks leaks_then formals passed ways_taken
+        enters : Enter s ready.accepted.settled ready.owns in_formals (waiting_in easy.state) depth views far_views facts_called next_there cells cell_begins other_all state.leaks leaks_then formals passed ways_taken
             state.memory with_all
         enters =
-            all_declared s ready.accepted.settled ready.owns no_in_formals (waiting_in easy.state) depth views far_views facts_called next_there other_all state.leaks formals passed ways_taken outs
-            state.memory state.memory all_passed_ways.1 open_there (viewed_easy plain_there.0).1 (viewed_easy plain_there.0).1 well_all blank_formals (λ o has y q k is. refl)
+            all_declared s ready.accepted.settled ready.owns in_formals (waiting_in easy.state) depth views far_views facts_called next_there cells cell_begins other_all state.leaks formals passed ways_taken outs
+            state.memory state.memory all_passed_ways.1 open_there (viewed_easy plain_there.0).1 (viewed_easy plain_there.0).1
+            (λ c has. ((named_cell c has).reaches, cell_aside c has)) well_all blank_formals (λ o has y q k is. refl)
 
-        abbrev declared_there : AreDeclared s ready.accepted.settled ready.owns no_in_formals (waiting_in easy.state) depth views far_views facts_called next_there formals state.leaks leaks_then
+        abbrev declared_there : AreDeclared s ready.accepted.settled ready.owns in_formals (waiting_in easy.state) depth views far_views facts_called next_there cells cell_begins formals ways_taken state.leaks leaks_then
             state.memory with_all
         declared_there = enters.0
 
@@ -623,7 +727,7 @@ module _ (table : Table) (typed : TypedProgram) (effects : Effects) (input : Lis
         waits_stage = waits_with all_passed_ways.0
 
         abbrev waits_there : ViewStage
-        waits_there = record { stage = waits_with all_passed_ways.0; views = views }
+        waits_there = record { stage = waits_with all_passed_ways.0; views = views; cells = cells }
 
         frames_there : after_call.frames ≡ frame_at_start n (returns_of formals passed) ∷ (waits_stage.frame ∷ outer)
         frames_there =
@@ -648,6 +752,25 @@ module _ (table : Table) (typed : TypedProgram) (effects : Effects) (input : Lis
             → word_in s.table (content s state.memory [] (ways.OfRoot (ways.OfVariable f x))) q ≡ ways.Held k
         held_called f x q k off held = elim (declared_there.held f x q k held) [ inl before ↦ before | inr mine ↦ absurd (off mine.0) ]
 
+        -- the variables of its views stay
+        word_still : (x : ℕ) → is_view s x ≡ true
+            → (get_or (variable_slots s (home s depth x) x with_all.variables) 0 no_slot).word ≡ (get_or (variable_slots s (home s depth x) x state.memory.variables) 0 no_slot).word
+        word_still x view = declared_there.views (home s depth x) x view (λ up formal has. not_above s ready.accepted.settled ready.owns in_formals
+            (waiting_in easy.state) state.leaks depth views far_views facts_called next_there x up)
+
+        -- what is moved or taken of package objects isn't used
+        kept_unused : (name : PlaceName) → Has (withheld program effects (waits_with all_passed_ways.0)) (Moved name) → is_package_object s name.root ≡ true
+            → Uses effects n name.root → ⊥
+        kept_unused name has shared uses =
+            elim (Has-append_cases (facts_of program effects (waits_with all_passed_ways.0)) (map (λ (to : Way). Moved (ways.name_of to)) ways_taken) (Moved name) has) [
+              | inl fact ↦ spared_then name (subst (λ z. Has z (Moved name)) facts_there fact) shared uses
+              | inr taken ↦ (
+                  let from = Has-map_from (λ (to : Way). Moved (ways.name_of to)) ways_taken (Moved name) taken in
+                  true_false (is_package_object s name.root) shared
+                  (subst (λ (z : PlaceName). is_package_object s z.root ≡ false) (moved_same (ways.name_of from.0) name from.2)
+                  (passed_own s cells depth facts_called next_there formals passed ways_taken outs all_passed_ways.1 from.0 from.1)))
+            ]
+
         is_waiting : IsWaiting table typed effects after_call n (returns_of formals passed) waits_there
         is_waiting = record {
           runs = running.0;
@@ -665,7 +788,8 @@ module _ (table : Table) (typed : TypedProgram) (effects : Effects) (input : Lis
             | inr mine ↦ mine.1
           ];
           lends = lends_there;
-          unmoved = λ name has shared uses. spared_then name (subst (λ z. Has z (Moved name)) facts_there has) shared uses;
+          unmoved = λ name has shared uses. kept_unused name has shared uses;
+          written = λ to has shared. absurd (true_false (is_package_object s (ways.number_of to)) shared (passed_own s cells depth facts_called next_there formals passed ways_taken outs all_passed_ways.1 to has));
           uses = λ x uses. called_used program effects ready.accepted.effects_are top.frame.sub (flow_sub own named) sub_at_all sub_less n callee_less
               main_turn.point (standing.in_sub table typed effects input ready state top older outer named p frames of_sub at_point) actuals result e x uses;
           writes = λ x written. called_writes program effects ready.accepted.effects_are top.frame.sub (flow_sub own named) sub_at_all sub_less n callee_less
@@ -674,26 +798,42 @@ module _ (table : Table) (typed : TypedProgram) (effects : Effects) (input : Lis
           views = subst (λ z. AreViews (home s top.depth) (sees_only s) views (view_here s after_call) z) (sym facts_there)
               (subst (λ d. AreViews (home s d) (sees_only s) views (view_here s after_call) facts_called) (sym deep) well_called.views);
           holds = subst (λ d. HoldsAt s d views with_all at_successor.0) (sym deep) (record {
-            held = λ x k lasts view at. holds_now.held x k (anonymous_is_view s no_in_formals x view) (sym (declared_there.views (home s depth x) x view) ∙ at);
-            within = λ x k view at. (let own_way = holds_now.held x k (anonymous_is_view s no_in_formals x view) (sym (declared_there.views (home s depth x) x view) ∙ at) in (next_placed x own_way.0 own_way.1).within);
+            held = λ x k lasts view at. holds_now.held x k view (sym (word_still x view) ∙ at);
+            within = λ x k view at. (let own_way = holds_now.held x k view (sym (word_still x view) ∙ at) in (next_placed x own_way.0 own_way.1).within);
             only = holds.only;
-            named = holds.named;
+            lies = holds.lies;
+            owners = holds.owners;
+            passed = holds.passed;
+            own = holds.own;
           });
-          placed = subst (λ z. ArePlaced program z views (at_successor.0).scope) (sym facts_there) next_placed;
-          taken = subst (λ z. AreTaken s with_all top.depth z next_there (returns_of formals passed) all_passed_ways.0) (sym facts_there)
-              (subst (λ d. AreTaken s with_all d facts_called next_there (returns_of formals passed) all_passed_ways.0) (sym deep) enters.2);
+          placed = subst (λ d. ArePlaced program d (facts_of program effects (waits_with all_passed_ways.0)) views (at_successor.0).scope) (sym deep)
+              (subst (λ z. ArePlaced program depth z views (at_successor.0).scope) (sym facts_there) next_placed);
+          kept = λ c has. record {
+            named = subst (λ d. ways.Named (home s d) c.name) (sym deep) (cell_plain c has).0;
+            own = ap (is_package_object s) (cell_root c has) ∙ (named_cell c has).own;
+            leads = (named_cell c has).leads;
+            reaches = subst (λ z. ways.Reaches z c.way (ways.OfCell c.cell)) view_called
+                (let begin = cell_begins c has in
+                declared_there.stays c.way begin.0 begin.1 begin.2 begin.3 (cell_aside c has) c.cell (named_cell c has).reaches);
+            aside = cell_aside c has;
+          };
+          taken = subst (λ z. AreTaken s cells with_all top.depth z next_there (returns_of formals passed) all_passed_ways.0) (sym facts_there)
+              (subst (λ d. AreTaken s cells with_all d facts_called next_there (returns_of formals passed) all_passed_ways.0) (sym deep) enters.2);
         }
 
         others_wait : AreWaiting table typed effects after_call top.frame.sub top.frame.returns older
         others_wait =
             all_on table typed effects unmoved_stage local state after_call depth
             (λ f x q k some less held. held_called f x q k (λ above_it. omega (arith, less, above_it)) held)
-            (λ f x some less view. declared_there.views f x view)
+            (λ f x some less view. declared_there.views f x view (λ up formal has. omega (arith, less, up)))
             top.frame.sub top.frame.returns older outer stages (omega arith)
-            (λ g has x w is. (let root = kept_low table typed effects unmoved_stage local state depth older between w (g.views.cell x) (g, has, x, is, refl) in
-            subst (λ z. ways.Reaches z w (ways.OfCell (g.views.cell x))) view_called
-            (declared_there.low w root.0 root.1 root.2 root.3 (g.views.cell x)
-            (((viewed_easy plain_there.0).0).far w (g.views.cell x) (g, has, x, is, refl))))) running.2
+            (λ w k keeps_it. (let root = kept_low table typed effects unmoved_stage local state depth older between w k keeps_it in
+            subst (λ z. ways.Reaches z w (ways.OfCell k)) view_called
+            (declared_there.stays w root.0 root.1 root.2 (λ same. (let less = root.3 in omega (arith, less, same)))
+            (λ to taken. (
+            let base = passed_base s cells depth facts_called next_there formals passed ways_taken outs all_passed_ways.1 to taken in
+            past_other to w depth base.0 root.0 root.1 base.1 root.2 (λ same. (let less = root.3 in omega (arith, less, same))))) k
+            (((viewed_easy plain_there.0).0).far w k keeps_it)))) running.2
 
         -- what is gone then is known to those that wait
         known_called : (w : Way) (l : ways.Loc) → ways.IsRooted w → ways.Reaches (view_here s after_call) w l → (view_here s after_call).word l ≡ ways.Gone
@@ -712,11 +852,17 @@ module _ (table : Table) (typed : TypedProgram) (effects : Effects) (input : Lis
 
         returned_there : AreReturned s (frame_at_start n (returns_of formals passed))
         returned_there = (
-          λ x has. all_returned s ready.accepted.settled depth formals actuals passed laid called.actuals_stay kinds x
+          λ x has. all_returned s ready.accepted.settled depth views view_now formals actuals passed laid called.actuals_stay kinds x
               (subst (λ z. Has z x) (ap (λ (z : Signature). z.formals) (signature_is program n)) has),
           λ r has. called.formals r.formal
-              (formals_of_returns s ready.accepted.settled ready.owns no_in_formals (waiting_in easy.state) depth views far_views facts_called next_there formals passed r has),
+              (formals_of_returns s ready.accepted.settled ready.owns in_formals (waiting_in easy.state) depth views far_views facts_called next_there cells cell_begins formals passed r has),
         )
+
+        -- nothing that is gone meets what its views see of others
+        viewed_before_whole : AreUnmet program effects waits_there older
+        viewed_before_whole =
+            subst (λ d. (x : ℕ) (w z : Way) → views.way x ≡ Some w → IsForeign (home s d) w → GoneElsewhere program effects older z → ways.Under z w ⊎ ways.Under w z → ⊥)
+            (sym deep) viewed_before.whole
 
         entered_sound : Along (Goes after_call)
         entered_sound = (
@@ -725,7 +871,11 @@ module _ (table : Table) (typed : TypedProgram) (effects : Effects) (input : Lis
             views = blank_views;
             older = waits_there ∷ older;
             stages = subst (AreStages (called_stage ∷ stages_of (waits_there ∷ older))) (sym frames_there) (refl, refl, (refl, deep, stages));
-            running = (called.runs, returned_there, (is_waiting, others_wait));
+            running = (
+              called.runs,
+              returned_there,
+              (is_waiting, others_wait, viewed_before_whole, subst (λ d. ArePast s d views older) (sym deep) placed_before.1),
+            );
             awaited = (
               packages.first_waits table typed effects input ready (suc depth) n (returns_of formals passed) called.runs.named called.runs.stands called.runs.point
                   called.runs.points called.runs.begins,
@@ -744,6 +894,7 @@ module _ (table : Table) (typed : TypedProgram) (effects : Effects) (input : Lis
               };
               views = λ x w has. absurd (none_some w has);
               whole = λ x w z has. absurd (none_some w has);
+              past = λ x w has. absurd (none_some w has);
               lends = λ l k none. absurd none;
               far = λ w k none. absurd none;
             };
@@ -767,23 +918,28 @@ module _ (table : Table) (typed : TypedProgram) (effects : Effects) (input : Lis
               held = λ x k lasts view at. absurd (no_view x k view at);
               within = λ x k view at. absurd (no_view x k view at);
               only = λ x w has. absurd (none_some w has);
-              named = λ x w has. absurd (none_some w has);
+              lies = λ x w has. absurd (none_some w has);
+              owners = λ x w has. absurd (none_some w has);
+              passed = λ x w has. absurd (none_some w has);
+              own = λ x w has. absurd (none_some w has);
             };
             placed = λ x w has. absurd (none_some w has);
-            none_above = λ f x k less view at. above f x k (omega (arith, less)) view (sym (declared_there.views f x view) ∙ at);
+            past = λ x w has. absurd (none_some w has);
+            none_above = λ f x k less view at. above f x k (omega (arith, less)) view (sym (declared_there.views f x view (λ up formal has. omega (arith, less, up))) ∙ at);
           },
-          calls_one waits_stage refl (refl, refl, refl) refl none_new (subst (λ d. AreCarried s (λ f. f ≡ suc d → ⊥) [] state.memory with_all) (sym deep) declared_there.carried),
+          calls_one waits_stage cells refl (refl, refl, refl) refl none_new (subst (λ d. AreCarried s (λ f. f ≡ suc d → ⊥) [] state.memory with_all) (sym deep) declared_there.carried),
         )
           where
             formal_lasts : (k : ObjectKind) → is_formal_kind k ≡ true → is_temporary k ≡ false
             formal_lasts object_kind.Formal is = refl
             formal_lasts k is = cc
 
-            no_view : (x k : ℕ) → is_anonymous (view_of s x) ≡ true
+            no_view : (x k : ℕ) → is_view s x ≡ true
                 → (get_or (variable_slots s (home s (suc depth) x) x with_all.variables) 0 no_slot).word ≡ machine.Cell k → ⊥
             no_view x k view at =
                 let up : home s (suc depth) x ≡ suc depth = ap (λ b. if b then 0 else suc depth) (local x view) in
-                above (home s (suc depth) x) x k (omega (arith, up)) view (sym (declared_there.views (home s (suc depth) x) x view) ∙ at)
+                above (home s (suc depth) x) x k (omega (arith, up)) view (sym (declared_there.views (home s (suc depth) x) x view
+                (λ same_depth formal has. (let none = standing.no_in_formals table typed effects input ready x in let no : true ≡ false = sym formal ∙ none in cc))) ∙ at)
 
       pub calls_it : Along (turn main_turn (Call n actuals result))
       calls_it =

@@ -1,15 +1,15 @@
 -- All formals of a call are declared. The places of those that aren't scalar and are copied back are gone
 -- meanwhile, and have no number.
-use Rattle.std.proofs.Common.{◌≡◌, refl, sym, ap, ◌∙◌, subst, ◌⊎◌, inl, inr, ℕ, suc, ◌<◌, List, [], ◌∷◌, ◌++◌, get_or, arith, append-nil, append_assoc, Bool, true, false, Some}
+use Rattle.std.proofs.Common.{◌≡◌, refl, sym, ap, ◌∙◌, subst, ◌⊎◌, inl, inr, ℕ, suc, List, [], ◌∷◌, ◌++◌, get_or, arith, append-nil, append_assoc, Bool, true, false, Some}
 use Rattle.spark_base.specs.Lists.{Has}
 use Rattle.spark_base.specs.declared.position.Pos.{Pos}
 use Rattle.place_names.specs.declared.fact.Fact.{Fact}
-use Rattle.flow_paths.specs.Objects.{Typing, object_at, is_anonymous, view_of}
+use Rattle.flow_paths.specs.Objects.{Typing, object_at}
 use Rattle.machine.specs.Words.{default}
 use Rattle.machine.specs.Memory.{Memory, Place, no_slot, variable_slots, words_of, moved_out, declared}
 use Rattle.machine.specs.Calls.{Passed, Value, From, To, with_formal, with_formals, returns_of}
 use Rattle.machine.specs.States.{Waiting, Leak, Return}
-use Rattle.owned_ways.specs.Ways.{Step, OfVariable, OfHand, Loc, OfRoot, OfCell, Reaches, Way, Object, Empty, Held, Under, along, base_of}
+use Rattle.owned_ways.specs.Ways.{Step, OfVariable, OfHand, Loc, OfRoot, OfCell, Reaches, Way, Object, Empty, Held, Under, Past, along, base_of}
 use Rattle.owned_ways.proofs.Locations.{under_along, under_itself}
 use Rattle.type_definitions.specs.Types.{is_owning}
 use Rattle.part_offsets.specs.Parts.{IsSettled}
@@ -21,17 +21,17 @@ use Rattle.soundness.specs.Typed.{OwnsByShape, Kept}
 use Rattle.owned_loans.specs.Views.{Around, Views, Viewed, IsForeign}
 use Rattle.owned_loans.proofs.Ways.{beginnings}
 use Rattle.owned_loans.proofs.Moves.{same_viewed}
-use Rattle.viewed_soundness.specs.Holds.{sees_only}
-use Rattle.viewed_steps.specs.Taken.{AreCarried, TakenBy, IsPassedOn, IsBare, IsApartFrom, AreTaken}
+use Rattle.viewed_soundness.specs.Holds.{sees_only, is_view}
+use Rattle.viewed_steps.specs.Taken.{Lodge, AreCarried, TakenBy, IsPassedOn, IsBare, IsApartFrom, AreTaken}
 use Rattle.viewed_steps.proofs.Left.{cells_same}
 use Rattle.viewed_steps.proofs.Between.{carried_same, carried_then, same_reaches, gone_also, more_gone, base_along, base_under, taken_more}
 use Rattle.viewed_steps.proofs.Carried.{inside_at, inside_spot, inside_base, inside_owns, inside_word}
-use Rattle.viewed_steps.proofs.Alike.{Enters, with_one}
-use Rattle.viewed_steps.proofs.Views.{AreFar, apart_by_base}
+use Rattle.viewed_steps.proofs.Alike.{Enters, IsLaidIn, plain_place, with_one}
+use Rattle.viewed_steps.proofs.Views.{AreFar, apart_by_base, AreAccess}
 use Rattle.viewed_steps.proofs.Vacated.{place_checks}
 use Rattle.viewed_steps.proofs.Outs.{Out, IsUnderOne, found_in, HasStill, HaveStill, still_then}
-use Rattle.viewed_steps.proofs.Entered.{IsPlainOne, DiffersFrom, ArePassedOn, IsOpen, AreBlank, passed_base, outs_taken, viewed_next, kept_next, one_held, one_carried, one_views, one_bare, one_low, one_blank, one_still}
-use Rattle.viewed_steps.proofs.Emptying.{out_viewed, out_kept, out_views, out_blank, out_held, out_carried, out_bare, out_low, out_still}
+use Rattle.viewed_steps.proofs.Entered.{IsPlainPassed, IsPlainOne, DiffersFrom, ArePassedOn, IsOpen, AreBlank, passed_base, outs_taken, viewed_next, kept_next, one_held, one_carried, one_views, one_bare, one_stays, one_blank, one_still}
+use Rattle.viewed_steps.proofs.Emptying.{out_viewed, out_kept, out_views, out_blank, out_held, out_carried, out_bare, out_stays, out_still}
 
 -- what has a number owns
 pub owns_there : (s : Typing) → IsSettled s.table → OwnsByShape s.table → (m : Memory) (f x : ℕ) (q : List Step) (k : ℕ)
@@ -46,8 +46,9 @@ owns_there s settled own_law m f x q k held = by_type (is_owning s.table (object
     by_type false is =
         absurd (no_number (sym (word_no s.table (content s m [] (OfRoot (OfVariable f x))) q ((keeps s settled own_law).ownerless (object_at s x).of is q)) ∙ held))
 
-module _ (s : Typing) (settled : IsSettled s.table) (own_law : OwnsByShape s.table) (no_formals : (x : ℕ) → is_view_formal s x ≡ false)
-    (hands : List Waiting) (depth : ℕ) (v : Views) (far : AreFar (home s depth) v depth) (facts : List Fact) (scope : List ℕ) where
+module _ (s : Typing) (settled : IsSettled s.table) (own_law : OwnsByShape s.table) (in_formals : AreAccess s)
+    (hands : List Waiting) (depth : ℕ) (v : Views) (far : AreFar (home s depth) v depth) (facts : List Fact) (scope : List ℕ)
+    (cells : List Lodge) (begins : (c : Lodge) → Has cells c → (g : ℕ) × (y : ℕ) × (base_of c.way ≡ OfRoot (OfVariable g y)) × (g ≡ suc depth → ⊥)) where
   abbrev ViewedIn : Around (home s depth) → List Leak → Memory → Type 0
   ViewedIn other leaks m = Viewed (home s depth) (sees_only s) other v (seen s m hands leaks) facts
 
@@ -63,22 +64,26 @@ module _ (s : Typing) (settled : IsSettled s.table) (own_law : OwnsByShape s.tab
   abbrev pub away : Around (home s depth) → Way → Around (home s depth)
   away other to = gone_also (home s depth) other (λ w. other.gone w ⊎ ((p : List Step) × (w ≡ along to p)))
 
+  -- The cells of places are there, and no way that is to be taken goes before one.
+  abbrev pub AreThere : List Way → List Leak → Memory → Type 0
+  AreThere ways leaks m = (c : Lodge) → Has cells c → Reaches (seen s m hands leaks) c.way (OfCell c.cell) × ((to : Way) → Has ways to → Past to c.way → ⊥)
+
   -- Words are typed; a variable that has a number had it before, or is a formal; views keep their words; and
   -- what was gone stays so.
-  pub record AreDeclared (formals : List ℕ) (leaks found : List Leak) (m n : Memory) : Type 0 where
+  pub record AreDeclared (formals : List ℕ) (ways : List Way) (leaks found : List Leak) (m n : Memory) : Type 0 where
     pub typed : Kept s n hands
     pub held : (g y : ℕ) (p : List Step) (c : ℕ) → word_in s.table (content s n [] (OfRoot (OfVariable g y))) p ≡ Held c
         → (word_in s.table (content s m [] (OfRoot (OfVariable g y))) p ≡ Held c) ⊎ ((g ≡ suc depth) × Has formals y)
-    pub views : (g y : ℕ) → is_anonymous (view_of s y) ≡ true
+    pub views : (g y : ℕ) → is_view s y ≡ true → (g ≡ suc depth → is_view_formal s y ≡ true → Has formals y → ⊥)
         → (get_or (variable_slots s g y n.variables) 0 no_slot).word ≡ (get_or (variable_slots s g y m.variables) 0 no_slot).word
     pub carried : AreCarried s (λ g. g ≡ suc depth → ⊥) [] m n
-    -- ways from the variables of frames around reach what they reached
-    pub low : (w : Way) (g y : ℕ) → base_of w ≡ OfRoot (OfVariable g y) → g < depth → (c : ℕ)
+    -- ways from the variables of other frames that don't go on after a place reach what they reached
+    pub stays : (w : Way) (g y : ℕ) → base_of w ≡ OfRoot (OfVariable g y) → (g ≡ suc depth → ⊥) → ((to : Way) → Has ways to → Past to w → ⊥) → (c : ℕ)
         → Reaches (seen s m hands leaks) w (OfCell c) → Reaches (seen s n hands found) w (OfCell c)
 
   abbrev pub Enter : Around (home s depth) → List Leak → List Leak → List ℕ → List Passed → List Way → Memory → Memory → Type 0
   Enter other leaks found formals passed ways m n =
-      AreDeclared formals leaks found m n × ViewedIn (taken_also other ways) found n × AreTaken s n depth facts scope (returns_of formals passed) ways
+      AreDeclared formals ways leaks found m n × ViewedIn (taken_also other ways) found n × AreTaken s cells n depth facts scope (returns_of formals passed) ways
 
   pub formals_of_returns : (formals : List ℕ) (passed : List Passed) (r : Return) → Has (returns_of formals passed) r → Has formals r.formal
   formals_of_returns [] passed r has = absurd has
@@ -89,21 +94,21 @@ module _ (s : Typing) (settled : IsSettled s.table) (own_law : OwnsByShape s.tab
   formals_of_returns (x ∷ formals) (To k ∷ passed) r (inl e) = inl (ap (λ (z : Return). z.formal) e)
   formals_of_returns (x ∷ formals) (To k ∷ passed) r (inr has) = inr (formals_of_returns formals passed r has)
 
-  plain_returns : (n : Memory) (x : ℕ) (a : Passed) (formals : List ℕ) (passed : List Passed) (ways : List Way) → IsPlainOne s x a
-      → AreTaken s n depth facts scope (returns_of formals passed) ways → AreTaken s n depth facts scope (returns_of (x ∷ formals) (a ∷ passed)) ways
+  plain_returns : (n : Memory) (x : ℕ) (a : Passed) (formals : List ℕ) (passed : List Passed) (ways : List Way) → IsPlainOne s cells x a
+      → AreTaken s cells n depth facts scope (returns_of formals passed) ways → AreTaken s cells n depth facts scope (returns_of (x ∷ formals) (a ∷ passed)) ways
   plain_returns n x (Value ws) formals passed ways plain taken = taken
   plain_returns n x (From k) formals passed [] plain taken = (plain, taken)
   plain_returns n x (From k) formals passed (to ∷ ways) plain taken = inl (plain, taken)
   plain_returns n x (To k) formals passed [] plain taken = (plain, taken)
   plain_returns n x (To k) formals passed (to ∷ ways) plain taken = inl (plain, taken)
 
-  nothing_declared : (formals : List ℕ) (leaks : List Leak) (m : Memory) → Kept s m hands → AreDeclared formals leaks leaks m m
-  nothing_declared formals leaks m typed = record {
+  nothing_declared : (formals : List ℕ) (ways : List Way) (leaks : List Leak) (m : Memory) → Kept s m hands → AreDeclared formals ways leaks leaks m m
+  nothing_declared formals ways leaks m typed = record {
     typed = typed;
     held = λ g y p c held. inl held;
-    views = λ g y view. refl;
+    views = λ g y view off. refl;
     carried = carried_same s (λ g. g ≡ suc depth → ⊥) [] m m (λ g y p. refl) (λ c p. refl);
-    low = λ w g y base less c reach. reach;
+    stays = λ w g y base other_frame aside c reach. reach;
   }
 
   nothing_entered : (other : Around (home s depth)) (leaks : List Leak) (formals : List ℕ) (passed : List Passed) (ways : List Way) (outs : List Out) (before m : Memory)
@@ -111,7 +116,7 @@ module _ (s : Typing) (settled : IsSettled s.table) (own_law : OwnsByShape s.tab
       → Enter other leaks (leaks ++ found_in s before outs) formals passed ways m m
   nothing_entered other leaks formals passed ways outs before m none (no_ways, no_outs) typed viewed =
       subst (λ z. Enter other leaks z formals passed ways m m) (sym (ap (λ z. leaks ++ found_in s before z) no_outs ∙ append-nil leaks)) (
-        nothing_declared formals leaks m typed,
+        nothing_declared formals ways leaks m typed,
         more_gone (home s depth) (sees_only s) v (outs_also other outs) (λ w. other.gone w ⊎ TakenBy ways w)
             (λ y w z has foreign o meets. elim o [
               | inl gone ↦ viewed.whole y w z has foreign (inl gone) meets
@@ -120,12 +125,12 @@ module _ (s : Typing) (settled : IsSettled s.table) (own_law : OwnsByShape s.tab
               | inl gone ↦ inl gone
               | inr under ↦ absurd (subst (λ ks. Has ks under.0) no_outs under.1)
             ]) viewed,
-        subst (λ z. AreTaken s m depth facts scope z ways) (sym none) no_ways,
+        subst (λ z. AreTaken s cells m depth facts scope z ways) (sym none) no_ways,
       )
 
   -- scalar ones change nothing that owners see
   plain_then : (other : Around (home s depth)) (leaks found : List Leak) (x : ℕ) (a : Passed) (formals : List ℕ) (passed : List Passed) (ways : List Way) (m then_m n : Memory)
-      → IsPlainOne s x a → Enters s settled own_law hands leaks m then_m → Enter other leaks found formals passed ways then_m n
+      → IsPlainOne s cells x a → Enters s settled own_law in_formals hands leaks m then_m → Enter other leaks found formals passed ways then_m n
       → Enter other leaks found (x ∷ formals) (a ∷ passed) ways m n
   plain_then other leaks found x a formals passed ways m then_m n plain on later = (
     record {
@@ -134,10 +139,10 @@ module _ (s : Typing) (settled : IsSettled s.table) (own_law : OwnsByShape s.tab
         | inl h ↦ inl (sym (on.hold g y p) ∙ h)
         | inr h ↦ inr (h.0, inr h.1)
       ];
-      views = λ g y view. later.0.views g y view ∙ on.views g y view;
+      views = λ g y view off. later.0.views g y view (λ up formal has. off up formal (inr has)) ∙ on.views g y view;
       carried = carried_then s (λ g. g ≡ suc depth → ⊥) [] [] [] m then_m n (λ w taken. taken) (λ w taken. taken)
           (carried_same s (λ g. g ≡ suc depth → ⊥) [] m then_m on.hold (λ c p. cells_same s m then_m hands leaks on.same c p)) later.0.carried;
-      low = λ w g y base less c reach. later.0.low w g y base less c (same_reaches (seen s m hands leaks) (seen s then_m hands leaks) on.same w (OfCell c) reach);
+      stays = λ w g y base other_frame aside c reach. later.0.stays w g y base other_frame aside c (same_reaches (seen s m hands leaks) (seen s then_m hands leaks) on.same w (OfCell c) reach);
     },
     later.1,
     plain_returns n x a formals passed ways plain later.2,
@@ -148,22 +153,22 @@ module _ (s : Typing) (settled : IsSettled s.table) (own_law : OwnsByShape s.tab
       → (one : IsPassedOn s depth facts scope x k to) → IsApartFrom to ways → DiffersFrom x formals
       → ((g y : ℕ) (p : List Step) (c : ℕ) → word_in s.table (content s next [] (OfRoot (OfVariable g y))) p ≡ Held c
       → (word_in s.table (content s m [] (OfRoot (OfVariable g y))) p ≡ Held c) ⊎ ((g ≡ suc depth) × (y ≡ x)))
-      → ((g y : ℕ) → is_anonymous (view_of s y) ≡ true
+      → ((g y : ℕ) → is_view s y ≡ true
       → (get_or (variable_slots s g y next.variables) 0 no_slot).word ≡ (get_or (variable_slots s g y m.variables) 0 no_slot).word)
       → IsBare s depth k to next one.inside → AreCarried s (λ g. g ≡ suc depth → ⊥) [] m next
-      → ((w : Way) (g y : ℕ) → base_of w ≡ OfRoot (OfVariable g y) → g < depth → (c : ℕ)
+      → ((w : Way) (g y : ℕ) → base_of w ≡ OfRoot (OfVariable g y) → (g ≡ suc depth → ⊥) → (Past to w → ⊥) → (c : ℕ)
       → Reaches (seen s m hands leaks) w (OfCell c) → Reaches (seen s next hands mid) w (OfCell c))
       → Enter (away other to) mid found formals passed ways next n → Enter other leaks found (x ∷ formals) (a ∷ passed) (to ∷ ways) m n
-  taken_then other leaks mid found x k a to formals passed ways m next n return_is one apart differ held views bare carried low later = (
+  taken_then other leaks mid found x k a to formals passed ways m next n return_is one apart differ held views bare carried one_stays later = (
     record {
       typed = later.0.typed;
       held = λ g y p c is. elim (later.0.held g y p c is) [
         | inr h ↦ inr (h.0, inr h.1)
         | inl h ↦ elim (held g y p c h) [ inl before ↦ inl before | inr mine ↦ inr (mine.0, inl (sym mine.1)) ]
       ];
-      views = λ g y view. later.0.views g y view ∙ views g y view;
+      views = λ g y view off. later.0.views g y view (λ up formal has. off up formal (inr has)) ∙ views g y view;
       carried = carried_then s (λ g. g ≡ suc depth → ⊥) [] [] [] m next n (λ w taken. taken) (λ w taken. taken) carried later.0.carried;
-      low = λ w g y base less c reach. later.0.low w g y base less c (low w g y base less c reach);
+      stays = λ w g y base other_frame aside c reach. later.0.stays w g y base other_frame (λ z has. aside z (inr has)) c (one_stays w g y base other_frame (aside to (inl refl)) c reach);
     },
     more_gone (home s depth) (sees_only s) v
         (taken_also (away other to) ways)
@@ -176,7 +181,7 @@ module _ (s : Typing) (settled : IsSettled s.table) (own_law : OwnsByShape s.tab
           | inr taken ↦ inr (taken_more to ways w taken)
           | inl before ↦ elim before [ inl away ↦ inl away | inr (p, is) ↦ inr (to, inl refl, p, is) ]
         ]) later.1,
-    subst (λ z. AreTaken s n depth facts scope z (to ∷ ways)) (sym return_is) (inr (
+    subst (λ z. AreTaken s cells n depth facts scope z (to ∷ ways)) (sym return_is) (inr (
       (
         one,
         (λ p c is. elim (later.0.held depth (one.inside).object (p ++ (one.inside).steps) c is) [
@@ -268,7 +273,7 @@ module _ (s : Typing) (settled : IsSettled s.table) (own_law : OwnsByShape s.tab
       let at : Loc = inside_at s depth k to one.inside in
       let first =
       place_checks s settled before hands leaks k at typed (inside_spot s depth k to one.inside before hands)
-      (inside_owns s depth k to one.inside before hands (no_formals (one.inside).object)) pos in
+      (inside_owns s depth k to one.inside before hands (one.inside).owner) pos in
       let same : (p : List Step) → word_in s.table (content s m hands (trunk at)) (p ++ steps_in at) ≡ word_in s.table (content s before hands (trunk at)) (p ++ steps_in at) =
       λ p. inside_word s depth k to one.inside m hands p ∙ still (one.inside).object (one.inside).steps p (one.inside).way
       ∙ sym (inside_word s depth k to one.inside before hands p) in
@@ -283,57 +288,72 @@ module _ (s : Typing) (settled : IsSettled s.table) (own_law : OwnsByShape s.tab
 
   -- ---- all of them
 
+  -- what is passed for a formal of a scalar type
+  laid_in : (leaks : List Leak) (m : Memory) (a : Passed) → IsPlainPassed s cells a → Kept s m hands
+      → ((c : Lodge) → Has cells c → Reaches (seen s m hands leaks) c.way (OfCell c.cell)) → IsLaidIn s settled own_law in_formals hands leaks m a
+  laid_in leaks m (Value ws) plain typed there = plain
+  laid_in leaks m (From k) plain typed there = plain_place s settled own_law in_formals hands leaks (suc depth) cells begins m k plain typed there
+  laid_in leaks m (To k) plain typed there = plain_place s settled own_law in_formals hands leaks (suc depth) cells begins m k plain typed there
+
   pub all_declared : (other : Around (home s depth)) (leaks : List Leak) (formals : List ℕ) (passed : List Passed) (ways : List Way) (outs : List Out) (before m : Memory)
-      → ArePassedOn s depth facts scope formals passed ways outs → IsOpen (home s depth) other ways → Kept s before hands → Kept s m hands
-      → ViewedIn (outs_also other outs) leaks m → AreBlank s depth m formals → HaveStill s depth before m outs
+      → ArePassedOn s cells depth facts scope formals passed ways outs → IsOpen (home s depth) other ways → Kept s before hands → Kept s m hands
+      → AreThere ways leaks m → ViewedIn (outs_also other outs) leaks m → AreBlank s depth m formals → HaveStill s depth before m outs
       → Enter other leaks (leaks ++ found_in s before outs) formals passed ways m (with_formals s (suc depth) formals passed m)
-  all_declared other leaks [] passed ways outs before m are open_there at_first typed viewed blank still =
+  all_declared other leaks [] passed ways outs before m are open_there at_first typed cells_there viewed blank still =
       nothing_entered other leaks [] passed ways outs before m refl are typed viewed
-  all_declared other leaks (x ∷ formals) [] ways outs before m are open_there at_first typed viewed blank still =
+  all_declared other leaks (x ∷ formals) [] ways outs before m are open_there at_first typed cells_there viewed blank still =
       nothing_entered other leaks (x ∷ formals) [] ways outs before m refl are typed viewed
-  all_declared other leaks (x ∷ formals) (a ∷ passed) [] outs before m are open_there at_first typed viewed blank still =
-      let on = with_one s settled own_law hands leaks (suc depth) x a m are.0.0 are.0.1 typed in
+  all_declared other leaks (x ∷ formals) (a ∷ passed) [] outs before m are open_there at_first typed cells_there viewed blank still =
+      let on = with_one s settled own_law in_formals hands leaks (suc depth) x a m are.0.0 (laid_in leaks m a are.0.1 typed (λ c has. (cells_there c has).0)) typed in
       let mid : Memory = with_formal s (suc depth) x a m in
       plain_then other leaks (leaks ++ found_in s before outs) x a formals passed [] m mid (with_formals s (suc depth) formals passed mid) are.0 on
       (all_declared other leaks formals passed [] outs before mid are.1 open_there at_first on.typed
+      (λ c has. (same_reaches (seen s m hands leaks) (seen s mid hands leaks) on.same c.way (OfCell c.cell) (cells_there c has).0, (cells_there c has).1))
       (same_viewed (home s depth) (sees_only s) (outs_also other outs) v (seen s m hands leaks) (seen s mid hands leaks) facts on.same viewed)
       (λ y has p. on.hold (suc depth) y p ∙ blank y (inr has) p)
       (λ o has. still_then s depth before m mid o.way (still o has) (λ y q p is. on.hold depth y (p ++ q))))
-  all_declared other leaks (x ∷ formals) (a ∷ passed) (to ∷ ways) outs before m (inl are) open_there at_first typed viewed blank still =
-      let on = with_one s settled own_law hands leaks (suc depth) x a m are.0.0 are.0.1 typed in
+  all_declared other leaks (x ∷ formals) (a ∷ passed) (to ∷ ways) outs before m (inl are) open_there at_first typed cells_there viewed blank still =
+      let on = with_one s settled own_law in_formals hands leaks (suc depth) x a m are.0.0 (laid_in leaks m a are.0.1 typed (λ c has. (cells_there c has).0)) typed in
       let mid : Memory = with_formal s (suc depth) x a m in
       plain_then other leaks (leaks ++ found_in s before outs) x a formals passed (to ∷ ways) m mid (with_formals s (suc depth) formals passed mid) are.0 on
       (all_declared other leaks formals passed (to ∷ ways) outs before mid are.1 open_there at_first on.typed
+      (λ c has. (same_reaches (seen s m hands leaks) (seen s mid hands leaks) on.same c.way (OfCell c.cell) (cells_there c has).0, (cells_there c has).1))
       (same_viewed (home s depth) (sees_only s) (outs_also other outs) v (seen s m hands leaks) (seen s mid hands leaks) facts on.same viewed)
       (λ y has p. on.hold (suc depth) y p ∙ blank y (inr has) p)
       (λ o has. still_then s depth before m mid o.way (still o has) (λ y q p is. on.hold depth y (p ++ q))))
-  all_declared other leaks (x ∷ formals) (a ∷ passed) (to ∷ ways) outs before m (inr (k, later, inl (is, whole, same), one, apart, differ, more)) open_there at_first typed viewed blank still =
+  all_declared other leaks (x ∷ formals) (a ∷ passed) (to ∷ ways) outs before m (inr (k, later, inl (is, whole, same), one, apart, differ, more)) open_there at_first typed cells_there viewed blank still =
       let new = blank x (inl refl) in
       let next : Memory = declared (suc depth) x (words_of s m k) (moved_out s k m) in
-      let among = outs_taken s depth facts scope formals passed ways later more in
-      let from = passed_base s depth facts scope formals passed ways later more in
+      let among = outs_taken s cells depth facts scope formals passed ways later more in
+      let from = passed_base s cells depth facts scope formals passed ways later more in
       let root : IsFrom to = ((one.inside).object, inside_base s depth k to one.inside) in
       let mine = taken_open other to ways later among from apart open_there in
       let here : ViewedIn (outs_also other later) leaks m = subst (λ z. ViewedIn (outs_also other z) leaks m) same viewed in
       subst (λ z. Enter other leaks (leaks ++ found_in s before outs) (x ∷ formals) (z ∷ passed) (to ∷ ways) m (with_formals s (suc depth) (x ∷ formals) (z ∷ passed) m)) (sym is)
       (subst (λ z. Enter other leaks (leaks ++ found_in s before z) (x ∷ formals) (From k ∷ passed) (to ∷ ways) m (with_formals s (suc depth) (x ∷ formals) (From k ∷ passed) m)) (sym same)
       (taken_then other leaks leaks (leaks ++ found_in s before later) x k (From k) to formals passed ways m next (with_formals s (suc depth) formals passed next) refl one apart differ
-      (one_held s settled own_law no_formals hands leaks depth v far facts scope (outs_also other later) x k to one whole mine m typed here new)
-      (one_views s settled own_law no_formals hands leaks depth v far facts scope (outs_also other later) x k to one whole mine m typed here new)
-      (one_bare s settled own_law no_formals hands leaks depth v far facts scope (outs_also other later) x k to one whole mine m typed here new)
-      (one_carried s settled own_law no_formals hands leaks depth v far facts scope (outs_also other later) x k to one whole mine m typed here new)
-      (one_low s settled own_law no_formals hands leaks depth v far facts scope (outs_also other later) x k to one whole mine m typed here new)
+      (one_held s settled own_law in_formals hands leaks depth v far facts scope (outs_also other later) x k to one whole mine m typed here new)
+      (one_views s settled own_law in_formals hands leaks depth v far facts scope (outs_also other later) x k to one whole mine m typed here new)
+      (one_bare s settled own_law in_formals hands leaks depth v far facts scope (outs_also other later) x k to one whole mine m typed here new)
+      (one_carried s settled own_law in_formals hands leaks depth v far facts scope (outs_also other later) x k to one whole mine m typed here new)
+      (one_stays s settled own_law in_formals hands leaks depth v far facts scope (outs_also other later) x k to one whole mine m typed here new)
       (all_declared (away other to) leaks formals passed ways later before next more (others_open other to ways root apart open_there) at_first
-      (kept_next s settled own_law no_formals hands leaks depth v far facts scope (outs_also other later) x k to one whole mine m typed here new)
-      (beside_outs other to later leaks next (viewed_next s settled own_law no_formals hands leaks depth v far facts scope (outs_also other later) x k to one whole mine m typed here new))
-      (λ y has p. one_blank s settled own_law no_formals hands leaks depth v far facts scope (outs_also other later) x k to one whole mine m typed here new y (differ y has) p (blank y (inr has) p))
+      (kept_next s settled own_law in_formals hands leaks depth v far facts scope (outs_also other later) x k to one whole mine m typed here new)
+      (λ c has. (
+        (let begin = begins c has in
+            one_stays s settled own_law in_formals hands leaks depth v far facts scope (outs_also other later) x k to one whole mine m typed here new
+            c.way begin.0 begin.1 begin.2 begin.3 ((cells_there c has).1 to (inl refl)) c.cell (cells_there c has).0),
+        (λ z there. (cells_there c has).1 z (inr there)),
+      ))
+      (beside_outs other to later leaks next (viewed_next s settled own_law in_formals hands leaks depth v far facts scope (outs_also other later) x k to one whole mine m typed here new))
+      (λ y has p. one_blank s settled own_law in_formals hands leaks depth v far facts scope (outs_also other later) x k to one whole mine m typed here new y (differ y has) p (blank y (inr has) p))
       (λ o has. still_then s depth before m next o.way (still o (subst (λ z. Has z o) (sym same) has))
-      (one_still s settled own_law no_formals hands leaks depth v far facts scope (outs_also other later) x k to one whole mine m typed here new o.way (apart o.way (among o has)))))))
-  all_declared other leaks (x ∷ formals) (a ∷ passed) (to ∷ ways) outs before m (inr (k, later, inr (pos, is, same), one, apart, differ, more)) open_there at_first typed viewed blank still =
+      (one_still s settled own_law in_formals hands leaks depth v far facts scope (outs_also other later) x k to one whole mine m typed here new o.way (apart o.way (among o has)))))))
+  all_declared other leaks (x ∷ formals) (a ∷ passed) (to ∷ ways) outs before m (inr (k, later, inr (pos, is, same), one, apart, differ, more)) open_there at_first typed cells_there viewed blank still =
       let new = blank x (inl refl) in
       let next : Memory = declared (suc depth) x (default s.table (object_at s x).of) (moved_out s k m) in
-      let among = outs_taken s depth facts scope formals passed ways later more in
-      let from = passed_base s depth facts scope formals passed ways later more in
+      let among = outs_taken s cells depth facts scope formals passed ways later more in
+      let from = passed_base s cells depth facts scope formals passed ways later more in
       let root : IsFrom to = ((one.inside).object, inside_base s depth k to one.inside) in
       let out : Out = record { way = to; place = k; pos = pos } in
       let here : ViewedIn (outs_also other (out ∷ later)) leaks m = subst (λ z. ViewedIn (outs_also other z) leaks m) same viewed in
@@ -351,20 +371,26 @@ module _ (s : Typing) (settled : IsSettled s.table) (own_law : OwnsByShape s.tab
       (subst (λ z. Enter other leaks (leaks ++ found_in s before z) (x ∷ formals) (To k ∷ passed) (to ∷ ways) m (with_formals s (suc depth) (x ∷ formals) (To k ∷ passed) m)) (sym same)
       (subst (λ z. Enter other leaks z (x ∷ formals) (To k ∷ passed) (to ∷ ways) m (with_formals s (suc depth) (x ∷ formals) (To k ∷ passed) m)) (append_assoc leaks (leaks_at s pos before k) (found_in s before later))
       (taken_then other leaks found (found ++ found_in s before later) x k (To k) to formals passed ways m next (with_formals s (suc depth) formals passed next) refl one apart differ
-      (λ g y p c held. inl (out_held s settled own_law no_formals hands leaks depth v facts scope (outs_also other (out ∷ later)) ((outs_also (away other to) later).gone) gone_apart x k to one
+      (λ g y p c held. inl (out_held s settled own_law in_formals hands leaks depth v facts scope (outs_also other (out ∷ later)) ((outs_also (away other to) later).gone) gone_apart x k to one
       open_there.none m typed here new found mine g y p c held))
-      (out_views s settled own_law no_formals hands leaks depth v facts scope (outs_also other (out ∷ later)) ((outs_also (away other to) later).gone) gone_apart x k to one
+      (out_views s settled own_law in_formals hands leaks depth v facts scope (outs_also other (out ∷ later)) ((outs_also (away other to) later).gone) gone_apart x k to one
       open_there.none m typed here new found)
-      (out_bare s settled own_law no_formals hands leaks depth v facts scope (outs_also other (out ∷ later)) ((outs_also (away other to) later).gone) gone_apart x k to one
+      (out_bare s settled own_law in_formals hands leaks depth v facts scope (outs_also other (out ∷ later)) ((outs_also (away other to) later).gone) gone_apart x k to one
       open_there.none m typed here new found mine)
-      (out_carried s settled own_law no_formals hands leaks depth v facts scope (outs_also other (out ∷ later)) ((outs_also (away other to) later).gone) gone_apart x k to one
+      (out_carried s settled own_law in_formals hands leaks depth v facts scope (outs_also other (out ∷ later)) ((outs_also (away other to) later).gone) gone_apart x k to one
       open_there.none m typed here new found mine)
-      (out_low s settled own_law no_formals hands leaks depth v facts scope (outs_also other (out ∷ later)) ((outs_also (away other to) later).gone) gone_apart x k to one
-      open_there.none m typed here new found mine)
+      (λ w g y base other_frame aside c reach.
+      out_stays s settled own_law in_formals hands leaks depth v facts scope (outs_also other (out ∷ later)) ((outs_also (away other to) later).gone) gone_apart x k to one
+      open_there.none m typed here new found mine w aside c reach)
       (all_declared (away other to) found formals passed ways later before next more (others_open other to ways root apart open_there) at_first
-      (out_kept s settled own_law no_formals hands leaks depth v facts scope (outs_also other (out ∷ later)) ((outs_also (away other to) later).gone) gone_apart x k to one
+      (out_kept s settled own_law in_formals hands leaks depth v facts scope (outs_also other (out ∷ later)) ((outs_also (away other to) later).gone) gone_apart x k to one
       open_there.none m typed here new found)
-      (out_viewed s settled own_law no_formals hands leaks depth v facts scope (outs_also other (out ∷ later)) ((outs_also (away other to) later).gone) gone_apart x k to one
+      (λ c has. (
+        out_stays s settled own_law in_formals hands leaks depth v facts scope (outs_also other (out ∷ later)) ((outs_also (away other to) later).gone) gone_apart x k to one
+            open_there.none m typed here new found mine c.way ((cells_there c has).1 to (inl refl)) c.cell (cells_there c has).0,
+        (λ z there. (cells_there c has).1 z (inr there)),
+      ))
+      (out_viewed s settled own_law in_formals hands leaks depth v facts scope (outs_also other (out ∷ later)) ((outs_also (away other to) later).gone) gone_apart x k to one
       open_there.none m typed here new found mine
       (λ w o off. elim o [
         | inl gone ↦ inl (inl gone)
@@ -373,8 +399,8 @@ module _ (s : Typing) (settled : IsSettled s.table) (own_law : OwnsByShape s.tab
           | inr rest ↦ inr (other_one, rest, under)
         ]
       ]) (λ p. inl (inr (p, refl))))
-      (λ y has p. out_blank s settled own_law no_formals hands leaks depth v facts scope (outs_also other (out ∷ later)) ((outs_also (away other to) later).gone) gone_apart x k to one
+      (λ y has p. out_blank s settled own_law in_formals hands leaks depth v facts scope (outs_also other (out ∷ later)) ((outs_also (away other to) later).gone) gone_apart x k to one
       open_there.none m typed here new found y (differ y has) p (blank y (inr has) p))
       (λ o has. still_then s depth before m next o.way (still o (subst (λ z. Has z o) (sym same) (inr has)))
-      (out_still s settled own_law no_formals hands leaks depth v facts scope (outs_also other (out ∷ later)) ((outs_also (away other to) later).gone) gone_apart x k to one
+      (out_still s settled own_law in_formals hands leaks depth v facts scope (outs_also other (out ∷ later)) ((outs_also (away other to) later).gone) gone_apart x k to one
       open_there.none m typed here new found mine o.way (apart o.way (among o has))))))))

@@ -57,6 +57,7 @@ module _ (s : Typing) where
         };
         views = λ x w has. absurd (none_some w has);
         whole = λ x w z has. absurd (none_some w has);
+        past = λ x w has. absurd (none_some w has);
         lends = λ l n lent. absurd lent;
         far = λ w n none. absurd none;
       }
@@ -81,7 +82,7 @@ module _ (table : Table) (typed : TypedProgram) (effects : Effects) (input : Lis
   abbrev pub IsFresh : State → Type 0
   IsFresh state =
       (sound : IsSound table typed effects state)
-      × ((g : ViewStage) → Has (record { stage = sound.top; views = sound.views } ∷ sound.older) g → g.stage.before ≡ [])
+      × ((g : ViewStage) → Has (record { stage = sound.top; views = sound.views; cells = [] } ∷ sound.older) g → g.stage.before ≡ [])
 
   -- the package objects are declared first
   packages_start : (p : NamedPoint) (rest : List NamedPoint) → ready.packages.points ≡ p ∷ rest → IsFresh (started (frame_at_start 0 [] ∷ []))
@@ -91,7 +92,7 @@ module _ (table : Table) (typed : TypedProgram) (effects : Effects) (input : Lis
       views = no_views;
       older = [];
       stages = (refl, refl, tt);
-      running = (refl, (refl, refl, refl), (λ x. refl), refl);
+      running = (refl, (refl, refl, refl), (λ x. refl), refl, refl);
       awaited = (refl, refl);
       path = begins (first_point table typed effects input ready 0 ready.packages ready.stands p rest is);
       viewed = empty_viewed s (home s 0) (GoneElsewhere program effects []);
@@ -105,9 +106,13 @@ module _ (table : Table) (typed : TypedProgram) (effects : Effects) (input : Lis
         held = λ x n lasts view e. absurd (empty_word s (home s 0 x) x n e);
         within = λ x n view e. absurd (empty_word s (home s 0 x) x n e);
         only = λ x w has. absurd (none_some w has);
-        named = λ x w has. absurd (none_some w has);
+        lies = λ x w has. absurd (none_some w has);
+        owners = λ x w has. absurd (none_some w has);
+        passed = λ x w has. absurd (none_some w has);
+        own = λ x w has. absurd (none_some w has);
       };
       placed = λ x w has. absurd (none_some w has);
+      past = λ x w has. absurd (none_some w has);
       none_above = λ f x n less view e. empty_word s f x n e;
     },
     λ g has. elim has [ inl e ↦ ap (λ (z : ViewStage). z.stage.before) (sym e) | inr none ↦ absurd none ],
@@ -119,12 +124,12 @@ module _ (table : Table) (typed : TypedProgram) (effects : Effects) (input : Lis
     record {
       top = stage_of ready.main 1;
       views = no_views;
-      older = record { stage = stage_of 0 0; views = no_views } ∷ [];
+      older = record { stage = stage_of 0 0; views = no_views; cells = [] } ∷ [];
       stages = (refl, refl, (refl, refl, tt));
       running = (
         main_runs table typed effects input ready,
         ((λ x has. inl (ready.main_plain x has)), (λ r has. absurd has)),
-        ((refl, (refl, refl, refl), (λ x. refl), refl), refl),
+        ((refl, (refl, refl, refl), (λ x. refl), refl, refl), refl),
       );
       awaited = (
         first_waits table typed effects input ready 1 ready.main [] ready.main_there.named ready.main_there.stands ready.main_there.point
@@ -133,7 +138,7 @@ module _ (table : Table) (typed : TypedProgram) (effects : Effects) (input : Lis
       );
       path = begins (first_point table typed effects input ready ready.main ready.main_there.named ready.main_there.stands
           ready.main_there.point ready.main_there.points ready.main_there.begins);
-      viewed = empty_viewed s (home s 1) (GoneElsewhere program effects (record { stage = stage_of 0 0; views = no_views } ∷ []));
+      viewed = empty_viewed s (home s 1) (GoneElsewhere program effects (record { stage = stage_of 0 0; views = no_views; cells = [] } ∷ []));
       kept = empty_kept s;
       named = ready.main_there.named;
       of_sub = ready.main_there.stands;
@@ -144,9 +149,13 @@ module _ (table : Table) (typed : TypedProgram) (effects : Effects) (input : Lis
         held = λ x n lasts view e. absurd (empty_word s (home s 1 x) x n e);
         within = λ x n view e. absurd (empty_word s (home s 1 x) x n e);
         only = λ x w has. absurd (none_some w has);
-        named = λ x w has. absurd (none_some w has);
+        lies = λ x w has. absurd (none_some w has);
+        owners = λ x w has. absurd (none_some w has);
+        passed = λ x w has. absurd (none_some w has);
+        own = λ x w has. absurd (none_some w has);
       };
       placed = λ x w has. absurd (none_some w has);
+      past = λ x w has. absurd (none_some w has);
       none_above = λ f x n less view e. empty_word s f x n e;
     },
     λ g has. elim has [

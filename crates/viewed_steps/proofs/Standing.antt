@@ -11,7 +11,7 @@ use Rattle.typed_tree.specs.Trees.{TypedTree}
 use Rattle.typed_tree.specs.Programs.{TypedProgram}
 use Rattle.flow_paths.specs.declared.report.Effects.{Effects}
 use Rattle.flow_paths.specs.Instructions.{Instruction, Skip, Declare, Assign, Call, Output, Input, Release, Test, Choose, Start, Next, Evaluate, LeaveLoop, Hold, EndScope, Finish, Fall}
-use Rattle.flow_paths.specs.Objects.{Typing, Signature, object_at, sub_at, is_formal, is_anonymous, is_package_object, view_of}
+use Rattle.flow_paths.specs.Objects.{Typing, Signature, object_at, sub_at, is_formal, is_package_object}
 use Rattle.flow_paths.specs.Acts.{acts_of}
 use Rattle.flow_paths.specs.Points.{NamedPoint, FlowPoint}
 use Rattle.flow_paths.specs.Laid.{FlowSub, FlowProgram, NamedSub, flow_sub, kept_roots, sub_facts, typing_of, flow_typing, flow_program, flow_named}
@@ -35,12 +35,12 @@ use Rattle.soundness.proofs.Scalars.{acts}
 use Rattle.soundness.proofs.Paths.{accepted_point, facts_next}
 use Rattle.soundness.proofs.Points.{flow_at, named_has, point_has, sub_there, sub_has, point_there, point_in, path_there, IsLaid, next_there, one_named, one_point}
 use Rattle.owned_loans.specs.Views.{known_gone, Views, Viewed}
-use Rattle.viewed_soundness.specs.Holds.{AllKeep, sees_only}
+use Rattle.viewed_soundness.specs.Holds.{is_view, AllKeep, sees_only, is_fixed}
 use Rattle.viewed_steps.specs.Awaited.{AreFor, AreValues, temporaries_of, lasting_of, WaitsAt, AreAwaited}
 use Rattle.viewed_steps.proofs.Waited.{leads_temporaries}
-use Rattle.viewed_steps.specs.Sound.{HoldsAt, ArePlaced, NoneAbove, ViewStage, stages_of, GoneElsewhere, IsRunning, Follows, LeadsAlong}
+use Rattle.viewed_steps.specs.Sound.{ArePast, HoldsAt, ArePlaced, NoneAbove, ViewStage, stages_of, GoneElsewhere, IsRunning, Follows, LeadsAlong}
 use Rattle.viewed_steps.specs.Ready.{IsReady}
-use Rattle.viewed_steps.proofs.Views.{all_keep_only}
+use Rattle.viewed_steps.proofs.Views.{AreAccess, view_cases}
 
 no_second : (a b : Bool) → b ≡ false → a && b ≡ false
 no_second true b e = e
@@ -82,11 +82,15 @@ module _ (table : Table) (typed : TypedProgram) (effects : Effects) (input : Lis
     | inr e ↦ ap (λ b. (b && is_in (object_at s x).mode) && is_owning s.table (object_at s x).of) e
   ]
 
+  -- formals that own nothing are of named access types
+  pub in_formals : AreAccess s
+  in_formals x formal = (let no : true ≡ false = sym formal ∙ no_in_formals x in cc)
+
   pub laid : (named : NamedSub) → Has (flow_named table typed) named → IsLaid s named
   laid named has = ready.scoped.goes named has
 
-  pub local : (x : ℕ) → is_anonymous (view_of s x) ≡ true → is_package_object s x ≡ false
-  local x view = (ready.orderly.local x view).1
+  pub local : (x : ℕ) → is_view s x ≡ true → is_package_object s x ≡ false
+  local x view = elim (view_cases s x view) [ inl anonymous ↦ ready.orderly.local x anonymous | inr formal ↦ ready.orderly.passed x formal ]
 
   -- ---- a point
 
@@ -185,8 +189,8 @@ module _ (table : Table) (typed : TypedProgram) (effects : Effects) (input : Lis
     pub acts_plain : IsNoCall p.instr → whole_acts p.instr ≡ acts_here p.instr
     acts_plain plain = ap (λ z. acts (acts_by s p.instr ++ z)) (no_callee p.instr plain) ∙ ap acts (append-nil (acts_by s p.instr))
 
-    pub keeps_there : AllKeep (sees_only s) (acts_here p.instr)
-    keeps_there = subst (λ z. AllKeep (sees_only s) (acts z)) (sym acts_agree) (all_keep_only s no_in_formals (acts here.acts) (ready.orderly.kept sub in_program here in_sub))
+    pub keeps_there : AllKeep (is_fixed s) (acts_here p.instr)
+    keeps_there = subst (λ z. AllKeep (is_fixed s) (acts z)) (sym acts_agree) (ready.orderly.kept sub in_program here in_sub)
 
     module _ (path : ControlPath (path_points program effects (sub_of program top.frame.sub)) top.before top.frame.next) where
       pub path_here : ControlPath points top.before top.frame.next
@@ -239,14 +243,15 @@ module _ (table : Table) (typed : TypedProgram) (effects : Effects) (input : Lis
       pub goes_to_next : IsNoCall p.instr → (after_step : State) (waits : List Waiting) (loops : List Loop) (n : ℕ) (next : Has here.next n) (q : NamedPoint) → IsAtPoint named.points n q
           → after_step.frames ≡ record top.frame { waits = waits; loops = loops; next = n } ∷ outer
           → top.depth ≡ length outer → AreStages (stages_of older) outer → (views : Views)
-          → IsRunning table typed effects after_step (record { stage = at_next waits loops n; views = views }) older
+          → IsRunning table typed effects after_step (record { stage = at_next waits loops n; views = views; cells = [] }) older
           → AreAwaited table typed None (at_next waits loops n ∷ stages_of older)
           → Viewed (home s (length outer)) (sees_only s) (known_gone (home s (length outer)) (GoneElsewhere program effects older)) views (view_here s after_step) (after (acts_here p.instr) facts)
           → Kept s after_step.memory (waiting_in after_step) → InScope s after_step.memory (length outer) (lasting_of s q.scope)
-          → HoldsAt s (length outer) views after_step.memory q → ArePlaced program (after (acts_here p.instr) facts) views q.scope
+          → HoldsAt s (length outer) views after_step.memory q
+          → ArePlaced program (length outer) (after (acts_here p.instr) facts) views q.scope × ArePast s (length outer) views older
           → NoneAbove s (length outer) after_step.memory → (before : Views)
-          → Follows program effects p.instr state.memory (record { stage = top; views = before }) older after_step.memory (record { stage = at_next waits loops n; views = views }) older
-          → LeadsAlong table typed effects p.instr state.memory (record { stage = top; views = before }) older (Goes after_step)
+          → Follows program effects p.instr state.memory (record { stage = top; views = before; cells = [] }) older after_step.memory (record { stage = at_next waits loops n; views = views; cells = [] }) older
+          → LeadsAlong table typed effects p.instr state.memory (record { stage = top; views = before; cells = [] }) older (Goes after_step)
       goes_to_next plain after_step waits loops n next q at is deep stages views running awaited viewed kept scope holds placed above before follows =
           let step_on : Has (path_point points top.frame.next).next n =
           subst (λ (z : PathPoint). Has z.next n) (sym (path_there own named top.frame.next p at_point program effects)) next in
@@ -270,7 +275,9 @@ module _ (table : Table) (typed : TypedProgram) (effects : Effects) (input : Lis
               at_point = at;
               scope = subst (λ d. InScope s after_step.memory d (lasting_of s q.scope)) (sym deep) scope;
               holds = subst (λ d. HoldsAt s d views after_step.memory q) (sym deep) holds;
-              placed = subst (λ z. ArePlaced program z views q.scope) (sym facts_there) placed;
+              placed = subst (λ d. ArePlaced program d (facts_of program effects (at_next waits loops n)) views q.scope) (sym deep)
+                  (subst (λ z. ArePlaced program (length outer) z views q.scope) (sym facts_there) placed.0);
+              past = subst (λ d. ArePast s d views older) (sym deep) placed.1;
               none_above = subst (λ d. NoneAbove s d after_step.memory) (sym deep) above;
             },
             follows,

@@ -17,13 +17,15 @@ use Rattle.flow_paths.specs.Laid.{FlowSub, FlowProgram, NamedSub, number_in, flo
 use Rattle.flow_paths.specs.Scopes.{taken, is_within}
 use Rattle.flow_paths.specs.Views.{encloses, scope_of}
 use Rattle.machine.specs.States.{sub_of}
+use Rattle.machine.specs.Owners.{is_in}
 use Rattle.soundness.specs.Typed.{OwnsByShape}
 use Rattle.soundness.specs.Sound.{Accepted, IsNamedSub, IsAtPoint, IsProcedure, IsRunnable}
 use Rattle.soundness.specs.Ready.{root_of, stored_at, AreScoped, AreNew, AreElaborated, AreReturning}
 use Rattle.typed_laws.specs.Needed.{Matches, Stays, IsPlace}
-use Rattle.viewed_soundness.specs.Holds.{AllKeep}
+use Rattle.soundness.specs.Seen.{is_view_formal}
+use Rattle.viewed_soundness.specs.Holds.{sees_only, is_fixed, AllKeep}
 use Rattle.viewed_steps.specs.Awaited.{is_held, IsTaken, FillsTyped}
-use Rattle.viewed_steps.specs.Sound.{IsScalarObject, IsViewClass, Lasts}
+use Rattle.viewed_steps.specs.Sound.{IsScalarObject, IsViewClass, Lasts, IsStoredAt}
 
 -- ---- calls
 
@@ -93,12 +95,12 @@ AreCalled table typed =
 -- ---- borrowers and observers in order
 
 -- A view is declared from a name that lasts, and a borrower from an older one that isn't rooted in
--- an observer.
+-- an observer, or in a formal that owns nothing.
 abbrev pub IsSource : FlowProgram → List ℕ → ℕ → TypedTree → Type 0
 IsSource program scope x e =
     (q : Pos) × (y : ℕ) × (path : TypedTree) × (u : ℕ) × (e ≡ More (Name q y path u) NoMore)
     × Lasts program scope y x
-    × (is_observer (flow_typing program) x ≡ false → (is_observer (flow_typing program) y ≡ false) × (y < x))
+    × (is_observer (flow_typing program) x ≡ false → (sees_only (flow_typing program) y ≡ false) × (y < x))
 
 -- An observer is assigned from a name that lasts, and a borrower from one that is rooted in it.
 abbrev pub IsNewSource : FlowProgram → List ℕ → ℕ → TypedTree → Type 0
@@ -107,12 +109,26 @@ IsNewSource program scope x e =
     × (is_observer (flow_typing program) x ≡ true → Lasts program scope y x)
     × (is_observer (flow_typing program) x ≡ false → y ≡ x)
 
+-- Nothing is copied back to through what only sees.
+abbrev pub AreUnobserved : Typing → List ℕ → TypedTree → Type 0
+AreUnobserved s (x ∷ formals) (More e rest) =
+    (is_in (object_at s x).mode ≡ false → (y : ℕ) → Has (root_of e) y → sees_only s y ≡ false) × AreUnobserved s formals rest
+AreUnobserved s formals actuals = Unit {0}
+
 -- Views at a point with its successors.
 pub record AreOrderly (program : FlowProgram) (p : NamedPoint) (next : NamedPoint → Type 0) : Type 0 where
   pub declared : (x : ℕ) (e : TypedTree) → p.instr ≡ Declare x e → is_anonymous (view_of (flow_typing program) x) ≡ true → IsSource program p.scope x e
   pub assigned : (q : Pos) (x w : ℕ) (e : TypedTree) → p.instr ≡ Assign (Name q x NoMore w) e → is_anonymous (view_of (flow_typing program) x) ≡ true
       → IsNewSource program p.scope x e
-  pub read : (q : Pos) (x w : ℕ) (path : TypedTree) → p.instr ≡ Input (Name q x path w) → is_observer (flow_typing program) x ≡ false
+  pub copied : (n : ℕ) (actuals : TypedTree) (result : Option ℕ) → p.instr ≡ Call n actuals result
+      → AreUnobserved (flow_typing program) (sub_of program n).formals actuals
+  pub read : (q : Pos) (x w : ℕ) (path : TypedTree) → p.instr ≡ Input (Name q x path w) → sees_only (flow_typing program) x ≡ false
+  -- what is declared, or ends, is no formal that owns nothing; and of an anonymous access type, it is a
+  -- variable, as what is assigned as a whole is
+  pub variables : (x : ℕ) → IsStoredAt p.instr x ⊎ (p.instr ≡ EndScope x) → is_anonymous (view_of (flow_typing program) x) ≡ true
+      → is_variable (object_at (flow_typing program) x).kind ≡ true
+  pub begun : (x : ℕ) (e : TypedTree) → p.instr ≡ Declare x e → is_view_formal (flow_typing program) x ≡ false
+  pub over : (x : ℕ) → p.instr ≡ EndScope x → is_view_formal (flow_typing program) x ≡ false
   -- where a scope ends: objects of greater numbers have ended before; and of the objects in scope,
   -- what its scope encloses is of the same region, and ends at the points that follow
   pub ended : (y x : ℕ) → p.instr ≡ EndScope y → is_within x p.scope ≡ true → (x ≡ y → ⊥)
@@ -125,8 +141,10 @@ pub record AreOrderly (program : FlowProgram) (p : NamedPoint) (next : NamedPoin
 -- What holds of a program.
 pub record ViewsAreOrderly (table : Table) (typed : TypedProgram) : Type 0 where
   pub local : (x : ℕ) → is_anonymous (view_of (flow_typing (flow_program table typed)) x) ≡ true
-      → (is_variable (object_at (flow_typing (flow_program table typed)) x).kind ≡ true)
-      × (is_package_object (flow_typing (flow_program table typed)) x ≡ false)
+      → is_package_object (flow_typing (flow_program table typed)) x ≡ false
+  -- formals that own nothing belong to no package
+  pub passed : (x : ℕ) → is_view_formal (flow_typing (flow_program table typed)) x ≡ true
+      → is_package_object (flow_typing (flow_program table typed)) x ≡ false
   -- no package object is one
   pub packages : (p : FlowPoint) → Has (sub_of (flow_program table typed) 0).points p → (x : ℕ) (e : TypedTree) → p.instr ≡ Declare x e
       → is_anonymous (view_of (flow_typing (flow_program table typed)) x) ≡ false
@@ -135,9 +153,9 @@ pub record ViewsAreOrderly (table : Table) (typed : TypedProgram) : Type 0 where
   pub itself : (a : ℕ) → encloses (flow_program table typed).scopes a a ≡ true
   pub points : (sub : NamedSub) → Has (flow_named table typed) sub → (p : NamedPoint) → Has sub.points p
       → AreOrderly (flow_program table typed) p (λ q. (n : ℕ) × Has (map (number_in sub.points) p.next) n × IsAtPoint sub.points n q)
-  -- nothing is moved, written or freed through an observer
+  -- nothing is moved, written or freed through an observer, or through a formal that owns nothing
   pub kept : (sub : FlowSub) → Has (flow_program table typed).subs sub → (p : FlowPoint) → Has sub.points p
-      → AllKeep (is_observer (flow_typing (flow_program table typed))) (map (λ (a : Placed). a.act) p.acts)
+      → AllKeep (is_fixed (flow_typing (flow_program table typed))) (map (λ (a : Placed). a.act) p.acts)
 
 -- ---- all of it
 

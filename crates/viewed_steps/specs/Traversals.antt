@@ -1,0 +1,67 @@
+-- What traversal functions give: where the views of one come from, and what its caller keeps of the call.
+--
+-- A result is looked at where it stands, as what its first actual designates is. So a name of the
+-- caller leads to its cell, which goes on from the first actual.
+use Rattle.std.specs.Prelude.{◌≡◌, ◌⊎◌, ℕ, Bool, true, false, List, Some}
+use Rattle.spark_base.specs.Lists.{Has}
+use Rattle.spark_base.specs.declared.position.Pos.{Pos}
+use Rattle.place_names.specs.Names.{Name as PlaceName}
+use Rattle.place_names.specs.declared.act.Act.{Act}
+use Rattle.place_names.specs.declared.act.Act.TheVariants.{Borrow, Observe}
+use Rattle.typed_tree.specs.Trees.{TypedTree, Name, Call as CallIn, More}
+use Rattle.flow_paths.specs.Instructions.{Instruction}
+use Rattle.flow_paths.specs.Objects.{Typing, is_package_object}
+use Rattle.flow_paths.specs.Names.{name_of}
+use Rattle.flow_paths.specs.Views.{Roots}
+use Rattle.owned_ways.specs.Ways.{Way, All, Under, Named}
+use Rattle.owned_ways.specs.Ways as ways
+use Rattle.owned_loans.specs.Views.{Views, expand}
+use Rattle.owned_loans.proofs.Ways.{Lifted}
+use Rattle.soundness.specs.Seen.{home}
+use Rattle.viewed_soundness.specs.Holds.{is_view}
+use Rattle.viewed_steps.specs.Awaited.{IsTakenBy}
+
+-- ---- where the views of a frame come from
+
+-- A view got its way from itself, or from the root of a name that it borrows from or observes.
+abbrev pub IsSourceIn : List Act → ℕ → ℕ → Type 0
+IsSourceIn acts x y = (y ≡ x) ⊎ ((m : PlaceName) × (m.root ≡ y) × (Has acts (Borrow x m) ⊎ ((b : Bool) × Has acts (Observe x m b))))
+
+-- A view has a root; where that is an object that has a way itself, the view's way goes on from it.
+abbrev pub IsRootedIn : Typing → List Act → Views → ℕ → ℕ → Way → Type 0
+IsRootedIn s acts v f x w = (r : ℕ) × Roots s acts x r × (r ≡ f → (k : Way) × (v.way f ≡ Some k) × Under k w)
+
+abbrev pub AreRooted : Typing → List Act → ℕ → Views → Type 0
+AreRooted s acts f v = (x : ℕ) (w : Way) → v.way x ≡ Some w → IsRootedIn s acts v f x w
+
+-- ---- a call in progress, or one whose result waits
+
+-- A traversal call with a name as its first actual.
+pub record TraversalCall : Type 0 where
+  pub pos : Pos
+  pub name_pos : Pos
+  pub root : ℕ
+  pub path : TypedTree
+  pub of : ℕ
+  pub others : TypedTree
+
+abbrev pub call_in : ℕ → TraversalCall → TypedTree
+call_in n c = CallIn c.pos n (More (Name c.name_pos c.root c.path c.of) c.others)
+
+abbrev pub traversed_name : TraversalCall → PlaceName
+traversed_name c = name_of c.root c.path
+
+-- The first actual as a way of its frame. It is rooted in an object of the frame itself.
+pub record Traverses (s : Typing) (depth : ℕ) (i : Instruction) (n : ℕ) : Type 0 where
+  pub call : TraversalCall
+  pub taken : IsTakenBy i (call_in n call)
+  pub own : is_package_object s call.root ≡ false
+  pub place : Way
+  pub named : Named (home s depth) place
+  pub called : ways.name_of place ≡ traversed_name call
+
+-- What the first formal sees is what the first actual designates.
+pub record Sees (s : Typing) (depth : ℕ) (i : Instruction) (n : ℕ) (around : Views) (f : ℕ) (inner : Views) : Type 0 where
+  pub traverses : Traverses s depth i n
+  pub lifted : is_view s traverses.call.root ≡ true → (w : Way) → inner.way f ≡ Some w → (l : Lifted around (All traverses.place)) × (l.object ≡ traverses.call.root)
+  pub leads : (w : Way) → inner.way f ≡ Some w → expand around (All traverses.place) ≡ w
