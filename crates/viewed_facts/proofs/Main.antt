@@ -44,7 +44,7 @@ use Rattle.soundness.proofs.Stays.{Quiet}
 use Rattle.soundness.proofs.Typings.{Agree}
 use Rattle.soundness.proofs.Passing.{Enters, frames_with, signature_is}
 use Rattle.owned_loans.specs.Views.{Around, known_gone, Views, Viewed}
-use Rattle.viewed_steps.specs.Sound.{IsResting, HoldsAt, ArePlaced, NoneAbove, ViewStage, stages_of, GoneElsewhere, AreWaiting, IsRunning}
+use Rattle.viewed_steps.specs.Sound.{ArePast, IsResting, HoldsAt, ArePlaced, NoneAbove, ViewStage, stages_of, GoneElsewhere, AreWaiting, IsRunning}
 use Rattle.viewed_steps.specs.Awaited.{AreAwaited, lasting_of}
 use Rattle.viewed_steps.specs.Ready.{IsCalled, IsReady}
 use Rattle.viewed_steps.proofs.Called.{AreLaidOut, call_adds_none}
@@ -124,8 +124,8 @@ module _ (table : Table) (typed : TypedProgram) (effects : Effects) (input : Lis
       (viewed_before : Viewed (home s (suc (length rest))) (sees_only s) (known_gone (home s (suc (length rest))) (GoneElsewhere program effects (below ∷ more_frames))) views
       (view_here s state) (facts_of program effects top))
       (kept : Kept s state.memory (waiting_in state)) (scope : InScope s state.memory (suc (length rest)) (lasting_of s p.scope)) (holds : HoldsAt s (suc (length rest)) views state.memory p)
-      (placed_before : ArePlaced program (facts_of program effects top) views p.scope) (above : NoneAbove s (suc (length rest)) state.memory)
-      (exact_before : Told (seen s state.memory [] []) (IsDefiniteOf program effects (record { stage = top; views = views } ∷ (below ∷ more_frames)))) where
+      (placed_before : ArePlaced program (suc (length rest)) (facts_of program effects top) views p.scope × ArePast s (suc (length rest)) views (below ∷ more_frames)) (above : NoneAbove s (suc (length rest)) state.memory)
+      (exact_before : Told (seen s state.memory [] []) (IsDefiniteOf program effects (record { stage = top; views = views; cells = [] } ∷ (below ∷ more_frames)))) where
     abbrev outer : List Frame
     outer = below.stage.frame ∷ rest
 
@@ -265,13 +265,13 @@ module _ (table : Table) (typed : TypedProgram) (effects : Effects) (input : Lis
     ]
 
   by_stages : (state : State) (top : Stage) (views : Views) (older : List ViewStage) (fs : List Frame) → state.frames ≡ fs → AreStages (top ∷ stages_of older) fs
-      → IsRunning table typed effects state (record { stage = top; views = views }) older → AreAwaited table typed None (top ∷ stages_of older)
+      → IsRunning table typed effects state (record { stage = top; views = views; cells = [] }) older → AreAwaited table typed None (top ∷ stages_of older)
       → ControlPath (path_points program effects (sub_of program top.frame.sub)) top.before top.frame.next
       → Viewed (home s top.depth) (sees_only s) (known_gone (home s top.depth) (GoneElsewhere program effects older)) views (view_here s state) (facts_of program effects top)
       → Kept s state.memory (waiting_in state)
       → (named : NamedSub) → IsNamedSub (flow_named table typed) top.frame.sub named → (p : NamedPoint) → IsAtPoint named.points top.frame.next p
       → InScope s state.memory top.depth (lasting_of s p.scope) → HoldsAt s top.depth views state.memory p → ArePlaced program (facts_of program effects top) views p.scope
-      → NoneAbove s top.depth state.memory → Told (seen s state.memory [] []) (IsDefiniteOf program effects (record { stage = top; views = views } ∷ older))
+      → NoneAbove s top.depth state.memory → Told (seen s state.memory [] []) (IsDefiniteOf program effects (record { stage = top; views = views; cells = [] } ∷ older))
       → Holds top state
   by_stages state top views [] fs is stages running awaiting path well kept named of_sub p at_point scope holds there above exact =
       package_holds state top named p running.0 of_sub at_point
