@@ -8,7 +8,7 @@ use Rattle.typed_tree.specs.Trees.{TypedTree}
 use Rattle.typed_tree.specs.Programs.{TypedSub, TypedProgram}
 use Rattle.flow_paths.specs.declared.report.Effects.{Effects}
 use Rattle.flow_paths.specs.Instructions.{Call}
-use Rattle.flow_paths.specs.Objects.{object_at, sub_at, is_formal}
+use Rattle.flow_paths.specs.Objects.{is_named_access, view_of, object_at, sub_at, is_formal}
 use Rattle.flow_paths.specs.Points.{FlowPoint}
 use Rattle.flow_paths.specs.Laid.{FlowSub, FlowProgram, typing_of, flow_typing, flow_program}
 use Rattle.machine.specs.States.{sub_of}
@@ -48,7 +48,7 @@ pub record IsViewProgram (table : Table) (typed : TypedProgram) (effects : Effec
       → Has (sub_at (flow_typing (flow_program table typed)) n).formals x → (object_at (flow_typing (flow_program table typed)) x).mode ≡ mode.In
   pub procedures : (n : ℕ) → (sub_at (flow_typing (flow_program table typed)) n).result ≡ None → (x : ℕ)
       → Has (sub_at (flow_typing (flow_program table typed)) n).formals x → is_formal (flow_typing (flow_program table typed)) x ≡ true
-      → is_view_formal (flow_typing (flow_program table typed)) x ≡ false
+      → is_view_formal (flow_typing (flow_program table typed)) x ≡ true → is_named_access (view_of (flow_typing (flow_program table typed)) x) ≡ true
   pub copied : (sub : FlowSub) → Has (flow_program table typed).subs sub → (p : FlowPoint) → Has sub.points p → (n : ℕ) (actuals : TypedTree)
       (result : Option ℕ) → p.instr ≡ Call n actuals result
       → ((x : ℕ) → Has (sub_of (flow_program table typed) n).formals x → is_formal (flow_typing (flow_program table typed)) x ≡ true)
