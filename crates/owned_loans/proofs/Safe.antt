@@ -9,10 +9,12 @@ use Rattle.place_names.specs.declared.rule.Loan.TheVariants.{Borrowed, Observed}
 use Rattle.place_names.specs.declared.fact.Fact.{Fact}
 use Rattle.place_names.specs.declared.fact.Fact.TheVariants.{Moved, Lent}
 use Rattle.place_names.specs.Names.{Name, overlaps, leads_to}
+use Rattle.place_names.proofs.Names.{overlaps-sym}
 use Rattle.owned_ways.specs.Ways.{OfVariable, OfRoot, Way, Object, Lost, Into, All, View, Under, Past, Named, IsMoved, base_of, name_of, number_of, sels_of, sel_of}
 use Rattle.owned_ways.proofs.Locations.{past_under, not_past, under_itself}
 use Rattle.owned_ways.proofs.Named.{longer, under_leads}
 use Rattle.owned_loans.specs.Views.{Views, expand, expand_root, IsMovedBy, AreClear, HasLoan, IsView, IsPassed, AreViews}
+use Rattle.owned_loans.proofs.Clear.{overlaps_whole}
 use Rattle.owned_loans.proofs.Ways.{Meet, lifted_way, on_under, meets_on, meets_front, beginnings, under_on, meet_overlaps, Lifted, next_of}
 use Rattle.owned_loans.proofs.Meeting.{IsPlain, next, not_foreign, off_seen, stands, Lends, Beside, Both, meeting}
 
@@ -60,6 +62,24 @@ Unborrowed facts u = (h : ℕ) (n : Name) → Has facts (Lent Borrowed h n) → 
 -- No name that was moved does.
 abbrev pub Unmoved : List Fact → Way → Type 0
 Unmoved facts u = (n : Name) → Has facts (Moved n) → overlaps n (name_of u) ≡ true → ⊥
+
+-- What overlaps what a name designates overlaps the name.
+designated_over : (n : Name) (u : Way) → overlaps n (name_of (All u)) ≡ true → overlaps n (name_of u) ≡ true
+designated_over n u e = overlaps_whole (name_of u) n (Deref ∷ []) (overlaps-sym (name_of (All u)) n ∙ e)
+
+pub unlent_below : (facts : List Fact) (u : Way) → Unlent facts u → Unlent facts (All u)
+unlent_below facts u unlent l h n has over = unlent l h n has (designated_over n u over)
+
+pub unborrowed_below : (facts : List Fact) (u : Way) → Unborrowed facts u → Unborrowed facts (All u)
+unborrowed_below facts u unborrowed h n has over = unborrowed h n has (designated_over n u over)
+
+pub unmoved_below : (facts : List Fact) (u : Way) → Unmoved facts u → Unmoved facts (All u)
+unmoved_below facts u unmoved n has over = unmoved n has (designated_over n u over)
+
+pub over_below : (u y : Way) → overlaps (name_of (All u)) (name_of (All y)) ≡ true → overlaps (name_of u) (name_of y) ≡ true
+over_below u y e =
+    overlaps-sym (name_of u) (name_of y)
+    ∙ designated_over (name_of y) u (overlaps-sym (name_of y) (name_of (All u)) ∙ designated_over (name_of (All u)) y e)
 
 module _ (home : ℕ → ℕ) (observer : ℕ → Bool) (v : Views) (s : View) (facts : List Fact) (views : AreViews home observer v s facts)
     (clear : AreClear observer facts) where
@@ -212,6 +232,29 @@ module _ (home : ℕ → ℕ) (observer : ℕ → Bool) (v : Views) (s : View) (
     | inl view ↦ seen_below_own u w l view named is under moved
     | inr passed ↦ foreign_off u w l passed is (inr under) moved
   ]
+
+  -- names that don't overlap, of which no part is borrowed, stand for ways that don't meet
+  apart_above : (u y : Way) → IsName u → IsName y → Unborrowed facts u → Unborrowed facts y → (overlaps (name_of u) (name_of y) ≡ true → ⊥)
+      → Under (expand v u) (expand v y) → ⊥
+  apart_above u y pu py free_u free_y apart under =
+      elim (meeting home observer v s facts views u y pu py under) [
+        | inl above ↦ apart (meet_overlaps u y (inl above))
+        | inr more ↦ elim more [
+          | inl a ↦ free_y a.object (name_of (v.loan a.object)) (loan_of a.object a.lends)
+              (meet_overlaps (v.loan a.object) y (inl (under_on (v.loan a.object) a.name y a.loan a.begins)))
+          | inr more ↦ elim more [
+            | inl b ↦ free_u b.object (name_of (v.loan b.object)) (loan_of b.object b.lends)
+                (meet_overlaps (v.loan b.object) u (elim b.meets [ inl z ↦ inr z | inr z ↦ inl z ]))
+            | inr c ↦ no_both c
+          ]
+        ]
+      ]
+
+  pub apart_names : (u y : Way) → IsName u → IsName y → Unborrowed facts u → Unborrowed facts y → (overlaps (name_of u) (name_of y) ≡ true → ⊥)
+      → Meet (expand v u) (expand v y) → ⊥
+  apart_names u y pu py free_u free_y apart (inl under) = apart_above u y pu py free_u free_y apart under
+  apart_names u y pu py free_u free_y apart (inr under) =
+      apart_above y u py pu free_y free_u (λ over. apart (overlaps-sym (name_of u) (name_of y) ∙ over)) under
 
   abbrev own_name : ℕ → Way
   own_name x = All (Object (OfVariable (home x) x))

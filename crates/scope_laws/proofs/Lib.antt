@@ -4,6 +4,8 @@ pub mod Lists
 pub mod Successors
 -- objects and scopes
 pub mod Ordered
+-- what is in scope
+pub mod Within
 pub mod Seen
 -- temporaries in scope, and what is so beside them
 pub mod Supplied

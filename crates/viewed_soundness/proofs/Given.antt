@@ -1,17 +1,19 @@
 -- What a formal that owns nothing sees: what its actual designates, in a frame of its own. Nothing that
 -- was moved meets its way, and it is foreign there.
-use Rattle.std.proofs.Common.{◌≡◌, refl, sym, ap, ◌∙◌, subst, ◌⊎◌, inl, inr, ℕ, suc, ◌<◌, Bool, true, false, List, arith, if◌then◌else◌}
+use Rattle.std.proofs.Common.{◌≡◌, refl, sym, ap, ◌∙◌, subst, ◌⊎◌, inl, inr, ℕ, suc, ◌<◌, Bool, true, false, List, Some, arith, if◌then◌else◌}
 use Rattle.place_names.specs.declared.fact.Fact.{Fact}
 use Rattle.flow_paths.specs.Objects.{Typing, is_package_object}
-use Rattle.owned_ways.specs.Ways.{Way, All, View, Under, Named, number_of}
+use Rattle.owned_ways.specs.Ways.{Way, All, View, Under, Past, Named, number_of, name_of}
 use Rattle.owned_ways.proofs.Dropped.{named_base}
 use Rattle.owned_ways.proofs.Locations.{under_itself}
 use Rattle.soundness.specs.Seen.{IsNear, home}
 use Rattle.owned_loans.specs.Views.{on, Around, Views, expand, ExcusedBy, IsForeign, Viewed}
-use Rattle.owned_loans.proofs.Ways.{meets_front, beginnings, under_on, on_under, Lifted, lifted_way, next_of}
+use Rattle.owned_loans.proofs.Ways.{Meet, meets_front, beginnings, under_on, on_under, Lifted, lifted_way, next_of}
 use Rattle.owned_loans.proofs.Meeting.{next}
+use Rattle.place_names.specs.Names.{overlaps}
+use Rattle.owned_loans.proofs.Safe.{Unlent, Unborrowed, unlent_below, unborrowed_below, unmoved_below, over_below, apart_names, off_view}
 use Rattle.owned_loans.proofs.Allowed.{Cleared, cleared_whole}
-use Rattle.owned_loans.proofs.Others.{above_away, clean_away, seen_above_away, seen_away_below}
+use Rattle.owned_loans.proofs.Others.{off_kept, above_away, clean_away, seen_above_away, seen_away_below}
 use Rattle.owned_loans.proofs.Moves.{IsPlace}
 use Rattle.viewed_soundness.specs.Holds.{sees_only}
 use Rattle.viewed_soundness.proofs.Spared.{gone_off}
@@ -40,6 +42,21 @@ module _ (s : Typing) (frame : ℕ) (other : Around (home s frame)) (v : Views) 
       by_case (inl away) (inl (inr above)) =
           above_away (home s frame) (sees_only s) other v view facts viewed u z (named, plain) (cleared_whole facts u clear) above away
 
+  -- by the way of what is designated, of a formal itself, too
+  pub lent_whole : (u : Way) → Named (home s frame) u → sees_only s (number_of u) ≡ false → Cleared facts u
+      → (z : Way) → ExcusedBy (home s frame) v other facts z → Meets z (expand v (All u)) → ⊥
+  lent_whole u named plain clear z excused meets = by_case excused meets
+    where
+      clear_below : Cleared facts (All u)
+      clear_below = (unborrowed_below facts u clear.0, unmoved_below facts u clear.1)
+
+      by_case : ExcusedBy (home s frame) v other facts z → Meets z (expand v (All u)) → ⊥
+      by_case (inr gone) met = gone_off s frame other v view facts viewed alone (All u) z named plain met gone
+      by_case (inl away) (inr below) =
+          clean_away (home s frame) (sees_only s) other v view facts viewed (All u) z (named, plain) clear_below.0 clear_below.1 below away
+      by_case (inl away) (inl above) =
+          above_away (home s frame) (sees_only s) other v view facts viewed (All u) z (named, plain) (cleared_whole facts (All u) clear_below) above away
+
   -- through an observer or another formal
   pub seen_whole : (u : Way) → Named (home s frame) u → (l : Lifted v (All u)) → sees_only s l.object ≡ true
       → (z : Way) → ExcusedBy (home s frame) v other facts z → Meets z (expand v (All u)) → ⊥
@@ -58,11 +75,31 @@ module _ (s : Typing) (frame : ℕ) (other : Around (home s frame)) (v : Views) 
       nearer (inl above) = beginnings z l.way (on l.way l.rest) above (on_under l.way l.rest)
       nearer (inr below) = inr (under_on l.way (on l.way l.rest) z (on_under l.way l.rest) below)
 
+-- What a formal changes: nothing of it is lent, so no view of the frame goes past it, and none of others; and
+-- what names designate that don't overlap doesn't meet.
+module _ (s : Typing) (frame : ℕ) (other : Around (home s frame)) (v : Views) (view : View) (facts : List Fact)
+    (viewed : Viewed (home s frame) (sees_only s) other v view facts) where
+  pub lent_past : (u : Way) → Named (home s frame) u → sees_only s (number_of u) ≡ false → Unlent facts u
+      → (x : ℕ) (w : Way) → v.way x ≡ Some w → Past (expand v (All u)) w → ⊥
+  lent_past u named plain unlent x w has past =
+      off_view (home s frame) (sees_only s) v view facts viewed.views viewed.clear (All u) x w (named, plain) (unlent_below facts u unlent) has past
+
+  pub lent_far : (u : Way) → Named (home s frame) u → sees_only s (number_of u) ≡ false → Unlent facts u
+      → (w : Way) (n : ℕ) → other.kept w n → Past (expand v (All u)) w → ⊥
+  lent_far u named plain unlent w n keeps past =
+      off_kept (home s frame) (sees_only s) other v view facts viewed (All u) w n (named, plain) (unlent_below facts u unlent) keeps past
+
+  pub lent_apart : (u y : Way) → Named (home s frame) u → Named (home s frame) y → sees_only s (number_of u) ≡ false → sees_only s (number_of y) ≡ false
+      → Unborrowed facts u → Unborrowed facts y → (overlaps (name_of u) (name_of y) ≡ true → ⊥) → Meet (expand v (All u)) (expand v (All y)) → ⊥
+  lent_apart u y named named_y plain plain_y free free_y apart meets =
+      apart_names (home s frame) (sees_only s) v view facts viewed.views viewed.clear (All u) (All y) (named, plain) (named_y, plain_y)
+      (unborrowed_below facts u free) (unborrowed_below facts y free_y) (λ over. apart (over_below u y over)) meets
+
 -- A way of a frame that begins at none of its package objects, or one that is foreign there and begins
 -- below the next frame, is foreign in the next frame.
 abbrev pub IsLow : Typing → ℕ → Way → Type 0
 IsLow s frame w =
-    (Named (home s frame) w × (is_package_object s (number_of w) ≡ false)) ⊎ ((foreign : IsForeign (home s frame) w) × (foreign.0 < suc frame))
+    (Named (home s frame) w × (is_package_object s (number_of w) ≡ false)) ⊎ ((foreign : IsForeign (home s frame) w) × (foreign.0 < suc frame) × (0 < foreign.0))
 
 pub foreign_there : (s : Typing) (frame : ℕ) (w : Way) → IsLow s frame w → IsForeign (home s (suc frame)) w
 foreign_there s frame w (inl (named, own)) = (
@@ -73,7 +110,7 @@ foreign_there s frame w (inl (named, own)) = (
       let here : home s frame (number_of w) ≡ frame = ap (λ b. if b then 0 else frame) own in
       let there : home s (suc frame) (number_of w) ≡ suc frame = ap (λ b. if b then 0 else suc frame) own in omega (arith, e, here, there)),
 )
-foreign_there s frame w (inr (foreign, low)) = (foreign.0, foreign.1, foreign.2, λ e. by_kind (is_package_object s foreign.1) refl e)
+foreign_there s frame w (inr (foreign, low, some)) = (foreign.0, foreign.1, foreign.2, λ e. by_kind (is_package_object s foreign.1) refl e)
   where
     by_kind : (b : Bool) → is_package_object s foreign.1 ≡ b → foreign.0 ≡ home s (suc frame) foreign.1 → ⊥
     by_kind true shared e =
@@ -82,8 +119,8 @@ foreign_there s frame w (inr (foreign, low)) = (foreign.0, foreign.1, foreign.2,
         (let there : home s (suc frame) foreign.1 ≡ suc frame = ap (λ b. if b then 0 else suc frame) own in omega (arith, low, e, there))
 
 -- and it is low there again
-pub low_there : (s : Typing) (frame : ℕ) (w : Way) (low : IsLow s frame w) → (foreign_there s frame w low).0 < suc frame
+pub low_there : (s : Typing) (frame : ℕ) (w : Way) → 0 < frame → (low : IsLow s frame w) → ((foreign_there s frame w low).0 < suc frame) × (0 < (foreign_there s frame w low).0)
 unfolding foreign_there
-low_there s frame w (inl (named, own)) =
-    (let here : home s frame (number_of w) ≡ frame = ap (λ b. if b then 0 else frame) own in omega (arith, here))
-low_there s frame w (inr (foreign, low)) = low
+low_there s frame w deep (inl (named, own)) =
+    (let here : home s frame (number_of w) ≡ frame = ap (λ b. if b then 0 else frame) own in (omega (arith, here), omega (arith, here, deep)))
+low_there s frame w deep (inr (foreign, low, some)) = (low, some)

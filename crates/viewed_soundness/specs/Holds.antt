@@ -2,9 +2,11 @@
 -- be those of views.
 use Rattle.std.specs.Prelude.{◌≡◌, ℕ, Bool, true, false, not, ◌&&◌, ◌||◌, ◌==◌, List, [], ◌∷◌, Some, get_or, is_some}
 use Rattle.std.specs.List.{list_any}
-use Rattle.place_names.specs.Names.{Name}
+use Rattle.place_names.specs.declared.selector.Sel.TheVariants.{Deref}
+use Rattle.place_names.specs.declared.act.Mode.TheVariants.{In}
+use Rattle.place_names.specs.Names.{Name, extend}
 use Rattle.place_names.specs.declared.act.Act.{Act}
-use Rattle.place_names.specs.declared.act.Act.TheVariants.{Move, Write, Free}
+use Rattle.place_names.specs.declared.act.Act.TheVariants.{Move, Write, Free, Actual}
 use Rattle.type_definitions.specs.declared.table.Shape.TheVariants as shape
 use Rattle.type_definitions.specs.Types.{Table, shape_of, is_nil}
 use Rattle.flow_paths.specs.Acts.{gives_variable}
@@ -81,11 +83,12 @@ pub record Holds (s : Typing) (frame : ℕ) (v : Views) (m : Memory) : Type 0 wh
   pub access : (x : ℕ) → is_view s x ≡ true → IsAccess s x
   pub own : (x : ℕ) (w : Way) → v.way x ≡ Some w → sees_only s x ≡ false → is_given s x ≡ false → Named (home s frame) (v.up x)
 
--- What is moved, written or freed isn't fixed.
+-- What is moved, written or freed isn't fixed, nor is what is designated by what is lent.
 abbrev pub KeepsObserved : (Name → Bool) → Act → Type 0
 KeepsObserved fixed (Move m parts) = fixed m ≡ false
 KeepsObserved fixed (Write m) = fixed m ≡ false
 KeepsObserved fixed (Free m) = fixed m ≡ false
+KeepsObserved fixed (Actual m In owning true) = fixed (extend m (Deref ∷ [])) ≡ false
 KeepsObserved fixed _ = Unit {0}
 
 abbrev pub AllKeep : (Name → Bool) → List Act → Type 0

@@ -1,5 +1,5 @@
 -- The end of a call leads on, in the frame below.
-use Rattle.std.proofs.Common.{◌≡◌, refl, sym, ap, ◌∙◌, subst, ◌⊎◌, inl, inr, ℕ, suc, ◌<◌, ◌≤◌, Bool, true, false, ◌||◌, ◌==◌, eq-eqb, List, [], ◌∷◌, ◌++◌, length, get_or, arith, Option, Some, None, if◌then◌else◌}
+use Rattle.std.proofs.Common.{◌≡◌, refl, sym, ap, ◌∙◌, subst, ◌⊎◌, inl, inr, ℕ, suc, ◌<◌, ◌≤◌, Bool, true, false, ◌||◌, ◌==◌, eq-eqb, List, [], ◌∷◌, ◌++◌, length, get_or, arith, Option, Some, None, if◌then◌else◌, not}
 use Rattle.std.proofs.Math.Nat.{eq-or-lt_of_le}
 use Rattle.std.specs.Prelude.{is_some}
 use Rattle.spark_base.specs.Lists.{Has}
@@ -13,7 +13,7 @@ use Rattle.typed_tree.specs.declared.object.ObjectKind.TheVariants as object_kin
 use Rattle.typed_tree.specs.Programs.{TypedProgram}
 use Rattle.flow_paths.specs.declared.report.Effects.{Effects}
 use Rattle.flow_paths.specs.Instructions.{Instruction, Call, Finish}
-use Rattle.flow_paths.specs.Objects.{Typing, object_at, is_anonymous, is_package_object, is_formal_kind, view_of, Signature, sub_at, is_formal}
+use Rattle.flow_paths.specs.Objects.{Typing, object_at, is_anonymous, is_package_object, is_formal_kind, view_of, Signature, sub_at, is_formal, is_observer}
 use Rattle.flow_paths.specs.Points.{NamedPoint}
 use Rattle.flow_paths.specs.Laid.{FlowProgram, NamedSub, typing_of, flow_typing, flow_program, flow_named, FlowSub}
 use Rattle.flow_paths.specs.Paths.{ControlPath}
@@ -32,7 +32,7 @@ use Rattle.owned_ways.specs.Ways as ways
 use Rattle.soundness.specs.Seen.{content, word_in, seen, home, is_view_formal}
 use Rattle.soundness.specs.Typed.{Kept}
 use Rattle.soundness.specs.Sound.{Stage, facts_of, AreStages, IsRunnable, is_temporary_object, has_returned, InScope, IsNamedSub, IsAtPoint, view_of as view_here}
-use Rattle.soundness.proofs.Contents.{bool_cases, word_no}
+use Rattle.soundness.proofs.Contents.{bool_cases, word_no, word_dead}
 use Rattle.soundness.proofs.Steps.{no_leaf}
 use Rattle.soundness.proofs.Typings.{package_same, formal_same}
 use Rattle.soundness.proofs.Around.{same_or_not}
@@ -40,7 +40,7 @@ use Rattle.soundness.proofs.Returning.{returned_kept, left_same, left_held, retu
 use Rattle.owned_loans.specs.Views.{known_gone, Views, IsMovedBy, IsForeign, Viewed, ExcusedBy, Around, IsAway}
 use Rattle.owned_loans.proofs.Moves.{view_on, reached}
 use Rattle.owned_loans.proofs.Ended.{stands_itself}
-use Rattle.viewed_soundness.proofs.Names.{both_no, true_false}
+use Rattle.viewed_soundness.proofs.Names.{both_no, neither, true_false}
 use Rattle.viewed_soundness.proofs.Outcomes.{named_plain}
 use Rattle.viewed_steps.specs.Awaited.{AreFor, AreValues, temporaries_of, lasting_of, awaited, AreAwaited}
 use Rattle.viewed_steps.proofs.Waited.{others_only, lasting_within}
@@ -168,7 +168,12 @@ module _ (table : Table) (typed : TypedProgram) (effects : Effects) (input : Lis
       | inr mine ↦ (
           let own_formal = ready.passing.finishes named named_there p point_there_now is x (lasting_within s x p.scope mine.1).0 in
           elim ((running.1).0 x (subst (λ z. Has z x) (sym formals_are) own_formal)) [
-            | inr copied ↦ copied
+            | inr other_kind ↦ elim other_kind [
+              | inl copied ↦ copied
+              | inr shown ↦ (
+                  let none = word_dead s.table (content s state.memory [] (OfRoot (OfVariable depth x))) q (ap not shown) in
+                  let no_number : ways.Empty ≡ Held n = sym none ∙ held in cc)
+            ]
             | inl plain_type ↦ (
                 let none = word_no s.table (content s state.memory [] (OfRoot (OfVariable depth x))) q
                 (no_leaf s.table ready.accepted.settled (object_at s x).of plain_type q) in
@@ -215,20 +220,14 @@ module _ (table : Table) (typed : TypedProgram) (effects : Effects) (input : Lis
             ap (λ z. if z then None else (sub_of program top.frame.sub).result)
             ((ready.returning top.frame.sub (running.0).entered (ap is_some e) top.before top.frame.next path).1 (instr_there ∙ is))
 
-    -- no view has a way then
-    no_view_left : p.instr ≡ Finish → (x : ℕ) → views.way x ≡ None
-    no_view_left is x = by_way (views.way x) refl
+    -- no view but a formal has a way then
+    pub no_view_left : p.instr ≡ Finish → (x : ℕ) → is_formal s x ≡ false → views.way x ≡ None
+    no_view_left is x no_formal = by_way (views.way x) refl
       where
-        named_formal : IsKindOfFormal s x → IsNamed s.table (object_at s x).of
-        named_formal (inl plain_type) = scalar_named s.table (object_at s x).of plain_type
-        named_formal (inr (in_out, own_type)) = own_type
-
         by_way : (o : Option Way) → views.way x ≡ o → views.way x ≡ None
         by_way None e = e
         by_way (Some w) e =
-            let formal = ready.scoped.finishes named named_there p point_there_now is x (placed x w e).within in
-            absurd (true_false (is_view s x) (holds.only x w e)
-            (both_no (is_anonymous (view_of s x)) (is_view_formal s x) (named_plain s.table (object_at s x).of (named_formal (ready.class.formals x formal))) (standing.no_in_formals table typed effects input ready x)))
+            absurd (true_false (is_formal s x) (ready.scoped.finishes named named_there p point_there_now is x (placed x w e).within) no_formal)
 
     -- no part of a formal or package object is moved then
     whole_roots : p.instr ≡ Finish → (name : PlaceName) → Has own_facts (Moved name) → is_formal s name.root || is_package_object s name.root ≡ true → ⊥
@@ -313,20 +312,21 @@ module _ (table : Table) (typed : TypedProgram) (effects : Effects) (input : Lis
         | inr (g, inl same_stage, inl moved) ↦ inl (inl (subst (λ (z : ViewStage). IsMovedBy (home s z.stage.depth) z.views (facts_of program effects z.stage) w) (sym same_stage) moved))
         | inr (g, inl same_stage, inr taken) ↦ inr (inr (inl (subst (λ (z : ViewStage). TakenBy z.stage.returns w) (sym same_stage) taken)))
         | inr (g, inr has, what) ↦ inr (inl (g, has, what))
-        | inl (inl (u, moved, leads)) ↦ (
-            let same_way : u ≡ w =
-            sym (stands_itself (home s depth) (sees_only s) (known_gone (home s depth) (λ z. ⊥)) views u moved.0 (no_view_left is (number_of u))) ∙ leads in
-            elim (bool_cases (is_formal s (number_of u) || is_package_object s (number_of u))) [
-              | inl shared ↦ absurd (whole_roots is (ways.name_of u) moved.1 shared)
-              | inr neither ↦ inr (inr (inr (
+        | inl (inl (u, moved, leads)) ↦ elim (bool_cases (is_formal s (number_of u) || is_package_object s (number_of u))) [
+          | inl shared ↦ absurd (whole_roots is (ways.name_of u) moved.1 shared)
+          | inr neither ↦ (
+              let same_way : u ≡ w =
+              sym (stands_itself (home s depth) (sees_only s) (known_gone (home s depth) (λ z. ⊥)) views u moved.0
+                  (no_view_left is (number_of u) (first (is_formal s (number_of u)) (is_package_object s (number_of u)) neither))) ∙ leads in
+              inr (inr (inr (
                 number_of w,
                 own_base w (subst (ways.Named (home s depth)) same_way moved.0)
                     (second (is_formal s (number_of w)) (is_package_object s (number_of w)) (ap (λ z. is_formal s (number_of z) || is_package_object s (number_of z)) (sym same_way) ∙ neither)),
                 λ r has formal. true_false (is_formal s r.formal) ((running.1).1 r has)
                     (ap (is_formal s) formal
                     ∙ first (is_formal s (number_of w)) (is_package_object s (number_of w)) (ap (λ z. is_formal s (number_of z) || is_package_object s (number_of z)) (sym same_way) ∙ neither)),
-              )))
-            ])
+              ))))
+        ]
       ]
         where
           first : (a b : Bool) → a || b ≡ false → a ≡ false

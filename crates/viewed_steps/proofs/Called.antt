@@ -1,6 +1,6 @@
 -- Calls: what the actuals are, and how they are passed. Each is a value of one word, a scalar place in a
 -- variable, or another place in a variable of the caller.
-use Rattle.std.proofs.Common.{◌≡◌, refl, ◌&&◌, ◌||◌, not, is_some, sym, ap, ◌∙◌, subst, ◌⊎◌, inl, inr, ℕ, append-nil, Bool, true, false, List, [], ◌∷◌, ◌++◌, map, Option, Some, None, if◌then◌else◌}
+use Rattle.std.proofs.Common.{◌≡◌, refl, ◌&&◌, ◌||◌, not, is_some, sym, ap, ◌∙◌, subst, ◌⊎◌, inl, inr, ℕ, append-nil, Bool, true, false, List, [], ◌∷◌, ◌++◌, map, Option, Some, None, if◌then◌else◌, arith, ◌<◌}
 use Rattle.spark_base.specs.Lists.{Has}
 use Rattle.spark_base.proofs.Lists.{Has-append_cases, Has-append_left, Has-append_right}
 use Rattle.spark_base.specs.declared.position.Pos.{Pos}
@@ -12,7 +12,7 @@ use Rattle.place_names.specs.declared.act.Placed.{Placed}
 use Rattle.place_names.specs.declared.fact.Fact.{Fact}
 use Rattle.place_names.specs.Names.{Name as PlaceName}
 use Rattle.place_names.specs.Facts.{adds, effect}
-use Rattle.type_definitions.specs.Types.{full, is_scalar, is_owning, parts}
+use Rattle.type_definitions.specs.Types.{shape_of, full, is_scalar, is_owning, parts}
 use Rattle.typed_tree.specs.Trees.{TypedTree, Number, Literal, Text, Name, Component as IntoComponent, Designated, Element, Call, EndOfFile, Parens, Image, Unary, Binary, Short, IsNull, Aggregate, Alike, New, NoMore, More}
 use Rattle.typed_tree.specs.Trees as typed
 use Rattle.flow_paths.specs.Objects.{Typing, Signature, object_at, sub_at, is_anonymous, is_observer, is_named_access, is_package_object, view_of, traverses, first_traversed, Passing, ByValue, passing, passing_by, passings}
@@ -52,12 +52,14 @@ use Rattle.owned_loans.proofs.Moves.{IsPlace, expand_along, reached}
 use Rattle.owned_loans.proofs.Meeting.{stands_base}
 use Rattle.owned_loans.proofs.Ended.{stands_itself}
 use Rattle.viewed_soundness.specs.Holds.{IsNamed, PartsAreNamed, Holds, sees_only, is_view, IsOwners}
-use Rattle.viewed_soundness.proofs.Names.{true_false, is_place}
+use Rattle.viewed_soundness.proofs.Names.{Starts, true_false, no_parts_in, plain_named, is_place}
 use Rattle.viewed_soundness.proofs.Stays.{Goes as GoesAlong, taking, steps_taking, name_quiet}
 use Rattle.viewed_soundness.proofs.Evaluated.{matches_named}
 use Rattle.viewed_steps.specs.Taken.{Lodge}
-use Rattle.viewed_steps.specs.Sound.{IsScalarObject, IsKindOfFormal}
-use Rattle.viewed_steps.specs.Ready.{IsOwnPlace, IsActualTo, AreActualsTo}
+use Rattle.viewed_steps.specs.Sound.{IsScalarObject, IsShown, IsKindOfFormal}
+use Rattle.viewed_steps.specs.Ready.{IsOwnPlace, IsSeen, IsActualTo, AreActualsTo}
+use Rattle.viewed_steps.proofs.Views.{AreAccess, formal_view, scalar_no_view}
+use Rattle.viewed_steps.proofs.Seeing.{IsSeenAs, IsClear, AreClear, seen_given}
 use Rattle.viewed_steps.proofs.Read.{scalar_named}
 use Rattle.viewed_steps.proofs.Between.{gone_also, number_under, base_along}
 use Rattle.viewed_steps.proofs.Lodged.{spot_lodged}
@@ -65,8 +67,8 @@ use Rattle.viewed_steps.proofs.Aside.{cell_name}
 use Rattle.viewed_steps.proofs.Emptied.{out_left, taken_back}
 use Rattle.viewed_steps.proofs.Outs.{Out, IsUnderOne}
 use Rattle.viewed_steps.proofs.Direct.{IsDirect, steps_direct, past_none, direct_leads, direct_itself, IsIn, walked_in, both_quiet, direct_part, part_reached}
-use Rattle.viewed_steps.proofs.LaidOut.{IsOwnPut, IsPlainAt, IsPlaceLaid, IsLaidOne, AreLaidOut, own_out, place_out, out_of, outs_of, IsOpenActual, AreOpenActuals}
-use Rattle.viewed_steps.proofs.Entered.{inside_plain, inside_named, inside_number}
+use Rattle.viewed_steps.proofs.LaidOut.{IsValueLaid, IsOwnPut, IsPlainAt, IsPlaceLaid, IsLaidOne, AreLaidOut, own_out, place_out, out_of, outs_of, IsOpenActual, AreOpenActuals}
+use Rattle.viewed_steps.proofs.Entered.{inside_plain, inside_named, inside_number, IsTyped}
 use Rattle.viewed_steps.proofs.Released.{nothing_written}
 use Rattle.viewed_steps.proofs.Lent.{ends, Spare, spare_both, spare_naming}
 
@@ -142,62 +144,59 @@ module _ (s : Typing) (own_law : OwnsByShape s.table) where
 
 -- ---- how actuals are passed to a procedure
 
--- By the mode: those of mode `in` by value.
-abbrev pub ByModeFor : Mode → Bool → Type 0
-ByModeFor m owning = m ≡ mode.In → owning ≡ false
-
 module _ (s : Typing) (own_law : OwnsByShape s.table) (procedure : Bool) where
   abbrev pub way_to : ℕ → Passing
   way_to x = passing s procedure x
 
-  -- a formal of mode `in` is of a scalar type
-  pub in_plain : (x : ℕ) → IsKindOfFormal s x → ByModeFor (object_at s x).mode (is_owning s.table (object_at s x).of)
-  in_plain x (inl plain) is = plain_type s own_law (object_at s x).of plain
-  in_plain x (inr (back, own)) is = absurd (back is)
+  abbrev pub owning_of : ℕ → Bool
+  owning_of x = is_owning s.table (object_at s x).of
 
-  abbrev pub head_of : Mode → TypedTree → List Placed
-  head_of mode.In e = acts_in s e
-  head_of m e = index_acts s e
+  -- Those of mode `in` are evaluated where the formal owns nothing of them by its type; of others the indexes are.
+  abbrev pub head_of : Mode → Bool → TypedTree → List Placed
+  head_of mode.In false e = acts_in s e
+  head_of m owning e = index_acts s e
 
-  head_is : (m : Mode) (owning access : Bool) → ByModeFor m owning → (e : TypedTree) (ways : List Passing) (rest : TypedTree)
-      → actual_values s (passing_by m owning access ∷ ways) (More e rest) ≡ head_of m e ++ actual_values s ways rest
-  head_is mode.In owning access fits e ways rest =
-      ap (λ b. actual_values s ((if b then objects.Place mode.In b access else ByValue) ∷ ways) (More e rest)) (fits refl)
-  head_is mode.Out owning access fits e ways rest = refl
-  head_is mode.InOut owning access fits e ways rest = refl
+  head_is : (m : Mode) (owning access : Bool) → (e : TypedTree) (ways : List Passing) (rest : TypedTree)
+      → actual_values s (passing_by m owning access ∷ ways) (More e rest) ≡ head_of m owning e ++ actual_values s ways rest
+  head_is mode.In false access e ways rest = refl
+  head_is mode.In true access e ways rest = refl
+  head_is mode.Out owning access e ways rest = refl
+  head_is mode.InOut owning access e ways rest = refl
 
-  pub head_values_are : (x : ℕ) → IsKindOfFormal s x → (e : TypedTree) (ways : List Passing) (rest : TypedTree)
-      → actual_values s (way_to x ∷ ways) (More e rest) ≡ head_of (object_at s x).mode e ++ actual_values s ways rest
-  head_values_are x kind e ways rest =
-      head_is (object_at s x).mode (is_owning s.table (object_at s x).of) (procedure && is_named_access (view_of s x)) (in_plain x kind) e ways rest
+  pub head_values_are : (x : ℕ) → (e : TypedTree) (ways : List Passing) (rest : TypedTree)
+      → actual_values s (way_to x ∷ ways) (More e rest) ≡ head_of (object_at s x).mode (owning_of x) e ++ actual_values s ways rest
+  head_values_are x e ways rest = head_is (object_at s x).mode (owning_of x) (procedure && is_named_access (view_of s x)) e ways rest
 
-  pub head_of_reads : (x : ℕ) (m : Mode) (e : TypedTree) → IsActualTo s x m e → AreReads (head_of m e)
-  head_of_reads x mode.In e stays = reads_in s own_law e stays
-  head_of_reads x mode.Out e place = index_reads s own_law e place.0 place.1
-  head_of_reads x mode.InOut e place = index_reads s own_law e place.0 place.1
+  seen_reads : (x : ℕ) (e : TypedTree) → IsSeen s x e → AreReads (index_acts s e)
+  seen_reads x typed.Null seen = no_reads
+  seen_reads x (Name p y path u) seen = index_reads s own_law (Name p y path u) u (seen.0, refl)
+  seen_reads x e seen = absurd seen
 
-  none_of : (m : Mode) (owning access : Bool) → ByModeFor m owning → (ways : List Passing) (actuals : TypedTree) → is_empty actuals ≡ true
+  pub head_of_reads : (x : ℕ) (m : Mode) (owning : Bool) (e : TypedTree) → owning_of x ≡ owning → IsActualTo s x m e → AreReads (head_of m owning e)
+  head_of_reads x mode.In false e is stays = reads_in s own_law e (stays.0 is)
+  head_of_reads x mode.In true e is stays = seen_reads x e (stays.1 is)
+  head_of_reads x mode.Out owning e is place = index_reads s own_law e place.0 place.1
+  head_of_reads x mode.InOut owning e is place = index_reads s own_law e place.0 place.1
+
+  none_of : (m : Mode) (owning access : Bool) (ways : List Passing) (actuals : TypedTree) → is_empty actuals ≡ true
       → AreReads (actual_values s (passing_by m owning access ∷ ways) actuals)
-  none_of mode.In owning access fits ways actuals none =
-      subst (λ b. AreReads (actual_values s ((if b then objects.Place mode.In b access else ByValue) ∷ ways) actuals)) (sym (fits refl)) (by_value ways actuals none)
-    where
-      by_value : (ways : List Passing) (actuals : TypedTree) → is_empty actuals ≡ true → AreReads (actual_values s (ByValue ∷ ways) actuals)
-      by_value ways (More e rest) none = cc
-      by_value ways actuals none = λ p has. absurd has
-  none_of mode.Out owning access fits ways (More e rest) none = cc
-  none_of mode.Out owning access fits ways actuals none = λ p has. absurd has
-  none_of mode.InOut owning access fits ways (More e rest) none = cc
-  none_of mode.InOut owning access fits ways actuals none = λ p has. absurd has
+  none_of mode.In false access ways (More e rest) none = cc
+  none_of mode.In false access ways actuals none = λ p has. absurd has
+  none_of mode.In true access ways (More e rest) none = cc
+  none_of mode.In true access ways actuals none = λ p has. absurd has
+  none_of mode.Out owning access ways (More e rest) none = cc
+  none_of mode.Out owning access ways actuals none = λ p has. absurd has
+  none_of mode.InOut owning access ways (More e rest) none = cc
+  none_of mode.InOut owning access ways actuals none = λ p has. absurd has
 
-  pub values_are_read : (formals : List ℕ) (actuals : TypedTree) → ((x : ℕ) → Has formals x → IsKindOfFormal s x) → AreActualsTo s formals actuals
-      → AreReads (actual_values s (map way_to formals) actuals)
-  values_are_read [] actuals kinds stay = λ p has. absurd has
-  values_are_read (x ∷ formals) (More e rest) kinds stay =
-      subst AreReads (sym (head_values_are x (kinds x (inl refl)) e (map way_to formals) rest))
-      (both_reads (head_of (object_at s x).mode e) (actual_values s (map way_to formals) rest)
-      (head_of_reads x (object_at s x).mode e stay.0) (values_are_read formals rest (λ y has. kinds y (inr has)) stay.1))
-  values_are_read (x ∷ formals) actuals kinds stay =
-      none_of (object_at s x).mode (is_owning s.table (object_at s x).of) (procedure && is_named_access (view_of s x)) (in_plain x (kinds x (inl refl))) (map way_to formals) actuals refl
+  pub values_are_read : (formals : List ℕ) (actuals : TypedTree) → AreActualsTo s formals actuals → AreReads (actual_values s (map way_to formals) actuals)
+  values_are_read [] actuals stay = λ p has. absurd has
+  values_are_read (x ∷ formals) (More e rest) stay =
+      subst AreReads (sym (head_values_are x e (map way_to formals) rest))
+      (both_reads (head_of (object_at s x).mode (owning_of x) e) (actual_values s (map way_to formals) rest)
+      (head_of_reads x (object_at s x).mode (owning_of x) e refl stay.0) (values_are_read formals rest stay.1))
+  values_are_read (x ∷ formals) actuals stay =
+      none_of (object_at s x).mode (owning_of x) (procedure && is_named_access (view_of s x)) (map way_to formals) actuals refl
 
   -- those of places that are copied back to add no fact, and end no scope
   copy_adds : (m : Mode) (owning access : Bool) (e : TypedTree) → AddNone (actual_act (passing_by m owning access) e)
@@ -215,11 +214,11 @@ module _ (s : Typing) (own_law : OwnsByShape s.table) (procedure : Bool) where
       ]
   copies_add (x ∷ formals) actuals p has f new = has
 
-  pub call_adds_none : (formals : List ℕ) (actuals : TypedTree) → ((x : ℕ) → Has formals x → IsKindOfFormal s x) → AreActualsTo s formals actuals
+  pub call_adds_none : (formals : List ℕ) (actuals : TypedTree) → AreActualsTo s formals actuals
       → AddNone (actual_values s (map way_to formals) actuals ++ actual_acts (map way_to formals) actuals)
-  call_adds_none formals actuals kinds stay p has f new =
+  call_adds_none formals actuals stay p has f new =
       elim (Has-append_cases (actual_values s (map way_to formals) actuals) (actual_acts (map way_to formals) actuals) p has) [
-        | inl l ↦ read_adds_none p (values_are_read formals actuals kinds stay p l) f new
+        | inl l ↦ read_adds_none p (values_are_read formals actuals stay p l) f new
         | inr r ↦ copies_add formals actuals p r f new
       ]
 
@@ -268,10 +267,12 @@ module _ (h : Here) (settled : IsSettled h.typing.table) (hands : List Waiting) 
     (holds : Holds h.typing h.frame v m)
     (alone : (w : Way) → IsNear h.frame w → other.gone w → ⊥)
     (live : (w : Way) (l : Loc) → IsOwners h.typing w → Reaches (seen h.typing m hands leaks) w l → (content h.typing m hands (trunk l)).owns ≡ true)
-    (no_formals : (x : ℕ) → is_view_formal h.typing x ≡ false)
+    (in_formals : AreAccess h.typing)
     (index_law : IndexLaw)
     (own_law : OwnsByShape h.typing.table)
-    (parts_named : PartsAreNamed h.typing.table) (procedure : Bool) where
+    (parts_named : PartsAreNamed h.typing.table)
+    (formals_low : (x : ℕ) (w : Way) → v.way x ≡ Some w → is_view_formal h.typing x ≡ true → (foreign : IsForeign (home h.typing h.frame) w) × (foreign.0 < h.frame) × (0 < foreign.0))
+    (procedure : Bool) where
   abbrev at : List (List machine.Word) → Now
   at ws = record { memory = m; waits = ws }
 
@@ -392,21 +393,40 @@ module _ (h : Here) (settled : IsSettled h.typing.table) (hands : List Waiting) 
   from_walked on p x u path w plain named called place itself (Raises e n) is base = is
   from_walked on p x u path w plain named called place itself (Traps t n) never base = absurd never
 
+  -- a name of a scalar place that goes through no access value isn't that of a formal of an access type
+  direct_owner : (x u : ℕ) (way : List run.Step) → is_scalar (full h.typing.table u) ≡ true → Starts h.typing.table (object_at h.typing x).of way u → IsDirect way
+      → is_view_formal h.typing x ≡ false
+  direct_owner x u way plain starts direct = by_kind (is_view_formal h.typing x) refl
+    where
+      by_steps : (way : List run.Step) → Starts h.typing.table (object_at h.typing x).of way u → IsDirect way → is_view_formal h.typing x ≡ true → ⊥
+      by_steps [] starts direct formal =
+          scalar_no_view h.typing in_formals x (subst (λ z. is_scalar (full h.typing.table z) ≡ true) (sym starts) plain) (formal_view h.typing x formal)
+      by_steps (run.ToComponent i ∷ way) (less, lead) direct formal =
+          let none = no_parts_in (shape_of h.typing.table (object_at h.typing x).of) (in_formals x formal).0 in absurd (omega (arith, none.0, less))
+      by_steps (run.ToElement n ∷ way) (less, lead) direct formal =
+          let none = no_parts_in (shape_of h.typing.table (object_at h.typing x).of) (in_formals x formal).0 in absurd (omega (arith, none.1, less))
+      by_steps (run.ToDesignated ∷ way) starts direct formal = direct
+
+      by_kind : (b : Bool) → is_view_formal h.typing x ≡ b → b ≡ false
+      by_kind false e = refl
+      by_kind true e = absurd (by_steps way starts direct e)
+
   walk_given : (on : List (List machine.Word)) (p : Pos) (x u : ℕ) (path : TypedTree) (way : List run.Step) → is_scalar (full h.typing.table u) ≡ true
       → GoesAlong h.typing.table (object_at h.typing x).of u path way → IsDirect way
       → Quiet (at on) (λ k. IsPut (Name p x path u) k) (walked h.typing way (variable_place h x) (at on))
   walk_given on p x u path way plain goes direct =
       let root : Way = Object (OfVariable (home h.typing h.frame x) x) in
+      let owner = direct_owner x u way plain goes.lead direct in
       let named : Named (home h.typing h.frame) (way_along way root) = named_along (home h.typing h.frame) way root refl in
       from_walked on p x u path (way_along way root) plain named
       (λ j. record { root = number_along way root j; sels = goes.sels root j })
       (is_place h.typing v (home h.typing h.frame x) x u way goes.lead (scalar_named h.typing.table u plain)
-      (λ formal none. true_false (is_view_formal h.typing x) formal (no_formals x)) holds.only)
+      (λ formal none. true_false (is_view_formal h.typing x) formal owner) holds.only)
       (direct_itself v way direct root refl)
       (walked h.typing way (variable_place h x) (at on))
       (walk h.typing settled hands leaks m on (ExcusedBy (home h.typing h.frame) v other facts) kept well.owned well.known live way (variable_place h x)
       (OfRoot (OfVariable (home h.typing h.frame x) x)) root u
-      (record { base = refl; made = tt; at = refl; there = refl; of = inl refl }) (no_formals x) refl (direct_leads h.typing.table (object_at h.typing x).of u way direct goes.lead)
+      (record { base = refl; made = tt; at = refl; there = refl; of = inl refl }) owner refl (direct_leads h.typing.table (object_at h.typing x).of u way direct goes.lead)
       (λ z past moved. past_none way direct root (λ y never. never) z past))
       (walked_in h.typing way direct (variable_place h x) (at on))
 
@@ -435,16 +455,18 @@ module _ (h : Here) (settled : IsSettled h.typing.table) (hands : List Waiting) 
       through_walked on p x u path (way_along way root) plain_there (named_along (home h.typing h.frame) way root refl) (number_along way root)
       (λ j. record { root = number_along way root j; sels = goes.sels root j })
       (is_place h.typing v (home h.typing h.frame x) x u way goes.lead (scalar_named h.typing.table u plain_there)
-      (λ formal none. true_false (is_view_formal h.typing x) formal (no_formals x)) holds.only) local sees
+      (λ formal none. scalar_no_view h.typing in_formals x
+      (subst (λ z. is_scalar (full h.typing.table z) ≡ true) (sym (subst (λ z. Starts h.typing.table (object_at h.typing x).of z u) none goes.lead)) plain_there)
+      (formal_view h.typing x formal)) holds.only) local sees
       (walked h.typing way (variable_place h x) (at on))
       (name_quiet h settled hands leaks m on other facts v kept well holds alone live index_law own_law parts_named x path u way goes opens))
   through_given before on e t place plain takes opens allowed = absurd place
 
   own_walked : (on : List (List machine.Word)) (p : Pos) (x y u : ℕ) (path : TypedTree) (q : List Step) (w : Way) → IsNamed h.typing.table u → Matches h.typing.table u (object_at h.typing x).of
-      → w ≡ along (Object (OfVariable (home h.typing h.frame y) y)) q
+      → is_view_formal h.typing y ≡ false → w ≡ along (Object (OfVariable (home h.typing h.frame y) y)) q
       → ways.name_of w ≡ name_of y path → (z : Evaluated Place) → Walked h.typing settled hands leaks m on w u z
       → IsIn (memory.OfVariable (home h.typing h.frame y) y) z → Quiet (at on) (λ k. IsOwnPut h.typing h.frame x (Name p y path u) k) z
-  own_walked on p x y u path q w own fits is called (Done k n) (l, same, spot, reaches, of) base =
+  own_walked on p x y u path q w own fits owner is called (Done k n) (l, same, spot, reaches, of) base =
       let root : Root = OfVariable (home h.typing h.frame y) y in
       let b : trunk l ≡ OfRoot root = spot.base ∙ ap loc_of base in
       let stands : l ≡ part (OfRoot root) q = part_reached (seen h.typing m hands leaks) root q l (subst (λ z. Reaches (seen h.typing m hands leaks) z l) is reaches) in
@@ -459,7 +481,7 @@ module _ (h : Here) (settled : IsSettled h.typing.table) (hands : List Waiting) 
             at_home = refl;
             way = is ∙ ap (along (Object (OfVariable (home h.typing h.frame y) y))) (sym steps_are);
             base = base;
-            owner = no_formals y;
+            owner = owner;
             there = ap (λ z. has_part h.typing.table (content h.typing m hands z).of (steps_in l)) (sym b) ∙ spot.there;
             at = spot.at ∙ ap (λ z. offset_in h.typing.table (content h.typing m hands z).of (steps_in l)) b;
             of = subst (λ z. Matches h.typing.table k.of (type_in h.typing.table (content h.typing m hands z).of (steps_in l))) b spot.of;
@@ -470,21 +492,21 @@ module _ (h : Here) (settled : IsSettled h.typing.table) (hands : List Waiting) 
           subst (λ z. Matches h.typing.table z (object_at h.typing x).of) (sym of) fits,
         ),
       )
-  own_walked on p x y u path q w own fits is called (Raises e n) there base = there
-  own_walked on p x y u path q w own fits is called (Traps t n) never base = absurd never
+  own_walked on p x y u path q w own fits owner is called (Raises e n) there base = there
+  own_walked on p x y u path q w own fits owner is called (Traps t n) never base = absurd never
 
   own_given : (on : List (List machine.Word)) (x : ℕ) (p : Pos) (y u : ℕ) (path : TypedTree) (way : List run.Step) → IsNamed h.typing.table u → Matches h.typing.table u (object_at h.typing x).of
-      → is_package_object h.typing y ≡ false → GoesAlong h.typing.table (object_at h.typing y).of u path way → IsDirect way
+      → is_package_object h.typing y ≡ false → is_view_formal h.typing y ≡ false → GoesAlong h.typing.table (object_at h.typing y).of u path way → IsDirect way
       → Quiet (at on) (λ k. IsOwnPut h.typing h.frame x (Name p y path u) k) (walked h.typing way (variable_place h y) (at on))
-  own_given on x p y u path way own fits local goes direct =
+  own_given on x p y u path way own fits local owner goes direct =
       let root : Way = Object (OfVariable (home h.typing h.frame y) y) in
       let flat = direct_part (OfVariable (home h.typing h.frame y) y) way direct [] in
-      own_walked on p x y u path flat.0 (way_along way root) own fits local flat.1
+      own_walked on p x y u path flat.0 (way_along way root) own fits owner flat.1
       (λ j. record { root = number_along way root j; sels = goes.sels root j })
       (walked h.typing way (variable_place h y) (at on))
       (walk h.typing settled hands leaks m on (ExcusedBy (home h.typing h.frame) v other facts) kept well.owned well.known live way (variable_place h y)
       (OfRoot (OfVariable (home h.typing h.frame y) y)) root u
-      (record { base = refl; made = tt; at = refl; there = refl; of = inl refl }) (no_formals y) refl (direct_leads h.typing.table (object_at h.typing y).of u way direct goes.lead)
+      (record { base = refl; made = tt; at = refl; there = refl; of = inl refl }) owner refl (direct_leads h.typing.table (object_at h.typing y).of u way direct goes.lead)
       (λ z past moved. past_none way direct root (λ y never. never) z past))
       (walked_in h.typing way direct (variable_place h y) (at on))
 
@@ -498,7 +520,7 @@ module _ (h : Here) (settled : IsSettled h.typing.table) (hands : List Waiting) 
       (λ way now. walked h.typing way (variable_place h y) now)
       (both_quiet (at on) (λ way. GoesAlong h.typing.table (object_at h.typing y).of u path way) (steps_of h path (at before)) inner.0 (steps_direct h path direct (at before)))
       (λ way both. own_given on x p y u path way (subst (IsNamed h.typing.table) (sym type) own) (subst (λ z. Matches h.typing.table z (object_at h.typing x).of) (sym type) fits)
-      (local y (inl refl)) both.0 both.1)
+      (local y (inl refl)).0 (local y (inl refl)).1 both.0 both.1)
   own_place_given before on x e t place own fits local takes direct allowed = absurd place
 
   -- ---- all of them
@@ -509,8 +531,15 @@ module _ (h : Here) (settled : IsSettled h.typing.table) (hands : List Waiting) 
   IsPlaceGiven x e k =
       (IsScalarObject h.typing x × IsPut e k) ⊎ ((is_scalar (full h.typing.table (object_at h.typing x).of) ≡ false) × IsOwnPut h.typing h.frame x e k)
 
+  -- A scalar value; or null, or the number of a cell that a way leads to.
+  abbrev pub IsValueGiven : ℕ → TypedTree → List machine.Word → Type 0
+  IsValueGiven x e ws =
+      (is_owning h.typing.table (object_at h.typing x).of ≡ false → One ws)
+      × (is_owning h.typing.table (object_at h.typing x).of ≡ true
+      → IsSeenAs h settled hands leaks m waits other facts v kept well holds alone live index_law own_law parts_named formals_low x e ws)
+
   abbrev pub IsGiven : ℕ → Mode → TypedTree → Passed → Type 0
-  IsGiven x mode.In e (Value ws) = One ws
+  IsGiven x mode.In e (Value ws) = IsValueGiven x e ws
   IsGiven x mode.Out e (To k) = IsPlaceGiven x e k
   IsGiven x mode.InOut e (From k) = IsPlaceGiven x e k
   IsGiven x m' e a = ⊥
@@ -520,12 +549,24 @@ module _ (h : Here) (settled : IsSettled h.typing.table) (hands : List Waiting) 
   AreGiven (x ∷ formals) (More e rest) [] = ⊥
   AreGiven formals actuals passed = passed ≡ []
 
-  value_is : (on : List (List machine.Word)) (x : ℕ) (e : TypedTree) (y : Evaluated Passed) → Quiet (at on) (λ a. IsValue a) y → Quiet (at on) (λ a. IsGiven x mode.In e a) y
-  value_is on x e (Done (Value ws) n) is = is
-  value_is on x e (Done (From k) n) is = absurd is.1
-  value_is on x e (Done (To k) n) is = absurd is.1
-  value_is on x e (Raises y n) is = is
-  value_is on x e (Traps y n) is = is
+  value_is : (on : List (List machine.Word)) (x : ℕ) (e : TypedTree) → is_owning h.typing.table (object_at h.typing x).of ≡ false → (y : Evaluated Passed) → Quiet (at on) (λ a. IsValue a) y
+      → Quiet (at on) (λ a. IsGiven x mode.In e a) y
+  value_is on x e plain (Done (Value ws) n) is =
+      (is.0, ((λ own. is.1), λ own. absurd (true_false (is_owning h.typing.table (object_at h.typing x).of) own plain)))
+  value_is on x e plain (Done (From k) n) is = absurd is.1
+  value_is on x e plain (Done (To k) n) is = absurd is.1
+  value_is on x e plain (Raises y n) is = is
+  value_is on x e plain (Traps y n) is = is
+
+  shown_given : (before on : List (List machine.Word)) (x : ℕ) (e : TypedTree) → IsShown h.typing x → is_owning h.typing.table (object_at h.typing x).of ≡ true → IsSeen h.typing x e
+      → Takes (waits_in e) before on → AllowsAll facts (acts (index_acts h.typing e))
+      → IsClear h.typing facts e
+      → Quiet (at on) (λ a. IsGiven x mode.In e a) (followed_by (viewed h e (at before)) value_passed)
+  shown_given before on x e shown owning seen takes allowed clears =
+      quiet_then (at on) (λ ws. IsSeenAs h settled hands leaks m waits other facts v kept well holds alone live index_law own_law parts_named formals_low x e ws)
+      (λ a. IsGiven x mode.In e a) (viewed h e (at before)) value_passed
+      (seen_given h settled hands leaks m waits other facts v kept well holds alone live index_law own_law parts_named formals_low before on x e shown.1 seen takes allowed clears)
+      (λ ws is. (refl, ((λ plain. absurd (true_false (is_owning h.typing.table (object_at h.typing x).of) owning plain)), λ own. is)))
 
   abbrev IsCopiedName : ℕ → Mode → TypedTree → Type 0
   IsCopiedName x m' e = is_in m' ≡ false → (goes_through_none e ≡ true) ⊎ (IsScalarObject h.typing x × IsOpenActual h.typing h.frame facts e)
@@ -578,56 +619,74 @@ module _ (h : Here) (settled : IsSettled h.typing.table) (hands : List Waiting) 
 
       named_there : IsKind x → is_scalar (full h.typing.table (object_at h.typing x).of) ≡ false → IsNamed h.typing.table (object_at h.typing x).of
       named_there (inl plain) other_type = absurd (true_false (is_scalar (full h.typing.table (object_at h.typing x).of)) plain other_type)
-      named_there (inr (back, own)) other_type = own
+      named_there (inr (inl (back, own))) other_type = own
+      named_there (inr (inr shown)) other_type =
+          plain_named h.typing.table (object_at h.typing x).of (not_anonymous (is_anonymous (view_of h.typing x)) refl)
+        where
+          not_anonymous : (b : Bool) → is_anonymous (view_of h.typing x) ≡ b → is_anonymous (view_of h.typing x) ≡ false
+          not_anonymous false e = e
+          not_anonymous true e = absurd ((in_formals x shown.0).1 e)
+
 
       own_there : (is_scalar (full h.typing.table t) ≡ true) ⊎ IsOwnPlace h.typing e → is_scalar (full h.typing.table (object_at h.typing x).of) ≡ false → IsOwnPlace h.typing e
       own_there (inl plain) other_type = absurd (true_false (is_scalar (full h.typing.table (object_at h.typing x).of))
           (matches_scalar h.typing t (object_at h.typing x).of fits plain) other_type)
       own_there (inr own) other_type = own
 
-  pub one_given : (before on : List (List machine.Word)) (mode_of : Mode) (owning access : Bool) (x : ℕ) (e : TypedTree) → ByModeFor mode_of owning → IsKind x → IsActualTo h.typing x mode_of e
+  pub one_given : (before on : List (List machine.Word)) (mode_of : Mode) (owning access : Bool) (x : ℕ) (e : TypedTree) → (object_at h.typing x).mode ≡ mode_of
+      → is_owning h.typing.table (object_at h.typing x).of ≡ owning → IsKind x → IsActualTo h.typing x mode_of e
+      → (is_view_formal h.typing x ≡ true → IsClear h.typing facts e)
       → IsCopiedName x mode_of e → Takes (waits_in e) before on
-      → AllowsAll facts (acts (head_of h.typing own_law procedure mode_of e)) → Quiet (at on) (λ a. IsGiven x mode_of e a) (passed h (passing_by mode_of owning access) x e (at before))
-  one_given before on mode.In owning access x e fits kind actual copied takes allowed =
-      subst (λ b. Quiet (at on) (λ a. IsGiven x mode.In e a) (passed h (if b then objects.Place mode.In b access else ByValue) x e (at before))) (sym (fits refl))
-      (value_is on x e (passed h ByValue x e (at before)) (value_given before on x e actual takes allowed))
-  one_given before on mode.Out owning access x e fits kind actual copied takes allowed =
+      → AllowsAll facts (acts (head_of h.typing own_law procedure mode_of owning e)) → Quiet (at on) (λ a. IsGiven x mode_of e a) (passed h (passing_by mode_of owning access) x e (at before))
+  one_given before on mode.In false access x e is fits kind actual clears copied takes allowed =
+      value_is on x e fits (passed h ByValue x e (at before)) (value_given before on x e (actual.0 fits) takes allowed)
+  one_given before on mode.In true access x e is fits kind actual clears copied takes allowed = elim kind [
+    | inl plain ↦ absurd (true_false (is_owning h.typing.table (object_at h.typing x).of) fits (plain_type h.typing own_law (object_at h.typing x).of plain))
+    | inr other_kind ↦ elim other_kind [
+      | inl back ↦ absurd (back.0 is)
+      | inr shown ↦ shown_given before on x e shown fits (actual.1 fits) takes allowed (clears shown.0)
+    ]
+  ]
+  one_given before on mode.Out owning access x e is fits kind actual clears copied takes allowed =
       quiet_then (at on) (λ k. IsPlaceGiven x e k) (λ a. IsGiven x mode.Out e a) (place_of h e (at before)) (λ k now. Done (To k) now)
       (copied_given before on x e kind actual (copied refl) takes allowed) (λ k put. (refl, put))
-  one_given before on mode.InOut owning access x e fits kind actual copied takes allowed =
+  one_given before on mode.InOut owning access x e is fits kind actual clears copied takes allowed =
       from_given before on x e (copied_given before on x e kind actual (copied refl) takes allowed)
 
   pub all_given : (before on : List (List machine.Word)) (formals : List ℕ) (actuals : TypedTree) → ((x : ℕ) → Has formals x → IsKind x) → AreActualsTo h.typing formals actuals
-      → AreOpenActuals h.typing h.frame facts formals actuals → TakesAll formals actuals before on
+      → AreClear h.typing facts formals actuals → AreOpenActuals h.typing h.frame facts formals actuals → TakesAll formals actuals before on
       → AllowsAll facts (acts (actual_values h.typing (ways_of formals) actuals))
       → Quiet (at on) (λ passed. AreGiven formals actuals passed) (all_passed h (ways_of formals) formals actuals (at before))
-  all_given before on [] actuals kinds stay copied takes allowed = ((ap at takes), refl)
-  all_given before on (x ∷ formals) (More e rest) kinds stay copied (mid, takes, more) allowed =
+  all_given before on [] actuals kinds stay clears copied takes allowed = ((ap at takes), refl)
+  all_given before on (x ∷ formals) (More e rest) kinds stay clears copied (mid, takes, more) allowed =
       let mode_of : Mode = (object_at h.typing x).mode in
+      let owning : Bool = is_owning h.typing.table (object_at h.typing x).of in
       let kind = kinds x (inl refl) in
-      let both : AllowsAll facts (acts (head_of h.typing own_law procedure mode_of e ++ actual_values h.typing (ways_of formals) rest)) =
-      subst (λ z. AllowsAll facts (acts z)) (head_values_are h.typing own_law procedure x kind e (ways_of formals) rest) allowed in
-      let each = allows_both facts (acts (head_of h.typing own_law procedure mode_of e)) (acts (actual_values h.typing (ways_of formals) rest))
-      (subst (AllowsAll facts) (acts_append (head_of h.typing own_law procedure mode_of e) (actual_values h.typing (ways_of formals) rest)) both) in
-      let same : after (acts (head_of h.typing own_law procedure mode_of e)) facts ≡ facts =
-      reads_keep (head_of h.typing own_law procedure mode_of e) (head_of_reads h.typing own_law procedure x mode_of e stay.0) facts in
+      let both : AllowsAll facts (acts (head_of h.typing own_law procedure mode_of owning e ++ actual_values h.typing (ways_of formals) rest)) =
+      subst (λ z. AllowsAll facts (acts z)) (head_values_are h.typing own_law procedure x e (ways_of formals) rest) allowed in
+      let each = allows_both facts (acts (head_of h.typing own_law procedure mode_of owning e)) (acts (actual_values h.typing (ways_of formals) rest))
+      (subst (AllowsAll facts) (acts_append (head_of h.typing own_law procedure mode_of owning e) (actual_values h.typing (ways_of formals) rest)) both) in
+      let same : after (acts (head_of h.typing own_law procedure mode_of owning e)) facts ≡ facts =
+      reads_keep (head_of h.typing own_law procedure mode_of owning e) (head_of_reads h.typing own_law procedure x mode_of owning e refl stay.0) facts in
       quiet_from (at mid) (at on) (λ a. IsGiven x mode_of e a) (λ passed. AreGiven (x ∷ formals) (More e rest) passed) refl (passed h (way_to h.typing own_law procedure x) x e (at before))
       (λ a now. followed_by (all_passed h (ways_of formals) formals rest now) (λ more now. Done (a ∷ more) now))
-      (one_given before mid mode_of (is_owning h.typing.table (object_at h.typing x).of) (procedure && is_named_access (view_of h.typing x)) x e
-      (in_plain h.typing own_law procedure x kind) kind stay.0 copied.0 takes each.0)
+      (one_given before mid mode_of owning (procedure && is_named_access (view_of h.typing x)) x e refl refl kind stay.0 clears.0 copied.0 takes each.0)
       (λ a is. quiet_then (at on) (λ passed. AreGiven formals rest passed) (λ passed. AreGiven (x ∷ formals) (More e rest) passed)
       (all_passed h (ways_of formals) formals rest (at mid)) (λ more now. Done (a ∷ more) now)
-      (all_given mid on formals rest (λ y has. kinds y (inr has)) stay.1 copied.1 more
+      (all_given mid on formals rest (λ y has. kinds y (inr has)) stay.1 clears.1 copied.1 more
       (subst (λ z. AllowsAll z (acts (actual_values h.typing (ways_of formals) rest))) same each.1))
       (λ more are. (refl, (is, are))))
-  all_given before on (x ∷ formals) actuals kinds stay copied takes allowed = ((ap at takes), refl)
+  all_given before on (x ∷ formals) actuals kinds stay clears copied takes allowed = ((ap at takes), refl)
+
+  abbrev pub value_laid : (x : ℕ) (e : TypedTree) (ws : List machine.Word) → IsValueGiven x e ws → IsValueLaid h.typing m x ws
+  value_laid x e ws given = (given.0, λ own. (let seen_as = given.1 own in (seen_as.0, seen_as.1, seen_as.2)))
 
   abbrev pub place_laid : (x : ℕ) (e : TypedTree) (k : Place) → IsPlaceGiven x e k → IsPlaceLaid h.typing h.frame v (seen h.typing m hands leaks) x e k
   place_laid x e k (inl (plain, put)) = inl (plain, put.0)
   place_laid x e k (inr own) = inr own
 
-  abbrev pub laid_one : (x : ℕ) (mode_of : Mode) (e : TypedTree) (a : Passed) → IsGiven x mode_of e a → IsLaidOne h.typing h.frame v (seen h.typing m hands leaks) x mode_of e a
-  laid_one x mode.In e (Value ws) is = is
+  abbrev pub laid_one : (x : ℕ) (mode_of : Mode) (e : TypedTree) (a : Passed) → IsGiven x mode_of e a → IsLaidOne h.typing m h.frame v (seen h.typing m hands leaks) x mode_of e a
+  laid_one x mode.In e (Value ws) is = value_laid x e ws is
   laid_one x mode.In e (From k) is = absurd is
   laid_one x mode.In e (To k) is = absurd is
   laid_one x mode.Out e (Value ws) is = absurd is
@@ -637,7 +696,7 @@ module _ (h : Here) (settled : IsSettled h.typing.table) (hands : List Waiting) 
   laid_one x mode.InOut e (From k) is = place_laid x e k is
   laid_one x mode.InOut e (To k) is = absurd is
 
-  abbrev pub all_laid_out : (formals : List ℕ) (actuals : TypedTree) (passed : List Passed) → AreGiven formals actuals passed → AreLaidOut h.typing h.frame v (seen h.typing m hands leaks) formals actuals passed
+  abbrev pub all_laid_out : (formals : List ℕ) (actuals : TypedTree) (passed : List Passed) → AreGiven formals actuals passed → AreLaidOut h.typing m h.frame v (seen h.typing m hands leaks) formals actuals passed
   all_laid_out (x ∷ formals) (More e rest) (a ∷ passed) are = (laid_one x (object_at h.typing x).mode e a are.0, all_laid_out formals rest passed are.1)
   all_laid_out (x ∷ formals) (More e rest) [] are = absurd are
   all_laid_out [] actuals passed are = are
@@ -653,6 +712,10 @@ module _ (h : Here) (settled : IsSettled h.typing.table) (hands : List Waiting) 
       ∙ word_no h.typing.table c (p ++ steps_in l)
       (leaf_join h.typing.table c.of (steps_in l) p spot.there
       ∙ no_leaf h.typing.table settled (type_in h.typing.table c.of (steps_in l)) (matches_scalar h.typing k.of (type_in h.typing.table c.of (steps_in l)) spot.of plain) p)
+
+  naming_sees : (w : Option Written) (owning access : Bool) (known : List Fact) → after (acts (naming w (λ k. act.Actual k mode.In owning access))) known ≡ known
+  naming_sees None owning access known = refl
+  naming_sees (Some w) owning access known = read_effect w.name known
 
   naming_keeps : (w : Option Written) (owning access : Bool) (known : List Fact) → after (acts (naming w (λ k. act.Actual k mode.InOut owning access))) known ≡ known
   naming_keeps None owning access known = refl
@@ -690,7 +753,7 @@ module _ (h : Here) (settled : IsSettled h.typing.table) (hands : List Waiting) 
             by_way (Some w) e =
                 absurd (true_false (is_view h.typing inside.object) (holds.only inside.object w e)
                 (neither (is_anonymous (view_of h.typing inside.object)) (is_view_formal h.typing inside.object) (inside_plain h.typing settled h.frame k to inside)
-                (no_formals inside.object)))
+                inside.owner))
 
     place_acted : (owning access : Bool) (x : ℕ) (e : TypedTree) (k : Place) (known : List Fact) → (given : IsPlaceGiven x e k)
         → AreGone (place_out h.typing h.frame v (seen h.typing m hands leaks) x e k (place_laid x e k given)) → ViewedWith known
@@ -703,30 +766,30 @@ module _ (h : Here) (settled : IsSettled h.typing.table) (hands : List Waiting) 
     place_acted owning access x e k known (inl (plain, (fixed, never))) adds there = absurd never
     place_acted owning access x e k known (inr (many, never)) adds there = absurd never
 
-    pub head_acted : (mode_of : Mode) (owning access : Bool) (x : ℕ) (e : TypedTree) (a : Passed) (known : List Fact) → ByModeFor mode_of owning
-        → (given : IsGiven x mode_of e a) → AreGone (out_of h.typing h.frame v (seen h.typing m hands leaks) x mode_of e a (laid_one x mode_of e a given)) → ViewedWith known
+    pub head_acted : (mode_of : Mode) (owning access : Bool) (x : ℕ) (e : TypedTree) (a : Passed) (known : List Fact)
+        → (given : IsGiven x mode_of e a) → AreGone (out_of h.typing m h.frame v (seen h.typing m hands leaks) x mode_of e a (laid_one x mode_of e a given)) → ViewedWith known
         → ViewedWith (after (acts (actual_act (passing_by mode_of owning access) e)) known)
-    head_acted mode.In owning access x e a known fits is adds there =
-        subst (λ b. ViewedWith (after (acts (actual_act (if b then objects.Place mode.In b access else ByValue) e)) known)) (sym (fits refl)) there
-    head_acted mode.InOut owning access x e a known fits is adds there = subst ViewedWith (sym (naming_keeps (written e) owning access known)) there
-    head_acted mode.Out owning access x e (To k) known fits is adds there = place_acted owning access x e k known is adds there
-    head_acted mode.Out owning access x e (Value ws) known fits is adds there = absurd is
-    head_acted mode.Out owning access x e (From k) known fits is adds there = absurd is
+    head_acted mode.In false access x e a known is adds there = there
+    head_acted mode.In true access x e a known is adds there = subst ViewedWith (sym (naming_sees (written e) true access known)) there
+    head_acted mode.InOut owning access x e a known is adds there = subst ViewedWith (sym (naming_keeps (written e) owning access known)) there
+    head_acted mode.Out owning access x e (To k) known is adds there = place_acted owning access x e k known is adds there
+    head_acted mode.Out owning access x e (Value ws) known is adds there = absurd is
+    head_acted mode.Out owning access x e (From k) known is adds there = absurd is
 
-    pub all_acted : (formals : List ℕ) (actuals : TypedTree) (passed : List Passed) (known : List Fact) → ((x : ℕ) → Has formals x → IsKind x)
-        → (given : AreGiven formals actuals passed) → AreGone (outs_of h.typing h.frame v (seen h.typing m hands leaks) formals actuals passed (all_laid_out formals actuals passed given)) → ViewedWith known
+    pub all_acted : (formals : List ℕ) (actuals : TypedTree) (passed : List Passed) (known : List Fact)
+        → (given : AreGiven formals actuals passed) → AreGone (outs_of h.typing m h.frame v (seen h.typing m hands leaks) formals actuals passed (all_laid_out formals actuals passed given)) → ViewedWith known
         → ViewedWith (after (acts (actual_acts (ways_of formals) actuals)) known)
-    all_acted (x ∷ formals) (More e rest) (a ∷ passed) known kinds are adds there =
+    all_acted (x ∷ formals) (More e rest) (a ∷ passed) known are adds there =
         let first : List Placed = actual_act (way_to h.typing own_law procedure x) e in
         let others : List Placed = actual_acts (ways_of formals) rest in
-        let out : List Out = out_of h.typing h.frame v (seen h.typing m hands leaks) x (object_at h.typing x).mode e a (laid_one x (object_at h.typing x).mode e a are.0) in
-        let outs : List Out = outs_of h.typing h.frame v (seen h.typing m hands leaks) formals rest passed (all_laid_out formals rest passed are.1) in
+        let out : List Out = out_of h.typing m h.frame v (seen h.typing m hands leaks) x (object_at h.typing x).mode e a (laid_one x (object_at h.typing x).mode e a are.0) in
+        let outs : List Out = outs_of h.typing m h.frame v (seen h.typing m hands leaks) formals rest passed (all_laid_out formals rest passed are.1) in
         subst ViewedWith (sym (ap (λ z. after z known) (acts_append first others) ∙ after_append (acts first) (acts others) known))
-        (all_acted formals rest passed (after (acts first) known) (λ y has. kinds y (inr has)) are.1
+        (all_acted formals rest passed (after (acts first) known) are.1
         (λ w under. adds w (under.0, Has-append_right out outs under.0 under.1, under.2))
         (head_acted (object_at h.typing x).mode (is_owning h.typing.table (object_at h.typing x).of) (procedure && is_named_access (view_of h.typing x)) x e a known
-        (in_plain h.typing own_law procedure x (kinds x (inl refl))) are.0
+        are.0
         (λ w under. adds w (under.0, Has-append_left out outs under.0 under.1, under.2)) there))
-    all_acted (x ∷ formals) (More e rest) [] known kinds are adds there = absurd are
-    all_acted [] actuals passed known kinds are adds there = there
-    all_acted (x ∷ formals) actuals passed known kinds are adds there = there
+    all_acted (x ∷ formals) (More e rest) [] known are adds there = absurd are
+    all_acted [] actuals passed known are adds there = there
+    all_acted (x ∷ formals) actuals passed known are adds there = there

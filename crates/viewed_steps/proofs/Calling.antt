@@ -2,7 +2,8 @@
 use Rattle.typed_tree.specs.declared.object.ObjectKind.{ObjectKind}
 use Rattle.typed_tree.specs.declared.object.ObjectKind.TheVariants as object_kind
 use Rattle.place_names.specs.Facts.{adds}
-use Rattle.std.proofs.Common.{◌≡◌, refl, sym, ap, ◌∙◌, subst, ◌⊎◌, inl, inr, ℕ, suc, ◌<◌, true, false, ◌==◌, List, [], ◌∷◌, ◌++◌, map, take, drop, length, get_or, arith, Option, Some, None, if◌then◌else◌, is_some, Bool, not, ◌||◌, flat_map}
+use Rattle.spark_base.proofs.Lists.{Has-map_from, Has-append_left}
+use Rattle.std.proofs.Common.{◌≡◌, refl, sym, ap, ◌∙◌, subst, ◌⊎◌, inl, inr, ℕ, suc, ◌<◌, true, false, ◌==◌, List, [], ◌∷◌, ◌++◌, map, take, drop, length, get_or, arith, Option, Some, None, if◌then◌else◌, is_some, Bool, not, ◌||◌, flat_map, append-nil, ◌&&◌}
 use Rattle.std.specs.Prelude.{is_some}
 use Rattle.spark_base.specs.Lists.{Has}
 use Rattle.spark_base.proofs.Lists.{Has-append_cases, Has-map_from}
@@ -20,7 +21,8 @@ use Rattle.typed_tree.specs.Trees.{TypedTree, Name, NoMore, More}
 use Rattle.typed_tree.specs.Programs.{TypedProgram}
 use Rattle.flow_paths.specs.declared.report.Effects.{Effects}
 use Rattle.flow_paths.specs.Instructions.{Instruction, Call, EndScope, Declare, Assign, Hold}
-use Rattle.flow_paths.specs.Objects.{Typing, object_at, sub_at, is_anonymous, is_package_object, view_of, traverses, passings, Passing, Signature, passing, is_formal_kind}
+use Rattle.flow_paths.specs.Objects.{Typing, object_at, sub_at, is_anonymous, is_package_object, view_of, traverses, passings, Passing, Signature, passing, is_formal_kind, is_observer}
+use Rattle.place_names.specs.Facts.{adds}
 use Rattle.place_names.specs.Reports.{Report}
 use Rattle.flow_paths.specs.Aliases.{overlap_reports, passed_reports, call_reports}
 use Rattle.flow_paths.specs.Aliases as alias
@@ -38,13 +40,14 @@ use Rattle.machine.specs.Step.{Turn, turn, start, led, successor}
 use Rattle.machine.specs.Step as steps
 use Rattle.machine.specs.Typed.{successors}
 use Rattle.machine.specs.Calls.{Passed, all_passed, with_formals, returns_of, out_checks}
-use Rattle.machine.specs.Owners.{waiting_in}
+use Rattle.machine.specs.Owners.{is_in_formal, waiting_in}
+use Rattle.place_names.specs.declared.act.Mode.TheVariants as mode
 use Rattle.owned_ways.specs.Ways.{Step, Way, after, AllowsAll}
 use Rattle.owned_ways.specs.Ways as ways
-use Rattle.owned_ways.proofs.Locations.{past_under, reaches_along, named_along as rooted_along}
+use Rattle.owned_ways.proofs.Locations.{reaches_along, named_along as rooted_along, past_under}
+use Rattle.soundness.specs.Seen.{is_view_formal, IsNear, content, seen, home, trunk, word_in}
 use Rattle.owned_ways.proofs.Named.{longer}
 use Rattle.owned_ways.proofs.Dropped.{named_base}
-use Rattle.soundness.specs.Seen.{IsNear, content, seen, home, trunk, word_in}
 use Rattle.soundness.proofs.Contents.{word_root}
 use Rattle.soundness.specs.Typed.{Kept}
 use Rattle.soundness.specs.Sound.{Stage, facts_of, AreStages, Uses, IsRunnable, returns_value, InScope, IsNamedSub, IsAtPoint, view_of as view_here}
@@ -62,41 +65,46 @@ use Rattle.soundness.proofs.Taking.{Takes}
 use Rattle.soundness.proofs.Eased.{eased}
 use Rattle.soundness.proofs.Scoped.{Inside}
 use Rattle.soundness.proofs.Successors.{below_one, successor_there}
-use Rattle.owned_loans.specs.Views.{expand, Around, known_gone, Views, IsMovedBy, AreClear, AreViews, Viewed, IsForeign}
+use Rattle.owned_loans.specs.Views.{expand, Around, known_gone, Views, IsMovedBy, ExcusedBy, AreClear as FactsAreClear, IsForeign, AreViews, Viewed}
 use Rattle.owned_loans.proofs.Ways.{under_on}
 use Rattle.owned_loans.proofs.Meeting.{stands}
 use Rattle.owned_loans.proofs.Moves.{expand_under}
 use Rattle.owned_loans.proofs.Meeting.{stands}
 use Rattle.viewed_soundness.proofs.Names.{true_false, owner_sees}
-use Rattle.viewed_soundness.specs.Holds.{Holds, is_view, sees_only, IsOwners}
+use Rattle.viewed_soundness.proofs.Outcomes.{named_plain}
+use Rattle.viewed_soundness.specs.Holds.{Holds, is_view, sees_only, IsOwners, is_exclusive}
 use Rattle.viewed_soundness.proofs.Evaluated.{live_trunk}
 use Rattle.soundness.specs.Ready.{IsSupplied, Fills}
 use Rattle.viewed_steps.specs.Awaited.{AreValuesBut, temporaries_of, lasting_of, awaited, WaitsAt, AreAwaited, AreScalar, FillsTyped, TakesScalars, IsTakenBy}
 use Rattle.viewed_steps.proofs.Waited.{late_scope, within_lasting, lasting_more, Shares, plain_unheld}
-use Rattle.viewed_steps.specs.Sound.{withheld, ArePast, AreUnmet, HoldsAt, ArePlaced, NoneAbove, ViewStage, stages_of, GoneElsewhere, Disturbs, IsWaiting, AreWaiting, calls_one, LeadsAlong, IsResting, IsKindOfFormal, IsScalarObject, AreReturned}
+use Rattle.viewed_steps.specs.Sound.{IsCopiedBack, IsShown, ArePast, AreUnmet, HoldsAt, ArePlaced, NoneAbove, ViewStage, stages_of, GoneElsewhere, Disturbs, IsWaiting, AreWaiting, calls_one, LeadsAlong, IsResting, IsKindOfFormal, IsScalarObject, AreReturned, withheld}
 use Rattle.viewed_steps.specs.Ready.{IsReady, roots_passed, IsCalled}
 use Rattle.viewed_steps.specs.Taken.{TakenBy, AreTaken, AreCarried, Lodge}
 use Rattle.viewed_steps.proofs.Apart.{moved_same}
 use Rattle.viewed_steps.proofs.Lent.{Spare, spare_both, loans_stay}
 use Rattle.viewed_steps.proofs.Placed.{within_on, lasts_more, scope_on, placed_on}
 use Rattle.viewed_steps.proofs.Ended.{none_some}
-use Rattle.viewed_steps.proofs.Waiting.{StandsBetween, gone_low, kept_low, beside_them, handed, all_on}
-use Rattle.viewed_steps.proofs.Between.{gone_also, more_gone, base_along, base_under, same_variable, not_named}
+use Rattle.viewed_steps.proofs.Waiting.{StandsBetween, gone_low, kept_low, beside_them, handed, elsewhere_excused, all_on}
+use Rattle.viewed_steps.proofs.Between.{same_reaches, gone_also, more_gone, base_along, base_under, same_variable, not_named}
+use Rattle.viewed_steps.proofs.Called.{AreGiven, all_laid_out, all_given, all_acted, values_are_read, call_adds_none, passes_to, spare_reads, spare_copies}
 use Rattle.viewed_steps.proofs.Carried.{past_other}
 use Rattle.viewed_steps.proofs.Aside.{names_off}
 use Rattle.viewed_steps.proofs.LaidOut.{AreLaidOut, outs_of, cells_of, AreOpenActuals}
-use Rattle.viewed_steps.proofs.Called.{AreGiven, all_laid_out, all_given, all_acted, values_are_read, call_adds_none, passes_to, spare_reads, spare_copies}
 use Rattle.viewed_steps.proofs.Outs.{Out, IsUnderOne, found_in}
-use Rattle.viewed_steps.proofs.Entered.{passed_own, ArePassedOn, IsOpen, AreBlank, not_above, passed_base, outs_taken, inside_plain, inside_named, inside_number, inside_itself, passed_one}
-use Rattle.viewed_steps.proofs.Entering.{owns_there, AreDeclared, Enter, formals_of_returns, all_declared}
+use Rattle.viewed_steps.proofs.Entered.{ArePassedOn, IsOpen, AreBlank, not_above, passed_base, outs_taken, passed_own, inside_plain, inside_named, inside_number, inside_itself, passed_one}
+use Rattle.viewed_steps.proofs.Entering.{none_emptied, none_taken_same, owns_there, AreDeclared, Enter, formals_of_returns, all_declared}
+use Rattle.viewed_steps.proofs.Passed.{IsNamedBy, all_passed_on, found_there, all_returned, call_goes, apart_or}
 use Rattle.viewed_steps.proofs.Cells.{passed_apart, passed_formal, are_kept, all_in, all_open, IsCellNamed, named_before, cells_named}
-use Rattle.viewed_steps.proofs.Passed.{IsNamedBy, apart_or, all_passed_on, found_there, all_returned, call_goes}
 use Rattle.viewed_steps.proofs.Standing.{or_right}
 use Rattle.viewed_steps.proofs.Uses.{called_writes, lent_spared}
 use Rattle.viewed_steps.proofs.Standing as standing
 use Rattle.viewed_steps.proofs.Packages as packages
 use Rattle.viewed_steps.proofs.Innermost as innermost
-use Rattle.viewed_steps.proofs.Views.{all_held, AreFar, apart_by_base, AreAccess, lies_far}
+use Rattle.viewed_steps.proofs.Views.{AreAccess, AreFar, apart_by_base, all_held, lies_far, not_elsewhere, formal_view, anonymous_view, scalar_no_view, view_cases}
+use Rattle.viewed_steps.proofs.Shown.{same_cells}
+use Rattle.viewed_steps.proofs.Seeing.{AreClear}
+use Rattle.viewed_steps.proofs.Clear.{all_clear, none_clear}
+use Rattle.viewed_steps.proofs.Opening.{Opens, all_opened, opened_views, opened_whole, opened_lies, opened_held, opened_placed}
 
 module _ (table : Table) (typed : TypedProgram) (effects : Effects) (input : List ℕ) (ready : IsReady table typed effects) where
   abbrev program : FlowProgram
@@ -301,7 +309,7 @@ module _ (table : Table) (typed : TypedProgram) (effects : Effects) (input : Lis
           ∙ ap (λ z. flow.actual_values s z actuals ++ flow.actual_acts z actuals) ways_are
 
       pub reads_there : AreReads values
-      reads_there = values_are_read s ready.owns procedure formals actuals kinds called.actuals_stay
+      reads_there = values_are_read s ready.owns procedure formals actuals called.actuals_stay
 
       call_acts : standing.whole_acts table typed effects input ready state top older outer named p frames of_sub at_point p.instr ≡ acts (values ++ copies) ++ globals_of program effects n
       call_acts =
@@ -367,10 +375,54 @@ module _ (table : Table) (typed : TypedProgram) (effects : Effects) (input : Lis
           live_trunk (steps.here main_turn) ready.accepted.settled state.leaks [] other alone (keeps s ready.accepted.settled ready.owns) index_law
           ready.owns views ready.class.parts_named state.memory (waiting_in easy.state) ((viewed_easy plain_there.0).0).owned
 
+      -- formals of the frame see what belongs to frames below
+      pub formals_low : (x : ℕ) (w : Way) → views.way x ≡ Some w → is_view_formal s x ≡ true → (foreign : IsForeign (home s depth) w) × (foreign.0 < depth) × (0 < foreign.0)
+      formals_low x w has formal = elim (viewed.views x w has) [
+        | inl view ↦ absurd (holds.passed x w has (ap (λ b. b || (is_in_formal s x && is_anonymous (view_of s x))) formal) view.named)
+        | inr passed ↦ elim (holds.lies x w has) [
+          | inl named ↦ absurd (not_elsewhere (home s depth) w named passed.foreign)
+          | inr far ↦ far
+        ]
+      ]
+
+      -- a function has formals of mode `in` alone; a procedure has none that owns nothing
+      by_callee : (((x : ℕ) → Has formals x → (object_at s x).mode ≡ mode.In) × ((x : ℕ) → Has formals x → IsCopiedBack s x → ⊥)
+          × ((x : ℕ) → Has formals x → is_view_formal s x ≡ true → sees_only s x ≡ true))
+          ⊎ ((x : ℕ) → Has formals x → is_view_formal s x ≡ false)
+      by_callee = by_result (sub_of program n).result refl
+        where
+          sees_shown : (a b c d : Bool) → b ≡ true → d ≡ false → a || ((b || c) && not d) ≡ true
+          sees_shown true b c d e f = refl
+          sees_shown false true c false e f = refl
+          sees_shown false true c true e f = cc
+          sees_shown false false c d e f = cc
+
+          there : (x : ℕ) → Has formals x → Has (sub_at s n).formals x
+          there x has = subst (λ z. Has z x) (sym (ap (λ (z : Signature). z.formals) (signature_is program n))) has
+
+          by_result : (r : Option ℕ) → (sub_of program n).result ≡ r
+              → (((x : ℕ) → Has formals x → (object_at s x).mode ≡ mode.In) × ((x : ℕ) → Has formals x → IsCopiedBack s x → ⊥)
+                  × ((x : ℕ) → Has formals x → is_view_formal s x ≡ true → sees_only s x ≡ true))
+              ⊎ ((x : ℕ) → Has formals x → is_view_formal s x ≡ false)
+          by_result (Some of) is =
+              let answers : (sub_at s n).result ≡ Some of = ap (λ (z : Signature). z.result) (signature_is program n) ∙ is in
+              let modes : (x : ℕ) → Has formals x → (object_at s x).mode ≡ mode.In = (λ x has. ready.class.modes n of answers x (there x has)) in
+              inl (modes, (λ x has back. back (modes x has)), λ x has formal. elim (ready.class.functions n of answers x (there x has) (called.formals x has)) [
+                | inl plain ↦ absurd (scalar_no_view s in_formals x plain (formal_view s x formal))
+                | inr shown ↦ sees_shown (is_observer s x) (is_view_formal s x) (is_in_formal s x && is_anonymous (view_of s x)) (is_exclusive s x) formal shown.1
+              ])
+          by_result None is = inr (λ x has. ready.class.procedures n (ap (λ (z : Signature). z.result) (signature_is program n) ∙ is) x (there x has) (called.formals x has))
+
+      clear_there : AreClear s facts_now formals actuals
+      clear_there = elim by_callee [
+        | inl modes ↦ all_clear s procedure formals actuals facts_now modes.0 copies_allowed
+        | inr none ↦ none_clear s procedure formals actuals facts_now none
+      ]
+
       abbrev pub Given : List Passed → Type 0
       Given passed =
-          AreGiven (steps.here main_turn) ready.accepted.settled (waiting_in easy.state) state.leaks state.memory [] other facts_now views (viewed_easy plain_there.0).1 (viewed_easy plain_there.0).0 holds_now alone live_now (standing.no_in_formals table typed effects input ready)
-          index_law ready.owns ready.class.parts_named procedure formals actuals passed
+          AreGiven (steps.here main_turn) ready.accepted.settled (waiting_in easy.state) state.leaks state.memory [] other facts_now views (viewed_easy plain_there.0).1 (viewed_easy plain_there.0).0 holds_now alone live_now in_formals
+          index_law ready.owns ready.class.parts_named formals_low procedure formals actuals passed
 
       -- the values that the actuals take
       pub taken_there : (on : List (List machine.Word)) × TakesAll formals actuals given_words on
@@ -381,16 +433,16 @@ module _ (table : Table) (typed : TypedProgram) (effects : Effects) (input : Lis
 
       pub passed_quiet : Quiet then_now Given (all_passed (steps.here main_turn) ways_there formals actuals (start main_turn))
       passed_quiet =
-          all_given (steps.here main_turn) ready.accepted.settled (waiting_in easy.state) state.leaks state.memory [] other facts_now views (viewed_easy plain_there.0).1 (viewed_easy plain_there.0).0 holds_now alone live_now (standing.no_in_formals table typed effects input ready)
-          index_law ready.owns ready.class.parts_named procedure given_words taken_there.0 formals actuals kinds called.actuals_stay copied_there taken_there.1 values_allowed
+          all_given (steps.here main_turn) ready.accepted.settled (waiting_in easy.state) state.leaks state.memory [] other facts_now views (viewed_easy plain_there.0).1 (viewed_easy plain_there.0).0 holds_now alone live_now in_formals
+          index_law ready.owns ready.class.parts_named formals_low procedure given_words taken_there.0 formals actuals kinds called.actuals_stay clear_there copied_there taken_there.1 values_allowed
 
       abbrev pub view_now : ways.View
       view_now = seen s state.memory (waiting_in easy.state) state.leaks
 
-      abbrev pub given_laid : (passed : List Passed) → Given passed → AreLaidOut s depth views view_now formals actuals passed
+      abbrev pub given_laid : (passed : List Passed) → Given passed → AreLaidOut s state.memory depth views view_now formals actuals passed
       given_laid passed given =
-          all_laid_out (steps.here main_turn) ready.accepted.settled (waiting_in easy.state) state.leaks state.memory [] other facts_now views (viewed_easy plain_there.0).1 (viewed_easy plain_there.0).0 holds_now alone live_now (standing.no_in_formals table typed effects input ready)
-          index_law ready.owns ready.class.parts_named procedure formals actuals passed given
+          all_laid_out (steps.here main_turn) ready.accepted.settled (waiting_in easy.state) state.leaks state.memory [] other facts_now views (viewed_easy plain_there.0).1 (viewed_easy plain_there.0).0 holds_now alone live_now in_formals
+          index_law ready.owns ready.class.parts_named formals_low procedure formals actuals passed given
 
       -- loans stay
       loans_called : (h : ℕ) (m : PlaceName) → Has own_facts (Lent Observed h m) → Has facts_called (Lent Observed h m)
@@ -426,7 +478,7 @@ module _ (table : Table) (typed : TypedProgram) (effects : Effects) (input : Lis
             | inl was ↦ was
             | inr (a, there, new) ↦ (
                 let from = Has-map_from (λ (z : Placed). z.act) (values ++ copies) a there in
-                absurd (call_adds_none s ready.owns procedure formals actuals kinds called.actuals_stay from.0 from.1 f (subst (λ z. Has (adds z) f) (sym from.2) new)))
+                absurd (call_adds_none s ready.owns procedure formals actuals called.actuals_stay from.0 from.1 f (subst (λ z. Has (adds z) f) (sym from.2) new)))
           ])
 
       -- what the callee uses isn't moved
@@ -502,27 +554,27 @@ module _ (table : Table) (typed : TypedProgram) (effects : Effects) (input : Lis
         pub far_views : AreFar (home s depth) views depth
         far_views = lies_far s depth views holds.lies
 
-        abbrev laid : AreLaidOut s depth views view_now formals actuals passed
+        abbrev laid : AreLaidOut s state.memory depth views view_now formals actuals passed
         laid = given_laid passed given
 
         -- the places that are emptied
         abbrev pub outs : List Out
-        outs = outs_of s depth views view_now formals actuals passed (given_laid passed given)
+        outs = outs_of s state.memory depth views view_now formals actuals passed (given_laid passed given)
 
         -- the cells of places that are copied back to
         abbrev pub cells : List Lodge
-        cells = cells_of s depth views view_now formals actuals passed (given_laid passed given)
+        cells = cells_of s state.memory depth views view_now formals actuals passed (given_laid passed given)
 
         well_before : Viewed (home s depth) (sees_only s) other_all views (view_here s easy.state) own_facts
         well_before = apart_from_them [] views (view_here s easy.state) holds.only (viewed_easy plain_there.0).0
 
         -- what is taken
-        no_overlap : ((r : Report) → Has (overlap_reports s (alias.passed formals actuals)) r → ⊥) ⊎ ((x : ℕ) → Has formals x → IsScalarObject s x)
+        no_overlap : ((r : Report) → Has (overlap_reports s (alias.passed formals actuals)) r → ⊥) ⊎ ((x : ℕ) → Has formals x → IsCopiedBack s x → IsScalarObject s x)
         no_overlap =
-            apart_or program effects (λ x. IsScalarObject s x) ready.accepted.no_reports (flow_sub own named)
+            apart_or program effects (λ x. IsCopiedBack s x → IsScalarObject s x) ready.accepted.no_reports (flow_sub own named)
             (standing.in_program table typed effects input ready state top older outer named p frames of_sub at_point) main_turn.point
             (standing.in_sub table typed effects input ready state top older outer named p frames of_sub at_point) n actuals result e called.answers
-            (λ of answers x has. ready.class.functions n of answers x has (called.formals x (subst (λ z. Has z x) (ap (λ (z : Signature). z.formals) (signature_is program n)) has)))
+            (λ of answers x has back. absurd (back (ready.class.modes n of answers x has)))
 
         within_next : (y : ℕ) → Has (roots_passed actuals) y → is_package_object s y ≡ false → is_owning s.table (object_at s y).of ≡ true → is_within y next_there ≡ true
         within_next y has mine owns =
@@ -546,10 +598,10 @@ module _ (table : Table) (typed : TypedProgram) (effects : Effects) (input : Lis
             subst (λ z. AllowsAll z (acts copies)) (reads_keep values reads_there own_facts)
             (allows_both own_facts (acts values) (acts copies) (subst (AllowsAll own_facts) (acts_append values copies) each_allowed.0)).1
 
-        pub all_passed_ways : (ways_taken : List Way) × ArePassedOn s cells depth facts_called next_there formals passed ways_taken outs
+        pub all_passed_ways : (ways_taken : List Way) × ArePassedOn s state.memory cells depth facts_called next_there formals passed ways_taken outs
             × ((k : Way) → Has ways_taken k → IsNamedBy s formals actuals k)
         all_passed_ways =
-            all_passed_on s ready.owns cells depth views view_now facts_called next_there procedure formals actuals passed own_facts laid kinds
+            all_passed_on s ready.owns state.memory cells depth views view_now facts_called next_there procedure formals actuals passed own_facts laid kinds
             called.local called.differ
             within_next no_overlap copies_leave copies_own (λ c has. has)
 
@@ -558,8 +610,8 @@ module _ (table : Table) (typed : TypedProgram) (effects : Effects) (input : Lis
 
         out_base : (o : Out) → Has outs o → (y : ℕ) × (ways.base_of o.way ≡ ways.OfRoot (ways.OfVariable depth y))
         out_base o has =
-            passed_base s cells depth facts_called next_there formals passed ways_taken outs all_passed_ways.1 o.way
-            (outs_taken s cells depth facts_called next_there formals passed ways_taken outs all_passed_ways.1 o has)
+            passed_base s state.memory cells depth facts_called next_there formals passed ways_taken outs all_passed_ways.1 o.way
+            (outs_taken s state.memory cells depth facts_called next_there formals passed ways_taken outs all_passed_ways.1 o has)
 
         abbrev outs_gone : Way → Type 0
         outs_gone w = GoneElsewhere program effects older w ⊎ IsUnderOne outs w
@@ -579,13 +631,13 @@ module _ (table : Table) (typed : TypedProgram) (effects : Effects) (input : Lis
             subst (Viewed (home s depth) (sees_only s) around_outs views (view_here s easy.state))
             (sym (ap (λ z. after z own_facts) (acts_append values copies) ∙ after_append (acts values) (acts copies) own_facts
             ∙ ap (after (acts copies)) (reads_keep values reads_there own_facts)))
-            (all_acted (steps.here main_turn) ready.accepted.settled (waiting_in easy.state) state.leaks state.memory [] other facts_now views (viewed_easy plain_there.0).1 (viewed_easy plain_there.0).0 holds_now alone live_now (standing.no_in_formals table typed effects input ready)
-            index_law ready.owns ready.class.parts_named procedure other_all outs_gone outs_apart formals actuals passed own_facts kinds given (λ w under. inr under)
+            (all_acted (steps.here main_turn) ready.accepted.settled (waiting_in easy.state) state.leaks state.memory [] other facts_now views (viewed_easy plain_there.0).1 (viewed_easy plain_there.0).0 holds_now alone live_now in_formals
+            index_law ready.owns ready.class.parts_named formals_low procedure other_all outs_gone outs_apart formals actuals passed own_facts given (λ w under. inr under)
             (more_gone (home s depth) (sees_only s) views other_all outs_gone outs_apart (view_here s easy.state) own_facts (λ w gone. inl gone) well_before))
 
         -- the names of those cells
         pub named_cell : (c : Lodge) → Has cells c → IsCellNamed s depth facts_called views view_now formals actuals c
-        named_cell c has = cells_named s ready.owns depth facts_called procedure views view_now formals actuals passed own_facts laid copies_leave copies_own c has
+        named_cell c has = cells_named s ready.owns state.memory depth facts_called procedure views view_now formals actuals passed own_facts laid copies_leave copies_own c has
 
         cell_root : (c : Lodge) (has : Has cells c) → ways.number_of c.name ≡ ways.number_of (named_cell c has).whole
         cell_root c has = sym (longer c.name (named_cell c has).whole (named_cell c has).begins).root
@@ -619,7 +671,7 @@ module _ (table : Table) (typed : TypedProgram) (effects : Effects) (input : Lis
         -- no place that is taken goes before one
         pub cell_aside : (c : Lodge) → Has cells c → (to : Way) → Has ways_taken to → ways.Past to c.way → ⊥
         cell_aside c has to taken past =
-            let one = passed_one s cells depth facts_called next_there formals passed ways_taken outs all_passed_ways.1 to taken in
+            let one = passed_one s state.memory cells depth facts_called next_there formals passed ways_taken outs all_passed_ways.1 to taken in
             let inside = (one.2).inside in
             let itself : expand views to ≡ to = inside_itself s ready.accepted.settled depth one.1 to inside views in
             let plain_to : sees_only s (ways.number_of to) ≡ false =
@@ -638,7 +690,7 @@ module _ (table : Table) (typed : TypedProgram) (effects : Effects) (input : Lis
                 let by = all_passed_ways.2 to taken in
                 let cell = named_cell c has in
                 elim no_overlap [
-                  | inr plain ↦ true_false (is_scalar (full s.table (object_at s (by.0).formal).of)) (plain (by.0).formal (passed_formal formals actuals by.0 by.1)) by.4
+                  | inr plain ↦ true_false (is_scalar (full s.table (object_at s (by.0).formal).of)) (plain (by.0).formal (passed_formal formals actuals by.0 by.1) by.2) by.4
                   | inl none ↦ passed_apart s formals actuals none by.0 cell.by by.1 cell.among by.2 cell.back
                       (λ same. true_false (is_scalar (full s.table (object_at s (by.0).formal).of)) (subst (IsScalarObject s) (sym same) cell.scalar) by.4)
                       (subst (λ z. overlaps z cell.by.actual.name ≡ true) (sym by.3) (subst (λ z. overlaps (ways.name_of to) z ≡ true) (sym cell.called) over))
@@ -650,7 +702,7 @@ module _ (table : Table) (typed : TypedProgram) (effects : Effects) (input : Lis
               hand_base (sym (base_under (ways.Object (ways.OfHand k)) w under) ∙ root.2));
           whole = λ to has w under gone. (
               let root = gone_low table typed effects unmoved_stage local state depth older between w gone in
-              let base = passed_base s cells depth facts_called next_there formals passed ways_taken outs all_passed_ways.1 to has in
+              let base = passed_base s state.memory cells depth facts_called next_there formals passed ways_taken outs all_passed_ways.1 to has in
               let frames_same = (same_variable root.0 root.1 depth base.0 (sym root.2 ∙ base_under to w under ∙ base.1)).0 in
               let less = root.3 in omega (arith, frames_same, less));
           none = λ w k keeps_it. keeps_it;
@@ -711,9 +763,9 @@ module _ (table : Table) (typed : TypedProgram) (effects : Effects) (input : Lis
         enters =
             all_declared s ready.accepted.settled ready.owns in_formals (waiting_in easy.state) depth views far_views facts_called next_there cells cell_begins other_all state.leaks formals passed ways_taken outs
             state.memory state.memory all_passed_ways.1 open_there (viewed_easy plain_there.0).1 (viewed_easy plain_there.0).1
-            (λ c has. ((named_cell c has).reaches, cell_aside c has)) well_all blank_formals (λ o has y q k is. refl)
+            (λ c has. ((named_cell c has).reaches, cell_aside c has)) well_all blank_formals (λ o has y q k is. refl) (same_cells state.memory state.memory refl)
 
-        abbrev declared_there : AreDeclared s ready.accepted.settled ready.owns in_formals (waiting_in easy.state) depth views far_views facts_called next_there cells cell_begins formals ways_taken state.leaks leaks_then
+        abbrev declared_there : AreDeclared s ready.accepted.settled ready.owns in_formals (waiting_in easy.state) depth views far_views facts_called next_there cells cell_begins formals passed ways_taken state.leaks leaks_then
             state.memory with_all
         declared_there = enters.0
 
@@ -752,11 +804,16 @@ module _ (table : Table) (typed : TypedProgram) (effects : Effects) (input : Lis
             → word_in s.table (content s state.memory [] (ways.OfRoot (ways.OfVariable f x))) q ≡ ways.Held k
         held_called f x q k off held = elim (declared_there.held f x q k held) [ inl before ↦ before | inr mine ↦ absurd (off mine.0) ]
 
+        not_up : (x : ℕ) → home s depth x ≡ suc depth → ⊥
+        not_up = not_above s ready.accepted.settled ready.owns in_formals (waiting_in easy.state) state.leaks depth views far_views facts_called next_there
+
         -- the variables of its views stay
         word_still : (x : ℕ) → is_view s x ≡ true
             → (get_or (variable_slots s (home s depth x) x with_all.variables) 0 no_slot).word ≡ (get_or (variable_slots s (home s depth x) x state.memory.variables) 0 no_slot).word
-        word_still x view = declared_there.views (home s depth x) x view (λ up formal has. not_above s ready.accepted.settled ready.owns in_formals
-            (waiting_in easy.state) state.leaks depth views far_views facts_called next_there x up)
+        word_still x view = elim (declared_there.views (home s depth x) x view) [
+          | inl same ↦ same
+          | inr shown ↦ absurd (not_up x shown.0)
+        ]
 
         -- what is moved or taken of package objects isn't used
         kept_unused : (name : PlaceName) → Has (withheld program effects (waits_with all_passed_ways.0)) (Moved name) → is_package_object s name.root ≡ true
@@ -768,7 +825,7 @@ module _ (table : Table) (typed : TypedProgram) (effects : Effects) (input : Lis
                   let from = Has-map_from (λ (to : Way). Moved (ways.name_of to)) ways_taken (Moved name) taken in
                   true_false (is_package_object s name.root) shared
                   (subst (λ (z : PlaceName). is_package_object s z.root ≡ false) (moved_same (ways.name_of from.0) name from.2)
-                  (passed_own s cells depth facts_called next_there formals passed ways_taken outs all_passed_ways.1 from.0 from.1)))
+                  (passed_own s state.memory cells depth facts_called next_there formals passed ways_taken outs all_passed_ways.1 from.0 from.1)))
             ]
 
         is_waiting : IsWaiting table typed effects after_call n (returns_of formals passed) waits_there
@@ -789,12 +846,12 @@ module _ (table : Table) (typed : TypedProgram) (effects : Effects) (input : Lis
           ];
           lends = lends_there;
           unmoved = λ name has shared uses. kept_unused name has shared uses;
-          written = λ to has shared. absurd (true_false (is_package_object s (ways.number_of to)) shared (passed_own s cells depth facts_called next_there formals passed ways_taken outs all_passed_ways.1 to has));
+          written = λ to has shared. absurd (true_false (is_package_object s (ways.number_of to)) shared (passed_own s state.memory cells depth facts_called next_there formals passed ways_taken outs all_passed_ways.1 to has));
           uses = λ x uses. called_used program effects ready.accepted.effects_are top.frame.sub (flow_sub own named) sub_at_all sub_less n callee_less
               main_turn.point (standing.in_sub table typed effects input ready state top older outer named p frames of_sub at_point) actuals result e x uses;
           writes = λ x written. called_writes program effects ready.accepted.effects_are top.frame.sub (flow_sub own named) sub_at_all sub_less n callee_less
               main_turn.point (standing.in_sub table typed effects input ready state top older outer named p frames of_sub at_point) actuals result e x written;
-          clear = subst (AreClear (sees_only s)) (sym facts_there) well_called.clear;
+          clear = subst (FactsAreClear (sees_only s)) (sym facts_there) well_called.clear;
           views = subst (λ z. AreViews (home s top.depth) (sees_only s) views (view_here s after_call) z) (sym facts_there)
               (subst (λ d. AreViews (home s d) (sees_only s) views (view_here s after_call) facts_called) (sym deep) well_called.views);
           holds = subst (λ d. HoldsAt s d views with_all at_successor.0) (sym deep) (record {
@@ -825,13 +882,16 @@ module _ (table : Table) (typed : TypedProgram) (effects : Effects) (input : Lis
         others_wait =
             all_on table typed effects unmoved_stage local state after_call depth
             (λ f x q k some less held. held_called f x q k (λ above_it. omega (arith, less, above_it)) held)
-            (λ f x some less view. declared_there.views f x view (λ up formal has. omega (arith, less, up)))
+            (λ f x some less view. elim (declared_there.views f x view) [
+              | inl same ↦ same
+              | inr shown ↦ (let up = shown.0 in absurd (omega (arith, less, up)))
+            ])
             top.frame.sub top.frame.returns older outer stages (omega arith)
             (λ w k keeps_it. (let root = kept_low table typed effects unmoved_stage local state depth older between w k keeps_it in
             subst (λ z. ways.Reaches z w (ways.OfCell k)) view_called
             (declared_there.stays w root.0 root.1 root.2 (λ same. (let less = root.3 in omega (arith, less, same)))
             (λ to taken. (
-            let base = passed_base s cells depth facts_called next_there formals passed ways_taken outs all_passed_ways.1 to taken in
+            let base = passed_base s state.memory cells depth facts_called next_there formals passed ways_taken outs all_passed_ways.1 to taken in
             past_other to w depth base.0 root.0 root.1 base.1 root.2 (λ same. (let less = root.3 in omega (arith, less, same))))) k
             (((viewed_easy plain_there.0).0).far w k keeps_it)))) running.2
 
@@ -852,7 +912,7 @@ module _ (table : Table) (typed : TypedProgram) (effects : Effects) (input : Lis
 
         returned_there : AreReturned s (frame_at_start n (returns_of formals passed))
         returned_there = (
-          λ x has. all_returned s ready.accepted.settled depth views view_now formals actuals passed laid called.actuals_stay kinds x
+          λ x has. all_returned s ready.accepted.settled depth views view_now state.memory formals actuals passed laid called.actuals_stay kinds x
               (subst (λ z. Has z x) (ap (λ (z : Signature). z.formals) (signature_is program n)) has),
           λ r has. called.formals r.formal
               (formals_of_returns s ready.accepted.settled ready.owns in_formals (waiting_in easy.state) depth views far_views facts_called next_there cells cell_begins formals passed r has),
@@ -864,11 +924,76 @@ module _ (table : Table) (typed : TypedProgram) (effects : Effects) (input : Lis
             subst (λ d. (x : ℕ) (w z : Way) → views.way x ≡ Some w → IsForeign (home s d) w → GoneElsewhere program effects older z → ways.Under z w ⊎ ways.Under w z → ⊥)
             (sym deep) viewed_before.whole
 
+        -- ---- the views of what is called
+
+        abbrev opened : Opens (steps.here main_turn) ready.accepted.settled (waiting_in easy.state) state.leaks state.memory [] other facts_now views (viewed_easy plain_there.0).1
+            (viewed_easy plain_there.0).0 holds_now alone live_now in_formals index_law ready.owns ready.class.parts_named formals_low procedure formals passed
+        opened =
+            all_opened (steps.here main_turn) ready.accepted.settled (waiting_in easy.state) state.leaks state.memory [] other facts_now views (viewed_easy plain_there.0).1
+            (viewed_easy plain_there.0).0 holds_now alone live_now in_formals index_law ready.owns ready.class.parts_named formals_low procedure formals actuals passed called.differ given
+
+        abbrev callee_views : Views
+        callee_views = opened.0
+
+        -- one that has a way is in a function
+        takes_none : (y : ℕ) (w : Way) → callee_views.way y ≡ Some w → all_passed_ways.0 ≡ []
+        takes_none y w has =
+            let found = opened.1.way y w has in
+            elim by_callee [
+              | inr none ↦ absurd (true_false (is_view_formal s y) found.0 (none y found.1))
+              | inl modes ↦ none_there all_passed_ways.0 (λ k k_has. (
+                  let by_name = all_passed_ways.2 k k_has in
+                  modes.1 (by_name.0).formal (passed_formal formals actuals by_name.0 by_name.1) by_name.2))
+            ]
+          where
+            none_there : (ks : List Way) → ((k : Way) → Has ks k → ⊥) → ks ≡ []
+            none_there [] none = refl
+            none_there (k ∷ ks) none = absurd (none k (inl refl))
+
+        callee_sees : (y : ℕ) (w : Way) → callee_views.way y ≡ Some w → sees_only s y ≡ true
+        callee_sees y w has =
+            let found = opened.1.way y w has in
+            elim by_callee [
+              | inl modes ↦ modes.2 y found.1 found.0
+              | inr none ↦ absurd (true_false (is_view_formal s y) found.0 (none y found.1))
+            ]
+
+        -- its way reaches what it reached
+        reach_called : (y : ℕ) (w : Way) (k : ℕ) → callee_views.way y ≡ Some w → ways.Reaches (seen s state.memory (waiting_in easy.state) state.leaks) w (ways.OfCell k)
+            → ways.Reaches (view_here s after_call) w (ways.OfCell k)
+        reach_called y w k has reach =
+            let are = subst (λ z. ArePassedOn s state.memory cells depth facts_called next_there formals passed z outs) (takes_none y w has) all_passed_ways.1 in
+            let empty = none_emptied s ready.accepted.settled ready.owns in_formals (waiting_in easy.state) depth views far_views facts_called next_there cells cell_begins formals passed outs state.memory are in
+            let leaks_are : state.leaks ≡ leaks_then = sym (ap (λ z. state.leaks ++ found_in s state.memory z) empty ∙ append-nil state.leaks) in
+            subst (λ z. ways.Reaches z w (ways.OfCell k)) view_called
+            (subst (λ z. ways.Reaches (seen s with_all (waiting_in easy.state) z) w (ways.OfCell k)) leaks_are
+            (same_reaches (seen s state.memory (waiting_in easy.state) state.leaks) (seen s with_all (waiting_in easy.state) state.leaks)
+            (none_taken_same s ready.accepted.settled ready.owns in_formals (waiting_in easy.state) depth views far_views facts_called next_there cells cell_begins state.leaks formals passed outs
+            state.memory state.memory are (same_cells state.memory state.memory refl) (viewed_easy plain_there.0).1 (λ c has. (named_cell c has).reaches)) w (ways.OfCell k) reach))
+
+        -- what is gone for the caller and the frames around it is excused by its facts before the call
+        excused_called : all_passed_ways.0 ≡ [] → (z : Way) → GoneElsewhere program effects (waits_there ∷ older) z → ExcusedBy (home s depth) views other facts_now z
+        excused_called none z (g, inr has, what) =
+            elsewhere_excused table typed effects unmoved_stage local state depth older between views own_facts z (g, has, what)
+        excused_called none z (g, inl same, what) = elim (subst (λ (y : ViewStage). IsMovedBy (home s y.stage.depth) y.views (facts_of program effects y.stage) z ⊎ TakenBy y.stage.returns z) (sym same) what) [
+          | inr taken ↦ absurd (subst (λ ks. Has ks taken.0) none taken.1)
+          | inl (u, moved, leads) ↦ inl (inl (
+            u,
+            (
+              subst (λ d. ways.Named (home s d) u) deep moved.0,
+              Has-append_left own_facts handed_on (Moved (ways.name_of u))
+                  (subst (λ fs. Has fs (Moved (ways.name_of u))) (standing.facts_are table typed effects input ready state top older outer named p frames of_sub at_point path)
+                  (none_new (Moved (ways.name_of u)) moved.1)),
+            ),
+            leads,
+          ))
+        ]
+
         entered_sound : Along (Goes after_call)
         entered_sound = (
           record {
             top = called_stage;
-            views = blank_views;
+            views = callee_views;
             older = waits_there ∷ older;
             stages = subst (AreStages (called_stage ∷ stages_of (waits_there ∷ older))) (sym frames_there) (refl, refl, (refl, deep, stages));
             running = (
@@ -892,9 +1017,14 @@ module _ (table : Table) (typed : TypedProgram) (effects : Effects) (input : Lis
                 seen = λ b h k m has there over. has;
                 owned = λ k has. absurd has;
               };
-              views = λ x w has. absurd (none_some w has);
-              whole = λ x w z has. absurd (none_some w has);
-              past = λ x w has. absurd (none_some w has);
+              views = opened_views (steps.here main_turn) ready.accepted.settled (waiting_in easy.state) state.leaks state.memory [] other facts_now views (viewed_easy plain_there.0).1
+                  (viewed_easy plain_there.0).0 holds_now alone live_now in_formals index_law ready.owns ready.class.parts_named formals_low procedure formals passed callee_views opened.1
+                  (view_here s after_call) (facts_of program effects called_stage) callee_sees reach_called;
+              whole = λ x w z has foreign gone meets.
+                  opened_whole (steps.here main_turn) ready.accepted.settled (waiting_in easy.state) state.leaks state.memory [] other facts_now views (viewed_easy plain_there.0).1
+                  (viewed_easy plain_there.0).0 holds_now alone live_now in_formals index_law ready.owns ready.class.parts_named formals_low procedure formals passed callee_views opened.1
+                  (GoneElsewhere program effects (waits_there ∷ older)) (λ y. excused_called (takes_none x w has) y) x w z has gone meets;
+              past = λ x w has named sees_not k m none. absurd none;
               lends = λ l k none. absurd none;
               far = λ w k none. absurd none;
             };
@@ -915,17 +1045,21 @@ module _ (table : Table) (typed : TypedProgram) (effects : Effects) (input : Lis
               )
             ];
             holds = record {
-              held = λ x k lasts view at. absurd (no_view x k view at);
-              within = λ x k view at. absurd (no_view x k view at);
-              only = λ x w has. absurd (none_some w has);
-              lies = λ x w has. absurd (none_some w has);
-              owners = λ x w has. absurd (none_some w has);
-              passed = λ x w has. absurd (none_some w has);
-              own = λ x w has. absurd (none_some w has);
+              held = λ x k lasts view at. callee_held x k view at;
+              within = λ x k view at. (let own_way = callee_held x k view at in (callee_placed x own_way.0 own_way.1).within);
+              only = λ x w has. formal_view s x (opened.1.way x w has).0;
+              lies = opened_lies (steps.here main_turn) ready.accepted.settled (waiting_in easy.state) state.leaks state.memory [] other facts_now views (viewed_easy plain_there.0).1
+                  (viewed_easy plain_there.0).0 holds_now alone live_now in_formals index_law ready.owns ready.class.parts_named formals_low procedure formals passed callee_views opened.1 (omega (arith));
+              owners = λ x w has. (let found = opened.1.way x w has in subst (IsOwners s) found.3 ((found.2).1).owners);
+              passed = λ x w has formal at_home. subst (ways.Named (home s (suc depth))) (opened.1.ups x) at_home;
+              own = λ x w has sees_not. absurd (true_false (sees_only s x) (callee_sees x w has) sees_not);
             };
-            placed = λ x w has. absurd (none_some w has);
-            past = λ x w has. absurd (none_some w has);
-            none_above = λ f x k less view at. above f x k (omega (arith, less)) view (sym (declared_there.views f x view (λ up formal has. omega (arith, less, up))) ∙ at);
+            placed = callee_placed;
+            past = λ x w has named sees_not. absurd (true_false (sees_only s x) (callee_sees x w has) sees_not);
+            none_above = λ f x k less view at. elim (declared_there.views f x view) [
+              | inl same ↦ above f x k (omega (arith, less)) view (sym same ∙ at)
+              | inr shown ↦ (let up = shown.0 in omega (arith, less, up))
+            ];
           },
           calls_one waits_stage cells refl (refl, refl, refl) refl none_new (subst (λ d. AreCarried s (λ f. f ≡ suc d → ⊥) [] state.memory with_all) (sym deep) declared_there.carried),
         )
@@ -934,12 +1068,35 @@ module _ (table : Table) (typed : TypedProgram) (effects : Effects) (input : Lis
             formal_lasts object_kind.Formal is = refl
             formal_lasts k is = cc
 
-            no_view : (x k : ℕ) → is_view s x ≡ true
-                → (get_or (variable_slots s (home s (suc depth) x) x with_all.variables) 0 no_slot).word ≡ machine.Cell k → ⊥
-            no_view x k view at =
-                let up : home s (suc depth) x ≡ suc depth = ap (λ b. if b then 0 else suc depth) (local x view) in
-                above (home s (suc depth) x) x k (omega (arith, up)) view (sym (declared_there.views (home s (suc depth) x) x view
-                (λ same_depth formal has. (let none = standing.no_in_formals table typed effects input ready x in let no : true ≡ false = sym formal ∙ none in cc))) ∙ at)
+            second_true : (a b : Bool) → a && b ≡ true → b ≡ true
+            second_true true b is = is
+            second_true false b is = cc
+
+            -- no formal is of an anonymous type
+            formal_only : (x : ℕ) → Has formals x → is_view s x ≡ true → is_view_formal s x ≡ true
+            formal_only x has view = elim (view_cases s x view) [
+              | inr formal ↦ formal
+              | inl anonymous ↦ absurd (no_anonymous (kinds x has) anonymous)
+            ]
+              where
+                no_anonymous : IsKindOfFormal s x → is_anonymous (view_of s x) ≡ true → ⊥
+                no_anonymous (inl plain) anonymous = scalar_no_view s in_formals x plain (anonymous_view s x anonymous)
+                no_anonymous (inr (inl back)) anonymous = true_false (is_anonymous (view_of s x)) anonymous (named_plain s.table (object_at s x).of back.1)
+                no_anonymous (inr (inr shown)) anonymous = (in_formals x shown.0).1 anonymous
+
+            callee_held : (x k : ℕ) → is_view s x ≡ true → (get_or (variable_slots s (home s (suc depth) x) x with_all.variables) 0 no_slot).word ≡ machine.Cell k
+                → (w : Way) × (callee_views.way x ≡ Some w) × (callee_views.cell x ≡ k)
+            callee_held =
+                opened_held (steps.here main_turn) ready.accepted.settled (waiting_in easy.state) state.leaks state.memory [] other facts_now views (viewed_easy plain_there.0).1
+                (viewed_easy plain_there.0).0 holds_now alone live_now in_formals index_law ready.owns ready.class.parts_named formals_low procedure formals passed callee_views opened.1
+                with_all above local declared_there.views formal_only
+
+            callee_placed : ArePlaced program (suc depth) (facts_of program effects called_stage) callee_views called.runs.point.scope
+            callee_placed =
+                opened_placed (steps.here main_turn) ready.accepted.settled (waiting_in easy.state) state.leaks state.memory [] other facts_now views (viewed_easy plain_there.0).1
+                (viewed_easy plain_there.0).0 holds_now alone live_now in_formals index_law ready.owns ready.class.parts_named formals_low procedure formals passed callee_views opened.1
+                program (facts_of program effects called_stage) called.runs.point.scope refl
+                (λ y has formal. called.begins y has (second_true (is_in_formal s y) (is_owning s.table (object_at s y).of) formal))
 
       pub calls_it : Along (turn main_turn (Call n actuals result))
       calls_it =

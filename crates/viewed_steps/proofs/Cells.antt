@@ -23,7 +23,7 @@ use Rattle.flow_paths.specs.Names.{Written, written, name_of}
 use Rattle.flow_paths.specs.Acts.{naming, actual_act, actual_acts}
 use Rattle.flow_paths.specs.Aliases as alias
 use Rattle.flow_paths.specs.Aliases.{pair_reports, overlap_reports}
-use Rattle.machine.specs.Memory.{Place}
+use Rattle.machine.specs.Memory.{Memory, Place}
 use Rattle.machine.specs.Calls.{Passed, Value, From, To}
 use Rattle.machine.specs.Owners.{is_in}
 use Rattle.owned_ways.specs.Ways.{OfCell, Way, Under, Past, Named, Reaches, Allows, AllowsAll, after, number_of}
@@ -322,7 +322,7 @@ named_before home t (ways.Lost n) under named = absurd named
 named_before home t (ways.Into w i) under named = elim under [ inl e ↦ subst (Named home) (sym e) named | inr u ↦ named_before home t w u named ]
 named_before home t (ways.All w) under named = elim under [ inl e ↦ subst (Named home) (sym e) named | inr u ↦ named_before home t w u named ]
 
-module _ (s : Typing) (own_law : OwnsByShape s.table) (depth : ℕ) (facts : List Fact) (procedure : Bool) (v : Views) (view : ways.View) where
+module _ (s : Typing) (own_law : OwnsByShape s.table) (mem : Memory) (depth : ℕ) (facts : List Fact) (procedure : Bool) (v : Views) (view : ways.View) where
   abbrev Called : List ℕ → TypedTree → Lodge → Type 0
   Called formals actuals c = IsCellNamed s depth facts v view formals actuals c
 
@@ -385,16 +385,16 @@ module _ (s : Typing) (own_law : OwnsByShape s.table) (depth : ℕ) (facts : Lis
   one_cell x m e k known formals rest is other (inl (plain, never)) allowed less d has = absurd never
 
   first_cell : (x : ℕ) (m : Mode) (e : TypedTree) (a : Passed) (known : List Fact) (formals : List ℕ) (rest : TypedTree) → (object_at s x).mode ≡ m
-      → (laid : IsLaidOne s depth v view x m e a) → AllowsAll known (acts (actual_act (passing s procedure x) e)) → ((f : Fact) → Has facts f → Has known f)
-      → (c : Lodge) → Has (cell_of s depth v view x m e a laid) c → Called (x ∷ formals) (More e rest) c
+      → (laid : IsLaidOne s mem depth v view x m e a) → AllowsAll known (acts (actual_act (passing s procedure x) e)) → ((f : Fact) → Has facts f → Has known f)
+      → (c : Lodge) → Has (cell_of s mem depth v view x m e a laid) c → Called (x ∷ formals) (More e rest) c
   first_cell x mode.In e (Value ws) known formals rest is laid allowed less c has = absurd has
   first_cell x mode.Out e (To k) known formals rest is laid allowed less c has = one_cell x mode.Out e k known formals rest is (λ e. cc) laid allowed less c has
   first_cell x mode.InOut e (From k) known formals rest is laid allowed less c has = one_cell x mode.InOut e k known formals rest is (λ e. cc) laid allowed less c has
   first_cell x m e a known formals rest is laid allowed less c has = absurd laid
 
-  pub cells_named : (formals : List ℕ) (actuals : TypedTree) (passed : List Passed) (known : List Fact) → (laid : AreLaidOut s depth v view formals actuals passed)
+  pub cells_named : (formals : List ℕ) (actuals : TypedTree) (passed : List Passed) (known : List Fact) → (laid : AreLaidOut s mem depth v view formals actuals passed)
       → facts ≡ after (acts (actual_acts (map (passing s procedure) formals) actuals)) known
-      → AllowsAll known (acts (actual_acts (map (passing s procedure) formals) actuals)) → (c : Lodge) → Has (cells_of s depth v view formals actuals passed laid) c
+      → AllowsAll known (acts (actual_acts (map (passing s procedure) formals) actuals)) → (c : Lodge) → Has (cells_of s mem depth v view formals actuals passed laid) c
       → Called formals actuals c
   cells_named [] actuals passed known laid same allowed c has = absurd has
   cells_named (x ∷ formals) (More e rest) (a ∷ passed) known laid same allowed c has =
@@ -403,7 +403,7 @@ module _ (s : Typing) (own_law : OwnsByShape s.table) (depth : ℕ) (facts : Lis
       let both : acts (actual_acts (map (passing s procedure) (x ∷ formals)) (More e rest)) ≡ first ++ others =
       acts_append (actual_act (passing s procedure x) e) (actual_acts (map (passing s procedure) formals) rest) in
       let each = allows_both known first others (subst (AllowsAll known) both allowed) in
-      elim (Has-append_cases (cell_of s depth v view x (object_at s x).mode e a laid.0) (cells_of s depth v view formals rest passed laid.1) c has) [
+      elim (Has-append_cases (cell_of s mem depth v view x (object_at s x).mode e a laid.0) (cells_of s mem depth v view formals rest passed laid.1) c has) [
         | inl mine ↦ first_cell x (object_at s x).mode e a known formals rest refl laid.0 each.0
             (λ f there. after_less (acts (actual_acts (map (passing s procedure) (x ∷ formals)) (More e rest)))
             (λ b among. (let from = Has-map_from (λ (z : Placed). z.act) (actual_acts (map (passing s procedure) (x ∷ formals)) (More e rest)) b among in

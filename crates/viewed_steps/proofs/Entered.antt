@@ -15,13 +15,15 @@ use Rattle.flow_paths.specs.Objects.{Typing, object_at, is_variable, is_borrowin
 use Rattle.machine.specs.Words.{access_offsets}
 use Rattle.machine.specs.Memory.{Slot, Memory, Base, Place, fresh, no_slot, variable_slots, slots_at, slots_of, words_of, gone_at, moved_out, declared}
 use Rattle.machine.specs.Memory as memory
+use Rattle.machine.specs.Words as machine
 use Rattle.machine.specs.Calls.{Passed, Value, From, To}
 use Rattle.machine.specs.States.{Waiting, Leak}
 use Rattle.owned_ways.specs.Ways.{Step, OfVariable, OfHand, Loc, OfRoot, OfCell, Reaches, Way, Object, Empty, Held, Under, Past, Named, along, base_of, number_of, name_of}
 use Rattle.owned_ways.proofs.Locations.{same_loc, under_along, under_itself}
 use Rattle.part_offsets.specs.Parts.{type_in, IsSettled}
 use Rattle.soundness.specs.Seen.{content, word_in, seen, home, is_view_formal}
-use Rattle.soundness.specs.Typed.{Matches, OwnsByShape, Kept, Spot}
+use Rattle.type_definitions.specs.declared.table.Shape.TheVariants as shape
+use Rattle.soundness.specs.Typed.{Matches, IsCell, OwnsByShape, Kept, Spot}
 use Rattle.soundness.proofs.Memories.{put_other}
 use Rattle.soundness.proofs.Moments.{number_part}
 use Rattle.soundness.proofs.Steps.{matches_words, plain_end, alike, taken_slots, room}
@@ -88,14 +90,29 @@ module _ (s : Typing) (settled : IsSettled s.table) (depth : ℕ) (k : Place) (t
 
 -- ---- what is passed
 
+-- An access value designates a cell of its type.
+abbrev pub IsTyped : Typing → Memory → ℕ → machine.Word → Type 0
+IsTyped s m x z = (d : ℕ) (c n : Bool) (k : ℕ) → shape_of s.table (object_at s x).of ≡ shape.Access d c n → z ≡ machine.Cell k → IsCell s m d k
+
+-- An access value, for a formal that owns nothing.
+abbrev pub IsShownOne : Typing → Memory → ℕ → Passed → Type 0
+IsShownOne s m x a = (is_view_formal s x ≡ true) × (z : machine.Word) × (a ≡ Value (z ∷ [])) × IsTyped s m x z
+
 -- A scalar value, or a scalar place in a variable or in one of these cells.
 abbrev pub IsPlainPassed : Typing → List Lodge → Passed → Type 0
 IsPlainPassed s cells (Value ws) = One ws
 IsPlainPassed s cells (From k) = IsPlainPlace s cells k
 IsPlainPassed s cells (To k) = IsPlainPlace s cells k
 
-abbrev pub IsPlainOne : Typing → List Lodge → ℕ → Passed → Type 0
-IsPlainOne s cells x a = (is_scalar (full s.table (object_at s x).of) ≡ true) × IsPlainPassed s cells a
+-- Such a one, or such an access value.
+abbrev pub IsPlainOne : Typing → Memory → List Lodge → ℕ → Passed → Type 0
+IsPlainOne s m cells x a = ((is_scalar (full s.table (object_at s x).of) ≡ true) × IsPlainPassed s cells a) ⊎ IsShownOne s m x a
+
+-- A value of one word is passed for a formal.
+abbrev pub IsShownTo : List ℕ → List Passed → ℕ → machine.Word → Type 0
+IsShownTo [] passed y z = ⊥
+IsShownTo (x ∷ formals) [] y z = ⊥
+IsShownTo (x ∷ formals) (a ∷ passed) y z = ((x ≡ y) × (a ≡ Value (z ∷ []))) ⊎ IsShownTo formals passed y z
 
 -- No fact says of the way that it was moved, or of what leads to it or lies in it.
 abbrev pub IsWhole : List Fact → Way → Type 0
@@ -110,52 +127,52 @@ IsTakenAs facts k to a outs later =
     ((a ≡ From k) × IsWhole facts to × (outs ≡ later)) ⊎ ((pos : Pos) × (a ≡ To k) × (outs ≡ record { way = to; place = k; pos = pos } ∷ later))
 
 -- What is passed, with the ways of the places that are taken, and those of them that are emptied.
-abbrev pub ArePassedOn : Typing → List Lodge → ℕ → List Fact → List ℕ → List ℕ → List Passed → List Way → List Out → Type 0
-ArePassedOn s cells depth facts scope [] passed ways outs = (ways ≡ []) × (outs ≡ [])
-ArePassedOn s cells depth facts scope (x ∷ formals) [] ways outs = (ways ≡ []) × (outs ≡ [])
-ArePassedOn s cells depth facts scope (x ∷ formals) (a ∷ passed) [] outs = IsPlainOne s cells x a × ArePassedOn s cells depth facts scope formals passed [] outs
-ArePassedOn s cells depth facts scope (x ∷ formals) (a ∷ passed) (to ∷ ways) outs =
-    (IsPlainOne s cells x a × ArePassedOn s cells depth facts scope formals passed (to ∷ ways) outs)
+abbrev pub ArePassedOn : Typing → Memory → List Lodge → ℕ → List Fact → List ℕ → List ℕ → List Passed → List Way → List Out → Type 0
+ArePassedOn s m cells depth facts scope [] passed ways outs = (ways ≡ []) × (outs ≡ [])
+ArePassedOn s m cells depth facts scope (x ∷ formals) [] ways outs = (ways ≡ []) × (outs ≡ [])
+ArePassedOn s m cells depth facts scope (x ∷ formals) (a ∷ passed) [] outs = IsPlainOne s m cells x a × ArePassedOn s m cells depth facts scope formals passed [] outs
+ArePassedOn s m cells depth facts scope (x ∷ formals) (a ∷ passed) (to ∷ ways) outs =
+    (IsPlainOne s m cells x a × ArePassedOn s m cells depth facts scope formals passed (to ∷ ways) outs)
     ⊎ ((k : Place) × (later : List Out) × IsTakenAs facts k to a outs later × IsPassedOn s depth facts scope x k to × IsApartFrom to ways × DiffersFrom x formals
-    × ArePassedOn s cells depth facts scope formals passed ways later)
+    × ArePassedOn s m cells depth facts scope formals passed ways later)
 
 -- the ways of such places begin at variables of the frame, or at package objects
-pub passed_base : (s : Typing) (cells : List Lodge) (depth : ℕ) (facts : List Fact) (scope : List ℕ) (formals : List ℕ) (passed : List Passed) (ways : List Way) (outs : List Out)
-    → ArePassedOn s cells depth facts scope formals passed ways outs → (k : Way) → Has ways k → IsHomed s depth k
-passed_base s cells depth facts scope [] passed ways outs none k has = absurd (subst (λ z. Has z k) none.0 has)
-passed_base s cells depth facts scope (x ∷ formals) [] ways outs none k has = absurd (subst (λ z. Has z k) none.0 has)
-passed_base s cells depth facts scope (x ∷ formals) (a ∷ passed) [] outs are k has = absurd has
-passed_base s cells depth facts scope (x ∷ formals) (a ∷ passed) (to ∷ ways) outs (inl are) k has = passed_base s cells depth facts scope formals passed (to ∷ ways) outs are.1 k has
-passed_base s cells depth facts scope (x ∷ formals) (a ∷ passed) (to ∷ ways) outs (inr (place, later, how, one, apart, differ, more)) k (inl same) =
+pub passed_base : (s : Typing) (m : Memory) (cells : List Lodge) (depth : ℕ) (facts : List Fact) (scope : List ℕ) (formals : List ℕ) (passed : List Passed) (ways : List Way) (outs : List Out)
+    → ArePassedOn s m cells depth facts scope formals passed ways outs → (k : Way) → Has ways k → IsHomed s depth k
+passed_base s m cells depth facts scope [] passed ways outs none k has = absurd (subst (λ z. Has z k) none.0 has)
+passed_base s m cells depth facts scope (x ∷ formals) [] ways outs none k has = absurd (subst (λ z. Has z k) none.0 has)
+passed_base s m cells depth facts scope (x ∷ formals) (a ∷ passed) [] outs are k has = absurd has
+passed_base s m cells depth facts scope (x ∷ formals) (a ∷ passed) (to ∷ ways) outs (inl are) k has = passed_base s m cells depth facts scope formals passed (to ∷ ways) outs are.1 k has
+passed_base s m cells depth facts scope (x ∷ formals) (a ∷ passed) (to ∷ ways) outs (inr (place, later, how, one, apart, differ, more)) k (inl same) =
     subst (IsHomed s depth) same (inside_homed s depth place to one.inside)
-passed_base s cells depth facts scope (x ∷ formals) (a ∷ passed) (to ∷ ways) outs (inr (place, later, how, one, apart, differ, more)) k (inr has) =
-    passed_base s cells depth facts scope formals passed ways later more k has
+passed_base s m cells depth facts scope (x ∷ formals) (a ∷ passed) (to ∷ ways) outs (inr (place, later, how, one, apart, differ, more)) k (inr has) =
+    passed_base s m cells depth facts scope formals passed ways later more k has
 
 -- each is the way of a place that is passed on
-pub passed_one : (s : Typing) (cells : List Lodge) (depth : ℕ) (facts : List Fact) (scope : List ℕ) (formals : List ℕ) (passed : List Passed) (ways : List Way) (outs : List Out)
-    → ArePassedOn s cells depth facts scope formals passed ways outs → (to : Way) → Has ways to → (x : ℕ) × (k : Place) × IsPassedOn s depth facts scope x k to
-passed_one s cells depth facts scope [] passed ways outs none to has = absurd (subst (λ z. Has z to) none.0 has)
-passed_one s cells depth facts scope (x ∷ formals) [] ways outs none to has = absurd (subst (λ z. Has z to) none.0 has)
-passed_one s cells depth facts scope (x ∷ formals) (a ∷ passed) [] outs are to has = absurd has
-passed_one s cells depth facts scope (x ∷ formals) (a ∷ passed) (k ∷ ways) outs (inl are) to has = passed_one s cells depth facts scope formals passed (k ∷ ways) outs are.1 to has
-passed_one s cells depth facts scope (x ∷ formals) (a ∷ passed) (k ∷ ways) outs (inr (place, later, how, one, apart, differ, more)) to (inl same) =
+pub passed_one : (s : Typing) (m : Memory) (cells : List Lodge) (depth : ℕ) (facts : List Fact) (scope : List ℕ) (formals : List ℕ) (passed : List Passed) (ways : List Way) (outs : List Out)
+    → ArePassedOn s m cells depth facts scope formals passed ways outs → (to : Way) → Has ways to → (x : ℕ) × (k : Place) × IsPassedOn s depth facts scope x k to
+passed_one s m cells depth facts scope [] passed ways outs none to has = absurd (subst (λ z. Has z to) none.0 has)
+passed_one s m cells depth facts scope (x ∷ formals) [] ways outs none to has = absurd (subst (λ z. Has z to) none.0 has)
+passed_one s m cells depth facts scope (x ∷ formals) (a ∷ passed) [] outs are to has = absurd has
+passed_one s m cells depth facts scope (x ∷ formals) (a ∷ passed) (k ∷ ways) outs (inl are) to has = passed_one s m cells depth facts scope formals passed (k ∷ ways) outs are.1 to has
+passed_one s m cells depth facts scope (x ∷ formals) (a ∷ passed) (k ∷ ways) outs (inr (place, later, how, one, apart, differ, more)) to (inl same) =
     (x, place, subst (IsPassedOn s depth facts scope x place) same one)
-passed_one s cells depth facts scope (x ∷ formals) (a ∷ passed) (k ∷ ways) outs (inr (place, later, how, one, apart, differ, more)) to (inr has) =
-    passed_one s cells depth facts scope formals passed ways later more to has
+passed_one s m cells depth facts scope (x ∷ formals) (a ∷ passed) (k ∷ ways) outs (inr (place, later, how, one, apart, differ, more)) to (inr has) =
+    passed_one s m cells depth facts scope formals passed ways later more to has
 
 -- what is emptied is among them
-pub outs_taken : (s : Typing) (cells : List Lodge) (depth : ℕ) (facts : List Fact) (scope : List ℕ) (formals : List ℕ) (passed : List Passed) (ways : List Way) (outs : List Out)
-    → ArePassedOn s cells depth facts scope formals passed ways outs → (o : Out) → Has outs o → Has ways o.way
-outs_taken s cells depth facts scope [] passed ways outs none o has = absurd (subst (λ z. Has z o) none.1 has)
-outs_taken s cells depth facts scope (x ∷ formals) [] ways outs none o has = absurd (subst (λ z. Has z o) none.1 has)
-outs_taken s cells depth facts scope (x ∷ formals) (a ∷ passed) [] outs are o has = outs_taken s cells depth facts scope formals passed [] outs are.1 o has
-outs_taken s cells depth facts scope (x ∷ formals) (a ∷ passed) (to ∷ ways) outs (inl are) o has = outs_taken s cells depth facts scope formals passed (to ∷ ways) outs are.1 o has
-outs_taken s cells depth facts scope (x ∷ formals) (a ∷ passed) (to ∷ ways) outs (inr (place, later, inl (from, whole, same), one, apart, differ, more)) o has =
-    inr (outs_taken s cells depth facts scope formals passed ways later more o (subst (λ z. Has z o) same has))
-outs_taken s cells depth facts scope (x ∷ formals) (a ∷ passed) (to ∷ ways) outs (inr (place, later, inr (pos, goes, same), one, apart, differ, more)) o has =
+pub outs_taken : (s : Typing) (m : Memory) (cells : List Lodge) (depth : ℕ) (facts : List Fact) (scope : List ℕ) (formals : List ℕ) (passed : List Passed) (ways : List Way) (outs : List Out)
+    → ArePassedOn s m cells depth facts scope formals passed ways outs → (o : Out) → Has outs o → Has ways o.way
+outs_taken s m cells depth facts scope [] passed ways outs none o has = absurd (subst (λ z. Has z o) none.1 has)
+outs_taken s m cells depth facts scope (x ∷ formals) [] ways outs none o has = absurd (subst (λ z. Has z o) none.1 has)
+outs_taken s m cells depth facts scope (x ∷ formals) (a ∷ passed) [] outs are o has = outs_taken s m cells depth facts scope formals passed [] outs are.1 o has
+outs_taken s m cells depth facts scope (x ∷ formals) (a ∷ passed) (to ∷ ways) outs (inl are) o has = outs_taken s m cells depth facts scope formals passed (to ∷ ways) outs are.1 o has
+outs_taken s m cells depth facts scope (x ∷ formals) (a ∷ passed) (to ∷ ways) outs (inr (place, later, inl (from, whole, same), one, apart, differ, more)) o has =
+    inr (outs_taken s m cells depth facts scope formals passed ways later more o (subst (λ z. Has z o) same has))
+outs_taken s m cells depth facts scope (x ∷ formals) (a ∷ passed) (to ∷ ways) outs (inr (place, later, inr (pos, goes, same), one, apart, differ, more)) o has =
     elim (subst (λ z. Has z o) same has) [
       | inl first ↦ inl (ap (λ (z : Out). z.way) first)
-      | inr others ↦ inr (outs_taken s cells depth facts scope formals passed ways later more o others)
+      | inr others ↦ inr (outs_taken s m cells depth facts scope formals passed ways later more o others)
     ]
 
 -- Nothing is gone elsewhere in hands, or in the places that are still to be taken; and others keep no way.

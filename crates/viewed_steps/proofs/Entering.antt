@@ -9,7 +9,7 @@ use Rattle.machine.specs.Words.{default}
 use Rattle.machine.specs.Memory.{Memory, Place, no_slot, variable_slots, words_of, moved_out, declared}
 use Rattle.machine.specs.Calls.{Passed, Value, From, To, with_formal, with_formals, returns_of}
 use Rattle.machine.specs.States.{Waiting, Leak, Return}
-use Rattle.owned_ways.specs.Ways.{Step, OfVariable, OfHand, Loc, OfRoot, OfCell, Reaches, Way, Object, Empty, Held, Under, Past, along, base_of}
+use Rattle.owned_ways.specs.Ways.{IsSame, Step, OfVariable, OfHand, Loc, OfRoot, OfCell, Reaches, Way, Object, Empty, Held, Under, Past, along, base_of}
 use Rattle.owned_ways.proofs.Locations.{under_along, under_itself}
 use Rattle.type_definitions.specs.Types.{is_owning}
 use Rattle.part_offsets.specs.Parts.{IsSettled}
@@ -28,9 +28,10 @@ use Rattle.viewed_steps.proofs.Between.{IsHomed, homed_apart, carried_same, carr
 use Rattle.viewed_steps.proofs.Carried.{inside_homed, inside_low, inside_at, inside_spot, inside_base, inside_owns, inside_word}
 use Rattle.viewed_steps.proofs.Alike.{Enters, IsLaidIn, plain_place, with_one}
 use Rattle.viewed_steps.proofs.Views.{AreFar, apart_by_base, AreAccess}
+use Rattle.viewed_steps.proofs.Shown.{HasCells, then_cells, taken_cells, Stands, one_stands}
 use Rattle.viewed_steps.proofs.Vacated.{place_checks}
 use Rattle.viewed_steps.proofs.Outs.{Out, IsUnderOne, found_in, HasStill, HaveStill, still_then}
-use Rattle.viewed_steps.proofs.Entered.{IsPlainPassed, IsPlainOne, DiffersFrom, ArePassedOn, IsOpen, AreBlank, passed_base, outs_taken, viewed_next, kept_next, one_held, one_carried, one_views, one_bare, one_stays, one_blank, one_still}
+use Rattle.viewed_steps.proofs.Entered.{IsPlainPassed, IsPlainOne, DiffersFrom, ArePassedOn, IsOpen, AreBlank, passed_base, outs_taken, viewed_next, kept_next, one_held, one_carried, one_views, one_bare, one_stays, one_blank, one_still, IsShownTo}
 use Rattle.viewed_steps.proofs.Emptying.{out_viewed, out_kept, out_views, out_blank, out_held, out_carried, out_bare, out_stays, out_still}
 
 -- what has a number owns
@@ -68,14 +69,15 @@ module _ (s : Typing) (settled : IsSettled s.table) (own_law : OwnsByShape s.tab
   abbrev pub AreThere : List Way → List Leak → Memory → Type 0
   AreThere ways leaks m = (c : Lodge) → Has cells c → Reaches (seen s m hands leaks) c.way (OfCell c.cell) × ((to : Way) → Has ways to → Past to c.way → ⊥)
 
-  -- Words are typed; a variable that has a number had it before, or is a formal; views keep their words; and
-  -- what was gone stays so.
-  pub record AreDeclared (formals : List ℕ) (ways : List Way) (leaks found : List Leak) (m n : Memory) : Type 0 where
+  -- Words are typed; a variable that has a number had it before, or is a formal; views keep their words, or are
+  -- formals with what is passed; and what was gone stays so.
+  pub record AreDeclared (formals : List ℕ) (passed : List Passed) (ways : List Way) (leaks found : List Leak) (m n : Memory) : Type 0 where
     pub typed : Kept s n hands
     pub held : (g y : ℕ) (p : List Step) (c : ℕ) → word_in s.table (content s n [] (OfRoot (OfVariable g y))) p ≡ Held c
         → (word_in s.table (content s m [] (OfRoot (OfVariable g y))) p ≡ Held c) ⊎ ((g ≡ suc depth) × Has formals y)
-    pub views : (g y : ℕ) → is_view s y ≡ true → (g ≡ suc depth → is_view_formal s y ≡ true → Has formals y → ⊥)
-        → (get_or (variable_slots s g y n.variables) 0 no_slot).word ≡ (get_or (variable_slots s g y m.variables) 0 no_slot).word
+    pub views : (g y : ℕ) → is_view s y ≡ true
+        → ((get_or (variable_slots s g y n.variables) 0 no_slot).word ≡ (get_or (variable_slots s g y m.variables) 0 no_slot).word)
+        ⊎ ((g ≡ suc depth) × IsShownTo formals passed y (get_or (variable_slots s g y n.variables) 0 no_slot).word)
     pub carried : AreCarried s (λ g. g ≡ suc depth → ⊥) [] m n
     -- ways from the variables of other frames that don't go on after a place reach what they reached
     pub stays : (w : Way) (g y : ℕ) → base_of w ≡ OfRoot (OfVariable g y) → (g ≡ suc depth → ⊥) → ((to : Way) → Has ways to → Past to w → ⊥) → (c : ℕ)
@@ -83,7 +85,7 @@ module _ (s : Typing) (settled : IsSettled s.table) (own_law : OwnsByShape s.tab
 
   abbrev pub Enter : Around (home s depth) → List Leak → List Leak → List ℕ → List Passed → List Way → Memory → Memory → Type 0
   Enter other leaks found formals passed ways m n =
-      AreDeclared formals ways leaks found m n × ViewedIn (taken_also other ways) found n × AreTaken s cells n depth facts scope (returns_of formals passed) ways
+      AreDeclared formals passed ways leaks found m n × ViewedIn (taken_also other ways) found n × AreTaken s cells n depth facts scope (returns_of formals passed) ways
 
   pub formals_of_returns : (formals : List ℕ) (passed : List Passed) (r : Return) → Has (returns_of formals passed) r → Has formals r.formal
   formals_of_returns [] passed r has = absurd has
@@ -94,19 +96,21 @@ module _ (s : Typing) (settled : IsSettled s.table) (own_law : OwnsByShape s.tab
   formals_of_returns (x ∷ formals) (To k ∷ passed) r (inl e) = inl (ap (λ (z : Return). z.formal) e)
   formals_of_returns (x ∷ formals) (To k ∷ passed) r (inr has) = inr (formals_of_returns formals passed r has)
 
-  plain_returns : (n : Memory) (x : ℕ) (a : Passed) (formals : List ℕ) (passed : List Passed) (ways : List Way) → IsPlainOne s cells x a
+  plain_returns : (n : Memory) (x : ℕ) (a : Passed) (formals : List ℕ) (passed : List Passed) (ways : List Way) (before : Memory) → IsPlainOne s before cells x a
       → AreTaken s cells n depth facts scope (returns_of formals passed) ways → AreTaken s cells n depth facts scope (returns_of (x ∷ formals) (a ∷ passed)) ways
-  plain_returns n x (Value ws) formals passed ways plain taken = taken
-  plain_returns n x (From k) formals passed [] plain taken = (plain, taken)
-  plain_returns n x (From k) formals passed (to ∷ ways) plain taken = inl (plain, taken)
-  plain_returns n x (To k) formals passed [] plain taken = (plain, taken)
-  plain_returns n x (To k) formals passed (to ∷ ways) plain taken = inl (plain, taken)
+  plain_returns n x (Value ws) formals passed ways before plain taken = taken
+  plain_returns n x (From k) formals passed [] before (inl plain) taken = (plain, taken)
+  plain_returns n x (From k) formals passed (to ∷ ways) before (inl plain) taken = inl (plain, taken)
+  plain_returns n x (To k) formals passed [] before (inl plain) taken = (plain, taken)
+  plain_returns n x (To k) formals passed (to ∷ ways) before (inl plain) taken = inl (plain, taken)
+  plain_returns n x (From k) formals passed ways before (inr (shown, z, is, typed)) taken = (let never : From k ≡ Value (z ∷ []) = is in cc)
+  plain_returns n x (To k) formals passed ways before (inr (shown, z, is, typed)) taken = (let never : To k ≡ Value (z ∷ []) = is in cc)
 
-  nothing_declared : (formals : List ℕ) (ways : List Way) (leaks : List Leak) (m : Memory) → Kept s m hands → AreDeclared formals ways leaks leaks m m
-  nothing_declared formals ways leaks m typed = record {
+  nothing_declared : (formals : List ℕ) (passed : List Passed) (ways : List Way) (leaks : List Leak) (m : Memory) → Kept s m hands → AreDeclared formals passed ways leaks leaks m m
+  nothing_declared formals passed ways leaks m typed = record {
     typed = typed;
     held = λ g y p c held. inl held;
-    views = λ g y view off. refl;
+    views = λ g y view. inl refl;
     carried = carried_same s (λ g. g ≡ suc depth → ⊥) [] m m (λ g y p. refl) (λ c p. refl);
     stays = λ w g y base other_frame aside c reach. reach;
   }
@@ -116,7 +120,7 @@ module _ (s : Typing) (settled : IsSettled s.table) (own_law : OwnsByShape s.tab
       → Enter other leaks (leaks ++ found_in s before outs) formals passed ways m m
   nothing_entered other leaks formals passed ways outs before m none (no_ways, no_outs) typed viewed =
       subst (λ z. Enter other leaks z formals passed ways m m) (sym (ap (λ z. leaks ++ found_in s before z) no_outs ∙ append-nil leaks)) (
-        nothing_declared formals ways leaks m typed,
+        nothing_declared formals passed ways leaks m typed,
         more_gone (home s depth) (sees_only s) v (outs_also other outs) (λ w. other.gone w ⊎ TakenBy ways w)
             (λ y w z has foreign o meets. elim o [
               | inl gone ↦ viewed.whole y w z has foreign (inl gone) meets
@@ -129,23 +133,29 @@ module _ (s : Typing) (settled : IsSettled s.table) (own_law : OwnsByShape s.tab
       )
 
   -- scalar ones change nothing that owners see
-  plain_then : (other : Around (home s depth)) (leaks found : List Leak) (x : ℕ) (a : Passed) (formals : List ℕ) (passed : List Passed) (ways : List Way) (m then_m n : Memory)
-      → IsPlainOne s cells x a → Enters s settled own_law in_formals hands leaks m then_m → Enter other leaks found formals passed ways then_m n
+  plain_then : (other : Around (home s depth)) (leaks found : List Leak) (x : ℕ) (a : Passed) (formals : List ℕ) (passed : List Passed) (ways : List Way) (before m then_m n : Memory)
+      → IsPlainOne s before cells x a → Stands s settled own_law in_formals hands leaks (suc depth) x a m then_m → Enter other leaks found formals passed ways then_m n
       → Enter other leaks found (x ∷ formals) (a ∷ passed) ways m n
-  plain_then other leaks found x a formals passed ways m then_m n plain on later = (
+  plain_then other leaks found x a formals passed ways before m then_m n plain on later = (
     record {
       typed = later.0.typed;
       held = λ g y p c held. elim (later.0.held g y p c held) [
         | inl h ↦ inl (sym (on.hold g y p) ∙ h)
         | inr h ↦ inr (h.0, inr h.1)
       ];
-      views = λ g y view off. later.0.views g y view (λ up formal has. off up formal (inr has)) ∙ on.views g y view;
+      views = λ g y view. elim (later.0.views g y view) [
+        | inr shown ↦ inr (shown.0, inr shown.1)
+        | inl same ↦ elim (on.views g y view) [
+          | inl before_it ↦ inl (same ∙ before_it)
+          | inr mine ↦ inr (mine.0, inl (mine.1, mine.2 ∙ ap (λ w. Value (w ∷ [])) (sym same)))
+        ]
+      ];
       carried = carried_then s (λ g. g ≡ suc depth → ⊥) [] [] [] m then_m n (λ w taken. taken) (λ w taken. taken)
           (carried_same s (λ g. g ≡ suc depth → ⊥) [] m then_m on.hold (λ c p. cells_same s m then_m hands leaks on.same c p)) later.0.carried;
       stays = λ w g y base other_frame aside c reach. later.0.stays w g y base other_frame aside c (same_reaches (seen s m hands leaks) (seen s then_m hands leaks) on.same w (OfCell c) reach);
     },
     later.1,
-    plain_returns n x a formals passed ways plain later.2,
+    plain_returns n x a formals passed ways before plain later.2,
   )
 
   taken_then : (other : Around (home s depth)) (leaks mid found : List Leak) (x : ℕ) (k : Place) (a : Passed) (to : Way) (formals : List ℕ) (passed : List Passed) (ways : List Way)
@@ -166,7 +176,10 @@ module _ (s : Typing) (settled : IsSettled s.table) (own_law : OwnsByShape s.tab
         | inr h ↦ inr (h.0, inr h.1)
         | inl h ↦ elim (held g y p c h) [ inl before ↦ inl before | inr mine ↦ inr (mine.0, inl (sym mine.1)) ]
       ];
-      views = λ g y view off. later.0.views g y view (λ up formal has. off up formal (inr has)) ∙ views g y view;
+      views = λ g y view. elim (later.0.views g y view) [
+        | inr shown ↦ inr (shown.0, inr shown.1)
+        | inl same ↦ inl (same ∙ views g y view)
+      ];
       carried = carried_then s (λ g. g ≡ suc depth → ⊥) [] [] [] m next n (λ w taken. taken) (λ w taken. taken) carried later.0.carried;
       stays = λ w g y base other_frame aside c reach. later.0.stays w g y base other_frame (λ z has. aside z (inr has)) c (one_stays w g y base other_frame (aside to (inl refl)) c reach);
     },
@@ -290,37 +303,37 @@ module _ (s : Typing) (settled : IsSettled s.table) (own_law : OwnsByShape s.tab
   laid_in leaks m (To k) plain typed there = plain_place s settled own_law in_formals hands leaks (suc depth) cells begins m k plain typed there
 
   pub all_declared : (other : Around (home s depth)) (leaks : List Leak) (formals : List ℕ) (passed : List Passed) (ways : List Way) (outs : List Out) (before m : Memory)
-      → ArePassedOn s cells depth facts scope formals passed ways outs → IsOpen (home s depth) other ways → Kept s before hands → Kept s m hands
-      → AreThere ways leaks m → ViewedIn (outs_also other outs) leaks m → AreBlank s depth m formals → HaveStill s depth before m outs
+      → ArePassedOn s before cells depth facts scope formals passed ways outs → IsOpen (home s depth) other ways → Kept s before hands → Kept s m hands
+      → AreThere ways leaks m → ViewedIn (outs_also other outs) leaks m → AreBlank s depth m formals → HaveStill s depth before m outs → HasCells before m
       → Enter other leaks (leaks ++ found_in s before outs) formals passed ways m (with_formals s (suc depth) formals passed m)
-  all_declared other leaks [] passed ways outs before m are open_there at_first typed cells_there viewed blank still =
+  all_declared other leaks [] passed ways outs before m are open_there at_first typed cells_there viewed blank still had =
       nothing_entered other leaks [] passed ways outs before m refl are typed viewed
-  all_declared other leaks (x ∷ formals) [] ways outs before m are open_there at_first typed cells_there viewed blank still =
+  all_declared other leaks (x ∷ formals) [] ways outs before m are open_there at_first typed cells_there viewed blank still had =
       nothing_entered other leaks (x ∷ formals) [] ways outs before m refl are typed viewed
-  all_declared other leaks (x ∷ formals) (a ∷ passed) [] outs before m are open_there at_first typed cells_there viewed blank still =
-      let on = with_one s settled own_law in_formals hands leaks (suc depth) x a m are.0.0 (laid_in leaks m a are.0.1 typed (λ c has. (cells_there c has).0)) typed in
+  all_declared other leaks (x ∷ formals) (a ∷ passed) [] outs before m are open_there at_first typed cells_there viewed blank still had =
+      let on = one_stands s settled own_law in_formals hands leaks (suc depth) x a before m cells are.0 (λ plain. laid_in leaks m a plain typed (λ c has. (cells_there c has).0)) had typed in
       let mid : Memory = with_formal s (suc depth) x a m in
-      plain_then other leaks (leaks ++ found_in s before outs) x a formals passed [] m mid (with_formals s (suc depth) formals passed mid) are.0 on
+      plain_then other leaks (leaks ++ found_in s before outs) x a formals passed [] before m mid (with_formals s (suc depth) formals passed mid) are.0 on
       (all_declared other leaks formals passed [] outs before mid are.1 open_there at_first on.typed
       (λ c has. (same_reaches (seen s m hands leaks) (seen s mid hands leaks) on.same c.way (OfCell c.cell) (cells_there c has).0, (cells_there c has).1))
       (same_viewed (home s depth) (sees_only s) (outs_also other outs) v (seen s m hands leaks) (seen s mid hands leaks) facts on.same viewed)
       (λ y has p. on.hold (suc depth) y p ∙ blank y (inr has) p)
-      (λ o has. still_then s depth before m mid o.way (still o has) (λ f y q p low is. on.hold f y (p ++ q))))
-  all_declared other leaks (x ∷ formals) (a ∷ passed) (to ∷ ways) outs before m (inl are) open_there at_first typed cells_there viewed blank still =
-      let on = with_one s settled own_law in_formals hands leaks (suc depth) x a m are.0.0 (laid_in leaks m a are.0.1 typed (λ c has. (cells_there c has).0)) typed in
+      (λ o has. still_then s depth before m mid o.way (still o has) (λ f y q p low is. on.hold f y (p ++ q))) (then_cells before m mid had on.cells))
+  all_declared other leaks (x ∷ formals) (a ∷ passed) (to ∷ ways) outs before m (inl are) open_there at_first typed cells_there viewed blank still had =
+      let on = one_stands s settled own_law in_formals hands leaks (suc depth) x a before m cells are.0 (λ plain. laid_in leaks m a plain typed (λ c has. (cells_there c has).0)) had typed in
       let mid : Memory = with_formal s (suc depth) x a m in
-      plain_then other leaks (leaks ++ found_in s before outs) x a formals passed (to ∷ ways) m mid (with_formals s (suc depth) formals passed mid) are.0 on
+      plain_then other leaks (leaks ++ found_in s before outs) x a formals passed (to ∷ ways) before m mid (with_formals s (suc depth) formals passed mid) are.0 on
       (all_declared other leaks formals passed (to ∷ ways) outs before mid are.1 open_there at_first on.typed
       (λ c has. (same_reaches (seen s m hands leaks) (seen s mid hands leaks) on.same c.way (OfCell c.cell) (cells_there c has).0, (cells_there c has).1))
       (same_viewed (home s depth) (sees_only s) (outs_also other outs) v (seen s m hands leaks) (seen s mid hands leaks) facts on.same viewed)
       (λ y has p. on.hold (suc depth) y p ∙ blank y (inr has) p)
-      (λ o has. still_then s depth before m mid o.way (still o has) (λ f y q p low is. on.hold f y (p ++ q))))
-  all_declared other leaks (x ∷ formals) (a ∷ passed) (to ∷ ways) outs before m (inr (k, later, inl (is, whole, same), one, apart, differ, more)) open_there at_first typed cells_there viewed blank still =
+      (λ o has. still_then s depth before m mid o.way (still o has) (λ f y q p low is. on.hold f y (p ++ q))) (then_cells before m mid had on.cells))
+  all_declared other leaks (x ∷ formals) (a ∷ passed) (to ∷ ways) outs before m (inr (k, later, inl (is, whole, same), one, apart, differ, more)) open_there at_first typed cells_there viewed blank still had =
       let new = blank x (inl refl) in
       let next : Memory = declared (suc depth) x (words_of s m k) (moved_out s k m) in
-      let among = outs_taken s cells depth facts scope formals passed ways later more in
-      let from = passed_base s cells depth facts scope formals passed ways later more in
-      let root : IsHomed s depth to = inside_homed s depth k to one.inside in
+      let among = outs_taken s before cells depth facts scope formals passed ways later more in
+      let from = passed_base s before cells depth facts scope formals passed ways later more in
+      let root : IsFrom to = inside_homed s depth k to one.inside in
       let mine = taken_open other to ways later among from apart open_there in
       let here : ViewedIn (outs_also other later) leaks m = subst (λ z. ViewedIn (outs_also other z) leaks m) same viewed in
       subst (λ z. Enter other leaks (leaks ++ found_in s before outs) (x ∷ formals) (z ∷ passed) (to ∷ ways) m (with_formals s (suc depth) (x ∷ formals) (z ∷ passed) m)) (sym is)
@@ -342,13 +355,14 @@ module _ (s : Typing) (settled : IsSettled s.table) (own_law : OwnsByShape s.tab
       (beside_outs other to later leaks next (viewed_next s settled own_law in_formals hands leaks depth v far facts scope (outs_also other later) x k to one whole mine m typed here new))
       (λ y has p. one_blank s settled own_law in_formals hands leaks depth v far facts scope (outs_also other later) x k to one whole mine m typed here new y (differ y has) p (blank y (inr has) p))
       (λ o has. still_then s depth before m next o.way (still o (subst (λ z. Has z o) (sym same) has))
-      (one_still s settled own_law in_formals hands leaks depth v far facts scope (outs_also other later) x k to one whole mine m typed here new o.way (apart o.way (among o has)))))))
-  all_declared other leaks (x ∷ formals) (a ∷ passed) (to ∷ ways) outs before m (inr (k, later, inr (pos, is, same), one, apart, differ, more)) open_there at_first typed cells_there viewed blank still =
+      (one_still s settled own_law in_formals hands leaks depth v far facts scope (outs_also other later) x k to one whole mine m typed here new o.way (apart o.way (among o has))))
+      (then_cells before m next had (taken_cells s k (suc depth) x (words_of s m k) m)))))
+  all_declared other leaks (x ∷ formals) (a ∷ passed) (to ∷ ways) outs before m (inr (k, later, inr (pos, is, same), one, apart, differ, more)) open_there at_first typed cells_there viewed blank still had =
       let new = blank x (inl refl) in
       let next : Memory = declared (suc depth) x (default s.table (object_at s x).of) (moved_out s k m) in
-      let among = outs_taken s cells depth facts scope formals passed ways later more in
-      let from = passed_base s cells depth facts scope formals passed ways later more in
-      let root : IsHomed s depth to = inside_homed s depth k to one.inside in
+      let among = outs_taken s before cells depth facts scope formals passed ways later more in
+      let from = passed_base s before cells depth facts scope formals passed ways later more in
+      let root : IsFrom to = inside_homed s depth k to one.inside in
       let out : Out = record { way = to; place = k; pos = pos } in
       let here : ViewedIn (outs_also other (out ∷ later)) leaks m = subst (λ z. ViewedIn (outs_also other z) leaks m) same viewed in
       let found : List Leak = leaks ++ leaks_at s pos before k in
@@ -397,4 +411,32 @@ module _ (s : Typing) (settled : IsSettled s.table) (own_law : OwnsByShape s.tab
       open_there.none m typed here new found y (differ y has) p (blank y (inr has) p))
       (λ o has. still_then s depth before m next o.way (still o (subst (λ z. Has z o) (sym same) (inr has)))
       (out_still s settled own_law in_formals hands leaks depth v facts scope (outs_also other (out ∷ later)) ((outs_also (away other to) later).gone) gone_apart x k to one
-      open_there.none m typed here new found mine o.way (apart o.way (among o has))))))))
+      open_there.none m typed here new found mine o.way (apart o.way (among o has))))
+      (then_cells before m next had (taken_cells s k (suc depth) x (default s.table (object_at s x).of) m))))))
+
+  -- ---- where no place is taken
+
+  -- nothing is emptied
+  pub none_emptied : (formals : List ℕ) (passed : List Passed) (outs : List Out) (before : Memory) → ArePassedOn s before cells depth facts scope formals passed [] outs → outs ≡ []
+  none_emptied [] passed outs before are = are.1
+  none_emptied (x ∷ formals) [] outs before are = are.1
+  none_emptied (x ∷ formals) (a ∷ passed) outs before are = none_emptied formals passed outs before are.1
+
+  -- and owners see the same
+  pub none_taken_same : (leaks : List Leak) (formals : List ℕ) (passed : List Passed) (outs : List Out) (before m : Memory) → ArePassedOn s before cells depth facts scope formals passed [] outs
+      → HasCells before m → Kept s m hands → ((c : Lodge) → Has cells c → Reaches (seen s m hands leaks) c.way (OfCell c.cell))
+      → IsSame (seen s m hands leaks) (seen s (with_formals s (suc depth) formals passed m) hands leaks)
+  none_taken_same leaks [] passed outs before m are had typed there = record { word = λ l. refl; made = refl; freed = λ n. refl; leaked = λ n. refl }
+  none_taken_same leaks (x ∷ formals) [] outs before m are had typed there = record { word = λ l. refl; made = refl; freed = λ n. refl; leaked = λ n. refl }
+  none_taken_same leaks (x ∷ formals) (a ∷ passed) outs before m are had typed there =
+      let mid : Memory = with_formal s (suc depth) x a m in
+      let on = one_stands s settled own_law in_formals hands leaks (suc depth) x a before m cells are.0 (λ plain. laid_in leaks m a plain typed there) had typed in
+      let more =
+      none_taken_same leaks formals passed outs before mid are.1 (then_cells before m mid had on.cells) on.typed
+      (λ c has. same_reaches (seen s m hands leaks) (seen s mid hands leaks) on.same c.way (OfCell c.cell) (there c has)) in
+      record {
+        word = λ l. more.word l ∙ on.same.word l;
+        made = more.made ∙ on.same.made;
+        freed = λ n. more.freed n ∙ on.same.freed n;
+        leaked = λ n. more.leaked n ∙ on.same.leaked n;
+      }

@@ -3,11 +3,12 @@ use Rattle.std.proofs.Common.{◌≡◌, ◌⊎◌, inl, inr, ℕ, true, false, 
 use Rattle.place_names.specs.declared.act.Mode.{Mode}
 use Rattle.place_names.specs.declared.act.Mode.TheVariants as mode
 use Rattle.place_names.specs.declared.fact.Fact.{Fact}
-use Rattle.type_definitions.specs.Types.{full, is_scalar}
+use Rattle.type_definitions.specs.Types.{full, is_scalar, is_owning}
 use Rattle.typed_tree.specs.Trees.{TypedTree, Name, More}
 use Rattle.flow_paths.specs.Objects.{Typing, object_at, is_package_object}
 use Rattle.flow_paths.specs.Names.{name_of}
-use Rattle.machine.specs.Memory.{Place}
+use Rattle.machine.specs.Words as machine
+use Rattle.machine.specs.Memory.{Memory, Place}
 use Rattle.machine.specs.Calls.{Passed, Value, From, To}
 use Rattle.machine.specs.Owners.{is_in}
 use Rattle.owned_ways.specs.Ways.{Way, Named, Reaches}
@@ -22,6 +23,7 @@ use Rattle.viewed_soundness.specs.Holds.{sees_only}
 use Rattle.viewed_steps.specs.Taken.{Lodge, IsLodged, IsInside}
 use Rattle.viewed_steps.specs.Sound.{IsScalarObject}
 use Rattle.viewed_steps.proofs.Outs.{Out}
+use Rattle.viewed_steps.proofs.Entered.{IsTyped}
 
 -- ---- what is passed
 
@@ -56,18 +58,24 @@ abbrev pub IsPlaceLaid : Typing → ℕ → Views → ways.View → ℕ → Type
 IsPlaceLaid s depth v view x e k =
     (IsScalarObject s x × IsPlainAt s depth v view e k) ⊎ ((is_scalar (full s.table (object_at s x).of) ≡ false) × IsOwnPut s depth x e k)
 
--- By the mode: a scalar value, or a place.
-abbrev pub IsLaidOne : Typing → ℕ → Views → ways.View → ℕ → Mode → TypedTree → Passed → Type 0
-IsLaidOne s depth v view x mode.In e (Value ws) = One ws
-IsLaidOne s depth v view x mode.Out e (To k) = IsPlaceLaid s depth v view x e k
-IsLaidOne s depth v view x mode.InOut e (From k) = IsPlaceLaid s depth v view x e k
-IsLaidOne s depth v view x m e a = ⊥
+-- A scalar value, or an access value of the type of the formal.
+abbrev pub IsValueLaid : Typing → Memory → ℕ → List machine.Word → Type 0
+IsValueLaid s m x ws =
+    (is_owning s.table (object_at s x).of ≡ false → One ws)
+    × (is_owning s.table (object_at s x).of ≡ true → (z : machine.Word) × (ws ≡ z ∷ []) × IsTyped s m x z)
 
-abbrev pub AreLaidOut : Typing → ℕ → Views → ways.View → List ℕ → TypedTree → List Passed → Type 0
-AreLaidOut s depth v view (x ∷ formals) (More e rest) (a ∷ passed) =
-    IsLaidOne s depth v view x (object_at s x).mode e a × AreLaidOut s depth v view formals rest passed
-AreLaidOut s depth v view (x ∷ formals) (More e rest) [] = ⊥
-AreLaidOut s depth v view formals actuals passed = passed ≡ []
+-- By the mode: such a value, or a place.
+abbrev pub IsLaidOne : Typing → Memory → ℕ → Views → ways.View → ℕ → Mode → TypedTree → Passed → Type 0
+IsLaidOne s m depth v view x mode.In e (Value ws) = IsValueLaid s m x ws
+IsLaidOne s m depth v view x mode.Out e (To k) = IsPlaceLaid s depth v view x e k
+IsLaidOne s m depth v view x mode.InOut e (From k) = IsPlaceLaid s depth v view x e k
+IsLaidOne s m depth v view x how e a = ⊥
+
+abbrev pub AreLaidOut : Typing → Memory → ℕ → Views → ways.View → List ℕ → TypedTree → List Passed → Type 0
+AreLaidOut s m depth v view (x ∷ formals) (More e rest) (a ∷ passed) =
+    IsLaidOne s m depth v view x (object_at s x).mode e a × AreLaidOut s m depth v view formals rest passed
+AreLaidOut s m depth v view (x ∷ formals) (More e rest) [] = ⊥
+AreLaidOut s m depth v view formals actuals passed = passed ≡ []
 
 -- Those that are emptied.
 abbrev pub own_out : (s : Typing) (depth x : ℕ) (e : TypedTree) (k : Place) → IsOwnPut s depth x e k → List Out
@@ -78,15 +86,15 @@ abbrev pub place_out : (s : Typing) (depth : ℕ) (v : Views) (view : ways.View)
 place_out s depth v view x e k (inl plain) = []
 place_out s depth v view x e k (inr own) = own_out s depth x e k own.1
 
-abbrev pub out_of : (s : Typing) (depth : ℕ) (v : Views) (view : ways.View) (x : ℕ) (m : Mode) (e : TypedTree) (a : Passed) → IsLaidOne s depth v view x m e a → List Out
-out_of s depth v view x mode.Out e (To k) laid = place_out s depth v view x e k laid
-out_of s depth v view x m e a laid = []
+abbrev pub out_of : (s : Typing) (m : Memory) (depth : ℕ) (v : Views) (view : ways.View) (x : ℕ) (how : Mode) (e : TypedTree) (a : Passed) → IsLaidOne s m depth v view x how e a → List Out
+out_of s m depth v view x mode.Out e (To k) laid = place_out s depth v view x e k laid
+out_of s m depth v view x how e a laid = []
 
-abbrev pub outs_of : (s : Typing) (depth : ℕ) (v : Views) (view : ways.View) (formals : List ℕ) (actuals : TypedTree) (passed : List Passed)
-    → AreLaidOut s depth v view formals actuals passed → List Out
-outs_of s depth v view (x ∷ formals) (More e rest) (a ∷ passed) laid =
-    out_of s depth v view x (object_at s x).mode e a laid.0 ++ outs_of s depth v view formals rest passed laid.1
-outs_of s depth v view formals actuals passed laid = []
+abbrev pub outs_of : (s : Typing) (m : Memory) (depth : ℕ) (v : Views) (view : ways.View) (formals : List ℕ) (actuals : TypedTree) (passed : List Passed)
+    → AreLaidOut s m depth v view formals actuals passed → List Out
+outs_of s m depth v view (x ∷ formals) (More e rest) (a ∷ passed) laid =
+    out_of s m depth v view x (object_at s x).mode e a laid.0 ++ outs_of s m depth v view formals rest passed laid.1
+outs_of s m depth v view formals actuals passed laid = []
 
 -- The cells that there are.
 abbrev pub plain_cell : (s : Typing) (depth : ℕ) (v : Views) (view : ways.View) (e : TypedTree) (k : Place) → IsPlainAt s depth v view e k → List Lodge
@@ -98,16 +106,16 @@ abbrev pub place_cell : (s : Typing) (depth : ℕ) (v : Views) (view : ways.View
 place_cell s depth v view x e k (inl plain) = plain_cell s depth v view e k plain.1
 place_cell s depth v view x e k (inr own) = []
 
-abbrev pub cell_of : (s : Typing) (depth : ℕ) (v : Views) (view : ways.View) (x : ℕ) (m : Mode) (e : TypedTree) (a : Passed) → IsLaidOne s depth v view x m e a → List Lodge
-cell_of s depth v view x mode.Out e (To k) laid = place_cell s depth v view x e k laid
-cell_of s depth v view x mode.InOut e (From k) laid = place_cell s depth v view x e k laid
-cell_of s depth v view x m e a laid = []
+abbrev pub cell_of : (s : Typing) (m : Memory) (depth : ℕ) (v : Views) (view : ways.View) (x : ℕ) (how : Mode) (e : TypedTree) (a : Passed) → IsLaidOne s m depth v view x how e a → List Lodge
+cell_of s m depth v view x mode.Out e (To k) laid = place_cell s depth v view x e k laid
+cell_of s m depth v view x mode.InOut e (From k) laid = place_cell s depth v view x e k laid
+cell_of s m depth v view x how e a laid = []
 
-abbrev pub cells_of : (s : Typing) (depth : ℕ) (v : Views) (view : ways.View) (formals : List ℕ) (actuals : TypedTree) (passed : List Passed)
-    → AreLaidOut s depth v view formals actuals passed → List Lodge
-cells_of s depth v view (x ∷ formals) (More e rest) (a ∷ passed) laid =
-    cell_of s depth v view x (object_at s x).mode e a laid.0 ++ cells_of s depth v view formals rest passed laid.1
-cells_of s depth v view formals actuals passed laid = []
+abbrev pub cells_of : (s : Typing) (m : Memory) (depth : ℕ) (v : Views) (view : ways.View) (formals : List ℕ) (actuals : TypedTree) (passed : List Passed)
+    → AreLaidOut s m depth v view formals actuals passed → List Lodge
+cells_of s m depth v view (x ∷ formals) (More e rest) (a ∷ passed) laid =
+    cell_of s m depth v view x (object_at s x).mode e a laid.0 ++ cells_of s m depth v view formals rest passed laid.1
+cells_of s m depth v view formals actuals passed laid = []
 
 -- ---- what is asked of an actual that is copied back to
 

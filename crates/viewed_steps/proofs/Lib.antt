@@ -30,13 +30,21 @@ pub mod Waited
 pub mod Alike
 pub mod Entered
 pub mod Emptying
+-- formals that own nothing
+pub mod Shown
 pub mod Entering
 pub mod Direct
 pub mod LaidOut
+-- what formals are shown that own nothing
+pub mod Seeing
+pub mod Clear
 pub mod Called
+-- the views of what is called
+pub mod Opening
 pub mod Backed
 pub mod Whole
 pub mod Passed
+pub mod Lending
 pub mod Globals
 pub mod Cells
 pub mod Eased

@@ -1,17 +1,17 @@
 -- A frame that stands at a point of a program that is ready: its acts, its facts and its successors.
-use Rattle.std.proofs.Common.{◌≡◌, refl, sym, ap, ◌∙◌, subst, inl, inr, ℕ, Bool, true, false, ◌&&◌, ◌||◌, List, [], ◌∷◌, ◌++◌, length, get_or, append-nil, Option, None}
+use Rattle.std.proofs.Common.{◌≡◌, refl, sym, ap, ◌∙◌, subst, inl, inr, ℕ, Bool, true, false, ◌&&◌, ◌||◌, List, [], ◌∷◌, ◌++◌, length, get_or, append-nil, Option, None, not}
 use Rattle.spark_base.specs.Lists.{Has}
 use Rattle.place_names.specs.declared.act.Mode.{Mode}
 use Rattle.place_names.specs.declared.act.Mode.TheVariants as mode
 use Rattle.place_names.specs.declared.act.Act.{Act}
 use Rattle.place_names.specs.declared.act.Placed.{Placed}
 use Rattle.place_names.specs.declared.fact.Fact.{Fact}
-use Rattle.type_definitions.specs.Types.{Table, is_owning}
+use Rattle.type_definitions.specs.Types.{Table, is_owning, owns_of, view_of as view_of_shape}
 use Rattle.typed_tree.specs.Trees.{TypedTree}
 use Rattle.typed_tree.specs.Programs.{TypedProgram}
 use Rattle.flow_paths.specs.declared.report.Effects.{Effects}
 use Rattle.flow_paths.specs.Instructions.{Instruction, Skip, Declare, Assign, Call, Output, Input, Release, Test, Choose, Start, Next, Evaluate, LeaveLoop, Hold, EndScope, Finish, Fall}
-use Rattle.flow_paths.specs.Objects.{Typing, Signature, object_at, sub_at, is_formal, is_package_object}
+use Rattle.flow_paths.specs.Objects.{Typing, Signature, object_at, sub_at, is_anonymous, is_formal, is_package_object, view_of}
 use Rattle.flow_paths.specs.Acts.{acts_of}
 use Rattle.flow_paths.specs.Points.{NamedPoint, FlowPoint}
 use Rattle.flow_paths.specs.Laid.{FlowSub, FlowProgram, NamedSub, flow_sub, kept_roots, sub_facts, typing_of, flow_typing, flow_program, flow_named}
@@ -35,7 +35,7 @@ use Rattle.soundness.proofs.Scalars.{acts}
 use Rattle.soundness.proofs.Paths.{accepted_point, facts_next}
 use Rattle.soundness.proofs.Points.{flow_at, named_has, point_has, sub_there, sub_has, point_there, point_in, path_there, IsLaid, next_there, one_named, one_point}
 use Rattle.owned_loans.specs.Views.{known_gone, Views, Viewed}
-use Rattle.viewed_soundness.specs.Holds.{is_view, AllKeep, sees_only, is_fixed}
+use Rattle.viewed_soundness.specs.Holds.{is_view, IsAccess, AllKeep, sees_only, is_fixed}
 use Rattle.viewed_steps.specs.Awaited.{AreFor, AreValues, temporaries_of, lasting_of, WaitsAt, AreAwaited}
 use Rattle.viewed_steps.proofs.Waited.{leads_temporaries}
 use Rattle.viewed_steps.specs.Sound.{ArePast, HoldsAt, ArePlaced, NoneAbove, ViewStage, stages_of, GoneElsewhere, IsRunning, Follows, LeadsAlong}
@@ -72,19 +72,46 @@ module _ (table : Table) (typed : TypedProgram) (effects : Effects) (input : Lis
   pub agree : Agree s own
   agree = flow_agrees table typed
 
-  pub no_in_formals : (x : ℕ) → is_view_formal s x ≡ false
-  no_in_formals x = elim (bool_cases (is_formal s x)) [
-    | inl e ↦ elim (ready.class.formals x e) [
-      | inl plain ↦ no_second (is_in_formal s x) (is_owning s.table (object_at s x).of) (plain_type s ready.owns (object_at s x).of plain)
-      | inr (back, own_type) ↦ ap (λ b. (is_formal s x && b) && is_owning s.table (object_at s x).of) (not_in (object_at s x).mode back)
-          ∙ no_middle (is_formal s x) (is_owning s.table (object_at s x).of)
-    ]
-    | inr e ↦ ap (λ b. (b && is_in (object_at s x).mode) && is_owning s.table (object_at s x).of) e
-  ]
-
   -- formals that own nothing are of named access types
   pub in_formals : AreAccess s
-  in_formals x formal = (let no : true ≡ false = sym formal ∙ no_in_formals x in cc)
+  in_formals x formal = elim (ready.class.formals x (first_true (is_formal s x) (is_in (object_at s x).mode) (is_owning s.table (object_at s x).of) formal)) [
+    | inl plain ↦ absurd (no_both (is_view_formal s x) formal (no_second (is_in_formal s x) (is_owning s.table (object_at s x).of) (plain_type s ready.owns (object_at s x).of plain)))
+    | inr other_kind ↦ elim other_kind [
+      | inl back ↦ absurd (back.0 (in_mode (object_at s x).mode (middle_true (is_formal s x) (is_in (object_at s x).mode) (is_owning s.table (object_at s x).of) formal)))
+      | inr shown ↦ (shown.1, λ anonymous. unnamed shown.1 anonymous)
+    ]
+  ]
+    where
+      no_both : (b : Bool) → b ≡ true → b ≡ false → ⊥
+      no_both b e f = (let no : true ≡ false = sym e ∙ f in cc)
+
+      first_true : (a b c : Bool) → (a && b) && c ≡ true → a ≡ true
+      first_true true b c e = refl
+      first_true false b c e = cc
+
+      middle_true : (a b c : Bool) → (a && b) && c ≡ true → b ≡ true
+      middle_true true true c e = refl
+      middle_true true false c e = cc
+      middle_true false b c e = cc
+
+      last_true : (a b : Bool) → a && b ≡ true → b ≡ true
+      last_true true b e = e
+      last_true false b e = cc
+
+      in_mode : (m : Mode) → is_in m ≡ true → m ≡ mode.In
+      in_mode mode.In e = refl
+      in_mode mode.Out e = cc
+      in_mode mode.InOut e = cc
+
+      not_anonymous : (c n : Bool) → n ≡ true → (not n && not c) || (not n && c) ≡ true → ⊥
+      not_anonymous c true e f = cc
+      not_anonymous c false e f = cc
+
+      unnamed : IsAccess s x → is_anonymous (view_of s x) ≡ true → ⊥
+      unnamed (d, c, n, is) anonymous =
+          not_anonymous c n
+          (sym (ap (owns_of (is_owning s.table)) is) ∙ sym (ready.owns (object_at s x).of) ∙ last_true (is_in_formal s x) (is_owning s.table (object_at s x).of) formal)
+          (sym (ap (λ z. is_anonymous (view_of_shape z)) is) ∙ anonymous)
 
   pub laid : (named : NamedSub) → Has (flow_named table typed) named → IsLaid s named
   laid named has = ready.scoped.goes named has

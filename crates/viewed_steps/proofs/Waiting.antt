@@ -28,7 +28,7 @@ use Rattle.soundness.specs.Sound.{Stage, facts_of, AreStages, Uses, view_of as v
 use Rattle.soundness.proofs.Around.{near_or_far, IsFar, near_package, package_named}
 use Rattle.soundness.proofs.Contents.{bool_cases}
 use Rattle.soundness.proofs.Inherited.{Splits}
-use Rattle.owned_loans.specs.Views.{on, Around, known_gone, Views, expand, IsThrough, HasLoan, IsForeign, Viewed, Go}
+use Rattle.owned_loans.specs.Views.{on, Around, known_gone, Views, expand, IsThrough, ExcusedBy, HasLoan, IsForeign, Viewed, Go}
 use Rattle.owned_loans.proofs.Ways.{under_on, on_under, on_named, lifts, lifted_root, lifted_way, base_on}
 use Rattle.owned_loans.proofs.Meeting.{stands}
 use Rattle.owned_loans.proofs.Moves.{view_on, own_loan, reached}
@@ -495,6 +495,13 @@ module _ (table : Table) (typed : TypedProgram) (effects : Effects)
       pub own_borrowed : (b : ℕ) (n : Name) → Has facts (Lent Borrowed b n) → (l : Loan) (m : Name) → LentElsewhere older l m → n.root ≡ m.root → ⊥
       pub own_seen : (h : ℕ) (m : Name) → Has facts (Lent Observed h m) → (n : Name) → LentElsewhere older Borrowed n → n.root ≡ m.root → ⊥
 
+    -- what is gone for them is excused by their facts on package objects, and by what concerns the innermost frame of them
+    pub elsewhere_excused : (v : Views) (facts : List Fact) (w : Way) → GoneElsewhere program effects older w → ExcusedBy (home s depth) v beside_them (facts ++ handed) w
+    elsewhere_excused v facts w away = elim (near_or_far depth w) [
+      | inr far ↦ inr (far, away)
+      | inl near ↦ inl (inr (near_lent w near away, away))
+    ]
+
     -- with them
     pub with_them : (v : Views) (view : View) (facts : List Fact) → ((x : ℕ) (w : Way) → v.way x ≡ Some w → is_package_object s x ≡ false)
         → ((x : ℕ) → is_package_object s x ≡ true → sees_only s x ≡ false) → AreApart facts
@@ -507,10 +514,7 @@ module _ (table : Table) (typed : TypedProgram) (effects : Effects)
       known = λ w l rooted r gone. elim (well.known w l rooted r gone) [
         | inl (inr none) ↦ absurd none
         | inl (inl (u, moved, leads)) ↦ inl (inl (u, (moved.0, Has-append_left facts handed (Moved (name_of u)) moved.1), leads))
-        | inr away ↦ elim (near_or_far depth w) [
-          | inr far ↦ inr (far, away)
-          | inl near ↦ inl (inr (near_lent w near away, away))
-        ]
+        | inr away ↦ elsewhere_excused v facts w away
       ];
       clear = record {
         moved = λ l h n m has lends over. elim (cases (Moved n) has) [

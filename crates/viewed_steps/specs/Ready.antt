@@ -8,6 +8,7 @@ use Rattle.place_names.specs.declared.act.Mode.TheVariants as mode
 use Rattle.place_names.specs.declared.act.Placed.{Placed}
 use Rattle.type_definitions.specs.Types.{Table, full, is_scalar, is_owning}
 use Rattle.typed_tree.specs.Trees.{TypedTree, Name, NoMore, More}
+use Rattle.typed_tree.specs.Trees as typed
 use Rattle.typed_tree.specs.Programs.{TypedProgram}
 use Rattle.flow_paths.specs.declared.report.Effects.{Effects}
 use Rattle.flow_paths.specs.Instructions.{Declare, Assign, Call, Input, EndScope, Finish}
@@ -21,7 +22,7 @@ use Rattle.machine.specs.Owners.{is_in}
 use Rattle.soundness.specs.Typed.{OwnsByShape}
 use Rattle.soundness.specs.Sound.{Accepted, IsNamedSub, IsAtPoint, IsProcedure, IsRunnable}
 use Rattle.soundness.specs.Ready.{root_of, stored_at, AreScoped, AreNew, AreElaborated, AreReturning}
-use Rattle.typed_laws.specs.Needed.{Matches, Stays, IsPlace}
+use Rattle.typed_laws.specs.Needed.{Matches, Leads, Stays, IsPlace}
 use Rattle.soundness.specs.Seen.{is_view_formal}
 use Rattle.viewed_soundness.specs.Holds.{sees_only, is_fixed, AllKeep}
 use Rattle.viewed_steps.specs.Awaited.{is_held, IsTaken, FillsTyped}
@@ -59,12 +60,24 @@ pub record AreValued (table : Table) (typed : TypedProgram) : Type 0 where
       → FillsTyped (flow_program table typed) p.instr (drop (taken p.instr) p.scope)
 
 -- What is passed stays within what it names. One that is copied back to is a name of a place of the type of
--- the formal: of a scalar type, or in an object that belongs to no package.
+-- the formal: of a scalar type, or in an object that belongs to no package and is no formal of mode `in`.
 abbrev pub IsOwnPlace : Typing → TypedTree → Type 0
-IsOwnPlace s e = (y : ℕ) → Has (root_of e) y → is_package_object s y ≡ false
+IsOwnPlace s e = (y : ℕ) → Has (root_of e) y → (is_package_object s y ≡ false) × (is_view_formal s y ≡ false)
 
+-- What a formal is shown that owns nothing: null, or what a name of its type designates that is rooted in an
+-- own variable of the frame, or in such a formal.
+abbrev pub IsShowable : Typing → ℕ → Type 0
+IsShowable s y = (is_package_object s y ≡ false) × (is_anonymous (view_of s y) ≡ false) × (is_view_formal s y ≡ true → sees_only s y ≡ true)
+
+abbrev pub IsSeen : Typing → ℕ → TypedTree → Type 0
+IsSeen s x typed.Null = Unit {0}
+IsSeen s x (Name p y path u) = Leads s (object_at s y).of path u × Matches s.table u (object_at s x).of × IsShowable s y
+IsSeen s x e = ⊥
+
+-- By the mode, and whether the type of the formal is owning.
 abbrev pub IsActualTo : Typing → ℕ → Mode → TypedTree → Type 0
-IsActualTo s x mode.In e = Stays s e
+IsActualTo s x mode.In e =
+    (is_owning s.table (object_at s x).of ≡ false → Stays s e) × (is_owning s.table (object_at s x).of ≡ true → IsSeen s x e)
 IsActualTo s x m e =
     (t : ℕ) × IsPlace s e t × Matches s.table t (object_at s x).of × ((is_scalar (full s.table t) ≡ true) ⊎ IsOwnPlace s e)
 

@@ -29,27 +29,31 @@ use Rattle.machine.specs.States.{Return, Waiting, Frame, State, Outcome, Goes, E
 use Rattle.machine.specs.Owners.{is_in, WellOwned, waiting_in}
 use Rattle.machine.specs.Run.{step}
 use Rattle.owned_ways.specs.Ways.{Step, OfVariable, OfRoot, Held, Way, Named, Under, Past, name_of, number_of, OfCell, Reaches}
-use Rattle.soundness.specs.Seen.{content, word_in, home}
+use Rattle.soundness.specs.Seen.{content, word_in, home, is_view_formal}
 use Rattle.soundness.specs.Typed.{Kept}
 use Rattle.soundness.specs.Sound.{goes_through_none, is_temporary_object, IsNamedSub, IsAtPoint, IsRunnable, Stage, facts_of, AreStages, Uses, IsPlain, InScope, IsTrap}
 use Rattle.soundness.specs.Sound as owners
 use Rattle.owned_loans.specs.Views.{known_gone, Views, IsMovedBy, AreClear, IsForeign, AreViews, Viewed, expand}
-use Rattle.viewed_soundness.specs.Holds.{IsNamed, PartsAreNamed, is_view, sees_only, IsOwners, is_given}
+use Rattle.viewed_soundness.specs.Holds.{IsNamed, IsAccess, PartsAreNamed, is_view, sees_only, IsOwners, is_given, is_exclusive}
 use Rattle.soundness.specs.Ready.{root_of}
 use Rattle.viewed_steps.specs.Awaited.{is_held, lasting_of, AreNamedResults, AreAwaited}
 use Rattle.viewed_steps.specs.Taken.{TakenBy, Lodge, AreTaken, AreCarried}
 
 -- ---- the class
 
--- A formal of a scalar type, or of mode `out` or `in out` and of no anonymous access type.
+-- A formal of a scalar type; or of mode `out` or `in out` and of no anonymous access type; or of mode `in`
+-- and of an access type, which owns nothing.
 abbrev pub IsScalarObject : Typing → ℕ → Type 0
 IsScalarObject s x = is_scalar (full s.table (object_at s x).of) ≡ true
 
 abbrev pub IsCopiedBack : Typing → ℕ → Type 0
 IsCopiedBack s x = (object_at s x).mode ≡ mode.In → ⊥
 
+abbrev pub IsShown : Typing → ℕ → Type 0
+IsShown s x = (is_view_formal s x ≡ true) × IsAccess s x
+
 abbrev pub IsKindOfFormal : Typing → ℕ → Type 0
-IsKindOfFormal s x = IsScalarObject s x ⊎ (IsCopiedBack s x × IsNamed s.table (object_at s x).of)
+IsKindOfFormal s x = IsScalarObject s x ⊎ ((IsCopiedBack s x × IsNamed s.table (object_at s x).of) ⊎ IsShown s x)
 
 -- Actuals that are copied back to go through no access value; or they are for formals of scalar types, and are
 -- rooted in objects that belong to no package.
@@ -60,16 +64,19 @@ AreKeptPlaces s (x ∷ formals) (More e rest) =
 AreKeptPlaces s formals actuals = Unit {0}
 
 -- Anonymous access types are those of objects alone, and functions that are called have no results of
--- such types; formals are such, those of functions of scalar types and of mode `in`, and actuals are copied
--- back to as above.
+-- such types; formals are such, those of functions of mode `in`, and those of procedures of mode `in` of
+-- scalar types; actuals are copied back to as above.
 pub record IsViewClass (program : FlowProgram) : Type 0 where
   pub parts_named : PartsAreNamed program.table
   pub results : AreNamedResults program
   pub formals : (x : ℕ) → is_formal (flow_typing program) x ≡ true → IsKindOfFormal (flow_typing program) x
   pub functions : (n t : ℕ) → (sub_at (flow_typing program) n).result ≡ Some t → (x : ℕ) → Has (sub_at (flow_typing program) n).formals x
-      → is_formal (flow_typing program) x ≡ true → IsScalarObject (flow_typing program) x
+      → is_formal (flow_typing program) x ≡ true
+      → IsScalarObject (flow_typing program) x ⊎ (IsShown (flow_typing program) x × (is_exclusive (flow_typing program) x ≡ false))
   pub modes : (n t : ℕ) → (sub_at (flow_typing program) n).result ≡ Some t → (x : ℕ) → Has (sub_at (flow_typing program) n).formals x
       → (object_at (flow_typing program) x).mode ≡ mode.In
+  pub procedures : (n : ℕ) → (sub_at (flow_typing program) n).result ≡ None → (x : ℕ) → Has (sub_at (flow_typing program) n).formals x
+      → is_formal (flow_typing program) x ≡ true → is_view_formal (flow_typing program) x ≡ false
   pub copied : (sub : FlowSub) → Has program.subs sub → (p : FlowPoint) → Has sub.points p → (n : ℕ) (actuals : TypedTree) (result : Option ℕ)
       → p.instr ≡ Call n actuals result → ((x : ℕ) → Has (sub_of program n).formals x → is_formal (flow_typing program) x ≡ true)
       → AreKeptPlaces (flow_typing program) (sub_of program n).formals actuals
@@ -131,10 +138,11 @@ NoneAbove s depth m = (f x n : ℕ) → depth < f → is_view s x ≡ true → (
 
 -- ---- frames that wait
 
--- The formals of a frame are of scalar types, or are copied back; and formals alone are copied back.
+-- The formals of a frame are of scalar types, or are copied back, or own nothing; and formals alone are copied
+-- back.
 abbrev pub AreReturned : Typing → Frame → Type 0
 AreReturned s f =
-    ((x : ℕ) → Has (sub_at s f.sub).formals x → IsScalarObject s x ⊎ ((r : Return) × Has f.returns r × (r.formal ≡ x)))
+    ((x : ℕ) → Has (sub_at s f.sub).formals x → IsScalarObject s x ⊎ (((r : Return) × Has f.returns r × (r.formal ≡ x)) ⊎ (is_view_formal s x ≡ true)))
     × ((r : Return) → Has f.returns r → is_formal s r.formal ≡ true)
 
 -- Formals that may own are copied back.
