@@ -333,7 +333,7 @@ module _ (s : Typing) (settled : IsSettled s.table) (own_law : OwnsByShape s.tab
       let next : Memory = declared (suc depth) x (words_of s m k) (moved_out s k m) in
       let among = outs_taken s before cells depth facts scope formals passed ways later more in
       let from = passed_base s before cells depth facts scope formals passed ways later more in
-      let root : IsFrom to = inside_homed s depth k to one.inside in
+      let root : IsHomed s depth to = inside_homed s depth k to one.inside in
       let mine = taken_open other to ways later among from apart open_there in
       let here : ViewedIn (outs_also other later) leaks m = subst (λ z. ViewedIn (outs_also other z) leaks m) same viewed in
       subst (λ z. Enter other leaks (leaks ++ found_in s before outs) (x ∷ formals) (z ∷ passed) (to ∷ ways) m (with_formals s (suc depth) (x ∷ formals) (z ∷ passed) m)) (sym is)
@@ -362,7 +362,7 @@ module _ (s : Typing) (settled : IsSettled s.table) (own_law : OwnsByShape s.tab
       let next : Memory = declared (suc depth) x (default s.table (object_at s x).of) (moved_out s k m) in
       let among = outs_taken s before cells depth facts scope formals passed ways later more in
       let from = passed_base s before cells depth facts scope formals passed ways later more in
-      let root : IsFrom to = inside_homed s depth k to one.inside in
+      let root : IsHomed s depth to = inside_homed s depth k to one.inside in
       let out : Out = record { way = to; place = k; pos = pos } in
       let here : ViewedIn (outs_also other (out ∷ later)) leaks m = subst (λ z. ViewedIn (outs_also other z) leaks m) same viewed in
       let found : List Leak = leaks ++ leaks_at s pos before k in
