@@ -874,7 +874,7 @@ module _ (table : Table) (typed : TypedProgram) (effects : Effects) (input : Lis
                 declared_there.stays c.way begin.0 begin.1 begin.2 begin.3 (cell_aside c has) c.cell (named_cell c has).reaches);
             aside = cell_aside c has;
           };
-          bare = λ w l p (taken, (c, has, way, is)) q k held. (let inside = ((passed_one s cells depth facts_called next_there formals passed ways_taken outs all_passed_ways.1 (ways.along w p) taken).2).inside in
+          bare = λ w l p (taken, (c, has, way, is)) q k held. (let inside = ((passed_one s state.memory cells depth facts_called next_there formals passed ways_taken outs all_passed_ways.1 (ways.along w p) taken).2).inside in
               absurd (part_apart (view_here s easy.state) w c.cell (subst (λ z. ways.Reaches (view_here s easy.state) z (ways.OfCell c.cell)) way (named_cell c has).reaches)
               (ways.OfVariable depth inside.object) p inside.steps inside.way));
           taken = subst (λ z. AreTaken s cells with_all top.depth z next_there (returns_of formals passed) all_passed_ways.0) (sym facts_there)
