@@ -1,7 +1,6 @@
 -- A formal that owns nothing gets its value: owners see what they saw, and the variables of other views
 -- stay.
 use Rattle.std.proofs.Common.{◌≡◌, refl, sym, ap, ◌∙◌, subst, ◌⊎◌, inl, inr, ℕ, zero, suc, arith, ◌+◌, true, false, not, List, [], ◌∷◌, ◌++◌, take, drop, length, get_or}
-use Rattle.type_definitions.specs.declared.table.Shape.TheVariants as shape
 use Rattle.type_definitions.specs.Types.{shape_of, components_of, words, words_of as shape_words}
 use Rattle.flow_paths.specs.Objects.{Typing, object_at}
 use Rattle.machine.specs.Words.{access_offsets}
@@ -20,10 +19,10 @@ use Rattle.soundness.proofs.Keeping.{kept_with}
 use Rattle.soundness.proofs.Lasting.{declared_kept}
 use Rattle.soundness.proofs.Memories.{put_other, put_same, at_length}
 use Rattle.soundness.proofs.Steps.{plain_end}
-use Rattle.viewed_soundness.specs.Holds.{is_view, IsAccess}
+use Rattle.viewed_soundness.specs.Holds.{is_view}
 use Rattle.viewed_steps.specs.Taken.{Lodge}
 use Rattle.viewed_steps.proofs.Alike.{IsLaidIn, with_one}
-use Rattle.viewed_steps.proofs.Entered.{IsPlainPassed, IsPlainOne, IsTyped, IsShownOne}
+use Rattle.viewed_steps.proofs.Entered.{IsPlainPassed, IsPlainOne, IsTyped}
 use Rattle.viewed_steps.proofs.Views.{AreAccess}
 
 -- A memory has the cells of another one, with their types.
@@ -120,8 +119,12 @@ module _ (s : Typing) (settled : IsSettled s.table) (own_law : OwnsByShape s.tab
         | inr ne ↦ inl (ap (λ q. (get_or q 0 no_slot).word) (others g y (λ e. ne (ap OfRoot e))))
         | inl e ↦ (
             let here : f ≡ g = cc in let same : x ≡ y = cc in
-            inr (sym here, same, ap (λ w. Value (w ∷ []))
-            (sym (ap (λ q. (get_or q 0 no_slot).word) ((λ j. variable_slots s (sym here j) (sym same j) next.variables) ∙ put_same s f x (fresh (z ∷ [])) m.variables)))))
+            inr (
+              sym here,
+              same,
+              ap (λ w. Value (w ∷ []))
+                  (sym (ap (λ q. (get_or q 0 no_slot).word) ((λ j. variable_slots s (sym here j) (sym same j) next.variables) ∙ put_same s f x (fresh (z ∷ [])) m.variables))),
+            ))
       ];
       cells = record { count = refl; same = λ k. refl };
     }
