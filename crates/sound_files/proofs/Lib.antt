@@ -13,6 +13,7 @@ pub mod Called
 -- what the third class says as it is laid out
 pub mod Temporaries
 pub mod Classes
+pub mod Results
 pub mod Mains
 pub mod Functions
 pub mod Owners

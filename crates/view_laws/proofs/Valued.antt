@@ -240,10 +240,10 @@ module _ (table : Table) (typed : TypedProgram) (effects : Effects) (given : IsV
 
     named_good : (p : NamedPoint) → Has named.points p → (x : ℕ) → Has (named_in p.instr) x → Good x
     named_good p there x names = elim (seen_has (is_package_object own) (drop (taken p.instr) p.scope) (named_in p.instr) x
-      (ordered.body_is_left table typed effects given.accepted given.owns given.order given.answered given.passed given.still named body p there) names) [
-        | inl outer ↦ good_object x (shared_object x outer)
-        | inr within ↦ left_good p there x (within_has x (drop (taken p.instr) p.scope) within)
-      ]
+        (ordered.body_is_left table typed effects given.accepted given.owns given.order given.answered given.passed given.still named body p there) names) [
+          | inl outer ↦ good_object x (shared_object x outer)
+          | inr within ↦ left_good p there x (within_has x (drop (taken p.instr) p.scope) within)
+        ]
 
     -- So what is named is no temporary whose scope has an end.
     pub body_unheld : (p : NamedPoint) → Has named.points p → (x : ℕ) → Has (named_in p.instr) x → is_held s x ≡ false
@@ -320,10 +320,10 @@ module _ (table : Table) (typed : TypedProgram) (effects : Effects) (given : IsV
       where
         by : (i : Instruction) → p.instr ≡ i → (left : List ℕ) → AllGood Good left → Fills s i left → FillsTyped program i left
         by (Call n actuals (Some x)) is left good fills = λ r result. (
-          let found = call_type p there n actuals x is in
-          let both : Some r ≡ Some found.0 = sym result ∙ result_same n ∙ found.1 in
-          let same : r ≡ found.0 = cc in
-          inr (same ∙ sym found.2))
+            let found = call_type p there n actuals x is in
+            let both : Some r ≡ Some found.0 = sym result ∙ result_same n ∙ found.1 in
+            let same : r ≡ found.0 = cc in
+            inr (same ∙ sym found.2))
         by (Evaluate x e (Some op)) is left good fills = (given.truths, truth_type p there x e op is)
         by (Evaluate t e None) is left good (y, others, same, temporary) = (
           given.truths,
