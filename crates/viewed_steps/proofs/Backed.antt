@@ -375,7 +375,7 @@ module _ (t : Turn) (settled : IsSettled (typing t).table) (own_law : OwnsByShap
           inr (
             there.0 ∙ inside.at_home ∙ ap (home s depth) (sym there.1),
             (λ local. ap (λ z. is_within z scope) there.1
-            ∙ passed.within (ap (is_package_object s) (sym there.1) ∙ local) (ap (λ z. is_owning s.table (object_at s z).of) (sym there.1) ∙ owning_there y g p c held)),
+                ∙ passed.within (ap (is_package_object s) (sym there.1) ∙ local) (ap (λ z. is_owning s.table (object_at s z).of) (sym there.1) ∙ owning_there y g p c held)),
           ))
     ]
 

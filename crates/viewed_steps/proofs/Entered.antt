@@ -41,7 +41,7 @@ use Rattle.viewed_steps.proofs.Carried.{inside_homed, inside_low, trunk_is, carr
 use Rattle.viewed_steps.proofs.Outs.{Out, HasStill, places_apart}
 use Rattle.viewed_steps.proofs.Beside.{put_beside}
 use Rattle.viewed_steps.proofs.Declared.{declared_viewed, declared_low}
-use Rattle.viewed_steps.proofs.Views.{AreAccess, AreFar, view_cases, apart_by_base}
+use Rattle.viewed_steps.proofs.Views.{AreAccess, AreFar, view_cases}
 
 named_part : (home : ℕ → ℕ) (w : Way) (p : List Step) → Named home w → Named home (along w p)
 named_part home w [] n = n

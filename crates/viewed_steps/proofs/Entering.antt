@@ -25,9 +25,9 @@ use Rattle.viewed_soundness.specs.Holds.{sees_only, is_view}
 use Rattle.viewed_steps.specs.Taken.{Lodge, AreCarried, TakenBy, IsPassedOn, IsBare, IsApartFrom, AreTaken}
 use Rattle.viewed_steps.proofs.Left.{cells_same}
 use Rattle.viewed_steps.proofs.Between.{IsHomed, homed_apart, carried_same, carried_then, same_reaches, gone_also, more_gone, base_along, base_under, taken_more}
-use Rattle.viewed_steps.proofs.Carried.{inside_homed, inside_low, inside_at, inside_spot, inside_base, inside_owns, inside_word}
-use Rattle.viewed_steps.proofs.Alike.{Enters, IsLaidIn, plain_place, with_one}
-use Rattle.viewed_steps.proofs.Views.{AreFar, apart_by_base, AreAccess}
+use Rattle.viewed_steps.proofs.Carried.{inside_homed, inside_low, inside_at, inside_spot, inside_owns, inside_word}
+use Rattle.viewed_steps.proofs.Alike.{IsLaidIn, plain_place}
+use Rattle.viewed_steps.proofs.Views.{AreFar, AreAccess}
 use Rattle.viewed_steps.proofs.Shown.{HasCells, then_cells, taken_cells, Stands, one_stands}
 use Rattle.viewed_steps.proofs.Vacated.{place_checks}
 use Rattle.viewed_steps.proofs.Outs.{Out, IsUnderOne, found_in, HasStill, HaveStill, still_then}

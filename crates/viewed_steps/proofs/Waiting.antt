@@ -102,7 +102,7 @@ along_both w (i ∷ q) p = ap (λ z. Into z i) (along_both w q p)
 
 -- ---- frames that wait
 
-some_frames : (k : ViewStage) (older : List ViewStage) (outer : List Frame) → AreStages (stages_of (k ∷ older)) outer → 0 < length outer
+pub some_frames : (k : ViewStage) (older : List ViewStage) (outer : List Frame) → AreStages (stages_of (k ∷ older)) outer → 0 < length outer
 some_frames k older [] stages = absurd stages
 some_frames k older (f ∷ outer) stages = omega arith
 
@@ -533,21 +533,32 @@ module _ (table : Table) (typed : TypedProgram) (effects : Effects)
     pub bare_begins : (w : Way) (l : Loc) (p : List Step) → BareElsewhere older w l p
         → (f : ℕ) × (x : ℕ) × (base_of w ≡ OfRoot (OfVariable f x)) × ((f ≡ home s depth x → ⊥) ⊎ ((k : Loan) × IsLentFor k (along w p)))
     bare_begins w l p (g, has, (taken, inl (c, there, is, cell))) =
-        let b = begins_elsewhere w c.cell (g, has, inr (c, there, is, refl)) in
-        (b.0, b.1, b.2, elim b.3 [
-          | inl away ↦ inl away
-          | inr (k, m) ↦ inr (k, (m.0, m.1, under_along m.0 w p m.2, m.3))
-        ])
-    bare_begins w l p (g, has, (taken, inr (y, shared, is, at))) =
-        (0, y, ap base_of (sym is), elim (between g has) [
-          | inl first ↦ absurd (subst (λ z. Has z (along w p)) (first.1).2 taken)
-          | inr (some, less, callee, backs, waits) ↦ inr (Borrowed, (
+        let b = begins_elsewhere w c.cell (g, has, inr (c, there, is, refl)) in (
+          b.0,
+          b.1,
+          b.2,
+          elim b.3 [
+            | inl away ↦ inl away
+            | inr (k, m) ↦ inr (k, (m.0, m.1, under_along m.0 w p m.2, m.3))
+          ],
+        )
+    bare_begins w l p (g, has, (taken, inr (y, shared, is, at))) = (
+      0,
+      y,
+      ap base_of (sym is),
+      elim (between g has) [
+        | inl first ↦ absurd (subst (λ z. Has z (along w p)) (first.1).2 taken)
+        | inr (some, less, callee, backs, waits) ↦ inr (
+          Borrowed,
+          (
               let base : base_of (along w p) ≡ OfRoot (OfVariable (home s g.stage.depth y) y) =
               along_base w p ∙ ap base_of (sym is) ∙ (λ j. OfRoot (OfVariable (if sym shared j then 0 else g.stage.depth) y)) in
               let named : Named (home s g.stage.depth) (along w p) = base_named (home s g.stage.depth) (along w p) y base in
               lent_for g has some (Moved (name_of (along w p))) (along w p) (along w p) (kept_place g (along w p) taken) refl named (under_itself (along w p))
-              (ap (is_package_object s) (number_based (home s g.stage.depth) (along w p) y named base) ∙ shared)))
-        ])
+              (ap (is_package_object s) (number_based (home s g.stage.depth) (along w p) y named base) ∙ shared)),
+        )
+      ],
+    )
 
     -- what was taken is gone for them
     pub emptied_there : (w : Way) (l : Loc) (p : List Step) → BareElsewhere older w l p → (q : List Step)
