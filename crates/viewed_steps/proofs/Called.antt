@@ -494,9 +494,9 @@ module _ (h : Here) (settled : IsSettled h.typing.table) (hands : List Waiting) 
   own_walked on p x y u path q w own fits owner is called (Traps t n) never base = absurd never
 
   own_given : (on : List (List machine.Word)) (x : ℕ) (p : Pos) (y u : ℕ) (path : TypedTree) (way : List run.Step) → IsNamed h.typing.table u → Matches h.typing.table u (object_at h.typing x).of
-      → is_package_object h.typing y ≡ false → is_view_formal h.typing y ≡ false → GoesAlong h.typing.table (object_at h.typing y).of u path way → IsDirect way
+      → is_view_formal h.typing y ≡ false → GoesAlong h.typing.table (object_at h.typing y).of u path way → IsDirect way
       → Quiet (at on) (λ k. IsOwnPut h.typing h.frame x (Name p y path u) k) (walked h.typing way (variable_place h y) (at on))
-  own_given on x p y u path way own fits local owner goes direct =
+  own_given on x p y u path way own fits owner goes direct =
       let root : Way = Object (OfVariable (home h.typing h.frame y) y) in
       let flat = direct_part (OfVariable (home h.typing h.frame y) y) way direct [] in
       own_walked on p x y u path flat.0 (way_along way root) own fits owner flat.1
@@ -512,14 +512,14 @@ module _ (h : Here) (settled : IsSettled h.typing.table) (hands : List Waiting) 
       → IsOwnPlace h.typing e → Takes (waits_in e) before on → goes_through_none e ≡ true
       → AllowsAll facts (acts (index_acts h.typing e)) → Quiet (at on) (λ k. IsOwnPut h.typing h.frame x e k) (place_of h e (at before))
   unfolding waits_in goes_through_none
-  own_place_given before on x (Name p y path u) t (leads, type) own fits local takes direct allowed =
+  own_place_given before on x (Name p y path u) t (leads, type) own fits owner takes direct allowed =
       let inner = steps_taking h settled hands leaks m waits other facts v kept well holds alone live index_law own_law parts_named (object_at h.typing y).of u path leads before on takes allowed in
       quiet_then (at on) (λ way. GoesAlong h.typing.table (object_at h.typing y).of u path way × IsDirect way) (λ k. IsOwnPut h.typing h.frame x (Name p y path u) k) (steps_of h path (at before))
       (λ way now. walked h.typing way (variable_place h y) now)
       (both_quiet (at on) (λ way. GoesAlong h.typing.table (object_at h.typing y).of u path way) (steps_of h path (at before)) inner.0 (steps_direct h path direct (at before)))
       (λ way both. own_given on x p y u path way (subst (IsNamed h.typing.table) (sym type) own) (subst (λ z. Matches h.typing.table z (object_at h.typing x).of) (sym type) fits)
-      (local y (inl refl)).0 (local y (inl refl)).1 both.0 both.1)
-  own_place_given before on x e t place own fits local takes direct allowed = absurd place
+      (owner y (inl refl)) both.0 both.1)
+  own_place_given before on x e t place own fits owner takes direct allowed = absurd place
 
   -- ---- all of them
 
