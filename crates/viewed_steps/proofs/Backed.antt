@@ -542,7 +542,7 @@ module _ (t : Turn) (settled : IsSettled (typing t).table) (own_law : OwnsByShap
       (copied_back t rest (record begun { memory = next }))
       (more next (λ c has. (
         (let begin = begins c has in one_stays r rest to ways m taken apart another begin_ways typed viewed c.way begin.0 begin.1 begin.2 begin.3
-        ((cells_there c has).1 to (inl refl)) c.cell (cells_there c has).0),
+            ((cells_there c has).1 to (inl refl)) c.cell (cells_there c has).0),
         (λ k there. (cells_there c has).1 k (inr there)),
       )) (one_kept r rest to ways m taken apart another begin_ways typed viewed) (one_viewed r rest to ways m taken apart another begin_ways typed viewed)
       (taken_on m next rest ways (λ k w has there none. one_bare r rest to ways m taken apart another begin_ways typed viewed k w has there none) later))))

@@ -13,7 +13,7 @@ use Rattle.typed_tree.specs.declared.object.ObjectKind.TheVariants as object_kin
 use Rattle.typed_tree.specs.Programs.{TypedProgram}
 use Rattle.flow_paths.specs.declared.report.Effects.{Effects}
 use Rattle.flow_paths.specs.Instructions.{Instruction, Call, Finish}
-use Rattle.flow_paths.specs.Objects.{Typing, object_at, is_anonymous, is_package_object, is_formal_kind, view_of, Signature, sub_at, is_formal, is_observer}
+use Rattle.flow_paths.specs.Objects.{Typing, object_at, is_package_object, is_formal_kind, Signature, sub_at, is_formal}
 use Rattle.flow_paths.specs.Points.{NamedPoint}
 use Rattle.flow_paths.specs.Laid.{FlowProgram, NamedSub, typing_of, flow_typing, flow_program, flow_named, FlowSub}
 use Rattle.flow_paths.specs.Paths.{ControlPath}
@@ -29,7 +29,7 @@ use Rattle.machine.specs.Step as steps
 use Rattle.machine.specs.Owners.{waiting_in}
 use Rattle.owned_ways.specs.Ways.{Step, OfVariable, OfRoot, Way, Held, AllowsAll, number_of}
 use Rattle.owned_ways.specs.Ways as ways
-use Rattle.soundness.specs.Seen.{content, word_in, seen, home, is_view_formal}
+use Rattle.soundness.specs.Seen.{content, word_in, seen, home}
 use Rattle.soundness.specs.Typed.{Kept}
 use Rattle.soundness.specs.Sound.{Stage, facts_of, AreStages, IsRunnable, is_temporary_object, has_returned, InScope, IsNamedSub, IsAtPoint, view_of as view_here}
 use Rattle.soundness.proofs.Contents.{bool_cases, word_no, word_dead}
@@ -40,13 +40,11 @@ use Rattle.soundness.proofs.Returning.{returned_kept, left_same, left_held, retu
 use Rattle.owned_loans.specs.Views.{known_gone, Views, IsMovedBy, IsForeign, Viewed, ExcusedBy, Around, IsAway}
 use Rattle.owned_loans.proofs.Moves.{view_on, reached}
 use Rattle.owned_loans.proofs.Ended.{stands_itself}
-use Rattle.viewed_soundness.proofs.Names.{both_no, neither, true_false}
-use Rattle.viewed_soundness.proofs.Outcomes.{named_plain}
+use Rattle.viewed_soundness.proofs.Names.{neither, true_false}
 use Rattle.viewed_steps.specs.Awaited.{AreFor, AreValues, temporaries_of, lasting_of, awaited, AreAwaited}
 use Rattle.viewed_steps.proofs.Waited.{others_only, lasting_within}
-use Rattle.viewed_steps.specs.Sound.{ArePast, HoldsAt, ArePlaced, NoneAbove, ViewStage, stages_of, GoneElsewhere, IsWaiting, AreWaiting, ends_one, LeadsAlong, IsResting, IsKindOfFormal}
+use Rattle.viewed_steps.specs.Sound.{ArePast, HoldsAt, ArePlaced, NoneAbove, ViewStage, stages_of, GoneElsewhere, IsWaiting, AreWaiting, ends_one, LeadsAlong, IsResting}
 use Rattle.viewed_steps.specs.Ready.{IsReady}
-use Rattle.viewed_steps.proofs.Read.{scalar_named}
 use Rattle.viewed_steps.proofs.Waiting.{StandsBetween, all_between, handed, all_on, gone_low, kept_low, far}
 use Rattle.viewed_steps.proofs.Left.{owned_left, covered_left, reach_left, reach_before, gone_before, other_word, no_word, whole_there}
 use Rattle.viewed_steps.proofs.Standing.{or_right}
@@ -55,7 +53,7 @@ use Rattle.viewed_steps.proofs.Packages as packages
 use Rattle.viewed_steps.proofs.Innermost as innermost
 use Rattle.soundness.proofs.Passing.{signature_is}
 use Rattle.owned_ways.proofs.Dropped.{named_base}
-use Rattle.viewed_soundness.specs.Holds.{IsNamed, sees_only, is_view}
+use Rattle.viewed_soundness.specs.Holds.{sees_only, is_view}
 use Rattle.viewed_steps.specs.Taken.{TakenBy, Lodge, AreCarried}
 use Rattle.viewed_steps.proofs.Between.{base_under, same_variable, taken_from as words_taken, taken_base}
 use Rattle.viewed_steps.proofs.Carried.{past_other}
@@ -322,7 +320,7 @@ module _ (table : Table) (typed : TypedProgram) (effects : Effects) (input : Lis
           | inr neither ↦ (
               let same_way : u ≡ w =
               sym (stands_itself (home s depth) (sees_only s) (known_gone (home s depth) (λ z. ⊥)) views u moved.0
-                  (no_view_left is (number_of u) (first (is_formal s (number_of u)) (is_package_object s (number_of u)) neither))) ∙ leads in
+              (no_view_left is (number_of u) (first (is_formal s (number_of u)) (is_package_object s (number_of u)) neither))) ∙ leads in
               inr (inr (inr (
                 number_of w,
                 own_base w (subst (ways.Named (home s depth)) same_way moved.0)

@@ -15,8 +15,7 @@ use Rattle.place_names.specs.Facts.{adds, effect}
 use Rattle.type_definitions.specs.Types.{shape_of, full, is_scalar, is_owning, parts, owns_of, words}
 use Rattle.typed_tree.specs.Trees.{TypedTree, Number, Literal, Text, Name, Component as IntoComponent, Designated, Element, Call, EndOfFile, Parens, Image, Unary, Binary, Short, IsNull, Aggregate, Alike, New, NoMore, More}
 use Rattle.typed_tree.specs.Trees as typed
-use Rattle.flow_paths.specs.Objects.{Typing, Signature, object_at, sub_at, is_anonymous, is_observer, is_named_access, is_package_object, view_of, traverses, first_traversed, Passing, ByValue, passing, passing_by, passings}
-use Rattle.flow_paths.specs.Objects as objects
+use Rattle.flow_paths.specs.Objects.{Typing, object_at, sub_at, is_anonymous, is_named_access, is_package_object, view_of, traverses, first_traversed, Passing, ByValue, passing, passing_by, passings}
 use Rattle.flow_paths.specs.Names.{Written, written, is_empty, has_call, waiting as waits_in, name_of}
 use Rattle.flow_paths.specs.Laid.{FlowProgram, flow_typing}
 use Rattle.flow_paths.specs.Acts.{placed, naming, used, acts_in, index_acts, actual_act, actual_acts, actual_values}
@@ -472,14 +471,13 @@ module _ (h : Here) (settled : IsSettled h.typing.table) (hands : List Waiting) 
   from_walked : (on : List (List machine.Word)) (p : Pos) (x u : ℕ) (path : TypedTree) (w : Way) → is_scalar (full h.typing.table u) ≡ true → Named (home h.typing h.frame) w
       → ways.name_of w ≡ name_of x path → IsPlace v w → expand v w ≡ w → (y : Evaluated Place) → Walked h.typing settled hands leaks m on w u y
       → IsIn (memory.OfVariable (home h.typing h.frame x) x) y → Quiet (at on) (λ k. IsPut (Name p x path u) k) y
-  from_walked on p x u path w plain named called place itself (Done k n) (l, same, spot, reaches, of) base =
-      (
-        same,
-        (
-          inl (fixed_there k l (home h.typing h.frame x) x spot base (ap (λ z. is_scalar (full h.typing.table z)) of ∙ plain)),
-          (w, l, named, called, place, subst (λ z. Reaches (seen h.typing m hands leaks) z l) (sym itself) reaches, spot),
-        ),
-      )
+  from_walked on p x u path w plain named called place itself (Done k n) (l, same, spot, reaches, of) base = (
+    same,
+    (
+      inl (fixed_there k l (home h.typing h.frame x) x spot base (ap (λ z. is_scalar (full h.typing.table z)) of ∙ plain)),
+      (w, l, named, called, place, subst (λ z. Reaches (seen h.typing m hands leaks) z l) (sym itself) reaches, spot),
+    ),
+  )
   from_walked on p x u path w plain named called place itself (Raises e n) is base = is
   from_walked on p x u path w plain named called place itself (Traps t n) never base = absurd never
 
@@ -725,7 +723,6 @@ module _ (h : Here) (settled : IsSettled h.typing.table) (hands : List Waiting) 
           not_anonymous : (b : Bool) → is_anonymous (view_of h.typing x) ≡ b → is_anonymous (view_of h.typing x) ≡ false
           not_anonymous false e = e
           not_anonymous true e = absurd ((in_formals x shown.0).1 e)
-
 
       own_there : (is_scalar (full h.typing.table t) ≡ true) ⊎ IsOwnPlace h.typing e → is_scalar (full h.typing.table (object_at h.typing x).of) ≡ false → IsOwnPlace h.typing e
       own_there (inl plain) other_type = absurd (true_false (is_scalar (full h.typing.table (object_at h.typing x).of))

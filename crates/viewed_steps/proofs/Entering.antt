@@ -15,7 +15,7 @@ use Rattle.type_definitions.specs.Types.{is_owning}
 use Rattle.part_offsets.specs.Parts.{IsSettled}
 use Rattle.soundness.proofs.Contents.{word_no}
 use Rattle.soundness.proofs.Lasting.{keeps}
-use Rattle.soundness.specs.Seen.{content, trunk, steps_in, word_in, seen, home, is_view_formal}
+use Rattle.soundness.specs.Seen.{content, trunk, steps_in, word_in, seen, home}
 use Rattle.soundness.specs.Changes.{Checks, leaks_at}
 use Rattle.soundness.specs.Typed.{OwnsByShape, Kept}
 use Rattle.owned_loans.specs.Views.{Around, Views, Viewed, IsForeign}

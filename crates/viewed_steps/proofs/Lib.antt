@@ -40,6 +40,7 @@ pub mod Seeing
 pub mod Clear
 pub mod Called
 -- the views of what is called
+pub mod Exclusive
 pub mod Opening
 pub mod Backed
 pub mod Whole

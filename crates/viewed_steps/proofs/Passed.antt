@@ -151,6 +151,19 @@ module _ (program : FlowProgram) (effects : Effects) where
   reports_are n actuals None none = refl
   reports_are n actuals (Some of) none = cc
 
+  -- the actuals of the call of a procedure don't overlap where they may not
+  pub apart_there : AreReports program effects [] → (sub : FlowSub) → Has program.subs sub → (p : FlowPoint) → Has sub.points p
+      → (n : ℕ) (actuals : TypedTree) (result : Option ℕ) → p.instr ≡ Call n actuals result → is_some (sub_of program n).result ≡ is_some result
+      → (sub_of program n).result ≡ None → (r : Report) → Has (overlap_reports (flow_typing program) (alias.passed (sub_of program n).formals actuals)) r → ⊥
+  apart_there none sub in_program p in_sub n actuals result e answers given r has =
+      no_call_reports program effects none sub in_program p in_sub r
+      (subst (λ i. Has (call_reports all effects i) r) (sym e)
+      (subst (λ z. Has z r) (sym (reports_are n actuals result (sym answers ∙ ap is_some given)))
+      (subst (λ z. Has (if is_some z.result then [] else passed_reports all effects n (alias.passed z.formals actuals)) r) (sym (signature_is program n))
+      (subst (λ z. Has (if is_some z then [] else passed_reports all effects n (alias.passed (sub_of program n).formals actuals)) r) (sym given)
+      (Has-append_left (overlap_reports all (alias.passed (sub_of program n).formals actuals))
+      (flat_map (alias.global_reports all effects n) (alias.passed (sub_of program n).formals actuals)) r has)))))
+
   -- the actuals of a call don't overlap where they may not, or its formals are those of a function
   pub apart_or : (kind : ℕ → Type 0) → AreReports program effects [] → (sub : FlowSub) → Has program.subs sub → (p : FlowPoint) → Has sub.points p
       → (n : ℕ) (actuals : TypedTree) (result : Option ℕ) → p.instr ≡ Call n actuals result → is_some (sub_of program n).result ≡ is_some result
@@ -161,14 +174,7 @@ module _ (program : FlowProgram) (effects : Effects) where
       by_result (Some of) given = inr (λ x has.
           plain of (ap (λ (z : Signature). z.result) (signature_is program n) ∙ given) x
           (subst (λ z. Has z x) (sym (ap (λ (z : Signature). z.formals) (signature_is program n))) has))
-      by_result None given = inl (λ r has.
-          no_call_reports program effects none sub in_program p in_sub r
-          (subst (λ i. Has (call_reports all effects i) r) (sym e)
-          (subst (λ z. Has z r) (sym (reports_are n actuals result (sym answers ∙ ap is_some given)))
-          (subst (λ z. Has (if is_some z.result then [] else passed_reports all effects n (alias.passed z.formals actuals)) r) (sym (signature_is program n))
-          (subst (λ z. Has (if is_some z then [] else passed_reports all effects n (alias.passed (sub_of program n).formals actuals)) r) (sym given)
-          (Has-append_left (overlap_reports all (alias.passed (sub_of program n).formals actuals))
-          (flat_map (alias.global_reports all effects n) (alias.passed (sub_of program n).formals actuals)) r has))))))
+      by_result None given = inl (apart_there none sub in_program p in_sub n actuals result e answers given)
 
 -- ---- what is passed
 

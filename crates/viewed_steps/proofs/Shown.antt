@@ -126,8 +126,12 @@ module _ (s : Typing) (settled : IsSettled s.table) (own_law : OwnsByShape s.tab
         | inr ne ↦ inl (ap (λ q. (get_or q 0 no_slot).word) (others g y (λ e. ne (ap OfRoot e))))
         | inl e ↦ (
             let here : f ≡ g = cc in let same : x ≡ y = cc in
-            inr (sym here, same, ap (λ w. Value (w ∷ []))
-            (sym (ap (λ q. (get_or q 0 no_slot).word) ((λ j. variable_slots s (sym here j) (sym same j) next.variables) ∙ put_same s f x (fresh (z ∷ [])) m.variables)))))
+            inr (
+              sym here,
+              same,
+              ap (λ w. Value (w ∷ []))
+                  (sym (ap (λ q. (get_or q 0 no_slot).word) ((λ j. variable_slots s (sym here j) (sym same j) next.variables) ∙ put_same s f x (fresh (z ∷ [])) m.variables))),
+            ))
       ];
       cells = record { count = refl; same = λ k. refl };
     }

@@ -27,7 +27,6 @@ use Rattle.soundness.specs.Seen.{is_view_formal, home}
 use Rattle.soundness.specs.Typed.{Kept}
 use Rattle.typed_laws.specs.Needed.{IsFine}
 use Rattle.soundness.specs.Sound.{IsNoCall, Stage, facts_of, AreStages, InScope, IsNamedSub, IsAtPoint, view_of as view_here}
-use Rattle.soundness.proofs.Contents.{bool_cases}
 use Rattle.soundness.specs.Ready.{IsSupplied}
 use Rattle.soundness.proofs.Passing.{plain_type, signature_is}
 use Rattle.soundness.proofs.Typings.{Agree, flow_agrees, instruction_same}

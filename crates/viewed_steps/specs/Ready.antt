@@ -67,7 +67,7 @@ IsOwnPlace s e = (y : ℕ) → Has (root_of e) y → (is_package_object s y ≡ 
 -- What a formal is shown that owns nothing: null, or what a name of its type designates that is rooted in an
 -- own variable of the frame, or in such a formal.
 abbrev pub IsShowable : Typing → ℕ → Type 0
-IsShowable s y = (is_package_object s y ≡ false) × (is_anonymous (view_of s y) ≡ false) × (is_view_formal s y ≡ true → sees_only s y ≡ true)
+IsShowable s y = (is_package_object s y ≡ false) × (is_anonymous (view_of s y) ≡ false)
 
 abbrev pub IsSeen : Typing → ℕ → TypedTree → Type 0
 IsSeen s x typed.Null = Unit {0}

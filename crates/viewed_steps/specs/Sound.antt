@@ -16,7 +16,7 @@ use Rattle.typed_tree.specs.Trees.{TypedTree, Name, NoMore, More}
 use Rattle.typed_tree.specs.Programs.{TypedProgram}
 use Rattle.flow_paths.specs.declared.report.Effects.{Effects}
 use Rattle.flow_paths.specs.Instructions.{Instruction, Declare, Assign, Call, EndScope, Finish}
-use Rattle.flow_paths.specs.Objects.{Typing, object_at, sub_at, is_formal, is_observer, is_package_object, has_scope_end}
+use Rattle.flow_paths.specs.Objects.{Typing, object_at, sub_at, is_formal, is_observer, is_named_access, view_of, is_package_object, has_scope_end}
 use Rattle.flow_paths.specs.Points.{NamedPoint, FlowPoint}
 use Rattle.flow_paths.specs.Laid.{FlowSub, FlowProgram, NamedSub, flow_typing, flow_program, flow_named}
 use Rattle.flow_paths.specs.Paths.{ControlPath}
@@ -67,8 +67,9 @@ AreKeptPlaces s (x ∷ formals) (More e rest) =
 AreKeptPlaces s formals actuals = Unit {0}
 
 -- Anonymous access types are those of objects alone, and functions that are called have no results of
--- such types; formals are such, those of functions of mode `in`, and those of procedures of mode `in` of
--- scalar types; actuals are copied back to as above.
+-- such types; formals are such, those of functions of mode `in`, and what they are shown isn't changed through
+-- them; those of procedures of mode `in` that own nothing are of access-to-variable types; actuals are copied
+-- back to as above.
 pub record IsViewClass (program : FlowProgram) : Type 0 where
   pub parts_named : PartsAreNamed program.table
   pub results : AreNamedResults program
@@ -78,7 +79,7 @@ pub record IsViewClass (program : FlowProgram) : Type 0 where
   pub modes : (n t : ℕ) → (sub_at (flow_typing program) n).result ≡ Some t → (x : ℕ) → Has (sub_at (flow_typing program) n).formals x
       → (object_at (flow_typing program) x).mode ≡ mode.In
   pub procedures : (n : ℕ) → (sub_at (flow_typing program) n).result ≡ None → (x : ℕ) → Has (sub_at (flow_typing program) n).formals x
-      → is_formal (flow_typing program) x ≡ true → is_view_formal (flow_typing program) x ≡ false
+      → is_formal (flow_typing program) x ≡ true → is_view_formal (flow_typing program) x ≡ true → is_named_access (view_of (flow_typing program) x) ≡ true
   pub copied : (sub : FlowSub) → Has program.subs sub → (p : FlowPoint) → Has sub.points p → (n : ℕ) (actuals : TypedTree) (result : Option ℕ)
       → p.instr ≡ Call n actuals result → ((x : ℕ) → Has (sub_of program n).formals x → is_formal (flow_typing program) x ≡ true)
       → AreKeptPlaces (flow_typing program) (sub_of program n).formals actuals
