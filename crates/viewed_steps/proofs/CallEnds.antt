@@ -48,6 +48,7 @@ use Rattle.viewed_steps.proofs.Waited.{others_only, lasting_within}
 use Rattle.viewed_steps.specs.Sound.{loan_by, ArePast, HoldsAt, ArePlaced, NoneAbove, ViewStage, stages_of, GoneElsewhere, IsWaiting, AreWaiting, ends_one, LeadsAlong, IsResting}
 use Rattle.viewed_steps.specs.Ready.{IsReady}
 use Rattle.viewed_steps.proofs.Waiting.{StandsBetween, all_between, handed, all_on, gone_low, kept_low, far, theirs, bare_still, some_frames, unused_there}
+use Rattle.viewed_steps.proofs.Read.{scalar_named}
 use Rattle.viewed_steps.proofs.Left.{owned_left, covered_left, reach_left, reach_before, gone_before, other_word, no_word, whole_there}
 use Rattle.viewed_steps.proofs.Standing.{or_right}
 use Rattle.viewed_steps.proofs.Standing as standing
@@ -65,6 +66,7 @@ use Rattle.flow_paths.specs.Effects.{written_by}
 use Rattle.viewed_steps.proofs.Backed.{AwayBy, ViewedAway, IsBack, all_given_back}
 use Rattle.viewed_steps.proofs.Whole.{leaves_whole}
 use Rattle.viewed_steps.proofs.Views.{AreAccess, AreFar, lies_far, apart_by_base}
+use Rattle.soundness.proofs.Lasting.{keeps}
 
 smaller : (f b low : ℕ) → f < suc b → (f ≡ low → ⊥) → low ≡ b → f < low
 smaller f b low less ne is =
@@ -173,8 +175,12 @@ module _ (table : Table) (typed : TypedProgram) (effects : Effects) (input : Lis
           elim ((running.1).0 x (subst (λ z. Has z x) (sym formals_are) own_formal)) [
             | inr other_kind ↦ elim other_kind [
               | inl copied ↦ copied
-              | inr shown ↦ (
+              | inr (inl shown) ↦ (
                   let none = word_dead s.table (content s state.memory [] (OfRoot (OfVariable depth x))) q (ap not shown) in
+                  let no_number : ways.Empty ≡ Held n = sym none ∙ held in cc)
+              | inr (inr plain) ↦ (
+                  let none = word_no s.table (content s state.memory [] (OfRoot (OfVariable depth x))) q
+                  ((keeps s ready.accepted.settled ready.owns).ownerless (object_at s x).of plain q) in
                   let no_number : ways.Empty ≡ Held n = sym none ∙ held in cc)
             ]
             | inl plain_type ↦ (

@@ -86,7 +86,8 @@ use Rattle.viewed_steps.proofs.Apart.{moved_same}
 use Rattle.viewed_steps.proofs.Lent.{Spare, spare_both, loans_stay}
 use Rattle.viewed_steps.proofs.Placed.{within_on, lasts_more, scope_on, placed_on}
 use Rattle.viewed_steps.proofs.Waiting.{StandsBetween, gone_low, kept_low, beside_them, handed, elsewhere_excused, all_on, bare_still}
-use Rattle.viewed_steps.proofs.Between.{gone_also, more_gone, base_along, base_under, same_variable, not_named, IsHomed, homed_apart, number_based, taken_bare}
+use Rattle.viewed_steps.proofs.Between.{gone_also, more_gone, base_along, base_under, same_variable, not_named, IsHomed, homed_apart, number_based, taken_bare, same_reaches}
+use Rattle.viewed_steps.proofs.Ended.{none_some}
 use Rattle.viewed_steps.proofs.Called.{AreGiven, all_laid_out, all_given, all_acted, values_are_read, call_adds_none, passes_to, spare_reads, spare_copies}
 use Rattle.viewed_steps.proofs.Outside.{IsSpared, kept_clear, gone_clear}
 use Rattle.viewed_steps.proofs.Globals.{copied_act, passed_unused}
@@ -448,14 +449,9 @@ module _ (table : Table) (typed : TypedProgram) (effects : Effects) (input : Lis
           by_result (Some of) is =
               let answers : (sub_at s n).result ≡ Some of = ap (λ (z : Signature). z.result) (signature_is program n) ∙ is in
               let modes : (x : ℕ) → Has formals x → (object_at s x).mode ≡ mode.In = (λ x has. ready.class.modes n of answers x (there_formals x has)) in
-              inl (
-                modes,
-                (λ x has back. back (modes x has)),
-                λ x has formal. elim (ready.class.functions n of answers x (there_formals x has) (called.formals x has)) [
-                  | inl plain ↦ absurd (scalar_no_view s in_formals x plain (formal_view s x formal))
-                  | inr shown ↦ sees_shown (is_observer s x) (is_view_formal s x) (is_in_formal s x && is_anonymous (view_of s x)) (is_exclusive s x) formal shown.1
-                ],
-              )
+              inl (modes, (λ x has back. back (modes x has)), λ x has formal.
+                  sees_shown (is_observer s x) (is_view_formal s x) (is_in_formal s x && is_anonymous (view_of s x)) (is_exclusive s x) formal
+                  (ready.class.functions n of answers x (there_formals x has) (called.formals x has) formal))
           by_result None is = inr (lent_there is)
 
       clear_there : AreClear s facts_now formals actuals
@@ -646,7 +642,7 @@ module _ (table : Table) (typed : TypedProgram) (effects : Effects) (input : Lis
         pub all_passed_ways : (ways_taken : List Way) × ArePassedOn s state.memory cells depth facts_called next_there formals passed ways_taken outs
             × ((k : Way) → Has ways_taken k → IsNamedBy s formals actuals k)
         all_passed_ways =
-            all_passed_on s ready.owns state.memory cells depth views view_now facts_called next_there procedure formals actuals passed own_facts laid kinds
+            all_passed_on s ready.owns ready.accepted.settled state.memory cells depth views view_now facts_called next_there procedure formals actuals passed own_facts laid kinds
             called.local called.differ
             within_next no_overlap copies_leave copies_own (λ c has. has)
 
@@ -1230,7 +1226,8 @@ module _ (table : Table) (typed : TypedProgram) (effects : Effects) (input : Lis
                 no_anonymous : IsKindOfFormal s x → is_anonymous (view_of s x) ≡ true → ⊥
                 no_anonymous (inl plain) anonymous = scalar_no_view s in_formals x plain (anonymous_view s x anonymous)
                 no_anonymous (inr (inl back)) anonymous = true_false (is_anonymous (view_of s x)) anonymous (named_plain s.table (object_at s x).of back.1)
-                no_anonymous (inr (inr shown)) anonymous = (in_formals x shown.0).1 anonymous
+                no_anonymous (inr (inr (inl shown))) anonymous = (in_formals x shown.0).1 anonymous
+                no_anonymous (inr (inr (inr plain))) anonymous = true_false (is_anonymous (view_of s x)) anonymous (named_plain s.table (object_at s x).of plain.2)
 
             callee_held : (x k : ℕ) → is_view s x ≡ true → (get_or (variable_slots s (home s (suc depth) x) x with_all.variables) 0 no_slot).word ≡ machine.Cell k
                 → (w : Way) × (callee_views.way x ≡ Some w) × (callee_views.cell x ≡ k)

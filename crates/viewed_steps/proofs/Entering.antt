@@ -103,8 +103,10 @@ module _ (s : Typing) (settled : IsSettled s.table) (own_law : OwnsByShape s.tab
   plain_returns n x (From k) formals passed (to ∷ ways) before (inl plain) taken = inl (plain, taken)
   plain_returns n x (To k) formals passed [] before (inl plain) taken = (plain, taken)
   plain_returns n x (To k) formals passed (to ∷ ways) before (inl plain) taken = inl (plain, taken)
-  plain_returns n x (From k) formals passed ways before (inr (shown, z, is, typed)) taken = (let never : From k ≡ Value (z ∷ []) = is in cc)
-  plain_returns n x (To k) formals passed ways before (inr (shown, z, is, typed)) taken = (let never : To k ≡ Value (z ∷ []) = is in cc)
+  plain_returns n x (From k) formals passed ways before (inr (inl (shown, z, is, typed))) taken = (let never : From k ≡ Value (z ∷ []) = is in cc)
+  plain_returns n x (To k) formals passed ways before (inr (inl (shown, z, is, typed))) taken = (let never : To k ≡ Value (z ∷ []) = is in cc)
+  plain_returns n x (From k) formals passed ways before (inr (inr (plain, named, ws, is, fit))) taken = (let never : From k ≡ Value ws = is in cc)
+  plain_returns n x (To k) formals passed ways before (inr (inr (plain, named, ws, is, fit))) taken = (let never : To k ≡ Value ws = is in cc)
 
   nothing_declared : (formals : List ℕ) (passed : List Passed) (ways : List Way) (leaks : List Leak) (m : Memory) → Kept s m hands → AreDeclared formals passed ways leaks leaks m m
   nothing_declared formals passed ways leaks m typed = record {

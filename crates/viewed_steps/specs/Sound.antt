@@ -11,7 +11,7 @@ use Rattle.place_names.specs.declared.fact.Fact.TheVariants.{Moved, Lent}
 use Rattle.place_names.specs.declared.rule.Loan.{Loan}
 use Rattle.place_names.specs.declared.rule.Loan.TheVariants.{Borrowed, Observed}
 use Rattle.place_names.specs.Names.{Name as PlaceName}
-use Rattle.type_definitions.specs.Types.{Table, full, is_scalar}
+use Rattle.type_definitions.specs.Types.{Table, full, is_scalar, is_owning}
 use Rattle.typed_tree.specs.Trees.{TypedTree, Name, NoMore, More}
 use Rattle.typed_tree.specs.Programs.{TypedProgram}
 use Rattle.flow_paths.specs.declared.report.Effects.{Effects}
@@ -42,7 +42,7 @@ use Rattle.viewed_steps.specs.Taken.{TakenBy, Lodge, AreTaken, AreCarried}
 -- ---- the class
 
 -- A formal of a scalar type; or of mode `out` or `in out` and of no anonymous access type; or of mode `in`
--- and of an access type, which owns nothing.
+-- and of an access type, which owns nothing, or of a type that owns nothing and is no anonymous access type.
 abbrev pub IsScalarObject : Typing → ℕ → Type 0
 IsScalarObject s x = is_scalar (full s.table (object_at s x).of) ≡ true
 
@@ -52,8 +52,11 @@ IsCopiedBack s x = (object_at s x).mode ≡ mode.In → ⊥
 abbrev pub IsShown : Typing → ℕ → Type 0
 IsShown s x = (is_view_formal s x ≡ true) × IsAccess s x
 
+abbrev pub IsOwnless : Typing → ℕ → Type 0
+IsOwnless s x = ((object_at s x).mode ≡ mode.In) × (is_owning s.table (object_at s x).of ≡ false) × IsNamed s.table (object_at s x).of
+
 abbrev pub IsKindOfFormal : Typing → ℕ → Type 0
-IsKindOfFormal s x = IsScalarObject s x ⊎ ((IsCopiedBack s x × IsNamed s.table (object_at s x).of) ⊎ IsShown s x)
+IsKindOfFormal s x = IsScalarObject s x ⊎ ((IsCopiedBack s x × IsNamed s.table (object_at s x).of) ⊎ (IsShown s x ⊎ IsOwnless s x))
 
 -- Actuals that are copied back to go through no access value; or they are for formals of scalar types, and are
 -- rooted in objects that belong to no package.
@@ -72,8 +75,7 @@ pub record IsViewClass (program : FlowProgram) : Type 0 where
   pub results : AreNamedResults program
   pub formals : (x : ℕ) → is_formal (flow_typing program) x ≡ true → IsKindOfFormal (flow_typing program) x
   pub functions : (n t : ℕ) → (sub_at (flow_typing program) n).result ≡ Some t → (x : ℕ) → Has (sub_at (flow_typing program) n).formals x
-      → is_formal (flow_typing program) x ≡ true
-      → IsScalarObject (flow_typing program) x ⊎ (IsShown (flow_typing program) x × (is_exclusive (flow_typing program) x ≡ false))
+      → is_formal (flow_typing program) x ≡ true → is_view_formal (flow_typing program) x ≡ true → is_exclusive (flow_typing program) x ≡ false
   pub modes : (n t : ℕ) → (sub_at (flow_typing program) n).result ≡ Some t → (x : ℕ) → Has (sub_at (flow_typing program) n).formals x
       → (object_at (flow_typing program) x).mode ≡ mode.In
   pub procedures : (n : ℕ) → (sub_at (flow_typing program) n).result ≡ None → (x : ℕ) → Has (sub_at (flow_typing program) n).formals x
@@ -143,7 +145,7 @@ NoneAbove s depth m = (f x n : ℕ) → depth < f → is_view s x ≡ true → (
 -- back.
 abbrev pub AreReturned : Typing → Frame → Type 0
 AreReturned s f =
-    ((x : ℕ) → Has (sub_at s f.sub).formals x → IsScalarObject s x ⊎ (((r : Return) × Has f.returns r × (r.formal ≡ x)) ⊎ (is_view_formal s x ≡ true)))
+    ((x : ℕ) → Has (sub_at s f.sub).formals x → IsScalarObject s x ⊎ (((r : Return) × Has f.returns r × (r.formal ≡ x)) ⊎ ((is_view_formal s x ≡ true) ⊎ (is_owning s.table (object_at s x).of ≡ false))))
     × ((r : Return) → Has f.returns r → is_formal s r.formal ≡ true)
 
 -- Formals that may own are copied back.
