@@ -14,11 +14,11 @@ use Rattle.place_names.specs.declared.rule.Loan.TheVariants.{Observed}
 use Rattle.place_names.specs.Names.{Name as PlaceName}
 use Rattle.type_definitions.specs.Types.{Table, is_scalar, full, shape_of}
 use Rattle.type_definitions.specs.declared.table.Shape.TheVariants as shape
-use Rattle.typed_tree.specs.Trees.{TypedTree, TypedCode, Name, NoMore, More}
+use Rattle.typed_tree.specs.Trees.{TypedTree, TypedCode, Name, Call as CallIn, NoMore, More}
 use Rattle.typed_tree.specs.Programs.{TypedProgram}
 use Rattle.flow_paths.specs.declared.report.Effects.{Effects}
 use Rattle.flow_paths.specs.Instructions.{Instruction, Skip, Declare, Assign, Call, Output, Input, Release, Test, Choose, Start, Next, Evaluate, LeaveLoop, Hold, EndScope, Finish, Fall}
-use Rattle.flow_paths.specs.Objects.{Typing, object_at, is_anonymous, is_package_object, is_observer, view_of, has_scope_end, is_variable}
+use Rattle.flow_paths.specs.Objects.{Typing, object_at, sub_at, is_anonymous, is_package_object, is_observer, view_of, has_scope_end, is_variable}
 use Rattle.flow_paths.specs.Names.{has_call, waiting as waits_in, name_of}
 use Rattle.flow_paths.specs.Acts as flow
 use Rattle.flow_paths.specs.Acts.{acts_in}
@@ -76,7 +76,9 @@ use Rattle.viewed_steps.proofs.Rounds.{skip_leads, line_leads, next_leads, outpu
 use Rattle.viewed_steps.proofs.Lent.{Spare, loans_stay, spare_acts}
 use Rattle.viewed_steps.proofs.Placed.{brought_more, lasts_more, scope_on, placed_on, MayBe, turned_placed, turned_lies}
 use Rattle.owned_loans.proofs.Meeting.{named_view}
-use Rattle.viewed_steps.proofs.Sources.{leads_or, own_there, view_declared, view_assigned}
+use Rattle.viewed_soundness.specs.Taken.{GivesPlainly}
+use Rattle.viewed_steps.specs.Traversals.{GivesView}
+use Rattle.viewed_steps.proofs.Sources.{leads_or, view_scalar, own_there, view_declared, view_assigned}
 use Rattle.viewed_steps.proofs.Beside.{IsOther, OthersKept, others_keep}
 use Rattle.viewed_steps.proofs.Waiting.{StandsBetween, KeptElsewhere, beside_them, handed, apart_elsewhere}
 use Rattle.viewed_steps.proofs.Standing.{or_right}
@@ -271,10 +273,10 @@ module _ (table : Table) (typed : TypedProgram) (effects : Effects) (input : Lis
       abbrev pub may : ℕ → ℕ → Type 0
       may x y = MayBe program (scope_behind p) x y × IsStoredAt p.instr x
 
-      more : (y : ℕ) → is_within y left_scope ≡ true → is_within y (scope_behind p) ≡ true
+      pub more : (y : ℕ) → is_within y left_scope ≡ true → is_within y (scope_behind p) ≡ true
       more y within = brought_more p.instr going left_scope y within
 
-      lasts_behind : (r z : ℕ) → Lasts program p.scope r z → Lasts program (scope_behind p) r z
+      pub lasts_behind : (r z : ℕ) → Lasts program p.scope r z → Lasts program (scope_behind p) r z
       lasts_behind r z lasts = lasts_more program left_scope (scope_behind p) r z more ((innermost.lasts_left table typed effects input ready state top below more_frames rest named p frames deep stages running awaiting of_sub at_point path views viewed_before kept scope holds placed_before above) r z lasts)
 
       abbrev pub Good : List Fact → State → Type 0
@@ -363,7 +365,7 @@ module _ (table : Table) (typed : TypedProgram) (effects : Effects) (input : Lis
       up_named : (z : ℕ) (w : Way) → views.way z ≡ Some w → ways.Named (home s depth) w → ways.Named (home s depth) (views.up z)
       up_named z w has at_home = (named_view (home s depth) (sees_only s) views (view_here s state) facts_now viewed.views z w has at_home).named
 
-      unused : (x : ℕ) (v : TypedTree) → p.instr ≡ Declare x v → is_package_object s x ≡ false → Unused (home s depth) other.lent views facts_now x
+      pub unused : (x : ℕ) (v : TypedTree) → p.instr ≡ Declare x v → is_package_object s x ≡ false → Unused (home s depth) other.lent views facts_now x
       unused x v e mine = record {
         unmoved = λ name has root. elim (from_both (Moved name) has) [
           | inl mine_fact ↦ packages.new_before table typed effects input ready state top older outer named p frames of_sub at_point path x v e name mine_fact root
@@ -415,6 +417,18 @@ module _ (table : Table) (typed : TypedProgram) (effects : Effects) (input : Lis
         | inr there ↦ absurd (not_handed name there)
       ]
 
+      -- a view isn't scalar
+      plain_call : (r : Pos) (n : ℕ) (actuals : TypedTree) → GivesPlainly s (CallIn r n actuals) → (t : ℕ) → (sub_at s n).result ≡ Some t → is_scalar (full s.table t) ≡ true
+      unfolding GivesPlainly
+      plain_call r n actuals plainly = plainly
+
+      first_plain : (e : TypedTree) → GivesPlainly s (More e NoMore) → GivesPlainly s e
+      unfolding GivesPlainly
+      first_plain e plainly = plainly.0
+
+      gives_many : (n of : ℕ) → GivesView s n of → ((t : ℕ) → (sub_at s n).result ≡ Some t → is_scalar (full s.table t) ≡ true) → ⊥
+      gives_many n of gives scalar = view_scalar (shape_of s.table gives.result) gives.anonymous (scalar gives.result gives.result_is)
+
       declares : Plainly → (x : ℕ) (v : TypedTree) (e : p.instr ≡ Declare x v) → FirstSource s (object_at s x).of v
           → AllowsAll facts_now (acts_of_main (Declare x v)) → AllKeep (is_fixed s) (acts_of_main (Declare x v)) → LeadsFrom (Declare x v) (turn main_turn (Declare x v))
       unfolding waits_in
@@ -440,7 +454,13 @@ module _ (table : Table) (typed : TypedProgram) (effects : Effects) (input : Lis
           by_view : (b : Bool) → is_anonymous (view_of s x) ≡ b → LeadsFrom (Declare x v) (turn main_turn (Declare x v))
           by_view true view =
               let source = orderly.declared x v e view in
-              from_source v refl source.0 source.1 source.3 source.2 source.4 view source.5 source.6
+              elim source.6 [
+                | inl is ↦ from_source v refl source.0 source.1 source.3 source.2 (source.5 ∙ ap (λ z. More z NoMore) is) view source.7 source.8
+                | inr (r, n, more, is, gives) ↦ absurd (gives_many n (object_at s x).of gives
+                    (plain_call r n (More (Name source.0 source.1 source.2 source.3) more)
+                    (first_plain (CallIn r n (More (Name source.0 source.1 source.2 source.3) more))
+                    (subst (GivesPlainly s) (source.5 ∙ ap (λ z. More z NoMore) is) (subst (TakesScalars s) e plain.1)))))
+              ]
           by_view false owner =
               declared_main (Declare x v) x v (declare_on easy ready.accepted.settled ready.owns other alone in_formals views ready.class.parts_named may refl refl given_words
               x v (plain_named s.table (object_at s x).of owner) (orderly.begun x v e) text (subst (TakesScalars s) e plain.1) (takes_of plain.0 (Declare x v) e)
@@ -491,7 +511,11 @@ module _ (table : Table) (typed : TypedProgram) (effects : Effects) (input : Lis
               → AllowsAll facts_now (acts_of_main (Assign (Name q x NoMore (object_at s x).of) e)) → Goal (Name q x NoMore (object_at s x).of) e
           to_view source view instr_is allowed_here =
               let found = orderly.assigned q x (object_at s x).of e instr_is view in
-              from_name found.0 found.1 found.3 found.2 found.4 found.5 found.6
+              elim found.4 [
+                | inl named_so ↦ from_name found.0 found.1 found.3 found.2 named_so found.5 found.6
+                | inr (r, n, more, call_is, gives) ↦ absurd (gives_many n (object_at s x).of gives
+                    (plain_call r n (More (Name found.0 found.1 found.2 found.3) more) (subst (GivesPlainly s) call_is (subst (TakesScalars s) instr_is plain.1))))
+              ]
             where
               from_name : (r : Pos) (y w : ℕ) (rest : TypedTree) → e ≡ Name r y rest w → (is_observer s x ≡ true → Lasts program p.scope y x)
                   → (is_observer s x ≡ false → y ≡ x) → Goal (Name q x NoMore (object_at s x).of) e

@@ -56,6 +56,7 @@ pub mod Innermost
 pub mod EachInstruction
 pub mod Operands
 pub mod Alone
+pub mod Taking
 pub mod Results
 pub mod ScopeEnds
 pub mod CallEnds

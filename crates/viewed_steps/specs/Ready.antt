@@ -26,6 +26,7 @@ use Rattle.typed_laws.specs.Needed.{Matches, Leads, Stays, IsPlace}
 use Rattle.soundness.specs.Seen.{is_view_formal}
 use Rattle.viewed_soundness.specs.Holds.{sees_only, is_fixed, AllKeep}
 use Rattle.viewed_steps.specs.Awaited.{is_held, IsTaken, FillsTyped}
+use Rattle.viewed_steps.specs.Traversals.{IsSourceName}
 use Rattle.viewed_steps.specs.Sound.{IsScalarObject, IsViewClass, Lasts, IsStoredAt}
 
 -- ---- calls
@@ -107,18 +108,19 @@ AreCalled table typed =
 
 -- ---- borrowers and observers in order
 
--- A view is declared from a name that lasts, and a borrower from an older one that isn't rooted in
--- an observer, or in a formal that owns nothing.
+-- A view is declared from a name that lasts, or from what a function gives that goes through it; and a
+-- borrower from an older name that isn't rooted in an observer, or in a formal that nothing is changed through.
 abbrev pub IsSource : FlowProgram → List ℕ → ℕ → TypedTree → Type 0
-IsSource program scope x e =
-    (q : Pos) × (y : ℕ) × (path : TypedTree) × (u : ℕ) × (e ≡ More (Name q y path u) NoMore)
+IsSource program scope x v =
+    (q : Pos) × (y : ℕ) × (path : TypedTree) × (u : ℕ) × (e : TypedTree) × (v ≡ More e NoMore)
+    × IsSourceName (flow_typing program) (object_at (flow_typing program) x).of e q y path u
     × Lasts program scope y x
     × (is_observer (flow_typing program) x ≡ false → (sees_only (flow_typing program) y ≡ false) × (y < x))
 
--- An observer is assigned from a name that lasts, and a borrower from one that is rooted in it.
+-- An observer is likewise assigned from a name that lasts, and a borrower from one that is rooted in it.
 abbrev pub IsNewSource : FlowProgram → List ℕ → ℕ → TypedTree → Type 0
 IsNewSource program scope x e =
-    (q : Pos) × (y : ℕ) × (path : TypedTree) × (u : ℕ) × (e ≡ Name q y path u)
+    (q : Pos) × (y : ℕ) × (path : TypedTree) × (u : ℕ) × IsSourceName (flow_typing program) (object_at (flow_typing program) x).of e q y path u
     × (is_observer (flow_typing program) x ≡ true → Lasts program scope y x)
     × (is_observer (flow_typing program) x ≡ false → y ≡ x)
 
