@@ -1,10 +1,9 @@
 -- What a function gave is taken alone: an object is declared with it, or it is assigned or returned. It may own.
+use Rattle.flow_paths.specs.Views.{sub_acts}
 use Rattle.place_names.specs.Facts.{effect}
 use Rattle.soundness.proofs.Fading.{FadesTo}
 use Rattle.viewed_soundness.proofs.Stored.{Assigns, then_placed}
-use Rattle.viewed_steps.specs.Traversals.{GivesView}
-use Rattle.viewed_steps.proofs.Sources.{leads_or}
-use Rattle.soundness.proofs.Following.{Each}
+use Rattle.viewed_steps.specs.Traversals.{IsSourceIn}
 use Rattle.machine.specs.Calls.{checks_at}
 use Rattle.spark_base.specs.declared.position.Pos.{Pos}
 use Rattle.viewed_soundness.proofs.Names.{plain_named, true_false}
@@ -28,7 +27,7 @@ use Rattle.flow_paths.specs.Points.{NamedPoint}
 use Rattle.flow_paths.specs.Laid.{FlowProgram, NamedSub, typing_of, flow_typing, flow_program, flow_named, number_in}
 use Rattle.flow_paths.specs.Paths.{ControlPath}
 use Rattle.flow_paths.specs.Effects.{path_points}
-use Rattle.flow_paths.specs.Scopes.{taken, brought, scope_behind}
+use Rattle.flow_paths.specs.Scopes.{taken, scope_behind}
 use Rattle.machine.specs.Words.{fits_type}
 use Rattle.machine.specs.Words as machine
 use Rattle.machine.specs.Memory.{declared, stored}
@@ -42,7 +41,7 @@ use Rattle.owned_ways.specs.Ways.{Step, OfVariable, OfRoot, Way, Held, after, Al
 use Rattle.soundness.specs.Seen.{IsNear, content, word_in, home, seen}
 use Rattle.soundness.specs.Typed.{Kept, Matches}
 use Rattle.typed_laws.specs.Needed.{IsFine, Source, Gives, Leads}
-use Rattle.soundness.specs.Sound.{IsNoCall, Stage, facts_of, AreStages, IsRunnable, returns_value, InScope, IsNamedSub, IsAtPoint, view_of as view_here, is_temporary_object, temporaries_in}
+use Rattle.soundness.specs.Sound.{IsNoCall, Stage, facts_of, AreStages, IsRunnable, InScope, IsNamedSub, IsAtPoint, view_of as view_here, is_temporary_object, temporaries_in}
 use Rattle.soundness.proofs.Scalars.{acts, acts_append, after_append}
 use Rattle.soundness.proofs.Scoped.{Inside}
 use Rattle.soundness.proofs.Around.{IsFar}
@@ -50,17 +49,15 @@ use Rattle.soundness.proofs.Waits.{drop_none, no_waits, take_none, waits_of}
 use Rattle.soundness.proofs.Taking.{no_takes}
 use Rattle.soundness.proofs.Waited.{FillsNone}
 use Rattle.soundness.proofs.Eased.{eased, goes_same}
-use Rattle.soundness.proofs.Successors.{below_one}
 use Rattle.owned_loans.specs.Views.{Around, known_gone, Views, Viewed}
 use Rattle.viewed_soundness.specs.Holds.{IsNamed, AllKeep, is_view, sees_only, is_fixed}
 use Rattle.viewed_soundness.proofs.Outcomes.{named_plain, Leads_on, stored_goes, not_views, assigned_acts}
 use Rattle.viewed_steps.specs.Awaited.{AreFor, AreValues, temporaries_of, lasting_of, AreAwaited, TakesAlone}
 use Rattle.viewed_steps.proofs.Waited.{temporary_first, Shares, others_only}
-use Rattle.viewed_steps.specs.Sound.{ArePast, IsResting, HoldsAt, ArePlaced, NoneAbove, ViewStage, stages_of, GoneElsewhere, AreWaiting, IsStoredAt, LeadsAlong}
+use Rattle.viewed_steps.specs.Sound.{ArePast, IsResting, HoldsAt, ArePlaced, NoneAbove, ViewStage, stages_of, GoneElsewhere, AreWaiting, IsStoredAt, LeadsAlong, HasTraversals}
 use Rattle.viewed_steps.specs.Ready.{IsReady, AreOrderly}
 use Rattle.viewed_steps.proofs.Lent.{Spare}
 use Rattle.viewed_steps.proofs.Placed.{MayBe}
-use Rattle.viewed_steps.proofs.Beside.{IsOther, others_keep}
 use Rattle.viewed_steps.proofs.Waiting.{StandsBetween, beside_them, handed, apart_elsewhere}
 use Rattle.viewed_steps.proofs.Standing.{or_right}
 use Rattle.viewed_steps.proofs.Standing as standing
@@ -72,8 +69,7 @@ use Rattle.machine.specs.Step.{led}
 use Rattle.machine.specs.Evaluate.{Raises, Traps}
 use Rattle.soundness.specs.Seen.{seen}
 use Rattle.soundness.specs.Sound.{is_temporary_object, temporaries_in}
-use Rattle.soundness.specs.Ready.{IsSupplied, Fills}
-use Rattle.soundness.proofs.Onward.{GoesOn, declare_follows, assign_follows}
+use Rattle.soundness.specs.Ready.{IsSupplied}
 use Rattle.soundness.proofs.Waits.{take_none, waits_of}
 use Rattle.soundness.proofs.Numbers.{index_law}
 use Rattle.soundness.proofs.Lasting.{keeps}
@@ -111,7 +107,8 @@ module _ (table : Table) (typed : TypedProgram) (effects : Effects) (input : Lis
       (viewed_before : Viewed (home s (suc (length rest))) (sees_only s) (known_gone (home s (suc (length rest))) (GoneElsewhere program effects (below ∷ more_frames))) views
       (view_here s state) (facts_of program effects top))
       (kept : Kept s state.memory (waiting_in state)) (scope : InScope s state.memory (suc (length rest)) (lasting_of s p.scope)) (holds : HoldsAt s (suc (length rest)) views state.memory p)
-      (placed_before : ArePlaced program (suc (length rest)) (facts_of program effects top) views p.scope × ArePast s (suc (length rest)) views (below ∷ more_frames)) (above : NoneAbove s (suc (length rest)) state.memory) where
+      (placed_before : ArePlaced program (suc (length rest)) (facts_of program effects top) views p.scope × ArePast s (suc (length rest)) views (below ∷ more_frames)) (above : NoneAbove s (suc (length rest)) state.memory
+      × HasTraversals table typed (view_here s state) (record { stage = top; views = views; cells = [] } ∷ (below ∷ more_frames))) where
     abbrev outer : List Frame
     outer = below.stage.frame ∷ rest
 
@@ -186,7 +183,7 @@ module _ (table : Table) (typed : TypedProgram) (effects : Effects) (input : Lis
     Along outcome = LeadsAlong table typed effects p.instr state.memory (record { stage = top; views = views; cells = [] }) (below ∷ more_frames) outcome
 
     abbrev may : ℕ → ℕ → Type 0
-    may x y = MayBe program (scope_behind p) x y × IsStoredAt p.instr x
+    may x y = MayBe program (scope_behind p) x y × IsStoredAt p.instr x × IsSourceIn (sub_acts (sub_of program top.frame.sub)) x y
 
     abbrev LeadsFrom : Instruction → Outcome → Type 0
     LeadsFrom i outcome = Leads_on easy ready.accepted.settled ready.owns other alone views ready.class.parts_named may refl refl (after (acts_of_main i) facts_now) outcome

@@ -9,6 +9,8 @@ pub mod Placed
 pub mod Ended
 pub mod Sources
 pub mod Sighted
+pub mod Traversed
+pub mod Low
 pub mod Returned
 pub mod Beside
 pub mod Inherited

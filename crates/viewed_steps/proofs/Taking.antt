@@ -1,17 +1,15 @@
 -- What a function gave is taken alone where it waits: by an object that owns, by a place, or by a view.
-use Rattle.place_names.specs.Facts.{effect}
-use Rattle.soundness.proofs.Fading.{FadesTo}
-use Rattle.viewed_soundness.proofs.Stored.{Assigns, then_placed}
-use Rattle.viewed_steps.specs.Traversals.{GivesView}
+use Rattle.viewed_steps.proofs.Traversed.{declared_source, assigned_source}
+use Rattle.flow_paths.specs.Views.{sub_acts}
+use Rattle.viewed_steps.specs.Traversals.{GivesView, IsSourceIn}
 use Rattle.viewed_steps.proofs.Sources.{leads_or}
 use Rattle.soundness.proofs.Following.{Each}
 use Rattle.machine.specs.Calls.{checks_at}
 use Rattle.spark_base.specs.declared.position.Pos.{Pos}
-use Rattle.viewed_soundness.proofs.Names.{plain_named, true_false}
-use Rattle.std.proofs.Common.{◌≡◌, refl, sym, ap, ◌∙◌, subst, ◌⊎◌, inl, inr, ℕ, suc, ◌+◌, ◌<◌, Bool, true, false, List, [], ◌∷◌, ◌++◌, drop, length, arith, Some, None, if◌then◌else◌, take, map}
+use Rattle.viewed_soundness.proofs.Names.{true_false}
+use Rattle.std.proofs.Common.{◌≡◌, refl, sym, ap, ◌∙◌, subst, ◌⊎◌, inl, inr, ℕ, suc, ◌<◌, Bool, true, false, List, [], ◌∷◌, ◌++◌, drop, length, Some, None, map}
 use Rattle.spark_base.specs.Lists.{Has}
 use Rattle.place_names.specs.declared.act.Act.{Act}
-use Rattle.place_names.specs.declared.act.Act.TheVariants as act
 use Rattle.place_names.specs.declared.fact.Fact.{Fact}
 use Rattle.place_names.specs.declared.fact.Fact.TheVariants.{Moved}
 use Rattle.place_names.specs.Names.{Name as PlaceName}
@@ -21,9 +19,7 @@ use Rattle.typed_tree.specs.Programs.{TypedProgram}
 use Rattle.flow_paths.specs.declared.report.Effects.{Effects}
 use Rattle.flow_paths.specs.Instructions.{Instruction, EndScope, Finish, Declare, Assign}
 use Rattle.flow_paths.specs.Objects.{Typing, is_anonymous, is_package_object, is_observer, view_of, object_at}
-use Rattle.flow_paths.specs.Names.{has_call, waiting as waits_in, name_of}
-use Rattle.flow_paths.specs.Acts as flow
-use Rattle.flow_paths.specs.Acts.{acts_in}
+use Rattle.flow_paths.specs.Names.{has_call}
 use Rattle.flow_paths.specs.Points.{NamedPoint}
 use Rattle.flow_paths.specs.Laid.{FlowProgram, NamedSub, typing_of, flow_typing, flow_program, flow_named, number_in}
 use Rattle.flow_paths.specs.Paths.{ControlPath}
@@ -31,54 +27,41 @@ use Rattle.flow_paths.specs.Effects.{path_points}
 use Rattle.flow_paths.specs.Scopes.{taken, brought, scope_behind}
 use Rattle.machine.specs.Words.{fits_type}
 use Rattle.machine.specs.Words as machine
-use Rattle.machine.specs.Memory.{declared, stored}
-use Rattle.machine.specs.Evaluate.{Exception, ConstraintError, ProgramError, Evaluated, Done, followed_by, value, place_of, text_of, Now, checked, initial}
-use Rattle.machine.specs.Evaluate as run
+use Rattle.machine.specs.Memory.{declared}
+use Rattle.machine.specs.Evaluate.{Done, followed_by, place_of}
 use Rattle.machine.specs.States.{Waiting, Frame, State, Outcome, sub_of}
 use Rattle.machine.specs.Step.{Turn, turn, start, successor}
 use Rattle.machine.specs.Step as steps
 use Rattle.machine.specs.Owners.{waiting_in}
 use Rattle.owned_ways.specs.Ways.{Step, OfVariable, OfRoot, Way, Held, after, AllowsAll}
 use Rattle.soundness.specs.Seen.{IsNear, content, word_in, home, seen}
-use Rattle.soundness.specs.Typed.{Kept, Matches}
-use Rattle.typed_laws.specs.Needed.{IsFine, Source, Gives, Leads}
-use Rattle.soundness.specs.Sound.{IsNoCall, Stage, facts_of, AreStages, IsRunnable, returns_value, InScope, IsNamedSub, IsAtPoint, view_of as view_here, is_temporary_object, temporaries_in}
-use Rattle.soundness.proofs.Scalars.{acts, acts_append, after_append}
+use Rattle.soundness.specs.Typed.{Kept}
+use Rattle.typed_laws.specs.Needed.{IsFine}
+use Rattle.soundness.specs.Sound.{IsNoCall, Stage, facts_of, AreStages, IsRunnable, returns_value, InScope, IsNamedSub, IsAtPoint, view_of as view_here}
 use Rattle.soundness.proofs.Scoped.{Inside}
 use Rattle.soundness.proofs.Around.{IsFar}
-use Rattle.soundness.proofs.Waits.{drop_none, no_waits, take_none, waits_of}
-use Rattle.soundness.proofs.Taking.{no_takes}
 use Rattle.soundness.proofs.Waited.{FillsNone}
-use Rattle.soundness.proofs.Eased.{eased, goes_same}
+use Rattle.soundness.proofs.Eased.{eased}
 use Rattle.soundness.proofs.Successors.{below_one}
 use Rattle.owned_loans.specs.Views.{Around, known_gone, Views, Viewed}
-use Rattle.viewed_soundness.specs.Holds.{IsNamed, AllKeep, is_view, sees_only, is_fixed}
-use Rattle.viewed_soundness.proofs.Outcomes.{named_plain, Leads_on, stored_goes, not_views, assigned_acts}
-use Rattle.viewed_steps.specs.Awaited.{AreFor, AreValues, temporaries_of, lasting_of, AreAwaited, TakesAlone}
-use Rattle.viewed_steps.proofs.Waited.{temporary_first, Shares, others_only}
-use Rattle.viewed_steps.specs.Sound.{ArePast, IsResting, HoldsAt, ArePlaced, NoneAbove, ViewStage, stages_of, GoneElsewhere, AreWaiting, IsStoredAt, LeadsAlong}
+use Rattle.viewed_soundness.specs.Holds.{is_view, sees_only}
+use Rattle.viewed_soundness.proofs.Outcomes.{named_plain, Leads_on}
+use Rattle.viewed_steps.specs.Awaited.{AreValues, lasting_of, AreAwaited, TakesAlone}
+use Rattle.viewed_steps.proofs.Waited.{Shares}
+use Rattle.viewed_steps.specs.Sound.{ArePast, IsResting, HoldsAt, ArePlaced, NoneAbove, ViewStage, stages_of, GoneElsewhere, AreWaiting, IsStoredAt, LeadsAlong, HasTraversals}
 use Rattle.viewed_steps.specs.Ready.{IsReady, AreOrderly}
 use Rattle.viewed_steps.proofs.Lent.{Spare}
 use Rattle.viewed_steps.proofs.Placed.{MayBe}
 use Rattle.viewed_steps.proofs.Beside.{IsOther, others_keep}
-use Rattle.viewed_steps.proofs.Waiting.{StandsBetween, beside_them, handed, apart_elsewhere}
+use Rattle.viewed_steps.proofs.Waiting.{StandsBetween, beside_them, handed}
 use Rattle.viewed_steps.proofs.Standing.{or_right}
 use Rattle.viewed_steps.proofs.Standing as standing
 use Rattle.viewed_steps.proofs.Packages as packages
 use Rattle.viewed_steps.proofs.Innermost as innermost
-use Rattle.std.specs.Prelude.{flat_map, reverse}
-use Rattle.type_definitions.specs.Types.{words}
 use Rattle.machine.specs.Step.{led}
-use Rattle.machine.specs.Evaluate.{Raises, Traps}
 use Rattle.soundness.specs.Seen.{seen}
-use Rattle.soundness.specs.Sound.{is_temporary_object, temporaries_in}
 use Rattle.soundness.specs.Ready.{IsSupplied, Fills}
 use Rattle.soundness.proofs.Onward.{GoesOn, declare_follows, assign_follows}
-use Rattle.soundness.proofs.Waits.{take_none, waits_of}
-use Rattle.soundness.proofs.Numbers.{index_law}
-use Rattle.soundness.proofs.Lasting.{keeps}
-use Rattle.viewed_soundness.proofs.Evaluated.{Given, Ready, checked_given, call_given, keep_both}
-use Rattle.viewed_steps.proofs.Declared.{declared_goes, first_fades}
 use Rattle.viewed_steps.proofs.EachInstruction as each
 use Rattle.flow_paths.specs.Instructions.{Hold}
 use Rattle.flow_paths.specs.Scopes.{is_within}
@@ -133,7 +116,8 @@ module _ (table : Table) (typed : TypedProgram) (effects : Effects) (input : Lis
       (viewed_before : Viewed (home s (suc (length rest))) (sees_only s) (known_gone (home s (suc (length rest))) (GoneElsewhere program effects (below ∷ more_frames))) views
       (view_here s state) (facts_of program effects top))
       (kept : Kept s state.memory (waiting_in state)) (scope : InScope s state.memory (suc (length rest)) (lasting_of s p.scope)) (holds : HoldsAt s (suc (length rest)) views state.memory p)
-      (placed_before : ArePlaced program (suc (length rest)) (facts_of program effects top) views p.scope × ArePast s (suc (length rest)) views (below ∷ more_frames)) (above : NoneAbove s (suc (length rest)) state.memory) where
+      (placed_before : ArePlaced program (suc (length rest)) (facts_of program effects top) views p.scope × ArePast s (suc (length rest)) views (below ∷ more_frames)) (above : NoneAbove s (suc (length rest)) state.memory
+      × HasTraversals table typed (view_here s state) (record { stage = top; views = views; cells = [] } ∷ (below ∷ more_frames))) where
     abbrev outer : List Frame
     outer = below.stage.frame ∷ rest
 
@@ -205,10 +189,10 @@ module _ (table : Table) (typed : TypedProgram) (effects : Effects) (input : Lis
 
     -- where it leads, and how the frames come from those before
     abbrev Along : Outcome → Type 0
-    Along outcome = LeadsAlong table typed effects p.instr state.memory (record { stage = top; views = views }) (below ∷ more_frames) outcome
+    Along outcome = LeadsAlong table typed effects p.instr state.memory (record { stage = top; views = views; cells = [] }) (below ∷ more_frames) outcome
 
     abbrev may : ℕ → ℕ → Type 0
-    may x y = MayBe program (scope_behind p) x y × IsStoredAt p.instr x
+    may x y = MayBe program (scope_behind p) x y × IsStoredAt p.instr x × IsSourceIn (sub_acts (sub_of program top.frame.sub)) x y
 
     abbrev LeadsFrom : Instruction → Outcome → Type 0
     LeadsFrom i outcome = Leads_on easy ready.accepted.settled ready.owns other alone views ready.class.parts_named may refl refl (after (acts_of_main i) facts_now) outcome
@@ -327,11 +311,11 @@ module _ (table : Table) (typed : TypedProgram) (effects : Effects) (input : Lis
         own_object = own_there s x variable
 
         -- the source lasts
-        may_with : MayBe program (scope_behind p) x y → may x call_there.root
-        may_with there = subst (may x) (sym root_same) (there, stored)
+        may_with : MayBe program (scope_behind p) x y → IsSourceIn (sub_acts (sub_of program top.frame.sub)) x y → may x call_there.root
+        may_with there source = subst (may x) (sym root_same) (there, stored, source)
 
-        may_be : Lasts program p.scope y x → is_within x (scope_behind p) ≡ true → may x call_there.root
-        may_be lasts within = subst (may x) (sym root_same) (
+        may_be : Lasts program p.scope y x → is_within x (scope_behind p) ≡ true → IsSourceIn (sub_acts (sub_of program top.frame.sub)) x y → may x call_there.root
+        may_be lasts within source = subst (may x) (sym root_same) (
           record {
             lasts = each.lasts_behind table typed effects input ready state top below more_frames rest named p frames deep stages running awaiting of_sub at_point path views viewed_before kept scope holds placed_before above going no_calls y x lasts;
             within = within;
@@ -339,7 +323,11 @@ module _ (table : Table) (typed : TypedProgram) (effects : Effects) (input : Lis
             plain = innermost.variable_stays table typed effects input ready state top below more_frames rest named p frames deep stages running awaiting of_sub at_point path views viewed_before kept scope holds placed_before above x variable;
           },
           stored,
+          source,
         )
+
+      in_sub : (a : Act) → Has (acts_of_main p.instr) a → Has (sub_acts (sub_of program top.frame.sub)) a
+      in_sub = standing.acts_in_sub table typed effects input ready state top older outer named p frames of_sub at_point
 
       abbrev allowed_all : (p.instr ≡ Finish → ⊥) → AllowsAll facts_now (acts_of_main p.instr)
       allowed_all end =
@@ -394,7 +382,9 @@ module _ (table : Table) (typed : TypedProgram) (effects : Effects) (input : Lis
                 (own_object y n found.0 r found.2 found.3 others found.1 call_is gives view variable_there stored)
                 (good_there y n found.0 r found.2 found.3 others found.1 call_is gives view variable_there stored)
                 (coming y n found.0 r found.2 found.3 others found.1 call_is gives view variable_there stored)
-                (may_be y n found.0 r found.2 found.3 others found.1 call_is gives view variable_there stored found.7 within_behind)
+                (may_be y n found.0 r found.2 found.3 others found.1 call_is gives view variable_there stored found.7 within_behind
+                (declared_source s y view variable_there found.4 found.0 found.1 found.2 found.3 found.6 (sub_acts (sub_of program top.frame.sub))
+                (λ a has. in_sub a (subst (λ i. Has (acts_of_main i) a) (sym is) (subst (λ z. Has (acts_of_main (Declare y z)) a) (sym found.5) has)))))
                 (λ borrows. (
                 let older_there = found.8 borrows in (
                   ap (sees_only s) root ∙ older_there.0,
@@ -458,7 +448,9 @@ module _ (table : Table) (typed : TypedProgram) (effects : Effects) (input : Lis
                 (own_object y n found.0 r found.2 found.3 others found.1 call_is gives view variable_there stored)
                 (good_there y n found.0 r found.2 found.3 others found.1 call_is gives view variable_there stored)
                 (coming y n found.0 r found.2 found.3 others found.1 call_is gives view variable_there stored)
-                (may_with y n found.0 r found.2 found.3 others found.1 call_is gives view variable_there stored (record { lasts = lasts_there; within = within_behind; view = view; plain = innermost.variable_stays table typed effects input ready state top below more_frames rest named p frames deep stages running awaiting of_sub at_point path views viewed_before kept scope holds placed_before above y variable_there }))
+                (may_with y n found.0 r found.2 found.3 others found.1 call_is gives view variable_there stored (record { lasts = lasts_there; within = within_behind; view = view; plain = innermost.variable_stays table typed effects input ready state top below more_frames rest named p frames deep stages running awaiting of_sub at_point path views viewed_before kept scope holds placed_before above y variable_there })
+                (assigned_source s y view variable_there held_call found.0 found.1 found.2 found.3 found.4 (sub_acts (sub_of program top.frame.sub)) p.pos k found.6
+                (λ a has. in_sub a (subst (λ i. Has (acts_of_main i) a) (sym is) has))))
                 p.pos k (λ borrows. root ∙ found.6 borrows)
                 (subst (λ z. AllowsAll facts_now (acts_of_main (Assign whole z))) (sym same_call)
                 (subst (λ i. AllowsAll facts_now (acts_of_main i)) is (allowed_all end))))))

@@ -2,7 +2,7 @@
 --
 -- A result is looked at where it stands, as what its first actual designates is. So a name of the
 -- caller leads to its cell, which goes on from the first actual.
-use Rattle.std.specs.Prelude.{◌≡◌, ◌⊎◌, ℕ, Bool, true, false, List, [], ◌∷◌, Some}
+use Rattle.std.specs.Prelude.{◌≡◌, ◌⊎◌, ℕ, Bool, true, false, List, [], ◌∷◌, Some, Option}
 use Rattle.spark_base.specs.Lists.{Has}
 use Rattle.spark_base.specs.declared.position.Pos.{Pos}
 use Rattle.place_names.specs.Names.{Name as PlaceName}
@@ -54,12 +54,13 @@ IsSourceName s of e q y path u =
 abbrev pub IsSourceIn : List Act → ℕ → ℕ → Type 0
 IsSourceIn acts x y = (y ≡ x) ⊎ ((m : PlaceName) × (m.root ≡ y) × (Has acts (Borrow x m) ⊎ ((b : Bool) × Has acts (Observe x m b))))
 
--- A view has a root; where that is an object that has a way itself, the view's way goes on from it.
-abbrev pub IsRootedIn : Typing → List Act → Views → ℕ → ℕ → Way → Type 0
-IsRootedIn s acts v f x w = (r : ℕ) × Roots s acts x r × (r ≡ f → (k : Way) × (v.way f ≡ Some k) × Under k w)
+-- A view has a root; where that is the first formal, the view's way goes on from what that sees, if it sees
+-- anything.
+abbrev pub IsRootedIn : Typing → List Act → ℕ → Option Way → ℕ → Way → Type 0
+IsRootedIn s acts f first x w = (r : ℕ) × Roots s acts x r × (r ≡ f → (k : Way) × (first ≡ Some k) × Under k w)
 
-abbrev pub AreRooted : Typing → List Act → ℕ → Views → Type 0
-AreRooted s acts f v = (x : ℕ) (w : Way) → v.way x ≡ Some w → IsRootedIn s acts v f x w
+abbrev pub AreRooted : Typing → List Act → ℕ → Option Way → Views → Type 0
+AreRooted s acts f first v = (x : ℕ) (w : Way) → v.way x ≡ Some w → IsRootedIn s acts f first x w
 
 -- ---- a call in progress, or one whose result waits
 
@@ -88,10 +89,10 @@ pub record Traverses (s : Typing) (depth : ℕ) (i : Instruction) (n : ℕ) : Ty
   pub called : ways.name_of place ≡ traversed_name call
 
 -- What the first formal sees is what the first actual designates.
-pub record Sees (s : Typing) (depth : ℕ) (i : Instruction) (n : ℕ) (around : Views) (f : ℕ) (inner : Views) : Type 0 where
+pub record SeesFirst (s : Typing) (depth : ℕ) (i : Instruction) (n : ℕ) (around : Views) (first : Option Way) : Type 0 where
   pub traverses : Traverses s depth i n
-  pub lifted : is_view s traverses.call.root ≡ true → (w : Way) → inner.way f ≡ Some w → (l : Lifted around (All traverses.place)) × (l.object ≡ traverses.call.root)
-  pub leads : (w : Way) → inner.way f ≡ Some w → expand around (All traverses.place) ≡ w
+  pub lifted : is_view s traverses.call.root ≡ true → (w : Way) → first ≡ Some w → (l : Lifted around (All traverses.place)) × (l.object ≡ traverses.call.root)
+  pub leads : (w : Way) → first ≡ Some w → expand around (All traverses.place) ≡ w
 
 -- ---- what waits
 
