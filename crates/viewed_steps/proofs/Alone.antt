@@ -341,7 +341,7 @@ module _ (table : Table) (typed : TypedProgram) (effects : Effects) (input : Lis
             (word_in s.table (content s state.memory [] (OfRoot (OfVariable depth y))) q) refl)
             (each.after_it table typed effects input ready state top below more_frames rest named p frames deep stages running awaiting of_sub at_point path views viewed_before kept scope holds placed_before above going no_calls y v is)
             (each.free table typed effects input ready state top below more_frames rest named p frames deep stages running awaiting of_sub at_point path views viewed_before kept scope holds placed_before above going no_calls y v is)
-            (λ w n keeps base. apart_elsewhere table typed effects unmoved_stage local state depth older between y w n keeps base))
+            (apart_elsewhere table typed effects unmoved_stage local state depth older between y))
         declared_value (Raises how n) given faint =
             each.ends_so table typed effects input ready state top below more_frames rest named p frames deep stages running awaiting of_sub at_point path views viewed_before kept scope holds placed_before above going no_calls (Declare y v) how n.memory
         declared_value (Traps how n) never faint = absurd never

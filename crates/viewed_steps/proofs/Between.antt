@@ -37,6 +37,10 @@ gone_also home other gone = record {
   through = other.through;
   kept = other.kept;
   begins = other.begins;
+  bare = λ w l p. ⊥;
+  rests = λ w l p none. absurd none;
+  bares = λ w l p none. absurd none;
+  emptied = λ w l p none q. absurd none;
 }
 
 module _ (home : ℕ → ℕ) (observer : ℕ → Bool) (v : Views) (other : Around home) (gone : Way → Type 0)
@@ -55,6 +59,7 @@ module _ (home : ℕ → ℕ) (observer : ℕ → Bool) (v : Views) (other : Aro
     past = viewed.past;
     lends = viewed.lends;
     far = viewed.far;
+    bare = λ w n p none. absurd none;
   }
 
   -- No way of a view of the frame goes past one, and none of others.
@@ -81,6 +86,7 @@ module _ (home : ℕ → ℕ) (observer : ℕ → Bool) (v : Views) (other : Aro
     past = viewed.past;
     lends = viewed.lends;
     far = λ w n held. keeps s t f k from to given w (OfCell n) (viewed.far w n held) (λ p. off.far w n held p) (λ p. away.far w n held p);
+    bare = λ w n p none. absurd none;
   }
 
 -- ---- ways that were taken

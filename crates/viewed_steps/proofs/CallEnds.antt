@@ -48,7 +48,7 @@ use Rattle.viewed_steps.specs.Awaited.{AreFor, AreValues, temporaries_of, lastin
 use Rattle.viewed_steps.proofs.Waited.{others_only, lasting_within}
 use Rattle.viewed_steps.specs.Sound.{ArePast, HoldsAt, ArePlaced, NoneAbove, ViewStage, stages_of, GoneElsewhere, IsWaiting, AreWaiting, ends_one, LeadsAlong, IsResting, HasTraversals, NoneGiven, AreTraversals}
 use Rattle.viewed_steps.specs.Ready.{IsReady}
-use Rattle.viewed_steps.proofs.Waiting.{StandsBetween, all_between, handed, all_on, gone_low, kept_low, far}
+use Rattle.viewed_steps.proofs.Waiting.{StandsBetween, all_between, handed, all_on, gone_low, kept_low, far, theirs, bare_still}
 use Rattle.viewed_steps.proofs.Left.{owned_left, covered_left, reach_left, reach_before, gone_before, other_word, no_word, whole_there}
 use Rattle.viewed_steps.proofs.Standing.{or_right}
 use Rattle.viewed_steps.proofs.Standing as standing
@@ -368,6 +368,7 @@ module _ (table : Table) (typed : TypedProgram) (effects : Effects) (input : Lis
         past = λ x w has given plain k n none. absurd none;
         lends = λ l n none. absurd none;
         far = λ w n none. absurd none;
+        bare = λ w n p none. absurd none;
       }
 
       abbrev Backed : Memory → Type 0
@@ -472,6 +473,7 @@ module _ (table : Table) (typed : TypedProgram) (effects : Effects) (input : Lis
           past = λ x w has given plain k n none. absurd none;
           lends = λ l n none. absurd none;
           far = λ w n none. absurd none;
+          bare = λ w n p none. absurd none;
         }
 
         holds_there : HoldsAt s low below.views left_memory waits.point
@@ -500,21 +502,6 @@ module _ (table : Table) (typed : TypedProgram) (effects : Effects) (input : Lis
           | inr ne ↦ above.0 f x n (higher f low (length rest) less low_is ne) view (sym (words_before f x ne view) ∙ e)
         ]
 
-        others_left : AreWaiting table typed effects left_state below.stage.frame.sub below.stage.frame.returns (h ∷ others)
-        others_left =
-            all_on table typed effects unmoved_stage local state left_state low
-            (λ f x q n some less held. elim (on.held f x q n (held_before f x q n held).1) [
-              | inl before ↦ before
-              | inr mine ↦ (let same_low = mine.0 in absurd (omega (arith, less, same_low)))
-            ])
-            (λ f x some less view. words_before f x (λ same_depth. (let below_it = low_is in omega (arith, less, same_depth, below_it))) view)
-            below.stage.frame.sub below.stage.frame.returns (h ∷ others) rest stages_there.2 (let same_depth = low_is in omega (arith, same_depth))
-            (λ w n keeps. (let root = kept_low table typed effects unmoved_stage local state below.stage.depth (h ∷ others) between_low w n keeps in
-            reach_on w n (on.stays w root.0 root.1 root.2 (λ same_depth. (let less = root.3 in omega (arith, less, same_depth)))
-            (λ to has. (let base = words_taken s below.cells state.memory below.stage.depth their_facts (lasting_of s waits.point.scope) top.frame.returns below.stage.returns waits.taken to has in
-            past_other to w below.stage.depth base.0 root.0 root.1 base.1 root.2 (λ same_depth. (let less = root.3 in omega (arith, less, same_depth))))) n
-            (far table typed effects unmoved_stage local state below.stage.depth (h ∷ others) between_low w n keeps)))) waiting.1
-
         -- what was gone stays so in the frames that are left, but in the places that were taken
         left_carried : AreCarried s (λ f. f ≡ top.depth → ⊥) below.stage.returns state.memory left_memory
         left_carried =
@@ -530,6 +517,25 @@ module _ (table : Table) (typed : TypedProgram) (effects : Effects) (input : Lis
         -- nothing given waits in others
         none_in : more_frames ≡ h ∷ others → NoneGiven s h × AllByRecursion (NoneGiven s) others
         none_in same_more = subst (AllByRecursion (NoneGiven s)) same_more (above.1).0.2
+
+        others_left : AreWaiting table typed effects left_state below.stage.frame.sub below.stage.frame.returns (h ∷ others)
+        others_left =
+            all_on table typed effects unmoved_stage local state left_state low
+            (λ f x q n some less held. elim (on.held f x q n (held_before f x q n held).1) [
+              | inl before ↦ before
+              | inr mine ↦ (let same_low = mine.0 in absurd (omega (arith, less, same_low)))
+            ])
+            (λ f x some less view. words_before f x (λ same_depth. (let below_it = low_is in omega (arith, less, same_depth, below_it))) view)
+            below.stage.frame.sub below.stage.frame.returns (h ∷ others) rest stages_there.2 (let same_depth = low_is in omega (arith, same_depth))
+            (record {
+              far = λ w n keeps. (let root = kept_low table typed effects unmoved_stage local state below.stage.depth (h ∷ others) between_low w n keeps in
+                  reach_on w n (on.stays w root.0 root.1 root.2 (λ same_depth. (let less = root.3 in omega (arith, less, same_depth)))
+                  (λ to has. (let base = words_taken s below.cells state.memory below.stage.depth their_facts (lasting_of s waits.point.scope) top.frame.returns below.stage.returns waits.taken to has in
+                  past_other to w below.stage.depth base.0 root.0 root.1 base.1 root.2 (λ same_depth. (let less = root.3 in omega (arith, less, same_depth))))) n
+                  (far table typed effects unmoved_stage local state below.stage.depth (h ∷ others) between_low w n keeps)));
+              bare = bare_still table typed effects unmoved_stage local (h ∷ others) state left_state left_carried.cells
+                  (theirs table typed effects unmoved_stage local state below.stage.depth (h ∷ others) between_low).bare;
+            }) waiting.1
 
         -- the frame below goes on
         returns_to : more_frames ≡ h ∷ others → Along (Goes left_state)

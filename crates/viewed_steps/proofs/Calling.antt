@@ -87,11 +87,11 @@ use Rattle.viewed_steps.specs.Taken.{TakenBy, AreTaken, AreCarried, Lodge}
 use Rattle.viewed_steps.proofs.Apart.{moved_same}
 use Rattle.viewed_steps.proofs.Lent.{Spare, spare_both, loans_stay}
 use Rattle.viewed_steps.proofs.Placed.{within_on, lasts_more, scope_on, placed_on}
-use Rattle.viewed_steps.proofs.Waiting.{StandsBetween, gone_low, kept_low, beside_them, handed, elsewhere_excused, all_on}
+use Rattle.viewed_steps.proofs.Waiting.{StandsBetween, gone_low, kept_low, beside_them, handed, elsewhere_excused, all_on, bare_still}
 use Rattle.viewed_steps.proofs.Between.{gone_also, more_gone, base_along, base_under, same_variable, not_named}
 use Rattle.viewed_steps.proofs.Called.{AreGiven, all_laid_out, all_given, all_acted, values_are_read, call_adds_none, passes_to, spare_reads, spare_copies}
 use Rattle.viewed_steps.proofs.Carried.{past_other}
-use Rattle.viewed_steps.proofs.Aside.{names_off}
+use Rattle.viewed_steps.proofs.Aside.{names_off, part_apart}
 use Rattle.viewed_steps.proofs.LaidOut.{AreLaidOut, outs_of, cells_of, AreOpenActuals}
 use Rattle.viewed_steps.proofs.Outs.{Out, IsUnderOne, found_in}
 use Rattle.viewed_steps.proofs.Entered.{ArePassedOn, IsOpen, AreBlank, not_above, passed_base, outs_taken, passed_own, inside_plain, inside_named, inside_number, inside_itself, passed_one}
@@ -919,6 +919,9 @@ module _ (table : Table) (typed : TypedProgram) (effects : Effects) (input : Lis
                 declared_there.stays c.way begin.0 begin.1 begin.2 begin.3 (cell_aside c has) c.cell (named_cell c has).reaches);
             aside = cell_aside c has;
           };
+          bare = λ w l p (taken, (c, has, way, is)) q k held. (let inside = ((passed_one s state.memory cells depth facts_called next_there formals passed ways_taken outs all_passed_ways.1 (ways.along w p) taken).2).inside in
+              absurd (part_apart (view_here s easy.state) w c.cell (subst (λ z. ways.Reaches (view_here s easy.state) z (ways.OfCell c.cell)) way (named_cell c has).reaches)
+              (ways.OfVariable depth inside.object) p inside.steps inside.way));
           taken = subst (λ z. AreTaken s cells with_all top.depth z next_there (returns_of formals passed) all_passed_ways.0) (sym facts_there)
               (subst (λ d. AreTaken s cells with_all d facts_called next_there (returns_of formals passed) all_passed_ways.0) (sym deep) enters.2);
         }
@@ -932,13 +935,16 @@ module _ (table : Table) (typed : TypedProgram) (effects : Effects) (input : Lis
               | inr shown ↦ (let up = shown.0 in absurd (omega (arith, less, up)))
             ])
             top.frame.sub top.frame.returns older outer stages (omega arith)
-            (λ w k keeps_it. (let root = kept_low table typed effects unmoved_stage local state depth older between w k keeps_it in
-            subst (λ z. ways.Reaches z w (ways.OfCell k)) view_called
-            (declared_there.stays w root.0 root.1 root.2 (λ same. (let less = root.3 in omega (arith, less, same)))
-            (λ to taken. (
-            let base = passed_base s state.memory cells depth facts_called next_there formals passed ways_taken outs all_passed_ways.1 to taken in
-            past_other to w depth base.0 root.0 root.1 base.1 root.2 (λ same. (let less = root.3 in omega (arith, less, same))))) k
-            (((viewed_easy plain_there.0).0).far w k keeps_it)))) running.2
+            (record {
+              far = λ w k keeps_it. (let root = kept_low table typed effects unmoved_stage local state depth older between w k keeps_it in
+                  subst (λ z. ways.Reaches z w (ways.OfCell k)) view_called
+                  (declared_there.stays w root.0 root.1 root.2 (λ same. (let less = root.3 in omega (arith, less, same)))
+                  (λ to taken. (
+                  let base = passed_base s state.memory cells depth facts_called next_there formals passed ways_taken outs all_passed_ways.1 to taken in
+                  past_other to w depth base.0 root.0 root.1 base.1 root.2 (λ same. (let less = root.3 in omega (arith, less, same))))) k
+                  (((viewed_easy plain_there.0).0).far w k keeps_it)));
+              bare = bare_still table typed effects unmoved_stage local older easy.state after_call declared_there.carried.cells ((viewed_easy plain_there.0).0).bare;
+            }) running.2
 
         -- what is gone then is known to those that wait
         known_called : (w : Way) (l : ways.Loc) → ways.IsRooted w → ways.Reaches (view_here s after_call) w l → (view_here s after_call).word l ≡ ways.Gone
@@ -1130,6 +1136,7 @@ module _ (table : Table) (typed : TypedProgram) (effects : Effects) (input : Lis
               past = λ x w has named sees_not k m none. absurd none;
               lends = λ l k none. absurd none;
               far = λ w k none. absurd none;
+              bare = λ w k q none. absurd none;
             };
             kept = subst (Kept s with_all) (sym hands_there) declared_there.typed;
             named = called.runs.named;

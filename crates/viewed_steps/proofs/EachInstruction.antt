@@ -83,7 +83,7 @@ use Rattle.viewed_soundness.specs.Taken.{GivesPlainly}
 use Rattle.viewed_steps.specs.Traversals.{GivesView, IsSourceIn}
 use Rattle.viewed_steps.proofs.Sources.{leads_or, view_scalar, own_there, view_declared, view_assigned}
 use Rattle.viewed_steps.proofs.Beside.{IsOther, OthersKept, others_keep}
-use Rattle.viewed_steps.proofs.Waiting.{StandsBetween, KeptElsewhere, beside_them, handed, apart_elsewhere}
+use Rattle.viewed_steps.proofs.Waiting.{StandsBetween, AreTheirs, beside_them, handed, apart_elsewhere}
 use Rattle.viewed_steps.proofs.Standing.{or_right}
 use Rattle.viewed_steps.proofs.Standing as standing
 use Rattle.viewed_steps.proofs.Packages as packages
@@ -233,7 +233,7 @@ module _ (table : Table) (typed : TypedProgram) (effects : Effects) (input : Lis
     still_above = innermost.still_above table typed effects input ready state top below more_frames rest named p frames deep stages running awaiting of_sub at_point path views viewed_before kept scope holds placed_before above
 
     abbrev wait_still : (next : State) (after_scope : List ℕ) → Inside s IsOld next.memory depth after_scope → OthersKept s depth state.memory next.memory
-        → ((w : Way) (n : ℕ) → KeptElsewhere table typed effects unmoved_stage local older w n → ways.Reaches (view_here s next) w (ways.OfCell n))
+        → AreTheirs table typed effects unmoved_stage local older (view_here s next)
         → AreWaiting table typed effects next top.frame.sub top.frame.returns older
     wait_still = innermost.wait_still table typed effects input ready state top below more_frames rest named p frames deep stages running awaiting of_sub at_point path views viewed_before kept scope holds placed_before above
 
@@ -478,7 +478,7 @@ module _ (table : Table) (typed : TypedProgram) (effects : Effects) (input : Lis
               x v (plain_named s.table (object_at s x).of owner) (orderly.begun x v e) text (subst (TakesScalars s) e plain.1) (takes_of plain.0 (Declare x v) e)
               facts_now (good plain.0) allowed_there keep
               (λ q. blank x v e q (word_in s.table (content s state.memory [] (OfRoot (OfVariable depth x))) q) refl) (after_it x v e) (free x v e)
-              (λ w n keeps base. apart_elsewhere table typed effects unmoved_stage local state depth older between x w n keeps base))
+              (apart_elsewhere table typed effects unmoved_stage local state depth older between x))
 
       -- ---- assignments
 
@@ -850,7 +850,7 @@ module _ (table : Table) (typed : TypedProgram) (effects : Effects) (input : Lis
           (only_may turned_views (after (acts_of_main p.instr) facts_now) turned) in
           let placed_next = placed_on program depth (after (acts_of_main p.instr) facts_now) turned_views (scope_behind p) (q.0).scope only_then q.2 there in
           standing.goes_to_next table typed effects input ready state top older outer named p frames of_sub at_point path no_calls after_step waits loops next.0 next.2 q.0 q.1 (frames_then next.0 next.1) deep stages turned_views
-          (running.0, running.1, wait_still after_step (lasting_of s (scope_behind p)) inside_then stay well.viewed.far)
+          (running.0, running.1, wait_still after_step (lasting_of s (scope_behind p)) inside_then stay (record { far = well.viewed.far; bare = well.viewed.bare }))
           (standing.waits_next table typed effects input ready state top older outer named p frames of_sub at_point path waits loops next.0 next.2 are, others_await none)
           ((innermost.apart_from_them table typed effects input ready state top below more_frames rest named p frames deep stages running awaiting of_sub at_point path views viewed_before kept scope holds placed_before above) (acts_of_main p.instr) turned_views (view_here s after_step) only_then well.viewed) well.kept
           (scope_on s ready.owns after_step.memory depth (scope_behind p) (q.0).scope (in_scope after_step.memory (lasting_of s (scope_behind p)) inside_then) q.2)

@@ -317,7 +317,7 @@ module _ (s : Typing) (settled : IsSettled s.table) (own_law : OwnsByShape s.tab
           | inl away ↦ open_there.free h w under away
           | inr (p, is) ↦ hand_base (sym (base_under (Object (OfHand h)) w under) ∙ ap base_of is ∙ base_along to p ∙ inside_base s depth k to passed.inside)
         ]) kept_mid blank_mid passed.owner long (alike s.table settled k.of (object_at s x).of passed.fits)
-        (λ y w has foreign same. (let low = far y w has foreign in omega (arith, low, same))) (λ y w has named at_home root. not_above x at_home) (λ w n keeps_it base. open_there.none w n keeps_it)
+        (λ y w has foreign same. (let low = far y w has foreign in omega (arith, low, same))) (λ y w has named at_home root. not_above x at_home) (λ w keeps_it base. elim keeps_it [ inl there ↦ open_there.none w there.0 there.1 | inr there ↦ there.2 ])
       where
         hand_base : {h f x : ℕ} → OfRoot (OfHand h) ≡ OfRoot (OfVariable f x) → ⊥
         hand_base e = cc

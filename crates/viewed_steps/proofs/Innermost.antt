@@ -64,7 +64,7 @@ use Rattle.viewed_steps.specs.Ready.{AreOrderly, IsReady, AreNamedIn}
 use Rattle.viewed_steps.proofs.Lent.{ends, Spare, spare_has}
 use Rattle.viewed_steps.proofs.Inherited.{after_more, lending_uses, apart_borrowed, apart_seen}
 use Rattle.viewed_steps.proofs.Beside.{OthersKept, faint_held}
-use Rattle.viewed_steps.proofs.Waiting.{StandsBetween, all_between, KeptElsewhere, LentElsewhere, unused_there, beside_them, handed, handed_lent, none_moved, lent_handed, AreApart, with_them, without_them, far, all_on}
+use Rattle.viewed_steps.proofs.Waiting.{StandsBetween, all_between, AreTheirs, LentElsewhere, unused_there, beside_them, handed, handed_lent, none_moved, lent_handed, AreApart, with_them, without_them, theirs, all_on}
 use Rattle.viewed_steps.proofs.Uses.{writes_there, borrowing_writes, moving_writes}
 use Rattle.viewed_steps.proofs.Apart.{kept_there, held_apart, written_disturbs}
 use Rattle.viewed_steps.proofs.Eased.{eased_viewed}
@@ -286,7 +286,7 @@ module _ (table : Table) (typed : TypedProgram) (effects : Effects) (input : Lis
     -- with the views of those that wait, and their facts on package objects
     pub viewed : Viewed (home s depth) (sees_only s) other views (view_here s state) facts_now
     viewed = with_them table typed effects unmoved_stage local state depth older between views (view_here s state) own_facts own_views package_owns apart
-        (λ w n keeps. far table typed effects unmoved_stage local state depth older between w n keeps) placed_before.1 viewed_own
+        (theirs table typed effects unmoved_stage local state depth older between) placed_before.1 viewed_own
 
     -- and without them
     pub apart_from_them : (done : List Act) (v : Views) (view : ways.View) → ((x : ℕ) (w : Way) → v.way x ≡ Some w → is_view s x ≡ true)
@@ -559,7 +559,7 @@ module _ (table : Table) (typed : TypedProgram) (effects : Effects) (input : Lis
 
     -- those that wait do so still
     pub wait_still : (next : State) (after_scope : List ℕ) → Inside s IsOld next.memory depth after_scope → OthersKept s depth state.memory next.memory
-        → ((w : Way) (n : ℕ) → KeptElsewhere table typed effects unmoved_stage local older w n → ways.Reaches (view_here s next) w (ways.OfCell n))
+        → AreTheirs table typed effects unmoved_stage local older (view_here s next)
         → AreWaiting table typed effects next top.frame.sub top.frame.returns older
     wait_still next after_scope in_there stay reach =
         all_on table typed effects unmoved_stage local state next depth (still next.memory stay)

@@ -61,6 +61,7 @@ module _ (s : Typing) where
         past = λ x w has. absurd (none_some w has);
         lends = λ l n lent. absurd lent;
         far = λ w n none. absurd none;
+        bare = λ w n p none. absurd none;
       }
 
   empty_word : (f x n : ℕ) → (get_or (variable_slots s f x empty_memory.variables) 0 no_slot).word ≡ machine.Cell n → ⊥

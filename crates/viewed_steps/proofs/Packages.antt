@@ -226,6 +226,7 @@ module _ (table : Table) (typed : TypedProgram) (effects : Effects) (input : Lis
         past = λ x w has. no_views views none x w has;
         lends = λ l n lent. absurd lent;
         far = λ w n keeps. absurd keeps;
+        bare = λ w n p none. absurd none;
       };
       kept = kept;
       named = ready.main_there.named;
@@ -372,7 +373,7 @@ module _ (table : Table) (typed : TypedProgram) (effects : Effects) (input : Lis
           (λ q. blank_first q (word_in s.table (content s state.memory [] (OfRoot (OfVariable 0 x))) q) refl)
           (λ name has root at_home. new_after state top [] [] named p frames of_sub at_point path x v e (calls_plain x v e) name
           (subst (λ i. Has (after (acts_first i) facts_first) (Moved name)) (sym e) has) root)
-          free_first (λ w n keeps base. keeps)
+          free_first (λ w keeps base. elim keeps [ inl there ↦ there.1 | inr there ↦ there.2 ])
 
       none_left : (turned_views : Views) → Turned first_turn ready.accepted.settled ready.owns nowhere alone_first views ready.class.parts_named no_sources frames first_takes
           turned_views (after (acts_first (Declare x v)) facts_first) → HasNone turned_views

@@ -62,7 +62,7 @@ use Rattle.viewed_steps.specs.Ready.{IsReady}
 use Rattle.viewed_steps.proofs.Lent.{Spare, loans_stay}
 use Rattle.viewed_steps.proofs.Placed.{scope_on, placed_on, MayBe, turned_placed}
 use Rattle.viewed_steps.proofs.Beside.{OthersKept}
-use Rattle.viewed_steps.proofs.Waiting.{StandsBetween, KeptElsewhere, beside_them, handed}
+use Rattle.viewed_steps.proofs.Waiting.{StandsBetween, AreTheirs, beside_them, handed}
 use Rattle.viewed_steps.proofs.Standing.{or_right}
 use Rattle.viewed_steps.proofs.Standing as standing
 use Rattle.viewed_steps.proofs.Packages as packages
@@ -242,7 +242,7 @@ module _ (table : Table) (typed : TypedProgram) (effects : Effects) (input : Lis
     still_above = innermost.still_above table typed effects input ready state top below more_frames rest named p frames deep stages running awaiting of_sub at_point path views viewed_before kept scope holds placed_before above
 
     abbrev wait_still : (next : State) (after_scope : List ℕ) → Inside s IsOld next.memory depth after_scope → OthersKept s depth state.memory next.memory
-        → ((w : Way) (n : ℕ) → KeptElsewhere table typed effects unmoved_stage local older w n → ways.Reaches (view_here s next) w (ways.OfCell n))
+        → AreTheirs table typed effects unmoved_stage local older (view_here s next)
         → AreWaiting table typed effects next top.frame.sub top.frame.returns older
     wait_still = innermost.wait_still table typed effects input ready state top below more_frames rest named p frames deep stages running awaiting of_sub at_point path views viewed_before kept scope holds placed_before above
 
@@ -546,6 +546,7 @@ module _ (table : Table) (typed : TypedProgram) (effects : Effects) (input : Lis
                 reaches = (was.kept c has).reaches;
                 aside = (was.kept c has).aside;
               };
+              bare = was.bare;
               taken = was.taken;
             },
             waits.1,
@@ -638,7 +639,10 @@ module _ (table : Table) (typed : TypedProgram) (effects : Effects) (input : Lis
                 running.1,
                 wait_with v (state_then ws m) more_frames one_awaited
                     (wait_still (state_then ws m) (lasting_of s (scope_behind p)) inside_behind stay
-                    (λ w n keeps. subst (λ z. ways.Reaches z w (ways.OfCell n)) view_same (well_all.far w n keeps))),
+                    (record {
+                      far = λ w n keeps. subst (λ z. ways.Reaches z w (ways.OfCell n)) view_same (well_all.far w n keeps);
+                      bare = λ w n p bare q c held. well_all.bare w n p bare q c (subst (λ z. z.word (ways.part n (q ++ p)) ≡ Held c) (sym view_same) held);
+                    })),
               );
               awaited = (
                 standing.waits_next table typed effects input ready state top older outer named p frames of_sub at_point path (steps.waiting main_turn) top.frame.loops next_number next_has left_values,
@@ -660,6 +664,7 @@ module _ (table : Table) (typed : TypedProgram) (effects : Effects) (input : Lis
                     past = λ x w has given plain k n none. absurd none;
                     lends = well.lends;
                     far = λ w n none. absurd none;
+                    bare = λ w n p none. absurd none;
                   })));
               kept = subst (Kept s m) (sym (hands_then ws m)) kept_then;
               named = named;

@@ -1,7 +1,7 @@
 -- Frames that wait for a call to end, with views: what they keep concerns the innermost frame as ways
 -- of others, and they wait still after its steps.
 use Rattle.viewed_soundness.specs.Holds.{is_view, sees_only}
-use Rattle.std.proofs.Common.{◌≡◌, refl, sym, ap, ◌∙◌, subst, ◌⊎◌, inl, inr, ℕ, ◌<◌, ◌≤◌, Bool, true, false, ◌&&◌, ◌==◌, eqb-true, nat_lt, ltb-true, lt-ltb, List, [], ◌∷◌, ◌++◌, length, get_or, arith, Option, Some, None, if◌then◌else◌}
+use Rattle.std.proofs.Common.{◌≡◌, refl, sym, ap, ◌∙◌, subst, ◌⊎◌, inl, inr, ℕ, ◌<◌, ◌≤◌, Bool, true, false, ◌&&◌, ◌==◌, eqb-true, nat_lt, ltb-true, lt-ltb, List, [], ◌∷◌, ◌++◌, length, get_or, arith, Option, Some, None, if◌then◌else◌, append-nil}
 use Rattle.std.specs.Prelude.{flat_map, map}
 use Rattle.spark_base.specs.Lists.{Has}
 use Rattle.spark_base.proofs.Lists.{Has-append_left, Has-append_right, Has-append_cases, Has-map, Has-map_from}
@@ -19,14 +19,14 @@ use Rattle.flow_paths.specs.Laid.{FlowProgram, flow_typing, flow_program}
 use Rattle.machine.specs.Words as machine
 use Rattle.machine.specs.Memory.{variable_slots, no_slot}
 use Rattle.machine.specs.States.{Frame, Return, State}
-use Rattle.owned_ways.specs.Ways.{Loc, IsSame, Step, OfVariable, OfHand, OfRoot, OfCell, Way, Object, Lost, Into, All, Held, View, Reaches, Under, Named, IsMoved, base_of, number_of, name_of}
-use Rattle.owned_ways.proofs.Locations.{under_itself}
+use Rattle.owned_ways.specs.Ways.{Loc, IsSame, Step, OfVariable, OfHand, OfRoot, OfCell, Way, Root, Object, Lost, Into, All, Held, View, Reaches, Under, Named, IsMoved, base_of, number_of, name_of, part, along}
+use Rattle.owned_ways.proofs.Locations.{under_itself, under_along}
 use Rattle.owned_ways.proofs.Named.{longer}
 use Rattle.owned_ways.proofs.Dropped.{named_base}
 use Rattle.soundness.specs.Seen.{IsNear, content, word_in, home}
 use Rattle.soundness.specs.Sound.{Stage, facts_of, AreStages, Uses, view_of as view_here}
 use Rattle.soundness.proofs.Around.{near_or_far, IsFar, near_package, package_named}
-use Rattle.soundness.proofs.Contents.{bool_cases}
+use Rattle.soundness.proofs.Contents.{bool_cases, word_part}
 use Rattle.soundness.proofs.Inherited.{Splits}
 use Rattle.owned_loans.specs.Views.{on, Around, known_gone, Views, expand, IsThrough, ExcusedBy, HasLoan, IsForeign, Viewed, Go}
 use Rattle.owned_loans.proofs.Ways.{under_on, on_under, on_named, lifts, lifted_root, lifted_way, base_on}
@@ -38,8 +38,9 @@ use Rattle.viewed_steps.proofs.Between.{taken_from as words_taken, taken_base, s
 use Rattle.viewed_steps.proofs.Roots.{borrower_goes, view_goes}
 use Rattle.viewed_steps.specs.Awaited.{lasting_of}
 use Rattle.viewed_steps.proofs.Whole.{flat_has}
-use Rattle.viewed_steps.specs.Sound.{loan_by, withheld, KeptBy, ArePast, ViewStage, stages_of, Lies, GoneElsewhere, IsWaiting, IsFirst, AreWaiting, IsWayOf}
+use Rattle.viewed_steps.specs.Sound.{loan_by, withheld, KeptBy, ArePast, ViewStage, stages_of, Lies, GoneElsewhere, IsWaiting, IsFirst, AreWaiting, IsWayOf, IsBareOf}
 use Rattle.viewed_steps.proofs.Views.{base_named, same_lies}
+use Rattle.machine.specs.Owners.{waiting_in}
 
 flat_from : {A B : Type 0} (f : A → List B) (xs : List A) (y : B) → Has (flat_map f xs) y → (x : A) × Has xs x × Has (f x) y
 flat_from f [] y h = absurd h
@@ -78,6 +79,23 @@ same_reaches s t e (All w) l (m, n, h, held, is) = (m, n, same_reaches s t e w m
 both_first : (a b : Bool) → a && b ≡ true → a ≡ true
 both_first true b e = refl
 both_first false b e = cc
+
+-- the words of a cell, as owners see them
+pub cell_word : (s : Typing) (state : State) (n : ℕ) (p : List Step)
+    → (view_here s state).word (part (OfCell n) p) ≡ word_in s.table (content s state.memory [] (OfCell n)) p
+cell_word s state n p =
+    word_part s.table (content s state.memory (waiting_in state)) (OfCell n) p
+    ∙ ap (word_in s.table (content s state.memory [] (OfCell n))) (append-nil p)
+
+-- of what is bare
+bare_word : (s : Typing) (state : State) (g : ViewStage) (w : Way) (l : Loc) (p q : List Step) → IsBareOf g w l p
+    → (view_here s state).word (part l q) ≡ word_in s.table (content s state.memory [] l) q
+bare_word s state g w l p q (taken, (c, has, way, is)) =
+    subst (λ z. (view_here s state).word (part z q) ≡ word_in s.table (content s state.memory [] z) q) is (cell_word s state c.cell q)
+
+pub along_both : (w : Way) (q p : List Step) → along w (q ++ p) ≡ along (along w p) q
+along_both w [] p = refl
+along_both w (i ∷ q) p = ap (λ z. Into z i) (along_both w q p)
 
 -- ---- frames that wait
 
@@ -142,6 +160,29 @@ module _ (table : Table) (typed : TypedProgram) (effects : Effects)
   -- The ways of others, with their cells.
   abbrev pub KeptElsewhere : List ViewStage → Way → ℕ → Type 0
   KeptElsewhere older w n = KeptBy older w n
+
+  -- Parts of those cells that were taken.
+  abbrev pub BareElsewhere : List ViewStage → Way → Loc → List Step → Type 0
+  BareElsewhere older w l p = (g : ViewStage) × Has older g × IsBareOf g w l p
+
+  -- What others keep is there, and no number stands in what was taken.
+  pub record AreTheirs (older : List ViewStage) (view : View) : Type 0 where
+    pub far : (w : Way) (n : ℕ) → KeptElsewhere older w n → Reaches view w (OfCell n)
+    pub bare : (w : Way) (l : Loc) (p : List Step) → BareElsewhere older w l p → (q : List Step) (c : ℕ) → view.word (part l (q ++ p)) ≡ Held c → ⊥
+
+  -- where cells keep their words
+  pub bare_still : (older : List ViewStage) (before after : State)
+      → ((c : ℕ) (q : List Step) → word_in s.table (content s after.memory [] (OfCell c)) q ≡ word_in s.table (content s before.memory [] (OfCell c)) q)
+      → ((w : Way) (l : Loc) (p : List Step) → BareElsewhere older w l p → (q : List Step) (k : ℕ) → (view_here s before).word (part l (q ++ p)) ≡ Held k → ⊥)
+      → (w : Way) (l : Loc) (p : List Step) → BareElsewhere older w l p → (q : List Step) (k : ℕ) → (view_here s after).word (part l (q ++ p)) ≡ Held k → ⊥
+  bare_still older before after same none w l p bare q k held = none w l p bare q k (one (bare.2).1 held)
+    where
+      one : (c : Lodge) × Has (bare.0).cells c × (c.way ≡ w) × (OfCell c.cell ≡ l) → (view_here s after).word (part l (q ++ p)) ≡ Held k
+          → (view_here s before).word (part l (q ++ p)) ≡ Held k
+      one (c, has, way, is) held =
+          subst (λ z. (view_here s before).word (part z (q ++ p)) ≡ Held k) is
+          (cell_word s before c.cell (q ++ p) ∙ sym (same c.cell (q ++ p)) ∙ sym (cell_word s after c.cell (q ++ p))
+          ∙ subst (λ z. (view_here s after).word (part z (q ++ p)) ≡ Held k) (sym is) held)
 
   -- the frame of the package objects has none
   no_cells : (g : ViewStage) (w : Way) (n : ℕ) → IsFirst g → IsWayOf g w n → ⊥
@@ -329,11 +370,17 @@ module _ (table : Table) (typed : TypedProgram) (effects : Effects)
     begins_elsewhere w n kept = (let b = begins_there w n kept in (b.frame, b.object, b.base, b.other))
 
     -- no variable of the innermost frame begins one
-    pub apart_elsewhere : (x : ℕ) (w : Way) (n : ℕ) → KeptElsewhere older w n → base_of w ≡ OfRoot (OfVariable depth x) → ⊥
-    apart_elsewhere x w n kept base =
+    kept_apart : (x : ℕ) (w : Way) (n : ℕ) → KeptElsewhere older w n → base_of w ≡ OfRoot (OfVariable depth x) → ⊥
+    kept_apart x w n kept base =
         let b = begins_there w n kept in
         let frames = same_frame b.frame b.object depth x (sym b.base ∙ base) in
         let low = b.low in omega (arith, low, frames)
+
+    -- or a place that is bare
+    pub apart_elsewhere : (x : ℕ) (w : Way) → ((n : ℕ) × KeptElsewhere older w n) ⊎ ((l : Loc) × (p : List Step) × BareElsewhere older w l p)
+        → base_of w ≡ OfRoot (OfVariable depth x) → ⊥
+    apart_elsewhere x w (inl (n, kept)) base = kept_apart x w n kept base
+    apart_elsewhere x w (inr (l, p, (g, has, (taken, (c, there, is, cell))))) base = kept_apart x w c.cell (g, has, inr (c, there, is, refl)) base
 
     -- the ways of their views begin below
     pub kept_low : (w : Way) (n : ℕ) → KeptElsewhere older w n → (f : ℕ) × (x : ℕ) × (base_of w ≡ OfRoot (OfVariable f x)) × (f < depth)
@@ -456,6 +503,42 @@ module _ (table : Table) (typed : TypedProgram) (effects : Effects)
       | inr (some, less, callee, backs, waits) ↦ way_reaches state callee backs g waits w n way
     ]
 
+    pub theirs : AreTheirs older (view_here s state)
+    theirs = record {
+      far = far;
+      bare = λ w l p there q k held. (let (g, has, bare) = there in elim (between g has) [
+        | inl first ↦ absurd (subst (λ z. TakenBy z (along w p)) (first.1).2 (along w p, bare.0, [], refl)).1
+        | inr (some, less, callee, backs, waits) ↦ waits.bare w l p bare q k (sym (bare_word s state g w l p (q ++ p) bare) ∙ held)
+      ]);
+    }
+
+    pub bare_rests : (w : Way) (l : Loc) (p : List Step) → BareElsewhere older w l p
+        → ((n : ℕ) × KeptElsewhere older w n × (l ≡ OfCell n)) ⊎ ((r : Root) × (w ≡ Object r) × (l ≡ OfRoot r))
+    bare_rests w l p (g, has, (taken, (c, there, is, cell))) = inl (c.cell, (g, has, inr (c, there, is, refl)), sym cell)
+
+    pub bare_begins : (w : Way) (l : Loc) (p : List Step) → BareElsewhere older w l p
+        → (f : ℕ) × (x : ℕ) × (base_of w ≡ OfRoot (OfVariable f x)) × ((f ≡ home s depth x → ⊥) ⊎ ((k : Loan) × IsLentFor k (along w p)))
+    bare_begins w l p (g, has, (taken, (c, there, is, cell))) =
+        let b = begins_elsewhere w c.cell (g, has, inr (c, there, is, refl)) in (
+          b.0,
+          b.1,
+          b.2,
+          elim b.3 [
+            | inl away ↦ inl away
+            | inr (k, m) ↦ inr (k, (m.0, m.1, under_along m.0 w p m.2, m.3))
+          ],
+        )
+
+    -- what was taken is gone for them
+    pub emptied_there : (w : Way) (l : Loc) (p : List Step) → BareElsewhere older w l p → (q : List Step)
+        → IsFar depth (GoneElsewhere program effects older) (along w (q ++ p)) ⊎ (IsLentFor Borrowed (along w (q ++ p)) × GoneElsewhere program effects older (along w (q ++ p)))
+    emptied_there w l p (g, has, bare) q =
+        let gone : GoneElsewhere program effects older (along w (q ++ p)) = (g, has, inr (along w p, bare.0, q, along_both w q p)) in
+        elim (near_or_far depth (along w (q ++ p))) [
+          | inr away ↦ inl (away, gone)
+          | inl near ↦ inr (near_lent (along w (q ++ p)) near gone, gone)
+        ]
+
     -- What concerns the innermost frame when it has their facts on package objects beside its own.
     abbrev pub beside_them : Around (home s depth)
     beside_them = record {
@@ -465,6 +548,10 @@ module _ (table : Table) (typed : TypedProgram) (effects : Effects)
       through = λ w away. away.0;
       kept = KeptElsewhere older;
       begins = begins_elsewhere;
+      bare = BareElsewhere older;
+      rests = bare_rests;
+      bares = bare_begins;
+      emptied = emptied_there;
     }
 
     -- What they hand on: no fact of a moved place.
@@ -505,7 +592,7 @@ module _ (table : Table) (typed : TypedProgram) (effects : Effects)
     -- with them
     pub with_them : (v : Views) (view : View) (facts : List Fact) → ((x : ℕ) (w : Way) → v.way x ≡ Some w → is_package_object s x ≡ false)
         → ((x : ℕ) → is_package_object s x ≡ true → sees_only s x ≡ false) → AreApart facts
-        → ((w : Way) (n : ℕ) → KeptElsewhere older w n → Reaches view w (OfCell n)) → ArePast s depth v older
+        → AreTheirs older view → ArePast s depth v older
         → Viewed (home s depth) (sees_only s) (known_gone (home s depth) (GoneElsewhere program effects older)) v view facts
         → Viewed (home s depth) (sees_only s) beside_them v view (facts ++ handed)
     with_them v view facts only plain apart reach past well = record {
@@ -561,7 +648,8 @@ module _ (table : Table) (typed : TypedProgram) (effects : Effects)
         none = none_there n.root lent.5;
         plain = plain n.root lent.5;
       };
-      far = reach;
+      far = reach.far;
+      bare = reach.bare;
     }
       where
         cases : (f : Fact) → Has (facts ++ handed) f → Has facts f ⊎ Has handed f
@@ -607,6 +695,7 @@ module _ (table : Table) (typed : TypedProgram) (effects : Effects)
           (reached (home s depth) (sees_only s) beside_them v view all x w (well.views x w has));
       lends = λ l n none. absurd none;
       far = λ w n none. absurd none;
+      bare = λ w n p none. absurd none;
     }
       where
         not_both : (b : Bool) → b ≡ true → b ≡ false → ⊥
@@ -635,8 +724,9 @@ module _ (table : Table) (typed : TypedProgram) (effects : Effects)
       → (get_or (variable_slots s f x next.memory.variables) 0 no_slot).word ≡ (get_or (variable_slots s f x state.memory.variables) 0 no_slot).word) where
     waits_on : (callee : ℕ) (backs : List Return) (g : ViewStage) → 0 < g.stage.depth → g.stage.depth < depth
         → ((w : Way) (n : ℕ) → IsWayOf g w n → Reaches (view_here s next) w (OfCell n))
+        → ((w : Way) (l : Loc) (p : List Step) → IsBareOf g w l p → (q : List Step) (k : ℕ) → (view_here s next).word (part l (q ++ p)) ≡ Held k → ⊥)
         → IsWaiting table typed effects state callee backs g → IsWaiting table typed effects next callee backs g
-    waits_on callee backs g some less reach waits = record {
+    waits_on callee backs g some less reach bare waits = record {
       runs = waits.runs;
       plain = waits.plain;
       path = waits.path;
@@ -664,6 +754,7 @@ module _ (table : Table) (typed : TypedProgram) (effects : Effects)
         own = waits.holds.own;
       };
       placed = waits.placed;
+      bare = λ w l p taken q k held. bare w l p taken q k (bare_word s next g w l p (q ++ p) taken ∙ held);
       kept = λ c has. (let kept = waits.kept c has in record {
         named = kept.named;
         own = kept.own;
@@ -685,7 +776,7 @@ module _ (table : Table) (typed : TypedProgram) (effects : Effects)
             ∙ subst (λ f. (get_or (variable_slots s f x next.memory.variables) 0 no_slot).word ≡ machine.Cell n) own e)
 
     pub all_on : (callee : ℕ) (backs : List Return) (older : List ViewStage) (outer : List Frame) → AreStages (stages_of older) outer → length outer ≤ depth
-        → ((w : Way) (n : ℕ) → KeptElsewhere older w n → Reaches (view_here s next) w (OfCell n))
+        → AreTheirs older (view_here s next)
         → AreWaiting table typed effects state callee backs older → AreWaiting table typed effects next callee backs older
     all_on callee backs [] outer stages less reach waiting = waiting
     all_on callee backs (e ∷ []) outer stages less reach waiting = waiting
@@ -693,8 +784,12 @@ module _ (table : Table) (typed : TypedProgram) (effects : Effects)
     all_on callee backs (g ∷ (h ∷ older)) (f ∷ outer) stages less reach waiting =
         let some = some_frames h older outer stages.2 in
         let deep = stages.1 in (
-          waits_on callee backs g (omega (arith, some, deep)) (omega (arith, less, deep)) (λ w n way. reach w n (g, inl refl, way)) waiting.0,
-          all_on g.stage.frame.sub g.stage.frame.returns (h ∷ older) outer stages.2 (omega (arith, less)) (λ w n (k, has, way). reach w n (k, inr has, way)) waiting.1,
+          waits_on callee backs g (omega (arith, some, deep)) (omega (arith, less, deep)) (λ w n way. reach.far w n (g, inl refl, way))
+              (λ w l p bare. reach.bare w l p (g, inl refl, bare)) waiting.0,
+          all_on g.stage.frame.sub g.stage.frame.returns (h ∷ older) outer stages.2 (omega (arith, less)) (record {
+            far = λ w n (k, has, way). reach.far w n (k, inr has, way);
+            bare = λ w l p (k, has, bare). reach.bare w l p (k, inr has, bare);
+          }) waiting.1,
           waiting.2,
           waiting.3,
         )
@@ -704,5 +799,7 @@ module _ (table : Table) (typed : TypedProgram) (effects : Effects)
         → length outer ≤ depth → AreWaiting table typed effects state callee backs older → AreWaiting table typed effects next callee backs older
     all_same same callee backs older outer stages less waiting =
         all_on callee backs older outer stages less
-        (λ w n kept. same_reaches (view_here s state) (view_here s next) same w (OfCell n)
-        (far state depth older (all_between state callee depth backs older outer stages less waiting) w n kept)) waiting
+        (let there = theirs state depth older (all_between state callee depth backs older outer stages less waiting) in record {
+          far = λ w n kept. same_reaches (view_here s state) (view_here s next) same w (OfCell n) (there.far w n kept);
+          bare = λ w n p bare q c held. there.bare w n p bare q c (sym (same.word (part n (q ++ p))) ∙ held);
+        }) waiting
