@@ -18,6 +18,7 @@ pub mod Uses
 pub mod Rooted
 pub mod Roots
 pub mod Waiting
+pub mod Onward
 pub mod Apart
 pub mod Left
 pub mod Between
@@ -64,5 +65,6 @@ pub mod Results
 pub mod ScopeEnds
 pub mod CallEnds
 pub mod Calling
+pub mod CallBegins
 pub mod Stepping
 pub mod Main
