@@ -80,7 +80,8 @@ use Rattle.viewed_steps.proofs.Lent.{Spare, spare_both, loans_stay}
 use Rattle.viewed_steps.proofs.Placed.{within_on, lasts_more, scope_on, placed_on}
 use Rattle.viewed_steps.proofs.Waiting.{StandsBetween, gone_low, beside_them, handed}
 use Rattle.viewed_steps.proofs.Between.{gone_also, more_gone, base_along, base_under, same_variable, not_named, IsHomed, homed_apart, number_based}
-use Rattle.viewed_steps.proofs.Called.{AreGiven, all_laid_out, all_given, all_acted, values_are_read, call_adds_none, passes_to, spare_reads, spare_copies}
+use Rattle.viewed_steps.proofs.Called.{AreGiven, all_given, values_are_read, call_adds_none, passes_to, spare_reads, spare_copies}
+use Rattle.viewed_steps.proofs.Acted.{all_laid_out, all_acted}
 use Rattle.viewed_steps.proofs.Outside.{IsSpared, gone_clear}
 use Rattle.viewed_steps.proofs.Globals.{copied_act, passed_unused}
 use Rattle.viewed_steps.proofs.Apart.{written_disturbs}

@@ -42,6 +42,7 @@ pub mod LaidOut
 pub mod Seeing
 pub mod Clear
 pub mod Called
+pub mod Acted
 -- the views of what is called
 pub mod Exclusive
 pub mod Opening
