@@ -2,7 +2,7 @@
 -- variable, or another place in a variable of the caller.
 use Rattle.std.proofs.Common.{◌≡◌, refl, ◌&&◌, ◌||◌, not, is_some, sym, ap, ◌∙◌, subst, ◌⊎◌, inl, inr, ℕ, append-nil, Bool, true, false, List, [], ◌∷◌, ◌++◌, map, Option, Some, None, if◌then◌else◌, arith, ◌<◌}
 use Rattle.spark_base.specs.Lists.{Has}
-use Rattle.spark_base.proofs.Lists.{Has-append_cases, Has-append_left, Has-append_right}
+use Rattle.spark_base.proofs.Lists.{Has-append_cases}
 use Rattle.spark_base.specs.declared.position.Pos.{Pos}
 use Rattle.place_names.specs.declared.act.Act.{Act}
 use Rattle.place_names.specs.declared.act.Act.TheVariants as act
@@ -11,7 +11,7 @@ use Rattle.place_names.specs.declared.act.Mode.TheVariants as mode
 use Rattle.place_names.specs.declared.act.Placed.{Placed}
 use Rattle.place_names.specs.declared.fact.Fact.{Fact}
 use Rattle.place_names.specs.Names.{Name as PlaceName}
-use Rattle.place_names.specs.Facts.{adds, effect}
+use Rattle.place_names.specs.Facts.{adds}
 use Rattle.type_definitions.specs.Types.{shape_of, full, is_scalar, is_owning, parts, owns_of, words}
 use Rattle.typed_tree.specs.Trees.{TypedTree, Number, Literal, Text, Name, Component as IntoComponent, Designated, Element, Call, EndOfFile, Parens, Image, Unary, Binary, Short, IsNull, Aggregate, Alike, New, NoMore, More}
 use Rattle.typed_tree.specs.Trees as typed
@@ -32,15 +32,15 @@ use Rattle.owned_ways.specs.Ways.{Step, Root, Component, OfVariable, Loc, OfRoot
 use Rattle.owned_ways.specs.Ways as ways
 use Rattle.owned_ways.proofs.Locations.{under_along, under_itself}
 use Rattle.part_offsets.specs.Parts.{type_in, offset_in, has_part, IsSettled}
-use Rattle.soundness.specs.Seen.{IsNear, Content, content, trunk, steps_in, seen, home, is_view_formal, in_hand}
+use Rattle.soundness.specs.Seen.{IsNear, content, trunk, steps_in, seen, home, is_view_formal, in_hand}
 use Rattle.soundness.specs.Typed.{Matches, OwnsByShape, Kept, Spot, IsFixed, loc_of, Points}
 use Rattle.soundness.specs.Sound.{goes_through_none}
 use Rattle.typed_laws.specs.Needed.{Stays, Leads, IndexLaw, IsPlace as IsPlaceOf}
-use Rattle.soundness.proofs.Contents.{bool_cases, word_no, word_part}
-use Rattle.soundness.proofs.Joined.{leaf_join, steps_part}
-use Rattle.soundness.proofs.Steps.{no_leaf, matches_words, taken_slots, room}
+use Rattle.soundness.proofs.Contents.{bool_cases}
+use Rattle.soundness.proofs.Joined.{steps_part}
+use Rattle.soundness.proofs.Steps.{matches_words, taken_slots, room}
 use Rattle.soundness.proofs.Fixed.{matches_scalar, plain_word}
-use Rattle.soundness.proofs.Scalars.{acts, acts_append, after_append, allows_both, read_effect, number_along, named_along}
+use Rattle.soundness.proofs.Scalars.{acts, acts_append, allows_both, number_along, named_along}
 use Rattle.soundness.proofs.Stays.{One, Quiet, quiet_then, quiet_from}
 use Rattle.soundness.proofs.Taking.{Takes}
 use Rattle.soundness.proofs.Walks.{way_along, Walked}
@@ -49,8 +49,7 @@ use Rattle.soundness.proofs.Passing.{IsRead, AreReads, AddNone, IsValue, TakesAl
 use Rattle.owned_loans.specs.Views.{Around, Views, expand, ExcusedBy, Viewed, IsForeign}
 use Rattle.owned_loans.proofs.Moves.{IsPlace, expand_along, reached}
 use Rattle.owned_loans.proofs.Meeting.{stands_base}
-use Rattle.owned_loans.proofs.Ended.{stands_itself}
-use Rattle.viewed_soundness.specs.Holds.{IsNamed, PartsAreNamed, Holds, sees_only, is_view, IsOwners}
+use Rattle.viewed_soundness.specs.Holds.{IsNamed, PartsAreNamed, Holds, sees_only, IsOwners}
 use Rattle.viewed_soundness.proofs.Names.{Starts, true_false, no_parts_in, plain_named, is_place}
 use Rattle.viewed_soundness.proofs.Stays.{Goes as GoesAlong, taking, steps_taking, name_quiet}
 use Rattle.viewed_soundness.proofs.Evaluated.{matches_named}
@@ -60,15 +59,12 @@ use Rattle.viewed_steps.specs.Ready.{IsOwnPlace, IsSeen, IsActualTo, AreActualsT
 use Rattle.viewed_steps.proofs.Views.{AreAccess, formal_view, scalar_no_view}
 use Rattle.viewed_steps.proofs.Seeing.{IsSeenAs, IsClear, AreClear, seen_given}
 use Rattle.viewed_steps.proofs.Read.{scalar_named}
-use Rattle.viewed_steps.proofs.Between.{gone_also, number_under, base_along}
+use Rattle.viewed_steps.proofs.Between.{base_along}
 use Rattle.viewed_steps.proofs.Lodged.{spot_lodged}
 use Rattle.viewed_steps.proofs.Aside.{cell_name}
-use Rattle.viewed_steps.proofs.Emptied.{out_left, taken_back}
-use Rattle.viewed_steps.proofs.Outs.{Out, IsUnderOne}
 use Rattle.viewed_steps.proofs.Direct.{IsDirect, steps_direct, past_none, direct_leads, direct_itself, IsIn, walked_in, both_quiet, direct_part, part_reached}
-use Rattle.viewed_steps.proofs.LaidOut.{IsValueLaid, IsOwnPut, IsPlainAt, IsPlaceLaid, IsLaidOne, AreLaidOut, own_out, place_out, out_of, outs_of, IsOpenActual, AreOpenActuals}
-use Rattle.viewed_steps.proofs.Entered.{inside_plain, inside_named, inside_number, IsFit}
-use Rattle.viewed_steps.proofs.Released.{nothing_written}
+use Rattle.viewed_steps.proofs.LaidOut.{IsOwnPut, IsPlainAt, IsOpenActual, AreOpenActuals}
+use Rattle.viewed_steps.proofs.Entered.{IsFit}
 use Rattle.viewed_steps.proofs.Lent.{ends, Spare, spare_both, spare_naming}
 use Rattle.soundness.proofs.Keeping.{top_points, retyped_points, scalar}
 use Rattle.soundness.proofs.Lasting.{keeps}

@@ -59,6 +59,7 @@ pub mod Standing
 pub mod Packages
 pub mod Innermost
 pub mod EachInstruction
+pub mod Turned
 pub mod Operands
 pub mod Alone
 pub mod Taking
