@@ -243,7 +243,7 @@ module _ (table : Table) (typed : TypedProgram) (effects : Effects) (input : Lis
         (
           (λ f traversed. (
               let old = (above.1).1.0 f traversed in
-              let view = given_view s f (ready.traversing.first top.frame.sub f traversed).1 in (
+              let view = given_view s f (ready.traversing.first top.frame.sub f (running.0).entered traversed).1 in (
                 old.0,
                 rooted_on s (sub_acts (sub_of program top.frame.sub)) f old.0 view views turned_views
                     (λ x w has. elim (turned x w has) [ inl same ↦ inl (sym same.way ∙ has) | inr (y, from, comes) ↦ inr (y, from.2, comes.under) ]) old.1,
