@@ -21,7 +21,7 @@ use Rattle.viewed_steps.specs.Sound.{ViewStage, stages_of}
 use Rattle.viewed_steps.specs.Taken.{TakenBy, AreCarried, IsPassedOn, AreTaken}
 use Rattle.viewed_steps.proofs.Between.{base_under, same_variable, taken_from}
 use Rattle.viewed_steps.proofs.Entered.{not_observing, inside_plain, inside_named, inside_number, inside_itself}
-use Rattle.viewed_steps.proofs.Views.{observes_not}
+use Rattle.viewed_steps.proofs.Views.{AreAccess}
 use Rattle.viewed_facts.specs.Exact.{IsDefiniteBy}
 
 -- ---- ways from variables, where words are carried

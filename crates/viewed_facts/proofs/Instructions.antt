@@ -43,7 +43,7 @@ use Rattle.soundness.proofs.Stays.{Quiet, One}
 use Rattle.soundness.proofs.Numbers.{index_law}
 use Rattle.soundness.proofs.Lasting.{keeps}
 use Rattle.owned_loans.specs.Views.{Around, Views, expand, Viewed, IsThrough}
-use Rattle.viewed_soundness.specs.Holds.{IsNamed, PartsAreNamed, AllKeep, sees_only}
+use Rattle.viewed_soundness.specs.Holds.{is_fixed, IsNamed, PartsAreNamed, AllKeep, sees_only}
 use Rattle.viewed_soundness.proofs.Names.{true_false}
 use Rattle.viewed_soundness.proofs.Evaluated.{Given}
 use Rattle.viewed_soundness.proofs.Viewing.{view_leaf, view_unseen}
@@ -54,17 +54,18 @@ use Rattle.exact_facts.proofs.Steps.{IsPlaced, keeps_placed}
 use Rattle.exact_facts.proofs.Checks.{none_made}
 use Rattle.soundness.proofs.Taking.{Takes, takes_as, nothing_more}
 use Rattle.viewed_facts.specs.Exact.{IsDefinite, IsExact}
-use Rattle.viewed_facts.proofs.Steps.{named_definite, definite_variable, told_still, told_fewer, told_turned, IsOthers, of_others}
+use Rattle.viewed_facts.proofs.Steps.{IsAway, named_definite, definite_variable, told_still, told_fewer, told_turned, IsOthers, of_others}
 use Rattle.viewed_facts.proofs.Memories.{told_seen, exact_from, declared_exact, ended_exact}
 use Rattle.viewed_facts.proofs.Evaluated.{ExactTo, checked_exact, exact_on}
 use Rattle.viewed_facts.proofs.Stored.{StoresExact, assigned_exact}
 use Rattle.viewed_facts.proofs.Checks.{place_holds}
+use Rattle.viewed_steps.proofs.Views.{AreAccess}
 
 module _ (t : Turn) (settled : IsSettled (typing t).table) (own_law : OwnsByShape (typing t).table) (other : Around (home (typing t) (length t.outer)))
-    (alone : (w : Way) → IsNear (length t.outer) w → other.gone w → ⊥) (no_formals : (x : ℕ) → is_view_formal (typing t) x ≡ false)
+    (alone : (w : Way) → IsNear (length t.outer) w → other.gone w → ⊥) (in_formals : AreAccess (typing t))
     (v : Views) (parts_named : PartsAreNamed (typing t).table) (may : ℕ → ℕ → Type 0)
     (frames : t.state.frames ≡ t.frame ∷ t.outer) (none : taken t.point.instr ≡ 0)
-    (elsewhere : Way → Type 0) (away : (w : Way) → elsewhere w → (IsNear (length t.outer) w → ⊥) ⊎ IsThrough (home (typing t) (length t.outer)) other.lent Borrowed w) (Excused : LeakSpot → Type 0) where
+    (elsewhere : Way → Type 0) (away : (w : Way) → elsewhere w → IsAway (typing t) (length t.outer) other w) (Excused : LeakSpot → Type 0) where
   abbrev s : Typing
   s = typing t
 
@@ -148,7 +149,7 @@ module _ (t : Turn) (settled : IsSettled (typing t).table) (own_law : OwnsByShap
 
   pub assign_on : (ws mid : List (List machine.Word)) (p : Pos) (x u : ℕ) (path e : TypedTree) → IsNamed s.table u → Gives s u e → Leads s (object_at s x).of path u
       → GivesPlainly s e → Takes (waits_in e) ws mid → Takes (waits_in path) mid [] → (facts : List Fact) → Good facts
-      → AllowsAll facts (acts (stored_acts s (Name p x path u) e)) → AllKeep (sees_only s) (acts (stored_acts s (Name p x path u) e))
+      → AllowsAll facts (acts (stored_acts s (Name p x path u) e)) → AllKeep (is_fixed s) (acts (stored_acts s (Name p x path u) e))
       → Exact m facts
       → (count : ℕ) → Knows Excused p (name_of x path) count (after (acts (acts_in s e ++ acts_in s path)) facts) (parts s.table u)
       → ExactOn (after (acts (stored_acts s (Name p x path u) e)) facts) (map (spot p (name_of x path) count) (parts s.table u))
@@ -169,7 +170,7 @@ module _ (t : Turn) (settled : IsSettled (typing t).table) (own_law : OwnsByShap
 
   abbrev Speaks_not : ℕ → List Fact → Type 0
   Speaks_not x facts =
-      IsUnmoved t settled own_law other alone no_formals v parts_named may frames none x facts × IsFree t settled own_law other alone no_formals v parts_named may frames none x
+      IsUnmoved t settled own_law other alone in_formals v parts_named may frames none x facts × IsFree t settled own_law other alone in_formals v parts_named may frames none x
 
   abbrev Given_here : ℕ → List Fact → Evaluated (List machine.Word) → Type 0
   Given_here u facts y = Given (here t) settled t.state.leaks [] other alone (keeps s settled own_law) index_law own_law v parts_named u hands facts y
@@ -205,7 +206,7 @@ module _ (t : Turn) (settled : IsSettled (typing t).table) (own_law : OwnsByShap
       → ExactOn facts [] (steps.evaluated t y (λ ws n. goes t (declared depth x ws n) 0))
   then_declared x facts (Done ws n) (ready, long, same) exact none_said = (
     declared_exact s settled (home s depth) (sees_only s) other v elsewhere apart n.memory (record { of = (object_at s x).of; words = ws }) hands t.state.leaks facts depth x
-        t.point.pos ready.viewed ready.kept (no_formals x) long (alike s.table settled (object_at s x).of (object_at s x).of (inl refl))
+        t.point.pos ready.viewed ready.kept (in_formals x) long (alike s.table settled (object_at s x).of (object_at s x).of (inl refl))
         (unspoken x facts (seen s n.memory (record { of = (object_at s x).of; words = ws } ∷ hands) t.state.leaks) ready.viewed none_said) exact,
     tt,
   )
@@ -214,7 +215,7 @@ module _ (t : Turn) (settled : IsSettled (typing t).table) (own_law : OwnsByShap
 
   -- what it is declared with
   pub source_exact : (ws : List (List machine.Word)) (u : ℕ) (e : TypedTree) → IsNamed s.table u → Source s u e → GivesPlainly s e → Takes (waits_in e) ws []
-      → (facts : List Fact) → Good facts → AllowsAll facts (acts (acts_in s e)) → AllKeep (sees_only s) (acts (acts_in s e)) → Exact m facts
+      → (facts : List Fact) → Good facts → AllowsAll facts (acts (acts_in s e)) → AllKeep (is_fixed s) (acts (acts_in s e)) → Exact m facts
       → ExactTo_here (after (acts (acts_in s e)) facts) (taken_by t u e (at ws))
   source_exact ws u e named (inl (view, is)) calls takes facts good allowed keep exact = absurd (true_false (is_anonymous (full s.table u)) view (named_plain s.table u named))
   source_exact ws u e named (inr gives) calls takes facts good allowed keep exact =
@@ -226,7 +227,7 @@ module _ (t : Turn) (settled : IsSettled (typing t).table) (own_law : OwnsByShap
       m hands facts (record { viewed = good.viewed; kept = good.kept; holds = good.holds }) allowed named keep exact))
 
   first_exact : (ws : List (List machine.Word)) (u : ℕ) (e : TypedTree) → IsNamed s.table u → FirstSource s u e → GivesPlainly s e → Takes (waits_in e) ws []
-      → (facts : List Fact) → Good facts → AllowsAll facts (acts (acts_in s e)) → AllKeep (sees_only s) (acts (acts_in s e)) → Exact m facts
+      → (facts : List Fact) → Good facts → AllowsAll facts (acts (acts_in s e)) → AllKeep (is_fixed s) (acts (acts_in s e)) → Exact m facts
       → ExactTo_here (after (acts (acts_in s e)) facts) (first_value t u e (at ws))
   unfolding GivesPlainly acts_in initial waits_in
   first_exact ws u (More e rest) named (last, gives) calls takes facts good allowed keep exact =
@@ -234,14 +235,14 @@ module _ (t : Turn) (settled : IsSettled (typing t).table) (own_law : OwnsByShap
       let alone_there : waits_in e + waits_in rest ≡ waits_in e = ap (λ z. waits_in e + waits_in z) last ∙ nothing_more (waits_in e) in
       subst (λ z. ExactTo_here (after (acts z) facts) (taken_by t u e (at ws))) (sym same)
       (source_exact ws u e named gives calls.0 (takes_as (waits_in e + waits_in rest) (waits_in e) ws [] alone_there takes)
-      facts good (subst (λ z. AllowsAll facts (acts z)) same allowed) (subst (λ z. AllKeep (sees_only s) (acts z)) same keep) exact)
+      facts good (subst (λ z. AllowsAll facts (acts z)) same allowed) (subst (λ z. AllKeep (is_fixed s) (acts z)) same keep) exact)
   first_exact ws u NoMore named gives calls takes facts good allowed keep exact = exact
   first_exact ws u e named gives calls takes facts good allowed keep exact = absurd gives
 
   -- An object is declared that isn't a view. No fact after the evaluation names it.
   pub declare_on : (ws : List (List machine.Word)) (x : ℕ) (e : TypedTree) → IsNamed s.table (object_at s x).of → FirstSource s (object_at s x).of e
       → GivesPlainly s e → Takes (waits_in e) ws [] → (facts : List Fact)
-      → Good facts → AllowsAll facts (acts (declared_acts s x e)) → AllKeep (sees_only s) (acts (declared_acts s x e))
+      → Good facts → AllowsAll facts (acts (declared_acts s x e)) → AllKeep (is_fixed s) (acts (declared_acts s x e))
       → Speaks_not x (after (acts (declared_acts s x e)) facts) → Exact m facts
       → ExactOn (after (acts (declared_acts s x e)) facts) [] (steps.evaluated t (first_value t (object_at s x).of e (at ws)) (λ ws n. goes t (declared depth x ws n) 0))
   declare_on ws x e named gives calls takes facts good allowed keep none_said exact =
@@ -251,10 +252,10 @@ module _ (t : Turn) (settled : IsSettled (typing t).table) (own_law : OwnsByShap
       (if is_observer s x then source_acts s (first e) (observe s x) else acts_in s e)) kinds.0
       ∙ ap (λ b. if b then source_acts s (first e) (observe s x) else acts_in s e) kinds.1 in
       let allows = subst (λ z. AllowsAll facts (acts z)) same allowed in
-      let keep_there = subst (λ z. AllKeep (sees_only s) (acts z)) same keep in
+      let keep_there = subst (λ z. AllKeep (is_fixed s) (acts z)) same keep in
       subst (λ z. ExactOn (after (acts z) facts) [] (steps.evaluated t (first_value t (object_at s x).of e (at ws)) (λ ws n. goes t (declared depth x ws n) 0))) (sym same)
       (then_declared x (after (acts (acts_in s e)) facts) (first_value t (object_at s x).of e (at ws))
-      (first_given t settled own_law other alone no_formals v parts_named may frames none ws (object_at s x).of e named gives calls takes facts good allows keep_there)
+      (first_given t settled own_law other alone in_formals v parts_named may frames none ws (object_at s x).of e named gives calls takes facts good allows keep_there)
       (first_exact ws (object_at s x).of e named gives calls takes facts good allows keep_there exact)
       (subst (λ z. Speaks_not x (after (acts z) facts)) same none_said))
 
@@ -310,7 +311,7 @@ module _ (t : Turn) (settled : IsSettled (typing t).table) (own_law : OwnsByShap
       → IsExact s (home s depth) left elsewhere (undeclared depth x m) (effect (act.EndScope x borrower) facts)
   end_scope_exact left x borrower mine facts viewed unlent only was exact =
       let checks = checks_made s.table settled (content s m hands (OfRoot (OfVariable (home s depth x) x))) [] (object_at s x).of t.point.pos t.state.leaks refl
-      (ap not (no_formals x)) (alike s.table settled (object_at s x).of (object_at s x).of (inl refl)) in
+      (ap not (in_formals x)) (alike s.table settled (object_at s x).of (object_at s x).of (inl refl)) in
       subst (λ f. IsExact s (home s depth) left elsewhere (undeclared f x m) (effect (act.EndScope x borrower) facts)) mine
       (ended_exact s settled (home s depth) (sees_only s) other v elsewhere apart m hands t.state.leaks _ facts left x borrower viewed unlent checks was
       (λ y w n has. view_empty m hands t.state.leaks (home s depth y) y (only y w has) n) exact)

@@ -60,18 +60,18 @@ use Rattle.exact_facts.specs.Exact.{Knows}
 use Rattle.exact_facts.proofs.Steps.{fact_before}
 use Rattle.exact_facts.proofs.Checks.{none_made}
 use Rattle.viewed_facts.specs.Exact.{IsExact}
-use Rattle.viewed_facts.proofs.Steps.{definite_variable, variables_after, told_released, told_fewer, IsOthers, of_others}
+use Rattle.viewed_facts.proofs.Steps.{IsAway, definite_variable, variables_after, told_released, told_fewer, IsOthers, of_others}
 use Rattle.viewed_facts.proofs.Memories.{told_seen, exact_from}
 use Rattle.viewed_facts.proofs.Checks.{place_holds}
 use Rattle.viewed_facts.proofs.Instructions.{ExactOn}
 use Rattle.viewed_soundness.proofs.Walks.{slot_at, one_slot, type_is, held_there, cell_spot}
-use Rattle.viewed_steps.proofs.Views.{all_owners}
+use Rattle.viewed_steps.proofs.Views.{AreAccess}
 
 module _ (t : Turn) (settled : IsSettled (typing t).table) (own_law : OwnsByShape (typing t).table) (other : Around (home (typing t) (length t.outer)))
-    (alone : (w : Way) → IsNear (length t.outer) w → other.gone w → ⊥) (no_formals : (x : ℕ) → is_view_formal (typing t) x ≡ false)
+    (alone : (w : Way) → IsNear (length t.outer) w → other.gone w → ⊥) (in_formals : AreAccess (typing t))
     (v : Views) (parts_named : PartsAreNamed (typing t).table) (may : ℕ → ℕ → Type 0)
     (frames : t.state.frames ≡ t.frame ∷ t.outer) (none : taken t.point.instr ≡ 0)
-    (elsewhere : Way → Type 0) (away : (w : Way) → elsewhere w → (IsNear (length t.outer) w → ⊥) ⊎ IsThrough (home (typing t) (length t.outer)) other.lent Borrowed w) (Excused : LeakSpot → Type 0) where
+    (elsewhere : Way → Type 0) (away : (w : Way) → elsewhere w → IsAway (typing t) (length t.outer) other w) (Excused : LeakSpot → Type 0) where
   abbrev s : Typing
   s = typing t
 
@@ -94,10 +94,10 @@ module _ (t : Turn) (settled : IsSettled (typing t).table) (own_law : OwnsByShap
   Exact n facts = IsExact s (home s depth) v elsewhere n facts
 
   abbrev ExactHere : List Fact → List LeakSpot → Outcome → Type 0
-  ExactHere facts spots outcome = ExactOn t settled own_law other alone no_formals v parts_named may frames none elsewhere away Excused facts spots outcome
+  ExactHere facts spots outcome = ExactOn t settled own_law other alone in_formals v parts_named may frames none elsewhere away Excused facts spots outcome
 
   abbrev Does : (Place → Memory → Outcome) → Pos → Type 0
-  Does f pos = Releases t settled own_law other alone no_formals v parts_named may frames none f pos
+  Does f pos = Releases t settled own_law other alone in_formals v parts_named may frames none f pos
 
   away_from : (w : Way) → elsewhere w → IsOthers (home s depth) other w
   away_from w e = of_others s depth other w (away w e)
@@ -144,7 +144,7 @@ module _ (t : Turn) (settled : IsSettled (typing t).table) (own_law : OwnsByShap
       stands = named_way (home s depth) (sees_only s) other v seen_here facts good.viewed.views (suc (number_of w)) w (omega arith) (named, plain)
 
       rooted : IsOwners s (expand v w)
-      rooted = all_owners s no_formals (expand v w) (named_rooted (home s depth) (expand v w) stands)
+      rooted = all_owners s in_formals (expand v w) (named_rooted (home s depth) (expand v w) stands)
 
       clean : excused (expand v w) → ⊥
       clean (inl moved) = free_clean (home s depth) (sees_only s) other v seen_here facts good.viewed w named plain allowed moved
@@ -228,7 +228,7 @@ module _ (t : Turn) (settled : IsSettled (typing t).table) (own_law : OwnsByShap
         subst (λ (z : Now). ExactHere (effect (act.Free (name_of x path)) facts) (spots_of (name_of x path) pos' count u) (steps.evaluated t (walked s way (variable_place (here t) x) z) f)) (sym same)
         (subst (λ z. ExactHere (effect (act.Free z) facts) (spots_of z pos' count u) (steps.evaluated t (walked s way (variable_place (here t) x) now) f)) called
         (released_at w named (ap (sees_only s) (number_along way (Object (OfVariable (home s depth x) x))) ∙ plain)
-        (is_place s v (home s depth x) x u way goes.lead (named_type s.table u d access) (no_formals x) good.holds.only) frees
+        (is_place s v (home s depth x) x u way goes.lead (named_type s.table u d access) (in_formals x) good.holds.only) frees
         (subst (λ z. Knows Excused pos' (extend z (sel.Deref ∷ [])) count facts (parts s.table (designated s.table u))) (sym called) known)
         (walked s way (variable_place (here t) x) now)
         (name_quiet (here t) settled hands t.state.leaks m [] other facts v good.kept good.viewed good.holds alone alive_trunk index_law own_law parts_named x path u way goes

@@ -54,6 +54,7 @@ use Rattle.viewed_facts.specs.Exact.{IsDefiniteOf, IsExact}
 use Rattle.viewed_facts.proofs.Instructions.{end_scope_checked, end_scope_exact}
 use Rattle.viewed_facts.proofs.Frames.{elsewhere as moved_elsewhere, IsDefiniteHere}
 use Rattle.viewed_facts.proofs.Here as here
+use Rattle.viewed_steps.proofs.Views.{AreAccess}
 
 module _ (table : Table) (typed : TypedProgram) (effects : Effects) (input : List ℕ) (ready : IsReady table typed effects) where
   abbrev program : FlowProgram
@@ -65,8 +66,8 @@ module _ (table : Table) (typed : TypedProgram) (effects : Effects) (input : Lis
   abbrev own : Typing
   own = typing_of table typed
 
-  abbrev no_formals : (x : ℕ) → is_view_formal s x ≡ false
-  no_formals = standing.no_in_formals table typed effects input ready
+  abbrev in_formals : AreAccess s
+  in_formals = standing.in_formals table typed effects input ready
 
   abbrev local : (x : ℕ) → is_view s x ≡ true → is_package_object s x ≡ false
   local = standing.local table typed effects input ready
@@ -200,7 +201,7 @@ module _ (table : Table) (typed : TypedProgram) (effects : Effects) (input : Lis
 
       scope_checks : NoneFails Excused (spots_by (EndScope y)) (checks_of (turn at (EndScope y)))
       scope_checks =
-          end_scope_checked easy ready.accepted.settled ready.owns other alone no_formals views ready.class.parts_named none_taken refl refl elsewhere away Excused y facts_now (viewed_easy plain_end.0).0 exact p.pos 0
+          end_scope_checked easy ready.accepted.settled ready.owns other alone in_formals views ready.class.parts_named none_taken refl refl elsewhere away Excused y facts_now (viewed_easy plain_end.0).0 exact p.pos 0
           (knows (EndScope y) is [] (placed_by (EndScope y)) refl p.pos (object y) (parts s.table (object_at s y).of))
 
       pub ended_checks_hold : NoneFails Excused at.point.leaks (checks_of (step program input state))
@@ -234,7 +235,7 @@ module _ (table : Table) (typed : TypedProgram) (effects : Effects) (input : Lis
           all_told next.memory later only no_call_there ended_around
           (subst (λ z. IsExact s (home s depth) later elsewhere z (after (acts_by p.instr) facts_now)) (sym memory_is)
           (subst (λ i. IsExact s (home s depth) later elsewhere (undeclared depth y state.memory) (after (acts_by i) facts_now)) (sym is)
-          (end_scope_exact easy ready.accepted.settled ready.owns other alone no_formals views ready.class.parts_named none_taken refl refl elsewhere away Excused later y (is_borrower s y) (home_frame y not_shared) facts_now (viewed_easy plain_end.0).0 (innermost.not_lent table typed effects input ready state top below more_frames rest named p frames deep stages running awaiting of_sub at_point path views viewed_before kept scope holds placed_before above y not_shared) holds.only left exact)))
+          (end_scope_exact easy ready.accepted.settled ready.owns other alone in_formals views ready.class.parts_named none_taken refl refl elsewhere away Excused later y (is_borrower s y) (home_frame y not_shared) facts_now (viewed_easy plain_end.0).0 (innermost.not_lent table typed effects input ready state top below more_frames rest named p frames deep stages running awaiting of_sub at_point path views viewed_before kept scope holds placed_before above y not_shared) holds.only left exact)))
         where
           left_there : IsLeft (step program input state)
           left_there = subst IsLeft (sym (standing.step_is table typed effects input ready state top older outer named p frames of_sub at_point)) (subst (λ i. IsLeft (turn at i)) (sym is) refl)

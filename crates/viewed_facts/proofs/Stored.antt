@@ -35,12 +35,12 @@ use Rattle.soundness.proofs.Stays.{Quiet}
 use Rattle.soundness.proofs.Evaluated.{regrouped, Keeps}
 use Rattle.owned_loans.specs.Views.{Around, Views, expand, IsThrough}
 use Rattle.owned_loans.proofs.Allowed.{write_open}
-use Rattle.viewed_soundness.specs.Holds.{IsNamed, PartsAreNamed, AllKeep, sees_only}
+use Rattle.viewed_soundness.specs.Holds.{is_fixed, IsNamed, PartsAreNamed, AllKeep, sees_only}
 use Rattle.viewed_soundness.proofs.Stays.{Goes, steps_taking, name_on}
 use Rattle.viewed_soundness.proofs.Evaluated.{keep_both, Ready, GivenOn, live_trunk, checked_on, evaluated_on}
 use Rattle.exact_facts.specs.Exact.{NoneFails, Knows}
 use Rattle.viewed_facts.specs.Exact.{IsExact}
-use Rattle.viewed_facts.proofs.Steps.{definite_variable, IsOthers, of_others}
+use Rattle.viewed_facts.proofs.Steps.{IsAway, definite_variable, IsOthers, of_others}
 use Rattle.viewed_facts.proofs.Memories.{stored_exact}
 use Rattle.viewed_facts.proofs.Evaluated.{ExactTo, checked_exact, exact_on}
 use Rattle.viewed_facts.proofs.Checks.{place_holds}
@@ -50,7 +50,7 @@ module _ (h : Here) (settled : IsSettled h.typing.table) (leaks : List Leak) (wa
     (alone : (w : Way) → IsNear h.frame w → other.gone w → ⊥) (keeps : Keeps h.typing)
     (index_law : IndexLaw) (own_law : OwnsByShape h.typing.table)
     (v : Views) (parts_named : PartsAreNamed h.typing.table)
-    (elsewhere : Way → Type 0) (away : (w : Way) → elsewhere w → (IsNear h.frame w → ⊥) ⊎ IsThrough (home h.typing h.frame) other.lent Borrowed w) (Excused : LeakSpot → Type 0) where
+    (elsewhere : Way → Type 0) (away : (w : Way) → elsewhere w → IsAway h.typing h.frame other w) (Excused : LeakSpot → Type 0) where
   abbrev ReadyIn : Memory → List Waiting → List Fact → Type 0
   ReadyIn m hands facts = Ready h settled leaks waits other alone keeps index_law own_law v parts_named m hands facts
 
@@ -152,7 +152,7 @@ module _ (h : Here) (settled : IsSettled h.typing.table) (leaks : List Leak) (wa
       → Leads h.typing (object_at h.typing x).of steps t
       → GivesPlainly h.typing e → Takes (waiting e) before mid → Takes (waiting steps) mid on → (m : Memory) (hands : List Waiting) (facts : List Fact)
       → ReadyIn m hands facts
-      → AllowsAll facts (acts (stored_acts h.typing (Name p x steps t) e)) → AllKeep (sees_only h.typing) (acts (stored_acts h.typing (Name p x steps t) e))
+      → AllowsAll facts (acts (stored_acts h.typing (Name p x steps t) e)) → AllKeep (is_fixed h.typing) (acts (stored_acts h.typing (Name p x steps t) e))
       → Exact m facts
       → StoresExact (name_of x steps) t (after (acts (acts_in h.typing e ++ acts_in h.typing steps)) facts) (after (acts (stored_acts h.typing (Name p x steps t) e)) facts)
       (followed_by (followed_by (evaluate h AsValue e (record { memory = m; waits = before })) (checked h t))
@@ -167,8 +167,8 @@ module _ (h : Here) (settled : IsSettled h.typing.table) (leaks : List Leak) (wa
       ∙ ap (λ z. z ++ (act.Write (name_of x steps) ∷ [])) front
       ∙ append_assoc a b (act.Write (name_of x steps) ∷ []) in
       let each = allows_both facts a (b ++ act.Write (name_of x steps) ∷ []) (subst (AllowsAll facts) whole allowed) in
-      let names = keep_both (sees_only h.typing) a (b ++ act.Write (name_of x steps) ∷ []) (subst (AllKeep (sees_only h.typing)) whole keep) in
-      let last = keep_both (sees_only h.typing) b (act.Write (name_of x steps) ∷ []) names.1 in
+      let names = keep_both (is_fixed h.typing) a (b ++ act.Write (name_of x steps) ∷ []) (subst (AllKeep (is_fixed h.typing)) whole keep) in
+      let last = keep_both (is_fixed h.typing) b (act.Write (name_of x steps) ∷ []) names.1 in
       let given = checked_on h settled leaks waits other alone keeps index_law own_law v parts_named mid t t hands (after a facts)
       (evaluate h AsValue e now)
       (evaluated_on h settled leaks waits other alone keeps index_law own_law v parts_named e t gives calls before mid takes m hands facts ready each.0 own names.0) in
