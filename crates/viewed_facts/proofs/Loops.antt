@@ -30,7 +30,7 @@ use Rattle.machine.specs.States.{Waiting, Outcome, Goes}
 use Rattle.machine.specs.Step.{Turn, typing, here, start, waiting, behind}
 use Rattle.machine.specs.Step as steps
 use Rattle.machine.specs.Owners.{waiting_in}
-use Rattle.owned_ways.specs.Ways.{OfVariable, Way, Object, Under, Named, Allows, after, AllowsAll, number_of}
+use Rattle.owned_ways.specs.Ways.{OfVariable, Way, Object, Under, Named, Allows, after, AllowsAll, number_of, Reaches}
 use Rattle.owned_ways.specs.Ways as ways
 use Rattle.owned_ways.proofs.Assigned.{named_rooted}
 use Rattle.part_offsets.specs.Parts.{IsSettled}
@@ -50,8 +50,9 @@ use Rattle.soundness.proofs.Freeing.{switched}
 use Rattle.soundness.proofs.Loops.{scalar_same}
 use Rattle.owned_loans.specs.Views.{Around, Views, expand, IsThrough}
 use Rattle.owned_loans.proofs.Allowed.{write_open}
-use Rattle.owned_loans.proofs.Moves.{named_way}
-use Rattle.viewed_soundness.specs.Holds.{PartsAreNamed, sees_only}
+use Rattle.owned_ways.specs.Ways.{Loc}
+use Rattle.viewed_soundness.specs.Holds.{PartsAreNamed, sees_only, IsOwners}
+use Rattle.viewed_soundness.proofs.Names.{Starts as StartsAt, changed_owners}
 use Rattle.viewed_soundness.proofs.Stays.{Goes as GoesAlong, name_quiet, taking, steps_taking}
 use Rattle.viewed_soundness.proofs.Evaluated.{Ready, live_trunk, blank_ready}
 use Rattle.viewed_soundness.proofs.Outcomes.{IsGood, start_is, live}
@@ -60,7 +61,7 @@ use Rattle.viewed_steps.proofs.Read.{Gets}
 use Rattle.viewed_facts.specs.Exact.{IsExact}
 use Rattle.viewed_facts.proofs.Memories.{stored_exact}
 use Rattle.viewed_facts.proofs.Instructions.{ExactOn, same_exact}
-use Rattle.viewed_steps.proofs.Views.{AreAccess}
+use Rattle.viewed_steps.proofs.Views.{AreAccess, scalar_no_view, formal_view}
 
 module _ (t : Turn) (settled : IsSettled (typing t).table) (own_law : OwnsByShape (typing t).table) (other : Around (home (typing t) (length t.outer)))
     (alone : (w : Way) → IsNear (length t.outer) w → other.gone w → ⊥) (in_formals : AreAccess (typing t))
@@ -211,7 +212,8 @@ module _ (t : Turn) (settled : IsSettled (typing t).table) (own_law : OwnsByShap
         m hands facts u (machine.Int i ∷ []) (λ k has. elim has [ inl e ↦ cc | inr e ↦ e ])
         (record { viewed = good.viewed; kept = good.kept; holds = good.holds })
 
-    module _ (w : Way) (named : Named (home s depth) w) (plain : sees_only s (number_of w) ≡ false) (allowed : Allows facts (act.Write (ways.name_of w))) where
+    module _ (w : Way) (named : Named (home s depth) w) (plain : sees_only s (number_of w) ≡ false) (allowed : Allows facts (act.Write (ways.name_of w)))
+        (owners : (l : Loc) → Reaches (seen s m (value_in ∷ hands) t.state.leaks) (expand v w) l → IsOwners s (expand v w)) where
       abbrev behind_it : List Fact
       behind_it = effect (act.Write (ways.name_of w)) facts
 
@@ -225,10 +227,8 @@ module _ (t : Turn) (settled : IsSettled (typing t).table) (own_law : OwnsByShap
             | inr out ↦ subst (ExactHere behind_it) (sym (gets.at_outside k m i end next out)) tt
             | inl fits ↦ (
                 let long : 1 ≡ words s.table k.of = sym (ap (words s.table) of ∙ settled.word_law u ∙ (plain_shape (shape_of s.table u) scalar).3 (words s.table)) in
-                let rooted = all_owners s in_formals (expand v w) (named_rooted (home s depth) (expand v w) (named_way (home s depth) (sees_only s) other v
-                (seen s m (value_in ∷ hands) t.state.leaks) facts ready_in.viewed.views (suc (number_of w)) w (omega arith) (named, plain))) in
                 let owns = live_trunk (here t) settled t.state.leaks [] other alone (keeps s settled own_law) index_law own_law v parts_named m (value_in ∷ hands)
-                ready_in.viewed.owned (expand v w) l rooted reaches in
+                ready_in.viewed.owned (expand v w) l (owners l reaches) reaches in
                 subst (ExactHere behind_it) (sym (gets.at_number k m i end next fits)) (
                   stored_exact s settled (home s depth) (sees_only s) other v elsewhere away_from m value_in hands t.state.leaks facts k l w t.point.pos ready_in.viewed ready_in.kept
                       place named plain reaches owns allowed long (inl (ap (shape_of s.table) (sym of))) exact,
@@ -249,6 +249,12 @@ module _ (t : Turn) (settled : IsSettled (typing t).table) (own_law : OwnsByShap
       by_item item.Bad e mine y is = got_none (λ k memory. (run.DataError, gets.at_bad k memory e)) y
       by_item (item.Number j end) e mine y is = got_at y is end (e ∙ ap (λ z. item.Number z end) (mine j end refl))
 
+    -- a formal that owns nothing isn't of a scalar type
+    whole : (x : ℕ) (path : TypedTree) (way : List run.Step) → GoesAlong s.table (object_at s x).of u path way → is_view_formal s x ≡ true → way ≡ [] → ⊥
+    whole x path way along formal none =
+        scalar_no_view s in_formals x
+        (subst (λ z. is_scalar (full s.table z) ≡ true) (sym (subst (λ z. StartsAt s.table (object_at s x).of z u) none along.lead)) scalar) (formal_view s x formal)
+
     -- the steps of the name are evaluated
     then_got : (x : ℕ) (path : TypedTree) → sees_only s x ≡ false → Allows facts (act.Write (name_of x path)) → (it : Item) → next_item t.input t.state.at ≡ it
         → ((j : ℤ) (end : ℕ) → it ≡ item.Number j end → j ≡ i) → (y : Evaluated (List run.Step)) → Quiet now (λ way. GoesAlong s.table (object_at s x).of u path way) y
@@ -263,7 +269,10 @@ module _ (t : Turn) (settled : IsSettled (typing t).table) (own_law : OwnsByShap
         subst (λ (z : Now). ExactHere (effect (act.Write (name_of x path)) facts) (steps.evaluated t (walked s way (variable_place (here t) x) z) f)) (sym same)
         (subst (λ z. ExactHere (effect (act.Write z) facts) (steps.evaluated t (walked s way (variable_place (here t) x) now) f)) called
         (by_item w named (ap (sees_only s) (number_along way (Object (OfVariable (home s depth x) x))) ∙ plain)
-        (subst (λ z. Allows facts (act.Write z)) (sym called) allowed) it next mine
+        (subst (λ z. Allows facts (act.Write z)) (sym called) allowed)
+        (λ l reaches. changed_owners (here t) settled (value_in ∷ hands) t.state.leaks m [] other facts v ready_in.kept ready_in.viewed ready_in.holds alone
+        (live_trunk (here t) settled t.state.leaks [] other alone (keeps s settled own_law) index_law own_law v parts_named m (value_in ∷ hands) ready_in.viewed.owned)
+        x u way (whole x path way goes) goes.lead l reaches) it next mine
         (walked s way (variable_place (here t) x) now)
         (name_quiet (here t) settled (value_in ∷ hands) t.state.leaks m [] other facts v ready_in.kept ready_in.viewed ready_in.holds alone
         (live_trunk (here t) settled t.state.leaks [] other alone (keeps s settled own_law) index_law own_law v parts_named m (value_in ∷ hands) ready_in.viewed.owned)

@@ -158,7 +158,7 @@ module _ (s : Typing) (settled : IsSettled s.table) (home : ℕ → ℕ) (observ
       let after_it : View = seen_of s.table b (length m.cells) (λ n. (cell m n).freed) more in
       let move = stored_step s.table settled a b (length rest) x l (length m.cells) (λ n. (cell m n).freed) leaks more change checks in
       let given = given_apart (seen s m (x ∷ rest) leaks) after_it (Object (OfHand (length rest))) (expand v u) (hand (length rest)) l viewed.owned move refl reaches
-      (λ e. no_hand home (length rest) (expand v u) (whole_named m (x ∷ rest) leaks facts viewed u named plain) (sym e)) in
+      (λ e. no_hand_base (expand v u) (length rest) (whole_variable m (x ∷ rest) leaks facts viewed u named plain) (sym e)) in
       exact_from after_it (stored s k x.words m) rest (effect (Write (name_of u)) facts)
       (variables_after home observer other v elsewhere apart (seen s m (x ∷ rest) leaks) facts viewed (Write (name_of u)) (λ n none. absurd none)) (λ z. refl)
       (told_put home observer other v elsewhere apart (seen s m (x ∷ rest) leaks) after_it (length rest) u l facts viewed named plain given allowed

@@ -82,12 +82,14 @@ use Rattle.exact_facts.specs.Exact.{NoneFails, Knows, checks_of}
 use Rattle.exact_facts.proofs.Checks.{none_made}
 use Rattle.viewed_facts.specs.Exact.{IsDefiniteOf, IsExact}
 use Rattle.viewed_facts.proofs.Instructions.{ExactOn, value_on, waits_exact, source_exact, declare_on, assign_on, skip_exact, then_declared, then_stored}
+use Rattle.viewed_steps.proofs.Views.{anonymous_view}
 use Rattle.viewed_facts.proofs.Viewing.{view_parts, view_declared_on, view_assigned_on}
 use Rattle.viewed_facts.proofs.Releases.{released_on}
 use Rattle.viewed_facts.proofs.Loops.{next_exact, started_on, output_on, line_exact, got_on}
 use Rattle.viewed_facts.proofs.Frames.{elsewhere as moved_elsewhere}
 use Rattle.viewed_facts.proofs.Here as here
 use Rattle.viewed_steps.proofs.Views.{AreAccess, all_held}
+use Rattle.viewed_facts.proofs.Steps.{IsAway}
 
 module _ (table : Table) (typed : TypedProgram) (effects : Effects) (input : List ℕ) (ready : IsReady table typed effects) where
   abbrev program : FlowProgram
@@ -142,7 +144,7 @@ module _ (table : Table) (typed : TypedProgram) (effects : Effects) (input : Lis
     abbrev elsewhere : Way → Type 0
     elsewhere = moved_elsewhere table typed effects unmoved_stage local state (suc (length rest)) (below ∷ more_frames) between views (innermost.own_views table typed effects input ready state top below more_frames rest named p frames deep stages running awaiting of_sub at_point path views viewed_before kept scope holds placed_before above)
 
-    abbrev away : (w : Way) → elsewhere w → (IsNear (suc (length rest)) w → ⊥) ⊎ IsThrough (home s (suc (length rest))) other.lent Borrowed w
+    abbrev away : (w : Way) → elsewhere w → IsAway s (suc (length rest)) other w
     away = here.away table typed effects input ready state top below more_frames rest named p frames deep stages running awaiting of_sub at_point path views viewed_before kept scope holds placed_before above exact_before
 
     abbrev at : Turn
@@ -234,7 +236,7 @@ module _ (table : Table) (typed : TypedProgram) (effects : Effects) (input : Lis
       good plain = record {
         viewed = (viewed_easy plain.0).0;
         kept = (viewed_easy plain.0).1;
-        holds = all_held s in_formals depth views state.memory (λ x n view e. holds.held x n (λ fading. going fading.0 fading.1) view e) holds.only holds.named;
+        holds = all_held s in_formals depth views state.memory (λ x n view e. holds.held x n (λ fading. going fading.0 fading.1) view e) holds.only holds.owners holds.own;
       }
 
       -- With these values out of the frame, the step makes the same of memory.
@@ -263,7 +265,7 @@ module _ (table : Table) (typed : TypedProgram) (effects : Effects) (input : Lis
       -- where nothing is taken, the step is like it is
       module _ (nothing : taken at.point.instr ≡ 0) where
         good_there : IsGood at ready.accepted.settled ready.owns other alone views ready.class.parts_named none_taken frames nothing views facts_now state
-        good_there = record { viewed = viewed; kept = kept; holds = all_held s in_formals depth views state.memory (λ x n view e. holds.held x n (λ fading. going fading.0 fading.1) view e) holds.only holds.named }
+        good_there = record { viewed = viewed; kept = kept; holds = all_held s in_formals depth views state.memory (λ x n view e. holds.held x n (λ fading. going fading.0 fading.1) view e) holds.only holds.owners holds.own }
 
         writes_line : (line : Bool) → Exacts (Output NoMore line)
         unfolding acts_in
@@ -433,7 +435,7 @@ module _ (table : Table) (typed : TypedProgram) (effects : Effects) (input : Lis
                 elim (after_splits (acts_by (Declare x v)) facts_now own_facts around (innermost.from_both table typed effects input ready state top below more_frames rest named p frames deep stages running awaiting of_sub at_point path views viewed_before kept scope holds placed_before above) (Moved name) has) [
                   | inl mine ↦ packages.new_after table typed effects input ready state top older outer named p frames of_sub at_point path x v e no_calls name
                       (subst (λ i. Has (after (acts_by i) own_facts) (Moved name)) (sym e) mine) root
-                  | inr there ↦ innermost.not_at_home table typed effects input ready state top below more_frames rest named p frames deep stages running awaiting of_sub at_point path views viewed_before kept scope holds placed_before above x name there root at_home
+                  | inr there ↦ absurd (innermost.not_handed table typed effects input ready state top below more_frames rest named p frames deep stages running awaiting of_sub at_point path views viewed_before kept scope holds placed_before above name there)
                 ]
 
             from_source : (q : Pos) (y u : ℕ) (path_of : TypedTree) → v ≡ More (Name q y path_of u) NoMore → is_anonymous (view_of s x) ≡ true → Exacts (Declare x v)
@@ -444,14 +446,14 @@ module _ (table : Table) (typed : TypedProgram) (effects : Effects) (input : Lis
                 (subst (λ z. Takes (taken (Declare x z)) given_words []) here_is (takes_of plain.0 (Declare x v) e)) in
                 subst (λ z. Exacts (Declare x z)) (sym here_is)
                 (declared_main (after (acts_by (Declare x (More (Name q y path_of u) NoMore))) facts_now) x (More (Name q y path_of u) NoMore)
-                (view_declared_on easy ready.accepted.settled ready.owns other alone in_formals views ready.class.parts_named none_taken refl refl elsewhere away Excused given_words q x y u path_of view (ready.orderly.local x view).0 (home_frame x (local x view)) text_there.1 takes facts_now (good plain)
+                (view_declared_on easy ready.accepted.settled ready.owns other alone in_formals views ready.class.parts_named none_taken refl refl elsewhere away Excused given_words q x y u path_of view (orderly.variables x (inl (inl (v, e))) view) (home_frame x (local x (anonymous_view s x view))) text_there.1 takes facts_now (good plain)
                 (subst (λ z. AllowsAll facts_now (acts_by (Declare x z))) here_is allowed_there) exact))
 
             by_view : (b : Bool) → is_anonymous (view_of s x) ≡ b → Exacts (Declare x v)
             by_view true view = (let source = orderly.declared x v e view in from_source source.0 source.1 source.3 source.2 source.4 view)
             by_view false owner =
                 declared_main (after (acts_by (Declare x v)) facts_now) x v
-                (declare_on easy ready.accepted.settled ready.owns other alone in_formals views ready.class.parts_named none_taken refl refl elsewhere away Excused given_words x v (plain_named s.table (object_at s x).of owner) text
+                (declare_on easy ready.accepted.settled ready.owns other alone in_formals views ready.class.parts_named none_taken refl refl elsewhere away Excused given_words x v (plain_named s.table (object_at s x).of owner) (orderly.begun x v e) text
                 (subst (TakesScalars s) e plain.1) (takes_of plain.0 (Declare x v) e) facts_now (good plain) allowed_there keep
                 (after_it, each.free table typed effects input ready state top below more_frames rest named p frames deep stages running awaiting of_sub at_point path views viewed_before kept scope holds placed_before above going no_calls x v e) exact)
 
@@ -484,7 +486,7 @@ module _ (table : Table) (typed : TypedProgram) (effects : Effects) (input : Lis
                     (map (spot q (name_of x NoMore) (length (acts_in s (Name r y path_of w) ++ acts_in s NoMore))) z)
                     (turn at (Assign (Name q x NoMore (object_at s x).of) (Name r y path_of w)))) (sym (view_parts easy ready.accepted.settled ready.owns other alone in_formals views ready.class.parts_named none_taken refl refl elsewhere away Excused x view))
                     (assigned_main (after (acts_by (Assign (Name q x NoMore of) (Name r y path_of w))) facts_now) [] (Name q x NoMore of) of (Name r y path_of w)
-                    (view_assigned_on easy ready.accepted.settled ready.owns other alone in_formals views ready.class.parts_named none_taken refl refl elsewhere away Excused given_words p.pos q r x y w path_of view (ready.orderly.local x view).0 (home_frame x (local x view))
+                    (view_assigned_on easy ready.accepted.settled ready.owns other alone in_formals views ready.class.parts_named none_taken refl refl elsewhere away Excused given_words p.pos q r x y w path_of view (orderly.variables x (inl (inr (q, (object_at s x).of, e, instr_is))) view) (home_frame x (local x (anonymous_view s x view)))
                     (subst (Source s (object_at s x).of) here_is source) takes itself facts_now (good plain)
                     (subst (λ z. AllowsAll facts_now (acts_by (Assign (Name q x NoMore (object_at s x).of) z))) here_is allowed_here) exact)))
 
@@ -548,9 +550,9 @@ module _ (table : Table) (typed : TypedProgram) (effects : Effects) (input : Lis
             let scalar_there : is_scalar (full s.table u) ≡ true = subst (λ z. is_scalar (full s.table z) ≡ true) (sym type) scalar in
             (input_eased at (Both (Input target)) (raising (Input target)) (λ trap m on. on.0 tt) target (
               no_trap _ _ (sound_got_on easy ready.accepted.settled ready.owns other alone in_formals views ready.class.parts_named none_taken refl refl given_words
-                  gets_here q x u path_of gets_so scalar_there leads (takes_of plain.0 (Input target) is) (observes_not s in_formals x (orderly.read q x u path_of is)) facts_now (good plain) allowed_there),
+                  gets_here q x u path_of gets_so scalar_there leads (takes_of plain.0 (Input target) is) (orderly.read q x u path_of is) facts_now (good plain) allowed_there),
               got_on easy ready.accepted.settled ready.owns other alone in_formals views ready.class.parts_named none_taken refl refl elsewhere away Excused given_words
-                  gets_here q x u path_of gets_so scalar_there leads (takes_of plain.0 (Input target) is) (observes_not s in_formals x (orderly.read q x u path_of is)) facts_now (good plain) allowed_there exact,
+                  gets_here q x u path_of gets_so scalar_there leads (takes_of plain.0 (Input target) is) (orderly.read q x u path_of is) facts_now (good plain) allowed_there exact,
             )).1
         reads target is (v, never, scalar) allowed_there = absurd never
 
@@ -581,7 +583,7 @@ module _ (table : Table) (typed : TypedProgram) (effects : Effects) (input : Lis
                   q (extend (name_of x path_of) (sel.Deref ∷ [])) (parts s.table (designated s.table u))),
             )).1
           where
-            last_kept : (before : List Placed) → AllKeep (is_fixed s) (acts (before ++ record { pos = q; act = act.Free (name_of x path_of) } ∷ [])) → sees_only s x ≡ false
+            last_kept : (before : List Placed) → AllKeep (is_fixed s) (acts (before ++ record { pos = q; act = act.Free (name_of x path_of) } ∷ [])) → is_fixed s (name_of x path_of) ≡ false
             last_kept before keep =
                 (keep_both (is_fixed s) (acts before) (act.Free (name_of x path_of) ∷ [])
                 (subst (AllKeep (is_fixed s)) (acts_append before (record { pos = q; act = act.Free (name_of x path_of) } ∷ [])) keep)).1.0

@@ -163,7 +163,7 @@ module _ (t : Turn) (settled : IsSettled (typing t).table) (own_law : OwnsByShap
       → AllowsAll facts (acts (declared_acts s x (More (Name q y path u) NoMore))) → Exact m facts
       → ExactHere (after (acts (declared_acts s x (More (Name q y path u) NoMore))) facts) (Declares_here ws x (More (Name q y path u) NoMore))
   view_declared_on ws q x y u path view variable mine source_there takes facts good allowed exact =
-      let from_it = observes t settled own_law other alone in_formals v parts_named may frames none q x y u path view mine source_there in
+      let from_it = observes t settled own_law other alone in_formals v parts_named may frames none q x y u path view variable mine source_there in
       by_kind from_it.0 from_it.1 (is_observer s x) refl
     where
       e : TypedTree
@@ -239,7 +239,7 @@ module _ (t : Turn) (settled : IsSettled (typing t).table) (own_law : OwnsByShap
       → ExactHere (after (acts (assigned_to s pos (Some x) (Name r x NoMore (object_at s x).of) (Name q y path u))) facts)
       (Puts_here ws (Name r x NoMore (object_at s x).of) r x (Name q y path u))
   view_assigned_on ws pos r q x y u path view variable mine source_there takes itself facts good allowed exact =
-      let from_it = observes t settled own_law other alone in_formals v parts_named may frames none q x y u path view mine source_there in
+      let from_it = observes t settled own_law other alone in_formals v parts_named may frames none q x y u path view variable mine source_there in
       by_kind from_it.0 from_it.1 (is_observer s x) refl
     where
       by_kind : (d : ℕ) → Observes_here x y u d path → (b : Bool) → is_observer s x ≡ b
@@ -281,7 +281,7 @@ module _ (t : Turn) (settled : IsSettled (typing t).table) (own_law : OwnsByShap
   reborrow_unmoved ws pos r q x y u path view variable mine source_there takes borrows itself facts good allowed n has root =
       let e : TypedTree = Name q y path u in
       let target : TypedTree = Name r x NoMore (object_at s x).of in
-      let from_it = observes t settled own_law other alone in_formals v parts_named may frames none q x y u path view mine source_there in
+      let from_it = observes t settled own_law other alone in_formals v parts_named may frames none q x y u path view variable mine source_there in
       let is = view_kinds (is_variable (object_at s x).kind) (is_borrowing (view_of s x)) (is_observing (view_of s x)) view variable borrows in
       let same : assigned_to s pos (Some x) target e ≡ acts_in s path ++ record { pos = r; act = act.Reborrow x (name_of y path) } ∷ [] =
       ap (λ b. if b then index_acts s e ++ reborrow (acts_target_pos pos (written target)) x (source e)
