@@ -28,15 +28,15 @@ use Rattle.machine.specs.States.{Waiting, Leak, Outcome, Goes, Ends}
 use Rattle.machine.specs.Step.{Turn, typing, here, Stored, first_value, taken_by, declare, goes, leaking_goes, target_pos}
 use Rattle.machine.specs.Step as steps
 use Rattle.machine.specs.Owners.{waiting_in}
-use Rattle.owned_ways.specs.Ways.{OfVariable, OfRoot, Way, Object, Empty, Held, View, Under, Named, IsSame, after, AllowsAll, number_of, name_of as way_name}
+use Rattle.owned_ways.specs.Ways.{OfVariable, OfRoot, Way, Object, Empty, Held, View, Under, Named, IsSame, after, AllowsAll, number_of, name_of as way_name, base_of}
 use Rattle.owned_ways.proofs.Named.{longer}
 use Rattle.owned_ways.proofs.Dropped.{named_base}
 use Rattle.part_offsets.specs.Parts.{IsSettled}
-use Rattle.soundness.specs.Seen.{content, home, seen, IsNear, is_view_formal}
+use Rattle.soundness.specs.Seen.{content, home, seen, IsNear, is_view_formal, word_in}
 use Rattle.soundness.specs.Typed.{OwnsByShape}
 use Rattle.typed_laws.specs.Needed.{Stays, Gives, Leads, Source, FirstSource}
 use Rattle.soundness.proofs.Near.{near_under}
-use Rattle.soundness.proofs.Contents.{word_no, checks_made}
+use Rattle.soundness.proofs.Contents.{word_no, checks_made, word_dead}
 use Rattle.soundness.proofs.Steps.{alike}
 use Rattle.soundness.proofs.Scalars.{acts}
 use Rattle.soundness.proofs.Stays.{Quiet, One}
@@ -59,7 +59,7 @@ use Rattle.viewed_facts.proofs.Memories.{told_seen, exact_from, declared_exact, 
 use Rattle.viewed_facts.proofs.Evaluated.{ExactTo, checked_exact, exact_on}
 use Rattle.viewed_facts.proofs.Stored.{StoresExact, assigned_exact}
 use Rattle.viewed_facts.proofs.Checks.{place_holds}
-use Rattle.viewed_steps.proofs.Views.{AreAccess, same_named}
+use Rattle.viewed_steps.proofs.Views.{AreAccess, same_named, view_cases}
 use Rattle.owned_loans.proofs.Meeting.{stands}
 
 module _ (t : Turn) (settled : IsSettled (typing t).table) (own_law : OwnsByShape (typing t).table) (other : Around (home (typing t) (length t.outer)))
@@ -182,7 +182,7 @@ module _ (t : Turn) (settled : IsSettled (typing t).table) (own_law : OwnsByShap
   unspoken : (x : ℕ) (facts : List Fact) (z : View) → Viewed (home s depth) (sees_only s) other v z facts → Speaks_not x facts
       → (w : Way) → IsDefinite (home s depth) v elsewhere facts w → Under (Object (OfVariable depth x)) w → ⊥
   unspoken x facts z viewed (unmoved, free) w (inr e) under = elim (away w e.1) [
-    | inl far ↦ far (near_under depth (Object (OfVariable depth x)) w under (inr refl))
+    | inl far ↦ far.0 (near_under depth (Object (OfVariable depth x)) w under (inr refl))
     | inr (k, named, begins_it, lent) ↦ (
         let begins_there = longer (Object (OfVariable depth x)) w under in
         let begins_lent = longer k w begins_it in
@@ -297,10 +297,13 @@ module _ (t : Turn) (settled : IsSettled (typing t).table) (own_law : OwnsByShap
   -- ---- the end of a scope, where none of the views that are left begins
 
   -- the variable of a view owns nothing
-  pub view_empty : (n : Memory) (waiting : List Waiting) (leaks : List Leak) (f x : ℕ) → is_anonymous (view_of s x) ≡ true
+  pub view_empty : (n : Memory) (waiting : List Waiting) (leaks : List Leak) (f x : ℕ) → is_view s x ≡ true
       → (c : ℕ) → (seen s n waiting leaks).word (OfRoot (OfVariable f x)) ≡ Held c → ⊥
   view_empty n waiting leaks f x view c held =
-      let none = word_no s.table (content s n waiting (OfRoot (OfVariable f x))) [] (view_leaf s.table settled (object_at s x).of view []) in
+      let none : word_in s.table (content s n waiting (OfRoot (OfVariable f x))) [] ≡ Empty = elim (view_cases s x view) [
+        | inl anonymous ↦ word_no s.table (content s n waiting (OfRoot (OfVariable f x))) [] (view_leaf s.table settled (object_at s x).of anonymous [])
+        | inr formal ↦ word_dead s.table (content s n waiting (OfRoot (OfVariable f x))) [] (ap not formal)
+      ] in
       let no_number : Empty ≡ Held c = sym none ∙ held in cc
 
   -- `mine`: the object is one of the frame

@@ -360,7 +360,7 @@ module _ (table : Table) (typed : TypedProgram) (effects : Effects) (input : Lis
             declared_main (after (acts_by (Declare y (More call NoMore))) facts_now) y (More call NoMore)
             (subst (λ z. ExactAt (after z facts_now) [] (steps.evaluated easy (steps.first_value at (object_at s y).of (More call NoMore) (start at))
             (λ vs m. steps.goes easy (declared depth y vs m) 0))) (sym same)
-            (then_declared easy ready.accepted.settled ready.owns other alone in_formals views ready.class.parts_named none_taken refl refl elsewhere away Excused y facts_now (steps.first_value at (object_at s y).of (More call NoMore) (start at))
+            (then_declared easy ready.accepted.settled ready.owns other alone in_formals views ready.class.parts_named none_taken refl refl elsewhere away Excused y (orderly.begun y (More call NoMore) is) facts_now (steps.first_value at (object_at s y).of (More call NoMore) (start at))
             (alone_value.source_alone table typed effects input ready state top below more_frames rest named p frames deep stages running awaiting of_sub at_point path views viewed_before kept scope holds placed_before above going taken_alone (object_at s y).of type_there (alone_value.source_here table typed effects input ready state top below more_frames rest named p frames deep stages running awaiting of_sub at_point path views viewed_before kept scope holds placed_before above going no_calls taken_alone y is))
             (call_exact (object_at s y).of type_there)
             (each.unmoved_now table typed effects input ready state top below more_frames rest named p frames deep stages running awaiting of_sub at_point path views viewed_before kept scope holds placed_before above going no_calls y (More call NoMore) is, each.free table typed effects input ready state top below more_frames rest named p frames deep stages running awaiting of_sub at_point path views viewed_before kept scope holds placed_before above going no_calls y (More call NoMore) is)))
