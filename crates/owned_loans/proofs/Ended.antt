@@ -1,5 +1,5 @@
 -- The end of a variable or of a hand keeps the ways of views that don't begin there.
-use Rattle.std.proofs.Common.{◌≡◌, refl, sym, ap, ◌∙◌, subst, ◌⊎◌, inl, inr, ℕ, Bool, true, false, not, ◌==◌, eqb-true, eq-eqb, List, [], ◌∷◌, Some, None}
+use Rattle.std.proofs.Common.{◌≡◌, refl, sym, ap, ◌∙◌, subst, ◌⊎◌, inl, inr, ℕ, Bool, true, false, not, ◌==◌, eqb-true, eq-eqb, List, [], ◌∷◌, ◌++◌, Some, None}
 use Rattle.std.specs.List.{filter}
 use Rattle.spark_base.specs.Lists.{Has}
 use Rattle.spark_base.proofs.Lists.{Has-append_cases, Has-filter, Has-filter_passes}
@@ -11,7 +11,7 @@ use Rattle.place_names.specs.declared.act.Act.TheVariants.{EndScope}
 use Rattle.place_names.specs.declared.fact.Fact.{Fact}
 use Rattle.place_names.specs.declared.fact.Fact.TheVariants.{Moved, Lent}
 use Rattle.place_names.specs.Facts.{belongs_to, effect}
-use Rattle.owned_ways.specs.Ways.{Step, Root, OfVariable, OfHand, Loc, OfRoot, OfCell, Way, Object, Lost, Into, All, View, along, Below, Reaches, Owned, IsDrop, base_of, number_of, name_of, Named, IsMoved, Excused, Sound}
+use Rattle.owned_ways.specs.Ways.{Step, Root, OfVariable, OfHand, Loc, OfRoot, OfCell, Way, Object, Lost, Into, All, Empty, Held, View, part, along, Below, Reaches, Owned, IsDrop, base_of, number_of, name_of, Named, IsMoved, Excused, Sound}
 use Rattle.owned_ways.proofs.Locations.{same_loc, reaches_along}
 use Rattle.owned_ways.proofs.Unique.{one_way}
 use Rattle.owned_ways.proofs.Assigned.{kept_fact, is_false}
@@ -25,6 +25,12 @@ use Rattle.owned_loans.proofs.Moves.{view_rooted, reached, view_on, as_sound, al
 along_base : (w : Way) (p : List Step) → base_of (along w p) ≡ base_of w
 along_base w [] = refl
 along_base w (i ∷ p) = along_base w p
+
+-- what has a number then had it before
+drop_held : (s t : View) (r : Root) → IsDrop s t r → (l : Loc) (c : ℕ) → t.word l ≡ Held c → s.word l ≡ Held c
+drop_held s t r d l c held =
+    let outside : Below (OfRoot r) l → ⊥ = λ b. (let is : Held c ≡ Empty = sym held ∙ ap t.word b.1 ∙ d.empty b.0 in cc) in
+    sym (d.off l outside) ∙ held
 
 -- a way that doesn't begin at a root that ends reaches what it reached
 drop_reaches : (s t : View) (r : Root) → Owned s → IsDrop s t r → (w : Way) (l : Loc) → Reaches s w l → (base_of w ≡ OfRoot r → ⊥) → Reaches t w l
@@ -68,6 +74,7 @@ module _ (home : ℕ → ℕ) (observer : ℕ → Bool) (other : Around home) (v
         lends = viewed.lends;
         far = λ w n keeps. (let root = other.begins w n keeps in
             drop_reaches s t (OfHand h) viewed.owned d w (OfCell n) (viewed.far w n keeps) (λ e. variable_hand root.0 root.1 h (sym root.2 ∙ e)));
+        bare = λ w l p bare q c held. viewed.bare w l p bare q c (drop_held s t (OfHand h) d (part l (q ++ p)) c held);
       }
 
   same_frame : (f g x y : ℕ) → OfRoot (OfVariable f x) ≡ OfRoot (OfVariable g y) → (f ≡ g) × (x ≡ y)
@@ -219,6 +226,7 @@ module _ (home : ℕ → ℕ) (observer : ℕ → Bool) (other : Around home) (v
                   let bases = sym (named_base home k named) ∙ sym (longer k w under).base ∙ e in
                   leaves.unlent l (name_of k) lent (same_variable (home (number_of k)) (home x) (number_of k) x bases))
             ])));
+        bare = λ w l p bare q c held. viewed.bare w l p bare q c (drop_held s t (OfVariable (home x) x) d (part l (q ++ p)) c held);
       }
     where
       own_loan : (y : ℕ) (w : Way) → v.way y ≡ Some w → Named home (v.up y) → (b : Bool) → observer y ≡ b → HasLoan observer (observer y) y facts (name_of (v.loan y))

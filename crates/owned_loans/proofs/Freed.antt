@@ -1,5 +1,5 @@
 -- Freeing the cell that a name leads to keeps owners, what is known and the ways of views.
-use Rattle.std.proofs.Common.{◌≡◌, refl, sym, ap, ◌∙◌, subst, inl, inr, ℕ, Bool, false, List, [], ◌∷◌}
+use Rattle.std.proofs.Common.{◌≡◌, refl, sym, ap, ◌∙◌, subst, inl, inr, ℕ, Bool, false, List, [], ◌∷◌, ◌++◌}
 use Rattle.place_names.specs.Names.{covers}
 use Rattle.place_names.specs.declared.act.Act.{Act}
 use Rattle.place_names.specs.declared.act.Act.TheVariants.{Free}
@@ -131,4 +131,5 @@ module _ (home : ℕ → ℕ) (observer : ℕ → Bool) (other : Around home) (v
         lends = λ l m lent. lends_on observer v facts (effect act facts) (loan_kept act facts (λ l h z. refl)) l m (viewed.lends l m lent);
         far = λ w n' keeps. reaches_on s t at n step (expand v k) w (OfCell n') viewed.owned held target (viewed.far w n' keeps)
             (λ past. off_kept home observer other v s facts viewed k w n' name (free_unlent facts k allowed) keeps past);
+        bare = λ w l p bare q c h. viewed.bare w l p bare q c (held_before s t at n step (part l (q ++ p)) c h);
       }

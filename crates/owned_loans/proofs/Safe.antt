@@ -64,7 +64,7 @@ abbrev pub Unmoved : List Fact → Way → Type 0
 Unmoved facts u = (n : Name) → Has facts (Moved n) → overlaps n (name_of u) ≡ true → ⊥
 
 -- What overlaps what a name designates overlaps the name.
-designated_over : (n : Name) (u : Way) → overlaps n (name_of (All u)) ≡ true → overlaps n (name_of u) ≡ true
+pub designated_over : (n : Name) (u : Way) → overlaps n (name_of (All u)) ≡ true → overlaps n (name_of u) ≡ true
 designated_over n u e = overlaps_whole (name_of u) n (Deref ∷ []) (overlaps-sym (name_of (All u)) n ∙ e)
 
 pub unlent_below : (facts : List Fact) (u : Way) → Unlent facts u → Unlent facts (All u)

@@ -147,6 +147,7 @@ module _ (home : ℕ → ℕ) (observer : ℕ → Bool) (other : Around home) (v
       plain = old.plain;
     });
     far = viewed.far;
+    bare = viewed.bare;
   }
     where
       true_false : (c : Bool) → c ≡ true → c ≡ false → ⊥

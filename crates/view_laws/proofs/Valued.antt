@@ -48,13 +48,13 @@ use Rattle.view_laws.proofs.Formals.{passed_named}
 
 -- ---- lists
 
-dropped_has : (k : ℕ) (xs : List ℕ) (x : ℕ) → Has (drop k xs) x → Has xs x
+pub dropped_has : (k : ℕ) (xs : List ℕ) (x : ℕ) → Has (drop k xs) x → Has xs x
 dropped_has zero [] x has = has
 dropped_has zero (y ∷ xs) x has = has
 dropped_has (suc k) [] x has = has
 dropped_has (suc k) (y ∷ xs) x has = inr (dropped_has k xs x has)
 
-beside_first : (k : ℕ) (t : ℕ) (xs : List ℕ) (x : ℕ) → Has (drop (suc k) (t ∷ xs)) x → Has xs x
+pub beside_first : (k : ℕ) (t : ℕ) (xs : List ℕ) (x : ℕ) → Has (drop (suc k) (t ∷ xs)) x → Has xs x
 beside_first k t xs x has = dropped_has k xs x has
 
 taken_has : (k : ℕ) (xs : List ℕ) (x : ℕ) → Has (take k xs) x → Has xs x
@@ -90,7 +90,7 @@ temporary_from (o ∷ os) ts lasts (suc x) is = temporary_from os ts (λ y. last
 
 -- ---- what is taken alone
 
-takes_one : (i : Instruction) (q : Pos) (n : ℕ) (a : TypedTree) → Takes i (typed_tree.Call q n a) → (k : ℕ) × (taken i ≡ suc k)
+pub takes_one : (i : Instruction) (q : Pos) (n : ℕ) (a : TypedTree) → Takes i (typed_tree.Call q n a) → (k : ℕ) × (taken i ≡ suc k)
 unfolding waiting
 takes_one i q n a (inl (x, is)) = (0, ap taken is)
 takes_one i q n a (inr (inl (p, x, path, u, is, none))) = (waiting path, ap taken is ∙ (let one : 1 + waiting path ≡ suc (waiting path) = omega arith in one))
@@ -125,7 +125,7 @@ module _ (table : Table) (typed : TypedProgram) (effects : Effects) (given : IsV
   abbrev May : ℕ → Type 0
   May n = GivesNamed own n
 
-  weaker : (n : ℕ) → Asked n → May n
+  pub weaker : (n : ℕ) → Asked n → May n
   weaker n scalar t is = no_anonymous (full own.table t) (scalar t is)
 
   -- a temporary of a scalar type, or no temporary

@@ -30,7 +30,7 @@ use Rattle.owned_loans.specs.Views.{Around, Views, expand, ExcusedBy, Viewed}
 use Rattle.owned_loans.proofs.Meeting.{IsPlain}
 use Rattle.owned_loans.proofs.Others.{clean_away}
 use Rattle.owned_loans.proofs.Allowed.{move_unlent, move_unmoved}
-use Rattle.owned_loans.proofs.Moves.{IsPlace, rooted_way, view_rooted, reached, view_on, all_known, no_hand, taken, put}
+use Rattle.owned_loans.proofs.Moves.{IsPlace, rests_there, rooted_way, view_rooted, reached, view_on, all_known, no_hand, taken, put}
 use Rattle.owned_loans.proofs.Ended.{Leaves, ended}
 
 -- ---- ways through words that stay
@@ -48,6 +48,10 @@ far_old s owned (Object (OfHand h)) l f x base r = cc
 far_old s owned (Lost c) l f x base r = cc
 far_old s owned (Into w i) l f x base (m, r, e) = subst (IsOld s) (sym e) (far_old s owned w m f x base r)
 far_old s owned (All w) l f x base (m, c, r, held, e) = subst (IsOld s) (sym e) (owned.within m c held)
+
+old_part : (s : View) (l : Loc) (p : List Step) → IsOld s l → IsOld s (part l p)
+old_part s l [] old = old
+old_part s l (i ∷ p) old = old_part s l p old
 
 far_reaches : (s t : View) → Owned s → ((l : Loc) → IsOld s l → t.word l ≡ s.word l) → (w : Way) (l : Loc) (f x : ℕ) → base_of w ≡ OfRoot (OfVariable f x)
     → Reaches s w l → Reaches t w l
@@ -74,6 +78,9 @@ module _ (home : ℕ → ℕ) (observer : ℕ → Bool) (other : Around home) (v
     whole = viewed.whole;
     past = viewed.past;
     far = λ w n keeps. (let root = other.begins w n keeps in far_reaches s t viewed.owned same w (OfCell n) root.0 root.1 root.2 (viewed.far w n keeps));
+    bare = λ w l p bare q c held. (let root = other.bares w l p bare in
+        viewed.bare w l p bare q c (sym (same (part l (q ++ p))
+        (old_part s l (q ++ p) (far_old s viewed.owned w l root.0 root.1 root.2 (rests_there home observer other v s facts viewed w l p bare)))) ∙ held));
   }
 
   -- nothing that is known of a name is of a hand

@@ -131,7 +131,22 @@ declared_low s m got rest leaks f x w g y base off n reach =
 
 -- A variable isn't one that a way of others begins at.
 abbrev pub IsApart : (home : ℕ → ℕ) → Around home → ℕ → ℕ → Type 0
-IsApart home other f x = (w : Way) (n : ℕ) → other.kept w n → base_of w ≡ OfRoot (OfVariable f x) → ⊥
+IsApart home other f x =
+    (w : Way) → ((n : ℕ) × other.kept w n) ⊎ ((l : Loc) × (p : List Step) × other.bare w l p) → base_of w ≡ OfRoot (OfVariable f x) → ⊥
+
+-- nor one in which something is bare
+bare_off : (home : ℕ → ℕ) (other : Around home) (f x : ℕ) → IsApart home other f x → (w : Way) (l : Loc) (p q : List Step) → other.bare w l p → IsOff f x (part l q)
+bare_off home other f x apart w l p q bare = elim (other.rests w l p bare) [
+  | inl (n, keeps, is) ↦ subst (λ z. IsOff f x (part z q)) (sym is) (below q (OfCell n) tt)
+  | inr (r, way, is) ↦
+      let (g, y, base, other_one) = other.bares w l p bare in
+      let root : OfRoot r ≡ OfRoot (OfVariable g y) = sym (ap base_of way) ∙ base in
+      subst (λ z. IsOff f x (part z q)) (sym (is ∙ root)) (below q (OfRoot (OfVariable g y)) (λ e. apart w (inr (l, p, bare)) (base ∙ ap OfRoot (sym e))))
+]
+  where
+    below : (q : List Step) (l : Loc) → IsOff f x l → IsOff f x (part l q)
+    below [] l off = off
+    below (i ∷ q) l off = below q l off
 
 module _ (s : Typing) (settled : IsSettled s.table) (home : ℕ → ℕ) (observer : ℕ → Bool) (other : Around home) (v : Views) where
   pub declared_viewed : (m : Memory) (got : Waiting) (rest : List Waiting) (leaks : List Leak) (facts : List Fact) (f x : ℕ)
@@ -158,7 +173,9 @@ module _ (s : Typing) (settled : IsSettled s.table) (home : ℕ → ℕ) (observ
         past = viewed.past;
         far = λ w n keeps. (let root = other.begins w n keeps in
             far_off a b f x root.0 root.1 (λ l off. word_off s m (got ∷ rest) rest leaks f x got.words l off) w (OfCell n) root.2
-            (λ e. apart w n keeps (root.2 ∙ ap OfRoot (sym e))) (viewed.far w n keeps));
+            (λ e. apart w (inl (n, keeps)) (root.2 ∙ ap OfRoot (sym e))) (viewed.far w n keeps));
+        bare = λ w l p bare q c held. viewed.bare w l p bare q c
+            (sym (word_off s m (got ∷ rest) rest leaks f x got.words (part l (q ++ p)) (bare_off home other f x apart w l p (q ++ p) bare)) ∙ held);
       }
     where
       frame_of : (f x g y : ℕ) → OfVariable f x ≡ OfVariable g y → g ≡ f

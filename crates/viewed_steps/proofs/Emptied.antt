@@ -158,6 +158,7 @@ module _ (home : ℕ → ℕ) (observer : ℕ → Bool) (v : Views) (other : Aro
     past = viewed.past;
     lends = λ k n lent. lends_on observer v facts facts' left.loans k n (viewed.lends k n lent);
     far = viewed.far;
+    bare = λ w n p none. absurd none;
   }
 
   pub emptied : (s t : View) (u : Way) (l : Loc) (facts facts' : List Fact) → IsEmptied s t l → Viewed home observer other v s facts → IsRooted u
@@ -189,4 +190,5 @@ module _ (home : ℕ → ℕ) (observer : ℕ → Bool) (v : Views) (other : Aro
     past = viewed.past;
     lends = λ k n lent. lends_on observer v facts facts' left.loans k n (viewed.lends k n lent);
     far = λ w n held. keeps_off s t l d viewed.owned u rooted reaches w (OfCell n) (viewed.far w n held) (λ past. off.far w n held past);
+    bare = λ w n p none. absurd none;
   }

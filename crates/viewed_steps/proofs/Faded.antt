@@ -87,4 +87,5 @@ module _ (home : ℕ → ℕ) (observer : ℕ → Bool) (other : Around home) (v
       plain = old.plain;
     });
     far = viewed.far;
+    bare = viewed.bare;
   }

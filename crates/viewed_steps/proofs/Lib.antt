@@ -9,6 +9,8 @@ pub mod Placed
 pub mod Ended
 pub mod Sources
 pub mod Sighted
+pub mod Traversed
+pub mod Low
 pub mod Returned
 pub mod Beside
 pub mod Inherited
@@ -40,12 +42,14 @@ pub mod Seeing
 pub mod Clear
 pub mod Called
 -- the views of what is called
+pub mod Exclusive
 pub mod Opening
 pub mod Backed
 pub mod Whole
 pub mod Passed
 pub mod Lending
 pub mod Globals
+pub mod Outside
 pub mod Cells
 pub mod Eased
 pub mod Blank
@@ -55,6 +59,7 @@ pub mod Innermost
 pub mod EachInstruction
 pub mod Operands
 pub mod Alone
+pub mod Taking
 pub mod Results
 pub mod ScopeEnds
 pub mod CallEnds

@@ -145,6 +145,7 @@ module _ (home : ℕ → ℕ) (observer : ℕ → Bool) (other : Around home) (v
         past = viewed.past;
         lends = λ l n lent. lends_on observer v facts (effect a facts) (loan_kept a facts (λ l h z. refl)) l n (viewed.lends l n lent);
         far = viewed.far;
+        bare = viewed.bare;
       }
 
   -- a store at a place without owners hides nothing
@@ -178,6 +179,7 @@ module _ (home : ℕ → ℕ) (observer : ℕ → Bool) (other : Around home) (v
         past = viewed.past;
         lends = λ l n lent. lends_on observer v facts (effect a facts) (loan_kept a facts (λ l h z. refl)) l n (viewed.lends l n lent);
         far = viewed.far;
+        bare = viewed.bare;
       }
 
 -- ---- the outcome
