@@ -232,13 +232,13 @@ module _ (table : Table) (typed : TypedProgram) (effects : Effects) (input : Lis
             some_is : (a b : ℕ) → Some a ≡ Some b → a ≡ b
             some_is a b e = cc
 
-        value_anonymous : is_anonymous (full s.table value_there.of) ≡ true
+        pub value_anonymous : is_anonymous (full s.table value_there.of) ≡ true
         value_anonymous = ap (λ z. is_anonymous (full s.table z)) value_of_view ∙ gives.anonymous
 
-        given_there : IsGivenTo s (view_here s state) depth p.instr views value_there
+        pub given_there : IsGivenTo s (view_here s state) depth p.instr views value_there
         given_there = given value_there first_there.4 first_there.5 value_anonymous
 
-        abbrev word_there : machine.Word
+        abbrev pub word_there : machine.Word
         word_there = given_there.word
 
         abbrev call_there : TraversalCall
@@ -270,10 +270,10 @@ module _ (table : Table) (typed : TypedProgram) (effects : Effects) (input : Lis
         hands_there : waiting_in state ≡ value_there ∷ others_in_hand
         hands_there = first_there.2
 
-        words_there : given_words ≡ (word_there ∷ []) ∷ []
+        pub words_there : given_words ≡ (word_there ∷ []) ∷ []
         words_there = first_there.3 ∙ ap (λ z. z ∷ []) given_there.is
 
-        good_there : IsGood easy ready.accepted.settled ready.owns other alone views ready.class.parts_named may refl refl views facts_now easy.state
+        pub good_there : IsGood easy ready.accepted.settled ready.owns other alone views ready.class.parts_named may refl refl views facts_now easy.state
         good_there = record {
           viewed = without_view s ready.accepted.settled state.memory value_there others_in_hand value_anonymous (home s depth) (sees_only s) other views state.leaks facts_now
               (subst (λ z. Viewed (home s depth) (sees_only s) other views (seen s state.memory z state.leaks) facts_now) hands_there viewed);
