@@ -68,6 +68,7 @@ use Rattle.viewed_steps.proofs.Outs.{Out, found_in}
 use Rattle.viewed_steps.proofs.LaidOut.{IsValueLaid, IsOwnPut, IsPlainAt, IsPlaceLaid, IsLaidOne, AreLaidOut, own_out, place_out, out_of, outs_of, plain_cell, cell_of, cells_of}
 use Rattle.viewed_steps.proofs.Called.{copies_add}
 use Rattle.viewed_steps.proofs.Entered.{IsPlainOne, DiffersFrom, IsTakenAs, ArePassedOn}
+use Rattle.soundness.proofs.Fixed.{plain_word}
 
 -- ---- what the rules on facts say
 
@@ -274,7 +275,7 @@ after_less (a ∷ more) none facts f has =
 
 -- ---- all that is passed
 
-module _ (s : Typing) (own_law : OwnsByShape s.table) (m : Memory) (cells : List Lodge) (depth : ℕ) (v : Views) (view : ways.View) (facts : List Fact) (scope : List ℕ) (procedure : Bool) where
+module _ (s : Typing) (own_law : OwnsByShape s.table) (settled : IsSettled s.table) (m : Memory) (cells : List Lodge) (depth : ℕ) (v : Views) (view : ways.View) (facts : List Fact) (scope : List ℕ) (procedure : Bool) where
   abbrev copies_of : List ℕ → TypedTree → List Placed
   copies_of formals actuals = actual_acts (map (passing s procedure) formals) actuals
 
@@ -343,7 +344,7 @@ module _ (s : Typing) (own_law : OwnsByShape s.table) (m : Memory) (cells : List
             formal = local;
             owner = copied_owner x back;
             many = many;
-            within = λ owns. within inside.object (inl (sym object_is)) inside.own owns;
+            within = λ own owns. within inside.object (inl (sym object_is)) own owns;
             unlent = λ l h n has over. unlent to by_way l h n (less (Lent l h n) has) over;
             cleared = (taken by_way).1;
           },
@@ -417,11 +418,13 @@ module _ (s : Typing) (own_law : OwnsByShape s.table) (m : Memory) (cells : List
 
   -- a value of mode `in`
   value_first : (x : ℕ) (ws : List machine.Word) → (object_at s x).mode ≡ mode.In → IsKindOfFormal s x → IsValueLaid s m x ws → IsPlainOne s m cells x (Value ws)
-  value_first x ws is (inl plain) laid = inl (plain, laid.0 (plain_type s own_law (object_at s x).of plain))
+  value_first x ws is (inl plain) laid =
+      inl (plain, (laid.0 (plain_type s own_law (object_at s x).of plain)).0 ∙ plain_word s settled (object_at s x).of plain)
   value_first x ws is (inr (inl (back, own))) laid = absurd (back is)
-  value_first x ws is (inr (inr shown)) laid =
+  value_first x ws is (inr (inr (inr (by_mode, plain, named)))) laid = inr (inr (plain, named, ws, refl, laid.0 plain))
+  value_first x ws is (inr (inr (inl shown))) laid =
       let value = laid.1 (second_true (is_in_formal s x) (is_owning s.table (object_at s x).of) shown.0) in
-      inr (shown.0, value.0, ap Value value.1, value.2)
+      inr (inl (shown.0, value.0, ap Value value.1, value.2))
     where
       second_true : (a b : Bool) → a && b ≡ true → b ≡ true
       second_true true b e = e
@@ -533,7 +536,7 @@ module _ (s : Typing) (settled : IsSettled s.table) (depth : ℕ) (v : Views) (v
 
   -- A formal is of a scalar type, or is copied back, or owns nothing.
   abbrev IsReturned : ℕ → List Return → Type 0
-  IsReturned x returns = IsScalarObject s x ⊎ (((r : Return) × Has returns r × (r.formal ≡ x)) ⊎ (is_view_formal s x ≡ true))
+  IsReturned x returns = IsScalarObject s x ⊎ (((r : Return) × Has returns r × (r.formal ≡ x)) ⊎ ((is_view_formal s x ≡ true) ⊎ (is_owning s.table (object_at s x).of ≡ false)))
 
   more_return : (x y : ℕ) (a : Passed) (formals : List ℕ) (passed : List Passed) → IsReturned y (returns_of formals passed) → IsReturned y (returns_of (x ∷ formals) (a ∷ passed))
   more_return x y a formals passed (inl plain) = inl plain
@@ -545,7 +548,8 @@ module _ (s : Typing) (settled : IsSettled s.table) (depth : ℕ) (v : Views) (v
   first_return m x mode.InOut e (From k) formals passed is laid kind = inr (inl (record { formal = x; to = k }, inl refl, refl))
   first_return m x mode.In e (Value ws) formals passed is laid (inl plain) = inl plain
   first_return m x mode.In e (Value ws) formals passed is laid (inr (inl (back, own))) = absurd (back is)
-  first_return m x mode.In e (Value ws) formals passed is laid (inr (inr shown)) = inr (inr shown.0)
+  first_return m x mode.In e (Value ws) formals passed is laid (inr (inr (inl shown))) = inr (inr (inl shown.0))
+  first_return m x mode.In e (Value ws) formals passed is laid (inr (inr (inr plain))) = inr (inr (inr plain.1))
   first_return m x mode.Out e (To k) formals passed is laid kind = inr (inl (record { formal = x; to = k }, inl refl, refl))
   first_return m x how e a formals passed is laid kind = absurd laid
 
