@@ -290,7 +290,7 @@ module _ (s : Typing) (own_law : OwnsByShape s.table) (m : Memory) (cells : List
             formal = local;
             owner = copied_owner x back;
             many = many;
-            within = λ owns. within inside.object (inl (sym object_is)) inside.own owns;
+            within = λ own owns. within inside.object (inl (sym object_is)) own owns;
             unlent = λ l h n has over. unlent to by_way l h n (less (Lent l h n) has) over;
           },
           apart_from s x (Name p y path u) actual formals actuals to ways_left back refl (sym called) none names,
