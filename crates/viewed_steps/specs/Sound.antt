@@ -330,9 +330,9 @@ pub data Follows (program : FlowProgram) (effects : Effects) (i : Instruction) (
       → Follows program effects i m top older n next around
   calls_one : (waits : Stage) (cells : List Lodge) → around ≡ record { stage = waits; views = top.views; cells = cells } ∷ older → owners.IsOnward top.stage waits → next.stage.before ≡ []
       → ((f : Fact) → Has (facts_of program effects waits) f → Has (facts_of program effects top.stage) f)
-      → AreCarried (flow_typing program) (λ f. f ≡ suc top.stage.depth → ⊥) [] m n → Follows program effects i m top older n next around
+      → AreCarried (flow_typing program) (λ f. f ≡ suc top.stage.depth → ⊥) cells [] m n → Follows program effects i m top older n next around
   ends_one : (cells : List Lodge) → older ≡ record { stage = next.stage; views = next.views; cells = cells } ∷ around
-      → AreCarried (flow_typing program) (λ f. f ≡ top.stage.depth → ⊥) next.stage.returns m n
+      → AreCarried (flow_typing program) (λ f. f ≡ top.stage.depth → ⊥) cells next.stage.returns m n
       → Follows program effects i m top older n next around
 
 -- What a step leads to, with where its frames come from.
