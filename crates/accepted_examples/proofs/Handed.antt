@@ -40,6 +40,7 @@ use Rattle.file_positions.proofs.Cuts.{cut_in_order}
 use Rattle.called_subs.specs.Called.{Calls, CodeCalls}
 use Rattle.order_laws.specs.Orderly.{typed_of, typing_in}
 use Rattle.sound_files.specs.Class.{CallsProcedures, IsScalarAt, FormalsAreKinds, AreOwnActuals, CopyToVariables, PassOwnObjects}
+use Rattle.sound_files.proofs.Results.{results_fit}
 use Rattle.viewed_files.proofs.Files.{parsed_called_sound}
 use Rattle.accepted_runs.proofs.Runs.{RunsAreSound}
 use Rattle.accepted_runs.proofs.Views.{AreInSecondViewClass}
@@ -116,15 +117,15 @@ formals x is =
     by (is_formal own x) (object_at own x).mode (is_anonymous (full own.table (object_at own x).of)) is
     (at_any (λ (o : Object). kind_if_formal o ≡ true) own.objects text_io refl (each kind_if_formal own.objects kinds) x)
   where
+    no_in : mode.InOut ≡ mode.In → ⊥
+    no_in e = cc
+
     by : (f : Bool) (m : Mode) (a : Bool) → f ≡ true → not f || (is_back m && not a) ≡ true → IsScalarAt own x ⊎ ((m ≡ mode.In → ⊥) × (a ≡ false))
     by false m a f e = absurd (true≢false (sym f))
     by true mode.InOut false f e = inr (no_in, refl)
     by true mode.InOut true f e = absurd (true≢false (sym e))
     by true mode.In a f e = absurd (true≢false (sym e))
     by true mode.Out a f e = absurd (true≢false (sym e))
-
-    no_in : mode.InOut ≡ mode.In → ⊥
-    no_in e = cc
 
 -- Of three subprograms, the last one calls.
 of_three : (P : TypedSub → Type 0) (a b c : TypedSub) → P a → P b → P c → (sub : TypedSub) → Has (a ∷ (b ∷ (c ∷ []))) sub → P sub
@@ -146,7 +147,7 @@ passed =
     (tt, ((((λ is owns y has. elim has [ inl same ↦ subst (λ z. is_package_object own z ≡ false) same refl | inr none ↦ absurd none ]), tt), (tt, tt)), tt))
 
 pub class : AreInSecondViewClass files
-class = record { main = 2; is_main = is_main; calls = record { results = inl calls; formals = formals; copied = copied; passed = passed } }
+class = record { main = 2; is_main = is_main; calls = record { results = results_fit (program_of files) (inl calls); formals = formals; copied = copied; passed = passed } }
 
 -- ---- nothing is reported of it
 

@@ -21,7 +21,7 @@ use Rattle.soundness.specs.Sound.{Accepted, IsNamedSub, IsRunnable}
 use Rattle.soundness.specs.Ready.{IsActualBy, AreActuals}
 use Rattle.soundness.proofs.Fixed.{matches_scalar}
 use Rattle.soundness.proofs.Points.{sub_there}
-use Rattle.soundness.proofs.Passing.{signature_is}
+use Rattle.soundness.proofs.Passing.{plain_type, signature_is}
 use Rattle.soundness.proofs.Typings.{Agree, flow_agrees, package_same, formal_same, formal_object}
 use Rattle.scope_laws.specs.Code.{objects_of}
 use Rattle.scope_laws.specs.Order.{named_in}
@@ -47,24 +47,24 @@ module _ (s : Typing) where
       scalar_type t u (inl e) plain = matches_scalar s u t (inl (sym e)) plain
       scalar_type t u (inr both) plain = both.0
 
-  plain_actual : (x : ℕ) (m : Mode) (e : TypedTree) → IsScalarObject s x → IsActualTo s x m e → IsActualBy s m e
-  plain_actual x mode.In e plain actual = actual
-  plain_actual x mode.Out e plain actual = plain_place x e plain actual
-  plain_actual x mode.InOut e plain actual = plain_place x e plain actual
+  plain_actual : OwnsByShape s.table → (x : ℕ) (m : Mode) (e : TypedTree) → IsScalarObject s x → IsActualTo s x m e → IsActualBy s m e
+  plain_actual owns x mode.In e plain actual = actual.0 (plain_type s owns (object_at s x).of plain)
+  plain_actual owns x mode.Out e plain actual = plain_place x e plain actual
+  plain_actual owns x mode.InOut e plain actual = plain_place x e plain actual
 
-  pub plain_actuals : (formals : List ℕ) (actuals : TypedTree) → ((x : ℕ) → Has formals x → IsScalarObject s x) → AreActualsTo s formals actuals
+  pub plain_actuals : OwnsByShape s.table → (formals : List ℕ) (actuals : TypedTree) → ((x : ℕ) → Has formals x → IsScalarObject s x) → AreActualsTo s formals actuals
       → AreActuals s formals actuals
-  plain_actuals [] actuals plain are = tt
-  plain_actuals (x ∷ formals) (More e rest) plain are =
-      (plain_actual x (object_at s x).mode e (plain x (inl refl)) are.0, plain_actuals formals rest (λ y has. plain y (inr has)) are.1)
-  plain_actuals (x ∷ formals) actuals plain are = tt
+  plain_actuals owns [] actuals plain are = tt
+  plain_actuals owns (x ∷ formals) (More e rest) plain are =
+      (plain_actual owns x (object_at s x).mode e (plain x (inl refl)) are.0, plain_actuals owns formals rest (λ y has. plain y (inr has)) are.1)
+  plain_actuals owns (x ∷ formals) actuals plain are = tt
 
 -- ---- the program
 
 -- where formals are of scalar types, actuals are such as they are asked for there
-pub weakly_passed : (program : FlowProgram) → PassActuals program → in_order.ArePassed program
-weakly_passed program passes sub has p there n actuals result is known plain =
-    plain_actuals (flow_typing program) (sub_of program n).formals actuals plain (passes sub has p there n actuals result is known)
+pub weakly_passed : (program : FlowProgram) → OwnsByShape program.table → PassActuals program → in_order.ArePassed program
+weakly_passed program owns passes sub has p there n actuals result is known plain =
+    plain_actuals (flow_typing program) owns (sub_of program n).formals actuals plain (passes sub has p there n actuals result is known)
 
 sub_in : (subs : List TypedSub) (k : ℕ) (sub : TypedSub) → IsSub subs k sub → Has subs sub
 sub_in subs k sub (front, rest, is, long) = subst (λ z. Has z sub) (sym is) (Has-append_right front (sub ∷ rest) sub (inl refl))

@@ -11,7 +11,8 @@ use Rattle.owned_loans.specs.Views.{on, Around, Views, expand, ExcusedBy, IsFore
 use Rattle.owned_loans.proofs.Ways.{Meet, meets_front, beginnings, under_on, on_under, Lifted, lifted_way, next_of}
 use Rattle.owned_loans.proofs.Meeting.{next}
 use Rattle.place_names.specs.Names.{overlaps}
-use Rattle.owned_loans.proofs.Safe.{Unlent, Unborrowed, unlent_below, unborrowed_below, unmoved_below, over_below, apart_names, off_view}
+use Rattle.place_names.proofs.Names.{overlaps-sym}
+use Rattle.owned_loans.proofs.Safe.{Unlent, Unborrowed, designated_over, unlent_below, unborrowed_below, unmoved_below, over_below, apart_names, off_view}
 use Rattle.owned_loans.proofs.Allowed.{Cleared, cleared_whole}
 use Rattle.owned_loans.proofs.Others.{off_kept, above_away, clean_away, seen_above_away, seen_away_below}
 use Rattle.owned_loans.proofs.Moves.{IsPlace}
@@ -94,6 +95,13 @@ module _ (s : Typing) (frame : ℕ) (other : Around (home s frame)) (v : Views) 
   lent_apart u y named named_y plain plain_y free free_y apart meets =
       apart_names (home s frame) (sees_only s) v view facts viewed.views viewed.clear (All u) (All y) (named, plain) (named_y, plain_y)
       (unborrowed_below facts u free) (unborrowed_below facts y free_y) (λ over. apart (over_below u y over)) meets
+
+  -- nor what a name designates and another place
+  pub lent_beside : (u y : Way) → Named (home s frame) u → Named (home s frame) y → sees_only s (number_of u) ≡ false → sees_only s (number_of y) ≡ false
+      → Unborrowed facts u → Unborrowed facts y → (overlaps (name_of u) (name_of y) ≡ true → ⊥) → Meet (expand v (All u)) (expand v y) → ⊥
+  lent_beside u y named named_y plain plain_y free free_y apart meets =
+      apart_names (home s frame) (sees_only s) v view facts viewed.views viewed.clear (All u) y (named, plain) (named_y, plain_y) (unborrowed_below facts u free) free_y
+      (λ over. apart (overlaps-sym (name_of u) (name_of y) ∙ designated_over (name_of y) u (overlaps-sym (name_of y) (name_of (All u)) ∙ over))) meets
 
 -- A way of a frame that begins at none of its package objects, or one that is foreign there and begins
 -- below the next frame, is foreign in the next frame.

@@ -446,7 +446,7 @@ module _ (t : Turn) (settled : IsSettled (typing t).table) (own_law : OwnsByShap
           inr (
             there.0 ∙ inside.at_home ∙ ap (home s depth) (sym there.1),
             (λ local. ap (λ z. is_within z scope) there.1
-            ∙ passed.within (ap (is_package_object s) (sym there.1) ∙ local) (ap (λ z. is_owning s.table (object_at s z).of) (sym there.1) ∙ owning_there y g p c held)),
+                ∙ passed.within (ap (is_package_object s) (sym there.1) ∙ local) (ap (λ z. is_owning s.table (object_at s z).of) (sym there.1) ∙ owning_there y g p c held)),
           ))
     ]
 
@@ -652,7 +652,7 @@ module _ (t : Turn) (settled : IsSettled (typing t).table) (own_law : OwnsByShap
       (copied_back t rest (record begun { memory = next }))
       (more next (λ c has. (
         (let begin = begins c has in one_stays r rest to ways m taken apart another begin_ways typed viewed cells_now c.way begin.0 begin.1 begin.2 begin.3
-        ((cells_there c has).1 to (inl refl)) c.cell (cells_there c has).0),
+            ((cells_there c has).1 to (inl refl)) c.cell (cells_there c has).0),
         (λ k there. (cells_there c has).1 k (inr there)),
       )) (one_kept r rest to ways m taken apart another begin_ways typed viewed cells_now) (one_viewed r rest to ways m taken apart another begin_ways typed viewed cells_now)
       (taken_on m next rest ways (λ k w has there among none. one_bare r rest to ways m taken apart another begin_ways typed viewed cells_now k w has there among none) later))))

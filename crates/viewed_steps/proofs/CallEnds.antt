@@ -7,13 +7,14 @@ use Rattle.place_names.specs.declared.act.Act.{Act}
 use Rattle.place_names.specs.declared.fact.Fact.{Fact}
 use Rattle.place_names.specs.declared.fact.Fact.TheVariants.{Moved}
 use Rattle.place_names.specs.Names.{Name as PlaceName}
+use Rattle.place_names.specs.Facts.{place}
 use Rattle.type_definitions.specs.Types.{Table}
 use Rattle.typed_tree.specs.declared.object.ObjectKind.{ObjectKind}
 use Rattle.typed_tree.specs.declared.object.ObjectKind.TheVariants as object_kind
 use Rattle.typed_tree.specs.Programs.{TypedProgram}
 use Rattle.flow_paths.specs.declared.report.Effects.{Effects}
 use Rattle.flow_paths.specs.Instructions.{Instruction, Call, Finish}
-use Rattle.flow_paths.specs.Objects.{Typing, object_at, is_anonymous, is_package_object, is_formal_kind, view_of, Signature, sub_at, is_formal, is_observer}
+use Rattle.flow_paths.specs.Objects.{Typing, object_at, is_package_object, is_formal_kind, Signature, sub_at, is_formal}
 use Rattle.flow_paths.specs.Points.{NamedPoint}
 use Rattle.flow_paths.specs.Laid.{FlowProgram, NamedSub, typing_of, flow_typing, flow_program, flow_named, FlowSub}
 use Rattle.flow_paths.specs.Paths.{ControlPath}
@@ -29,25 +30,25 @@ use Rattle.machine.specs.Step as steps
 use Rattle.machine.specs.Owners.{waiting_in}
 use Rattle.owned_ways.specs.Ways.{Step, OfVariable, OfRoot, Way, Held, AllowsAll, number_of}
 use Rattle.owned_ways.specs.Ways as ways
-use Rattle.soundness.specs.Seen.{content, word_in, seen, home, is_view_formal}
+use Rattle.soundness.specs.Seen.{content, word_in, seen, home}
 use Rattle.soundness.specs.Typed.{Kept}
 use Rattle.soundness.specs.Sound.{Stage, facts_of, AreStages, IsRunnable, is_temporary_object, has_returned, InScope, IsNamedSub, IsAtPoint, view_of as view_here}
 use Rattle.soundness.proofs.Contents.{bool_cases, word_no, word_dead}
 use Rattle.soundness.proofs.Steps.{no_leaf}
 use Rattle.soundness.proofs.Typings.{package_same, formal_same}
 use Rattle.soundness.proofs.Around.{same_or_not}
+use Rattle.owned_ways.proofs.Locations.{under_itself, past_under}
 use Rattle.soundness.proofs.Returning.{returned_kept, left_same, left_held, returns_lead, ends_lead, left_waits, ended_owned, Backs}
 use Rattle.owned_loans.specs.Views.{known_gone, Views, IsMovedBy, IsForeign, Viewed, ExcusedBy, Around, IsAway}
 use Rattle.owned_loans.proofs.Moves.{view_on, reached}
 use Rattle.owned_loans.proofs.Ended.{stands_itself}
-use Rattle.viewed_soundness.proofs.Names.{both_no, neither, true_false}
-use Rattle.viewed_soundness.proofs.Outcomes.{named_plain}
+use Rattle.viewed_soundness.proofs.Names.{neither, true_false}
 use Rattle.viewed_steps.specs.Awaited.{AreFor, AreValues, temporaries_of, lasting_of, awaited, AreAwaited}
 use Rattle.viewed_steps.proofs.Waited.{others_only, lasting_within}
-use Rattle.viewed_steps.specs.Sound.{ArePast, HoldsAt, ArePlaced, NoneAbove, ViewStage, stages_of, GoneElsewhere, IsWaiting, AreWaiting, ends_one, LeadsAlong, IsResting, IsKindOfFormal}
+use Rattle.viewed_steps.specs.Sound.{loan_by, ArePast, HoldsAt, ArePlaced, NoneAbove, ViewStage, stages_of, GoneElsewhere, IsWaiting, AreWaiting, ends_one, LeadsAlong, IsResting}
 use Rattle.viewed_steps.specs.Ready.{IsReady}
+use Rattle.viewed_steps.proofs.Waiting.{StandsBetween, all_between, handed, all_on, gone_low, kept_low, far, theirs, bare_still, some_frames, unused_there}
 use Rattle.viewed_steps.proofs.Read.{scalar_named}
-use Rattle.viewed_steps.proofs.Waiting.{StandsBetween, all_between, handed, all_on, gone_low, kept_low, far, theirs, bare_still}
 use Rattle.viewed_steps.proofs.Left.{owned_left, covered_left, reach_left, reach_before, gone_before, other_word, no_word, whole_there}
 use Rattle.viewed_steps.proofs.Standing.{or_right}
 use Rattle.viewed_steps.proofs.Standing as standing
@@ -55,13 +56,17 @@ use Rattle.viewed_steps.proofs.Packages as packages
 use Rattle.viewed_steps.proofs.Innermost as innermost
 use Rattle.soundness.proofs.Passing.{signature_is}
 use Rattle.owned_ways.proofs.Dropped.{named_base}
-use Rattle.viewed_soundness.specs.Holds.{IsNamed, sees_only, is_view}
+use Rattle.viewed_soundness.specs.Holds.{sees_only, is_view}
 use Rattle.viewed_steps.specs.Taken.{TakenBy, Lodge, AreCarried}
-use Rattle.viewed_steps.proofs.Between.{base_under, same_variable, taken_from as words_taken, taken_base}
-use Rattle.viewed_steps.proofs.Carried.{past_other}
+use Rattle.viewed_steps.proofs.Between.{home_low, homed_apart, base_under, same_variable, taken_from as words_taken, taken_base, IsHomed, number_based, base_along}
+use Rattle.viewed_steps.proofs.Outside.{IsSpared, kept_clear, bare_clear}
+use Rattle.viewed_steps.proofs.Apart.{kept_there, written_disturbs}
+use Rattle.viewed_steps.proofs.Views.{base_named}
+use Rattle.flow_paths.specs.Effects.{written_by}
 use Rattle.viewed_steps.proofs.Backed.{AwayBy, ViewedAway, IsBack, all_given_back}
 use Rattle.viewed_steps.proofs.Whole.{leaves_whole}
 use Rattle.viewed_steps.proofs.Views.{AreAccess, AreFar, lies_far, apart_by_base}
+use Rattle.soundness.proofs.Lasting.{keeps}
 
 smaller : (f b low : ℕ) → f < suc b → (f ≡ low → ⊥) → low ≡ b → f < low
 smaller f b low less ne is =
@@ -170,8 +175,12 @@ module _ (table : Table) (typed : TypedProgram) (effects : Effects) (input : Lis
           elim ((running.1).0 x (subst (λ z. Has z x) (sym formals_are) own_formal)) [
             | inr other_kind ↦ elim other_kind [
               | inl copied ↦ copied
-              | inr shown ↦ (
+              | inr (inl shown) ↦ (
                   let none = word_dead s.table (content s state.memory [] (OfRoot (OfVariable depth x))) q (ap not shown) in
+                  let no_number : ways.Empty ≡ Held n = sym none ∙ held in cc)
+              | inr (inr plain) ↦ (
+                  let none = word_no s.table (content s state.memory [] (OfRoot (OfVariable depth x))) q
+                  ((keeps s ready.accepted.settled ready.owns).ownerless (object_at s x).of plain q) in
                   let no_number : ways.Empty ≡ Held n = sym none ∙ held in cc)
             ]
             | inl plain_type ↦ (
@@ -317,7 +326,7 @@ module _ (table : Table) (typed : TypedProgram) (effects : Effects) (input : Lis
           | inr neither ↦ (
               let same_way : u ≡ w =
               sym (stands_itself (home s depth) (sees_only s) (known_gone (home s depth) (λ z. ⊥)) views u moved.0
-                  (no_view_left is (number_of u) (first (is_formal s (number_of u)) (is_package_object s (number_of u)) neither))) ∙ leads in
+              (no_view_left is (number_of u) (first (is_formal s (number_of u)) (is_package_object s (number_of u)) neither))) ∙ leads in
               inr (inr (inr (
                 number_of w,
                 own_base w (subst (ways.Named (home s depth)) same_way moved.0)
@@ -349,9 +358,9 @@ module _ (table : Table) (typed : TypedProgram) (effects : Effects) (input : Lis
           → ways.Under z w ⊎ ways.Under w z → ⊥
       whole_away x w z has foreign (inl gone) meets = waiting.2 x w z has foreign gone meets
       whole_away x w z has foreign (inr (inl taken)) meets =
-          let base = taken_base below.stage.returns below.stage.depth
+          let base = taken_base s below.stage.returns below.stage.depth
           (words_taken s below.cells state.memory below.stage.depth their_facts (lasting_of s waits.point.scope) top.frame.returns below.stage.returns waits.taken) z taken in
-          apart_by_base w z foreign.0 foreign.1 below.stage.depth base.0 foreign.2 base.1 (λ same. (let under = far_low x w has foreign in omega (arith, under, same))) meets
+          homed_apart s below.stage.depth z base w z foreign (under_itself z) meets
       whole_away x w z has foreign (inr (inr (y, base, none))) meets =
           apart_by_base w z foreign.0 foreign.1 (suc below.stage.depth) y foreign.2 base (λ same. (let under = far_low x w has foreign in omega (arith, under, same))) meets
 
@@ -389,7 +398,7 @@ module _ (table : Table) (typed : TypedProgram) (effects : Effects) (input : Lis
 
         nothing_mid : (x : ℕ) (q : List Step) (n : ℕ) → word_in s.table (content s mid (waiting_in state) (OfRoot (OfVariable depth x))) q ≡ Held n → ⊥
         nothing_mid x q n held = elim (on.held depth x q n held) [
-          | inr same_low ↦ (let a = same_low.0 in let b = low_is in omega (arith, a, b))
+          | inr same_low ↦ (let a = same_low.0 in let b = home_low s low x in let c = low_is in omega (arith, a, b, c))
           | inl before ↦ (
               let copied = left_formal is x q n before in
               on.empty copied.0 copied.1 q n
@@ -427,12 +436,22 @@ module _ (table : Table) (typed : TypedProgram) (effects : Effects) (input : Lis
             → (get_or (variable_slots s f x left_memory.variables) 0 no_slot).word ≡ (get_or (variable_slots s f x state.memory.variables) 0 no_slot).word
         words_before f x ne view = other_word s mid depth f x ne ∙ on.views f x view
 
+        -- a frame of the caller, or that of the package objects
+        home_left : (f x : ℕ) → f ≡ home s low x → (f < low) ⊎ ((f ≡ low) × (is_package_object s x ≡ false))
+        home_left f x at_home = elim (bool_cases (is_package_object s x)) [
+          | inr own ↦ inr (at_home ∙ ap (λ b. if b then 0 else low) own, own)
+          | inl shared ↦ (
+              let none : f ≡ 0 = at_home ∙ ap (λ b. if b then 0 else low) shared in
+              let some = some_frames h others rest stages_there.2 in
+              let same_depth = low_is in inl (omega (arith, none, some, same_depth)))
+        ]
+
         scope_left : (f x : ℕ) (q : List Step) (n : ℕ) → word_in s.table (content s left_memory [] (OfRoot (OfVariable f x))) q ≡ Held n
             → (f < low) ⊎ ((f ≡ low) × (is_within x (lasting_of s (waits.point).scope) ≡ true))
         scope_left f x q n held =
             let before = held_before f x q n held in
             elim (on.held f x q n before.1) [
-              | inr mine ↦ inr mine
+              | inr mine ↦ elim (home_left f x mine.0) [ inl less ↦ inl less | inr at ↦ inr (at.0, mine.1 at.1) ]
               | inl first ↦ elim (same_or_not f low) [
                 | inl e ↦ inr (e, waits.scope x q n (subst (λ z. word_in s.table (content s state.memory [] (OfRoot (OfVariable z x))) q ≡ Held n) e first))
                 | inr other_low ↦ inl (elim (scope f x q n first) [
@@ -512,22 +531,47 @@ module _ (table : Table) (typed : TypedProgram) (effects : Effects) (input : Lis
               cells = λ c q. left_there.1 c q ∙ on.carried.cells c q;
             }
 
+        -- what was taken begins at variables of the frame, or at package objects of which the others keep nothing
+        homed : (to : Way) → Has below.stage.returns to → IsHomed s below.stage.depth to
+        homed to has = words_taken s below.cells state.memory below.stage.depth their_facts (lasting_of s waits.point.scope) top.frame.returns below.stage.returns waits.taken to has
+
+        spared_to : (to : Way) (has : Has below.stage.returns to)
+            → IsSpared table typed effects unmoved_stage local state below.stage.depth (h ∷ others) between_low (homed to has).1
+        spared_to to has l name lent root =
+            let begin = homed to has in
+            let at : ways.base_of to ≡ OfRoot (OfVariable (home s below.stage.depth begin.1) begin.1) =
+            begin.2 ∙ ap (λ f. OfRoot (OfVariable f begin.1)) begin.3 in
+            let number : number_of to ≡ begin.1 = number_based (home s below.stage.depth) to begin.1 (base_named (home s below.stage.depth) to begin.1 at) at in
+            let (g, there, some, f, keeps, shared, kind, name_is) = lent in
+            let written = waits.written to has (ap (is_package_object s) (number ∙ sym root) ∙ shared) in
+            kept_there table typed effects ready.accepted.effects_are (unused_there table typed effects unmoved_stage local) state below.stage.frame.sub below.stage.frame.returns
+            (h ∷ others) waiting.1 g there some f keeps (ap (λ (z : PlaceName). is_package_object s z.root) name_is ∙ shared)
+            (written_disturbs table typed effects ready.accepted.effects_are (loan_by f) below.stage.frame.sub (place f).root
+            (subst (Has (written_by effects below.stage.frame.sub)) (number ∙ sym root ∙ ap (λ (z : PlaceName). z.root) (sym name_is)) written))
+
         others_left : AreWaiting table typed effects left_state below.stage.frame.sub below.stage.frame.returns (h ∷ others)
         others_left =
             all_on table typed effects unmoved_stage local state left_state low
             (λ f x q n some less held. elim (on.held f x q n (held_before f x q n held).1) [
               | inl before ↦ before
-              | inr mine ↦ (let same_low = mine.0 in absurd (omega (arith, less, same_low)))
+              | inr mine ↦ absurd (elim (bool_cases (is_package_object s x)) [
+                | inl shared ↦ (let none : f ≡ 0 = mine.0 ∙ ap (λ b. if b then 0 else low) shared in omega (arith, some, none))
+                | inr own ↦ (let same_low : f ≡ low = mine.0 ∙ ap (λ b. if b then 0 else low) own in omega (arith, less, same_low))
+              ])
             ])
             (λ f x some less view. words_before f x (λ same_depth. (let below_it = low_is in omega (arith, less, same_depth, below_it))) view)
             below.stage.frame.sub below.stage.frame.returns (h ∷ others) rest stages_there.2 (let same_depth = low_is in omega (arith, same_depth))
             (record {
               far = λ w n keeps. (let root = kept_low table typed effects unmoved_stage local state below.stage.depth (h ∷ others) between_low w n keeps in
-            reach_on w n (on.stays w root.0 root.1 root.2 (λ same_depth. (let less = root.3 in omega (arith, less, same_depth)))
-            (λ to has. (let base = words_taken s below.cells state.memory below.stage.depth their_facts (lasting_of s waits.point.scope) top.frame.returns below.stage.returns waits.taken to has in
-            past_other to w below.stage.depth base.0 root.0 root.1 base.1 root.2 (λ same_depth. (let less = root.3 in omega (arith, less, same_depth))))) n
-            (far table typed effects unmoved_stage local state below.stage.depth (h ∷ others) between_low w n keeps)));
-              bare = bare_still table typed effects unmoved_stage local (h ∷ others) state left_state left_carried.cells
+                  reach_on w n (on.stays w root.0 root.1 root.2 (λ same_depth. (let less = root.3 in omega (arith, less, same_depth)))
+                  (λ to has past. kept_clear table typed effects unmoved_stage local state below.stage.depth (h ∷ others) between_low to (homed to has) (spared_to to has) w n keeps
+                  (base_under to w (past_under to w past))) n
+                  (far table typed effects unmoved_stage local state below.stage.depth (h ∷ others) between_low w n keeps)));
+              bare = bare_still table typed effects unmoved_stage local (h ∷ others) state left_state (λ c q k held. sym (left_carried.cells c q) ∙ held)
+                  (λ y q r k there shared held. left_carried.held 0 y (r ++ q) k (λ same_depth. (let at = deep in omega (arith, same_depth, at)))
+                  (λ (to, has, steps_on, goes). bare_clear table typed effects unmoved_stage local state below.stage.depth (h ∷ others) between_low to (homed to has) (spared_to to has)
+                  (ways.Object (OfVariable 0 y)) (OfRoot (OfVariable 0 y)) q there
+                  (sym (base_along (ways.Object (OfVariable 0 y)) (r ++ q)) ∙ ap ways.base_of goes ∙ base_along to steps_on)) held)
                   (theirs table typed effects unmoved_stage local state below.stage.depth (h ∷ others) between_low).bare;
             }) waiting.1
 

@@ -12,11 +12,10 @@ use Rattle.place_names.specs.declared.act.Placed.{Placed}
 use Rattle.place_names.specs.declared.fact.Fact.{Fact}
 use Rattle.place_names.specs.Names.{Name as PlaceName}
 use Rattle.place_names.specs.Facts.{adds, effect}
-use Rattle.type_definitions.specs.Types.{shape_of, full, is_scalar, is_owning, parts}
+use Rattle.type_definitions.specs.Types.{shape_of, full, is_scalar, is_owning, parts, owns_of, words}
 use Rattle.typed_tree.specs.Trees.{TypedTree, Number, Literal, Text, Name, Component as IntoComponent, Designated, Element, Call, EndOfFile, Parens, Image, Unary, Binary, Short, IsNull, Aggregate, Alike, New, NoMore, More}
 use Rattle.typed_tree.specs.Trees as typed
-use Rattle.flow_paths.specs.Objects.{Typing, Signature, object_at, sub_at, is_anonymous, is_observer, is_named_access, is_package_object, view_of, traverses, first_traversed, Passing, ByValue, passing, passing_by, passings}
-use Rattle.flow_paths.specs.Objects as objects
+use Rattle.flow_paths.specs.Objects.{Typing, object_at, sub_at, is_anonymous, is_named_access, is_package_object, view_of, traverses, first_traversed, Passing, ByValue, passing, passing_by, passings}
 use Rattle.flow_paths.specs.Names.{Written, written, is_empty, has_call, waiting as waits_in, name_of}
 use Rattle.flow_paths.specs.Laid.{FlowProgram, flow_typing}
 use Rattle.flow_paths.specs.Acts.{placed, naming, used, acts_in, index_acts, actual_act, actual_acts, actual_values}
@@ -24,23 +23,23 @@ use Rattle.machine.specs.Words.{access_offsets, fits_type}
 use Rattle.machine.specs.Words as machine
 use Rattle.machine.specs.Memory.{Slot, Memory, Base, Place, fresh, no_slot, variable_slots, slots_at, slots_of, words_of, gone_at, with_slots, stored, moved_out, declared}
 use Rattle.machine.specs.Memory as memory
-use Rattle.machine.specs.Evaluate.{Here, Now, AsValue, AsView, Evaluated, Done, Raises, Traps, ConstraintError, followed_by, evaluate, indexed, steps_of, walked, place_of, variable_place, component_place, element_place, checked, value, viewed}
+use Rattle.machine.specs.Evaluate.{Here, Now, AsValue, AsView, Evaluated, Done, Raises, Traps, ConstraintError, followed_by, evaluate, indexed, steps_of, walked, place_of, variable_place, component_place, element_place, checked, value, viewed, Use, held_or_taken}
 use Rattle.machine.specs.Evaluate as run
 use Rattle.machine.specs.Calls.{Passed, Value, From, To, type_of, value_passed, passed, all_passed}
 use Rattle.machine.specs.States.{Waiting, Leak, sub_of}
 use Rattle.machine.specs.Owners.{is_in}
-use Rattle.owned_ways.specs.Ways.{Step, Root, Component, OfVariable, Loc, OfRoot, Way, Object, Into, Empty, Named, Past, Under, IsRooted, Reaches, IsSame, AllowsAll, after, part, along}
+use Rattle.owned_ways.specs.Ways.{Step, Root, Component, OfVariable, Loc, OfRoot, Way, Object, Into, Empty, Named, Past, Under, IsRooted, Reaches, IsSame, AllowsAll, after, part, along, Allows}
 use Rattle.owned_ways.specs.Ways as ways
 use Rattle.owned_ways.proofs.Locations.{under_along, under_itself}
 use Rattle.part_offsets.specs.Parts.{type_in, offset_in, has_part, IsSettled}
-use Rattle.soundness.specs.Seen.{IsNear, Content, content, trunk, steps_in, seen, home, is_view_formal}
-use Rattle.soundness.specs.Typed.{Matches, OwnsByShape, Kept, Spot, IsFixed, loc_of}
+use Rattle.soundness.specs.Seen.{IsNear, Content, content, trunk, steps_in, seen, home, is_view_formal, in_hand}
+use Rattle.soundness.specs.Typed.{Matches, OwnsByShape, Kept, Spot, IsFixed, loc_of, Points}
 use Rattle.soundness.specs.Sound.{goes_through_none}
 use Rattle.typed_laws.specs.Needed.{Stays, Leads, IndexLaw, IsPlace as IsPlaceOf}
 use Rattle.soundness.proofs.Contents.{bool_cases, word_no, word_part}
 use Rattle.soundness.proofs.Joined.{leaf_join, steps_part}
-use Rattle.soundness.proofs.Steps.{no_leaf}
-use Rattle.soundness.proofs.Fixed.{matches_scalar}
+use Rattle.soundness.proofs.Steps.{no_leaf, matches_words, taken_slots, room}
+use Rattle.soundness.proofs.Fixed.{matches_scalar, plain_word}
 use Rattle.soundness.proofs.Scalars.{acts, acts_append, after_append, allows_both, read_effect, number_along, named_along}
 use Rattle.soundness.proofs.Stays.{One, Quiet, quiet_then, quiet_from}
 use Rattle.soundness.proofs.Taking.{Takes}
@@ -57,7 +56,7 @@ use Rattle.viewed_soundness.proofs.Stays.{Goes as GoesAlong, taking, steps_takin
 use Rattle.viewed_soundness.proofs.Evaluated.{matches_named}
 use Rattle.viewed_steps.specs.Taken.{Lodge}
 use Rattle.viewed_steps.specs.Sound.{IsScalarObject, IsShown, IsKindOfFormal}
-use Rattle.viewed_steps.specs.Ready.{IsOwnPlace, IsSeen, IsActualTo, AreActualsTo}
+use Rattle.viewed_steps.specs.Ready.{IsOwnPlace, IsSeen, IsActualTo, AreActualsTo, IsCopyOf}
 use Rattle.viewed_steps.proofs.Views.{AreAccess, formal_view, scalar_no_view}
 use Rattle.viewed_steps.proofs.Seeing.{IsSeenAs, IsClear, AreClear, seen_given}
 use Rattle.viewed_steps.proofs.Read.{scalar_named}
@@ -68,9 +67,13 @@ use Rattle.viewed_steps.proofs.Emptied.{out_left, taken_back}
 use Rattle.viewed_steps.proofs.Outs.{Out, IsUnderOne}
 use Rattle.viewed_steps.proofs.Direct.{IsDirect, steps_direct, past_none, direct_leads, direct_itself, IsIn, walked_in, both_quiet, direct_part, part_reached}
 use Rattle.viewed_steps.proofs.LaidOut.{IsValueLaid, IsOwnPut, IsPlainAt, IsPlaceLaid, IsLaidOne, AreLaidOut, own_out, place_out, out_of, outs_of, IsOpenActual, AreOpenActuals}
-use Rattle.viewed_steps.proofs.Entered.{inside_plain, inside_named, inside_number, IsTyped}
+use Rattle.viewed_steps.proofs.Entered.{inside_plain, inside_named, inside_number, IsTyped, IsFit}
 use Rattle.viewed_steps.proofs.Released.{nothing_written}
 use Rattle.viewed_steps.proofs.Lent.{ends, Spare, spare_both, spare_naming}
+use Rattle.soundness.proofs.Keeping.{top_points, retyped_points, scalar}
+use Rattle.soundness.proofs.Lasting.{keeps}
+use Rattle.owned_loans.proofs.Allowed.{read_open}
+use Rattle.std.proofs.lemmas.List.{length-map}
 
 -- ---- acts that read
 
@@ -96,6 +99,14 @@ naming_adds (Some w) act_of none p (inr never) f new = never
 module _ (s : Typing) (own_law : OwnsByShape s.table) where
   used_read : (m : PlaceName) (t : ℕ) → is_scalar (full s.table t) ≡ true → used s m t ≡ act.Read m
   used_read m t e = ap (λ b. if b then act.Move m (parts s.table t) else act.Read m) (plain_type s own_law t e)
+
+  -- a type that matches one that owns nothing owns nothing
+  pub unowned : (t u : ℕ) → Matches s.table t u → is_owning s.table u ≡ false → is_owning s.table t ≡ false
+  unowned t u (inl e) none = own_law t ∙ ap (owns_of (is_owning s.table)) e ∙ sym (own_law u) ∙ none
+  unowned t u (inr both) none = plain_type s own_law t both.0
+
+  pub unowned_read : (m : PlaceName) (t u : ℕ) → Matches s.table t u → is_owning s.table u ≡ false → used s m t ≡ act.Read m
+  unowned_read m t u fits none = ap (λ b. if b then act.Move m (parts s.table t) else act.Read m) (unowned t u fits none)
 
   mutual
     unfolding Stays Leads acts_in
@@ -172,8 +183,15 @@ module _ (s : Typing) (own_law : OwnsByShape s.table) (procedure : Bool) where
   seen_reads x (Name p y path u) seen = index_reads s own_law (Name p y path u) u (seen.0, refl)
   seen_reads x e seen = absurd seen
 
+  copy_reads : (x : ℕ) (e : TypedTree) → owning_of x ≡ false → IsCopyOf s x e → AreReads (acts_in s e)
+  unfolding acts_in
+  copy_reads x (Name p y path u) plain (leads, fits) =
+      both_reads (acts_in s path) (placed p (used s (name_of y path) u) ∷ []) (index_reads s own_law (Name p y path u) u (leads, refl))
+      (one_read (placed p (used s (name_of y path) u)) (name_of y path, inl (unowned_read s own_law (name_of y path) u (object_at s x).of fits plain)))
+  copy_reads x e plain never = absurd never
+
   pub head_of_reads : (x : ℕ) (m : Mode) (owning : Bool) (e : TypedTree) → owning_of x ≡ owning → IsActualTo s x m e → AreReads (head_of m owning e)
-  head_of_reads x mode.In false e is stays = reads_in s own_law e (stays.0 is)
+  head_of_reads x mode.In false e is stays = elim (stays.0 is) [ inl plain ↦ reads_in s own_law e plain.1 | inr copy ↦ copy_reads x e is copy.1 ]
   head_of_reads x mode.In true e is stays = seen_reads x e (stays.1 is)
   head_of_reads x mode.Out owning e is place = index_reads s own_law e place.0 place.1
   head_of_reads x mode.InOut owning e is place = index_reads s own_law e place.0 place.1
@@ -306,6 +324,77 @@ module _ (h : Here) (settled : IsSettled h.typing.table) (hands : List Waiting) 
       (λ ws one. quiet_then (at on) One (λ a. IsValue a) (checked h (type_of h x) ws (at on)) value_passed (checked_quiet on One (type_of h x) ws one)
       (λ us single. (refl, single)))
 
+  -- a scalar value fits
+  scalar_fit : (x : ℕ) (ws : List machine.Word) → is_scalar (full h.typing.table (object_at h.typing x).of) ≡ true → One ws → IsFit h.typing m (object_at h.typing x).of ws
+  scalar_fit x ws plain one =
+      let waiting : Waiting = record { of = (object_at h.typing x).of; words = ws } in (
+        one ∙ sym (plain_word h.typing settled (object_at h.typing x).of plain),
+        top_points h.typing settled m waiting hands (scalar h.typing settled m waiting hands plain kept).points,
+      )
+
+  -- and so does a copy of what a place has
+  held_fit : (on : List (List machine.Word)) (u : Use) (w : Way) (t x : ℕ) → is_owning h.typing.table t ≡ false → Matches h.typing.table t (object_at h.typing x).of → (y : Evaluated Place)
+      → Walked h.typing settled hands leaks m on w t y → Quiet (at on) (IsFit h.typing m (object_at h.typing x).of) (followed_by y (held_or_taken h u))
+  held_fit on u w t x none fits (Done k n) (l, same, spot, reaches, of) = by_use u
+    where
+      fit : IsFit h.typing m (object_at h.typing x).of (words_of h.typing m k)
+      fit = (
+        length-map (slots_of h.typing m k) (λ (z : Slot). z.word)
+            ∙ (taken_slots h.typing settled m k (room h.typing settled m hands kept k l spot)).0
+            ∙ ap (words h.typing.table) of ∙ matches_words h.typing.table settled t (object_at h.typing x).of fits,
+        retyped_points h.typing settled m t (object_at h.typing x).of (words_of h.typing m k) fits
+            (subst (λ z. Points h.typing m (in_hand (record { of = z; words = words_of h.typing m k }))) of
+            (top_points h.typing settled m (record { of = k.of; words = words_of h.typing m k }) hands ((keeps h.typing settled own_law).copied m hands k l spot kept).points)),
+      )
+
+      by_use : (u : Use) → Quiet (at on) (IsFit h.typing m (object_at h.typing x).of) (held_or_taken h u k n)
+      by_use AsView = (same, subst (λ (z : Now). IsFit h.typing m (object_at h.typing x).of (words_of h.typing z.memory k)) (sym same) fit)
+      by_use AsValue = (
+        ap (λ b. if b then record n { memory = moved_out h.typing k n.memory } else n) (ap (is_owning h.typing.table) of ∙ none) ∙ same,
+        subst (λ (z : Now). IsFit h.typing m (object_at h.typing x).of (words_of h.typing z.memory k)) (sym same) fit,
+      )
+  held_fit on u w t x none fits (Raises e n) is = is
+  held_fit on u w t x none fits (Traps e n) never = absurd never
+
+  copy_evaluated : (before on : List (List machine.Word)) (u : Use) (x : ℕ) (e : TypedTree) → is_owning h.typing.table (object_at h.typing x).of ≡ false → IsCopyOf h.typing x e
+      → Takes (waits_in e) before on → AllowsAll facts (acts (acts_in h.typing e)) → Quiet (at on) (IsFit h.typing m (object_at h.typing x).of) (evaluate h u e (at before))
+  unfolding evaluate waits_in acts_in
+  copy_evaluated before on u x (Name p y path t) plain (leads, fits) takes allowed =
+      let owns = unowned h.typing own_law t (object_at h.typing x).of fits plain in
+      let is : used h.typing (name_of y path) t ≡ act.Read (name_of y path) = unowned_read h.typing own_law (name_of y path) t (object_at h.typing x).of fits plain in
+      let each = allows_both facts (acts (acts_in h.typing path)) (used h.typing (name_of y path) t ∷ [])
+      (subst (AllowsAll facts) (acts_append (acts_in h.typing path) (placed p (used h.typing (name_of y path) t) ∷ [])) allowed) in
+      let inner = steps_taking h settled hands leaks m waits other facts v kept well holds alone live index_law own_law parts_named (object_at h.typing y).of t path leads before on takes each.0 in
+      let reads : Allows facts (act.Read (name_of y path)) = subst (Allows facts) is ((subst (λ z. AllowsAll z (used h.typing (name_of y path) t ∷ [])) inner.1 each.1).0) in
+      quiet_then (at on) (λ way. GoesAlong h.typing.table (object_at h.typing y).of t path way) (IsFit h.typing m (object_at h.typing x).of) (steps_of h path (at before))
+      (λ way now. followed_by (walked h.typing way (variable_place h y) now) (held_or_taken h u)) inner.0
+      (λ way goes. held_fit on u (expand v (way_along way (Object (OfVariable (home h.typing h.frame y) y)))) t x owns fits
+      (walked h.typing way (variable_place h y) (at on))
+      (name_quiet h settled hands leaks m on other facts v kept well holds alone live index_law own_law parts_named y path t way goes
+      (λ w named called. read_open facts w (subst (λ z. Allows facts (act.Read z)) (sym called) reads))))
+  copy_evaluated before on u x e plain never takes allowed = absurd never
+
+  -- what is passed is such a copy
+  abbrev IsCopied : ℕ → Passed → Type 0
+  IsCopied x (Value ws) = IsFit h.typing m (object_at h.typing x).of ws
+  IsCopied x a = ⊥
+
+  copy_given : (before on : List (List machine.Word)) (x : ℕ) (e : TypedTree) → is_owning h.typing.table (object_at h.typing x).of ≡ false → IsCopyOf h.typing x e → Takes (waits_in e) before on
+      → AllowsAll facts (acts (acts_in h.typing e)) → Quiet (at on) (IsCopied x) (passed h ByValue x e (at before))
+  copy_given before on x e plain copy takes allowed =
+      quiet_then (at on) Fits (IsCopied x) (if is_anonymous (view_of h.typing x) then viewed h e (at before) else value h e (at before))
+      (λ ws now. followed_by (checked h (type_of h x) ws now) value_passed)
+      (by_kind (is_anonymous (view_of h.typing x)))
+      (λ ws fit. quiet_then (at on) Fits (IsCopied x) (checked h (type_of h x) ws (at on)) value_passed (checked_quiet on Fits (type_of h x) ws fit)
+      (λ us fits. (refl, fits)))
+    where
+      Fits : List machine.Word → Type 0
+      Fits = IsFit h.typing m (object_at h.typing x).of
+
+      by_kind : (b : Bool) → Quiet (at on) Fits (if b then viewed h e (at before) else value h e (at before))
+      by_kind true = copy_evaluated before on AsView x e plain copy takes allowed
+      by_kind false = copy_evaluated before on AsValue x e plain copy takes allowed
+
   -- ---- places
 
   -- A name that stands for itself leads to the place.
@@ -382,14 +471,13 @@ module _ (h : Here) (settled : IsSettled h.typing.table) (hands : List Waiting) 
   from_walked : (on : List (List machine.Word)) (p : Pos) (x u : ℕ) (path : TypedTree) (w : Way) → is_scalar (full h.typing.table u) ≡ true → Named (home h.typing h.frame) w
       → ways.name_of w ≡ name_of x path → IsPlace v w → expand v w ≡ w → (y : Evaluated Place) → Walked h.typing settled hands leaks m on w u y
       → IsIn (memory.OfVariable (home h.typing h.frame x) x) y → Quiet (at on) (λ k. IsPut (Name p x path u) k) y
-  from_walked on p x u path w plain named called place itself (Done k n) (l, same, spot, reaches, of) base =
-      (
-        same,
-        (
-          inl (fixed_there k l (home h.typing h.frame x) x spot base (ap (λ z. is_scalar (full h.typing.table z)) of ∙ plain)),
-          (w, l, named, called, place, subst (λ z. Reaches (seen h.typing m hands leaks) z l) (sym itself) reaches, spot),
-        ),
-      )
+  from_walked on p x u path w plain named called place itself (Done k n) (l, same, spot, reaches, of) base = (
+    same,
+    (
+      inl (fixed_there k l (home h.typing h.frame x) x spot base (ap (λ z. is_scalar (full h.typing.table z)) of ∙ plain)),
+      (w, l, named, called, place, subst (λ z. Reaches (seen h.typing m hands leaks) z l) (sym itself) reaches, spot),
+    ),
+  )
   from_walked on p x u path w plain named called place itself (Raises e n) is base = is
   from_walked on p x u path w plain named called place itself (Traps t n) never base = absurd never
 
@@ -496,9 +584,9 @@ module _ (h : Here) (settled : IsSettled h.typing.table) (hands : List Waiting) 
   own_walked on p x y u path q w own fits owner is called (Traps t n) never base = absurd never
 
   own_given : (on : List (List machine.Word)) (x : ℕ) (p : Pos) (y u : ℕ) (path : TypedTree) (way : List run.Step) → IsNamed h.typing.table u → Matches h.typing.table u (object_at h.typing x).of
-      → is_package_object h.typing y ≡ false → is_view_formal h.typing y ≡ false → GoesAlong h.typing.table (object_at h.typing y).of u path way → IsDirect way
+      → is_view_formal h.typing y ≡ false → GoesAlong h.typing.table (object_at h.typing y).of u path way → IsDirect way
       → Quiet (at on) (λ k. IsOwnPut h.typing h.frame x (Name p y path u) k) (walked h.typing way (variable_place h y) (at on))
-  own_given on x p y u path way own fits local owner goes direct =
+  own_given on x p y u path way own fits owner goes direct =
       let root : Way = Object (OfVariable (home h.typing h.frame y) y) in
       let flat = direct_part (OfVariable (home h.typing h.frame y) y) way direct [] in
       own_walked on p x y u path flat.0 (way_along way root) own fits owner flat.1
@@ -514,14 +602,14 @@ module _ (h : Here) (settled : IsSettled h.typing.table) (hands : List Waiting) 
       → IsOwnPlace h.typing e → Takes (waits_in e) before on → goes_through_none e ≡ true
       → AllowsAll facts (acts (index_acts h.typing e)) → Quiet (at on) (λ k. IsOwnPut h.typing h.frame x e k) (place_of h e (at before))
   unfolding waits_in goes_through_none
-  own_place_given before on x (Name p y path u) t (leads, type) own fits local takes direct allowed =
+  own_place_given before on x (Name p y path u) t (leads, type) own fits owner takes direct allowed =
       let inner = steps_taking h settled hands leaks m waits other facts v kept well holds alone live index_law own_law parts_named (object_at h.typing y).of u path leads before on takes allowed in
       quiet_then (at on) (λ way. GoesAlong h.typing.table (object_at h.typing y).of u path way × IsDirect way) (λ k. IsOwnPut h.typing h.frame x (Name p y path u) k) (steps_of h path (at before))
       (λ way now. walked h.typing way (variable_place h y) now)
       (both_quiet (at on) (λ way. GoesAlong h.typing.table (object_at h.typing y).of u path way) (steps_of h path (at before)) inner.0 (steps_direct h path direct (at before)))
       (λ way both. own_given on x p y u path way (subst (IsNamed h.typing.table) (sym type) own) (subst (λ z. Matches h.typing.table z (object_at h.typing x).of) (sym type) fits)
-      (local y (inl refl)).0 (local y (inl refl)).1 both.0 both.1)
-  own_place_given before on x e t place own fits local takes direct allowed = absurd place
+      (owner y (inl refl)) both.0 both.1)
+  own_place_given before on x e t place own fits owner takes direct allowed = absurd place
 
   -- ---- all of them
 
@@ -534,7 +622,7 @@ module _ (h : Here) (settled : IsSettled h.typing.table) (hands : List Waiting) 
   -- A scalar value; or null, or the number of a cell that a way leads to.
   abbrev pub IsValueGiven : ℕ → TypedTree → List machine.Word → Type 0
   IsValueGiven x e ws =
-      (is_owning h.typing.table (object_at h.typing x).of ≡ false → One ws)
+      (is_owning h.typing.table (object_at h.typing x).of ≡ false → IsFit h.typing m (object_at h.typing x).of ws)
       × (is_owning h.typing.table (object_at h.typing x).of ≡ true
       → IsSeenAs h settled hands leaks m waits other facts v kept well holds alone live index_law own_law parts_named formals_low x e ws)
 
@@ -549,14 +637,22 @@ module _ (h : Here) (settled : IsSettled h.typing.table) (hands : List Waiting) 
   AreGiven (x ∷ formals) (More e rest) [] = ⊥
   AreGiven formals actuals passed = passed ≡ []
 
-  value_is : (on : List (List machine.Word)) (x : ℕ) (e : TypedTree) → is_owning h.typing.table (object_at h.typing x).of ≡ false → (y : Evaluated Passed) → Quiet (at on) (λ a. IsValue a) y
-      → Quiet (at on) (λ a. IsGiven x mode.In e a) y
-  value_is on x e plain (Done (Value ws) n) is =
-      (is.0, ((λ own. is.1), λ own. absurd (true_false (is_owning h.typing.table (object_at h.typing x).of) own plain)))
-  value_is on x e plain (Done (From k) n) is = absurd is.1
-  value_is on x e plain (Done (To k) n) is = absurd is.1
-  value_is on x e plain (Raises y n) is = is
-  value_is on x e plain (Traps y n) is = is
+  value_is : (on : List (List machine.Word)) (x : ℕ) (e : TypedTree) → is_owning h.typing.table (object_at h.typing x).of ≡ false → IsScalarObject h.typing x → (y : Evaluated Passed)
+      → Quiet (at on) (λ a. IsValue a) y → Quiet (at on) (λ a. IsGiven x mode.In e a) y
+  value_is on x e plain scalar_type (Done (Value ws) n) is =
+      (is.0, ((λ own. scalar_fit x ws scalar_type is.1), λ own. absurd (true_false (is_owning h.typing.table (object_at h.typing x).of) own plain)))
+  value_is on x e plain scalar_type (Done (From k) n) is = absurd is.1
+  value_is on x e plain scalar_type (Done (To k) n) is = absurd is.1
+  value_is on x e plain scalar_type (Raises y n) is = is
+  value_is on x e plain scalar_type (Traps y n) is = is
+
+  copy_is : (on : List (List machine.Word)) (x : ℕ) (e : TypedTree) → is_owning h.typing.table (object_at h.typing x).of ≡ false → (y : Evaluated Passed)
+      → Quiet (at on) (IsCopied x) y → Quiet (at on) (λ a. IsGiven x mode.In e a) y
+  copy_is on x e plain (Done (Value ws) n) is = (is.0, ((λ own. is.1), λ own. absurd (true_false (is_owning h.typing.table (object_at h.typing x).of) own plain)))
+  copy_is on x e plain (Done (From k) n) is = absurd is.1
+  copy_is on x e plain (Done (To k) n) is = absurd is.1
+  copy_is on x e plain (Raises y n) is = is
+  copy_is on x e plain (Traps y n) is = is
 
   shown_given : (before on : List (List machine.Word)) (x : ℕ) (e : TypedTree) → IsShown h.typing x → is_owning h.typing.table (object_at h.typing x).of ≡ true → IsSeen h.typing x e
       → Takes (waits_in e) before on → AllowsAll facts (acts (index_acts h.typing e))
@@ -620,13 +716,13 @@ module _ (h : Here) (settled : IsSettled h.typing.table) (hands : List Waiting) 
       named_there : IsKind x → is_scalar (full h.typing.table (object_at h.typing x).of) ≡ false → IsNamed h.typing.table (object_at h.typing x).of
       named_there (inl plain) other_type = absurd (true_false (is_scalar (full h.typing.table (object_at h.typing x).of)) plain other_type)
       named_there (inr (inl (back, own))) other_type = own
-      named_there (inr (inr shown)) other_type =
+      named_there (inr (inr (inr plain))) other_type = plain.2
+      named_there (inr (inr (inl shown))) other_type =
           plain_named h.typing.table (object_at h.typing x).of (not_anonymous (is_anonymous (view_of h.typing x)) refl)
         where
           not_anonymous : (b : Bool) → is_anonymous (view_of h.typing x) ≡ b → is_anonymous (view_of h.typing x) ≡ false
           not_anonymous false e = e
           not_anonymous true e = absurd ((in_formals x shown.0).1 e)
-
 
       own_there : (is_scalar (full h.typing.table t) ≡ true) ⊎ IsOwnPlace h.typing e → is_scalar (full h.typing.table (object_at h.typing x).of) ≡ false → IsOwnPlace h.typing e
       own_there (inl plain) other_type = absurd (true_false (is_scalar (full h.typing.table (object_at h.typing x).of))
@@ -639,12 +735,16 @@ module _ (h : Here) (settled : IsSettled h.typing.table) (hands : List Waiting) 
       → IsCopiedName x mode_of e → Takes (waits_in e) before on
       → AllowsAll facts (acts (head_of h.typing own_law procedure mode_of owning e)) → Quiet (at on) (λ a. IsGiven x mode_of e a) (passed h (passing_by mode_of owning access) x e (at before))
   one_given before on mode.In false access x e is fits kind actual clears copied takes allowed =
-      value_is on x e fits (passed h ByValue x e (at before)) (value_given before on x e (actual.0 fits) takes allowed)
+      elim (actual.0 fits) [
+        | inl (plain, stays) ↦ value_is on x e fits plain (passed h ByValue x e (at before)) (value_given before on x e stays takes allowed)
+        | inr (named, copy) ↦ copy_is on x e fits (passed h ByValue x e (at before)) (copy_given before on x e fits copy takes allowed)
+      ]
   one_given before on mode.In true access x e is fits kind actual clears copied takes allowed = elim kind [
     | inl plain ↦ absurd (true_false (is_owning h.typing.table (object_at h.typing x).of) fits (plain_type h.typing own_law (object_at h.typing x).of plain))
     | inr other_kind ↦ elim other_kind [
       | inl back ↦ absurd (back.0 is)
-      | inr shown ↦ shown_given before on x e shown fits (actual.1 fits) takes allowed (clears shown.0)
+      | inr (inl shown) ↦ shown_given before on x e shown fits (actual.1 fits) takes allowed (clears shown.0)
+      | inr (inr plain) ↦ absurd (true_false (is_owning h.typing.table (object_at h.typing x).of) fits plain.1)
     ]
   ]
   one_given before on mode.Out owning access x e is fits kind actual clears copied takes allowed =

@@ -3,10 +3,10 @@ use Rattle.typed_tree.specs.declared.object.ObjectKind.{ObjectKind}
 use Rattle.typed_tree.specs.declared.object.ObjectKind.TheVariants as object_kind
 use Rattle.place_names.specs.Facts.{adds}
 use Rattle.spark_base.proofs.Lists.{Has-map_from, Has-append_left}
-use Rattle.std.proofs.Common.{◌≡◌, refl, sym, ap, ◌∙◌, subst, ◌⊎◌, inl, inr, ℕ, suc, ◌<◌, true, false, ◌==◌, List, [], ◌∷◌, ◌++◌, map, take, drop, length, get_or, arith, Option, Some, None, if◌then◌else◌, is_some, Bool, not, ◌||◌, flat_map, append-nil, ◌&&◌}
+use Rattle.std.proofs.Common.{◌≡◌, refl, sym, ap, ◌∙◌, subst, ◌⊎◌, inl, inr, ℕ, suc, ◌<◌, true, false, ◌==◌, List, [], ◌∷◌, ◌++◌, map, take, drop, length, get_or, arith, Option, Some, None, is_some, Bool, not, ◌||◌, flat_map, ◌&&◌}
 use Rattle.std.specs.Prelude.{is_some}
 use Rattle.spark_base.specs.Lists.{Has}
-use Rattle.spark_base.proofs.Lists.{Has-append_cases, Has-map_from}
+use Rattle.spark_base.proofs.Lists.{Has-append_cases, Has-map_from, Has-append_right}
 use Rattle.place_names.specs.declared.act.Act.{Act}
 use Rattle.place_names.specs.declared.act.Act.TheVariants as act
 use Rattle.place_names.specs.declared.act.Placed.{Placed}
@@ -21,7 +21,7 @@ use Rattle.typed_tree.specs.Trees.{TypedTree, Name, NoMore, More}
 use Rattle.typed_tree.specs.Programs.{TypedProgram}
 use Rattle.flow_paths.specs.declared.report.Effects.{Effects}
 use Rattle.flow_paths.specs.Instructions.{Instruction, Call, EndScope, Declare, Assign, Hold}
-use Rattle.flow_paths.specs.Objects.{Typing, object_at, sub_at, is_anonymous, is_package_object, view_of, traverses, passings, Passing, Signature, passing, is_formal_kind, is_observer}
+use Rattle.flow_paths.specs.Objects.{Typing, object_at, sub_at, is_anonymous, is_package_object, view_of, traverses, passings, Passing, Signature, passing, is_formal_kind, is_observer, is_formal}
 use Rattle.place_names.specs.Facts.{adds}
 use Rattle.place_names.specs.Reports.{Report}
 use Rattle.flow_paths.specs.Aliases.{overlap_reports, passed_reports, call_reports}
@@ -40,11 +40,11 @@ use Rattle.machine.specs.Step.{Turn, turn, start, led, successor}
 use Rattle.machine.specs.Step as steps
 use Rattle.machine.specs.Typed.{successors}
 use Rattle.machine.specs.Calls.{Passed, all_passed, with_formals, returns_of, out_checks}
-use Rattle.machine.specs.Owners.{is_in_formal, waiting_in}
+use Rattle.machine.specs.Owners.{is_in_formal, waiting_in, is_in}
 use Rattle.place_names.specs.declared.act.Mode.TheVariants as mode
-use Rattle.owned_ways.specs.Ways.{Step, Way, after, AllowsAll}
+use Rattle.owned_ways.specs.Ways.{Step, Way, after, AllowsAll, Past}
 use Rattle.owned_ways.specs.Ways as ways
-use Rattle.owned_ways.proofs.Locations.{reaches_along, named_along as rooted_along, past_under}
+use Rattle.owned_ways.proofs.Locations.{reaches_along, named_along as rooted_along, past_under, under_along, under_itself}
 use Rattle.soundness.specs.Seen.{is_view_formal, IsNear, content, seen, home, trunk, word_in}
 use Rattle.owned_ways.proofs.Named.{longer}
 use Rattle.owned_ways.proofs.Dropped.{named_base}
@@ -66,45 +66,51 @@ use Rattle.soundness.proofs.Eased.{eased}
 use Rattle.soundness.proofs.Scoped.{Inside}
 use Rattle.soundness.proofs.Successors.{below_one, successor_there}
 use Rattle.owned_loans.specs.Views.{expand, Around, known_gone, Views, IsMovedBy, ExcusedBy, AreClear as FactsAreClear, IsForeign, AreViews, Viewed}
-use Rattle.owned_loans.proofs.Ways.{under_on}
+use Rattle.owned_loans.proofs.Ways.{under_on, Meet, meets_front, flip}
 use Rattle.owned_loans.proofs.Meeting.{stands}
 use Rattle.owned_loans.proofs.Moves.{expand_under}
 use Rattle.owned_loans.proofs.Meeting.{stands}
 use Rattle.viewed_soundness.proofs.Names.{true_false, owner_sees}
 use Rattle.viewed_soundness.proofs.Outcomes.{named_plain}
-use Rattle.viewed_soundness.specs.Holds.{Holds, is_view, sees_only, IsOwners, is_exclusive}
-use Rattle.viewed_soundness.proofs.Evaluated.{live_trunk}
+use Rattle.viewed_soundness.specs.Holds.{Holds, is_view, sees_only, IsOwners, is_exclusive, AllKeep, is_given, is_fixed}
+use Rattle.viewed_soundness.proofs.Evaluated.{live_trunk, keep_both}
 use Rattle.soundness.specs.Ready.{IsSupplied, Fills}
+use Rattle.place_names.specs.declared.act.Mode.{Mode}
+use Rattle.viewed_soundness.proofs.Given.{IsLow, foreign_there, low_there}
 use Rattle.viewed_steps.specs.Awaited.{AreValuesBut, temporaries_of, lasting_of, awaited, WaitsAt, AreAwaited, AreScalar, FillsTyped, TakesScalars, IsTakenBy}
 use Rattle.viewed_steps.proofs.Waited.{late_scope, within_lasting, lasting_more, Shares, plain_unheld}
-use Rattle.viewed_steps.specs.Sound.{IsCopiedBack, IsShown, ArePast, AreUnmet, HoldsAt, ArePlaced, NoneAbove, ViewStage, stages_of, GoneElsewhere, Disturbs, IsWaiting, AreWaiting, calls_one, LeadsAlong, IsResting, IsKindOfFormal, IsScalarObject, AreReturned, withheld}
+use Rattle.viewed_steps.specs.Sound.{IsCopiedBack, ArePast, AreUnmet, HoldsAt, ArePlaced, NoneAbove, ViewStage, stages_of, GoneElsewhere, Disturbs, IsWaiting, AreWaiting, calls_one, LeadsAlong, IsResting, IsKindOfFormal, IsScalarObject, AreReturned, withheld, KeptBy, IsWayOf, IsBareOf}
 use Rattle.viewed_steps.specs.Ready.{IsReady, roots_passed, IsCalled}
 use Rattle.viewed_steps.specs.Taken.{TakenBy, AreTaken, AreCarried, Lodge}
 use Rattle.viewed_steps.proofs.Apart.{moved_same}
 use Rattle.viewed_steps.proofs.Lent.{Spare, spare_both, loans_stay}
 use Rattle.viewed_steps.proofs.Placed.{within_on, lasts_more, scope_on, placed_on}
-use Rattle.viewed_steps.proofs.Ended.{none_some}
 use Rattle.viewed_steps.proofs.Waiting.{StandsBetween, gone_low, kept_low, beside_them, handed, elsewhere_excused, all_on, bare_still}
-use Rattle.viewed_steps.proofs.Between.{same_reaches, gone_also, more_gone, base_along, base_under, same_variable, not_named}
+use Rattle.viewed_steps.proofs.Between.{gone_also, more_gone, base_along, base_under, same_variable, not_named, IsHomed, homed_apart, number_based, taken_bare, same_reaches}
+use Rattle.viewed_steps.proofs.Ended.{none_some}
 use Rattle.viewed_steps.proofs.Called.{AreGiven, all_laid_out, all_given, all_acted, values_are_read, call_adds_none, passes_to, spare_reads, spare_copies}
-use Rattle.viewed_steps.proofs.Carried.{past_other}
+use Rattle.viewed_steps.proofs.Outside.{IsSpared, kept_clear, gone_clear}
+use Rattle.viewed_steps.proofs.Globals.{copied_act, passed_unused}
+use Rattle.viewed_steps.proofs.Apart.{written_disturbs}
+use Rattle.flow_paths.specs.Effects.{written_by}
 use Rattle.viewed_steps.proofs.Aside.{names_off, part_apart}
 use Rattle.viewed_steps.proofs.LaidOut.{AreLaidOut, outs_of, cells_of, AreOpenActuals}
 use Rattle.viewed_steps.proofs.Outs.{Out, IsUnderOne, found_in}
-use Rattle.viewed_steps.proofs.Entered.{ArePassedOn, IsOpen, AreBlank, not_above, passed_base, outs_taken, passed_own, inside_plain, inside_named, inside_number, inside_itself, passed_one}
-use Rattle.viewed_steps.proofs.Entering.{none_emptied, none_taken_same, owns_there, AreDeclared, Enter, formals_of_returns, all_declared}
-use Rattle.viewed_steps.proofs.Passed.{IsNamedBy, all_passed_on, found_there, all_returned, call_goes, apart_or}
+use Rattle.viewed_steps.proofs.Entered.{ArePassedOn, IsOpen, AreBlank, not_above, passed_base, outs_taken, inside_plain, inside_named, inside_number, inside_itself, passed_one}
+use Rattle.viewed_steps.proofs.Entering.{owns_there, AreDeclared, Enter, formals_of_returns, all_declared}
+use Rattle.viewed_steps.proofs.Passed.{IsNamedBy, all_passed_on, found_there, all_returned, call_goes, apart_or, apart_there}
 use Rattle.viewed_steps.proofs.Cells.{passed_apart, passed_formal, are_kept, all_in, all_open, IsCellNamed, named_before, cells_named}
 use Rattle.viewed_steps.proofs.Standing.{or_right}
 use Rattle.viewed_steps.proofs.Uses.{called_writes, lent_spared}
 use Rattle.viewed_steps.proofs.Standing as standing
 use Rattle.viewed_steps.proofs.Packages as packages
 use Rattle.viewed_steps.proofs.Innermost as innermost
-use Rattle.viewed_steps.proofs.Views.{AreAccess, AreFar, apart_by_base, all_held, lies_far, not_elsewhere, formal_view, anonymous_view, scalar_no_view, view_cases}
+use Rattle.viewed_steps.proofs.Views.{AreAccess, AreFar, all_held, lies_far, not_elsewhere, formal_view, anonymous_view, scalar_no_view, view_cases, base_named}
 use Rattle.viewed_steps.proofs.Shown.{same_cells}
 use Rattle.viewed_steps.proofs.Seeing.{AreClear}
-use Rattle.viewed_steps.proofs.Clear.{all_clear, none_clear}
-use Rattle.viewed_steps.proofs.Opening.{Opens, all_opened, opened_views, opened_whole, opened_lies, opened_held, opened_placed}
+use Rattle.viewed_steps.proofs.Clear.{all_clear}
+use Rattle.viewed_steps.proofs.Exclusive.{AreLent, are_lent, lent_clears, IsFrom, from_past, from_far, from_apart, from_place}
+use Rattle.viewed_steps.proofs.Opening.{Opens, all_opened, low_of, opened_from, opened_views, opened_whole, opened_lies, opened_held, opened_placed}
 
 module _ (table : Table) (typed : TypedProgram) (effects : Effects) (input : List ℕ) (ready : IsReady table typed effects) where
   abbrev program : FlowProgram
@@ -385,10 +391,49 @@ module _ (table : Table) (typed : TypedProgram) (effects : Effects) (input : Lis
         ]
       ]
 
-      -- a function has formals of mode `in` alone; a procedure has none that owns nothing
+      there_formals : (x : ℕ) → Has formals x → Has (sub_at s n).formals x
+      there_formals x has = subst (λ z. Has z x) (sym (ap (λ (z : Signature). z.formals) (signature_is program n))) has
+
+      copies_keep : AllKeep (is_fixed s) (acts copies)
+      copies_keep =
+          (keep_both (is_fixed s) (acts values) (acts copies) (subst (AllKeep (is_fixed s)) (acts_append values copies)
+          (subst (λ z. AllKeep (is_fixed s) (acts z)) values_are
+          (standing.keeps_there table typed effects input ready state top older outer named p frames of_sub at_point)))).1
+
+      -- what formals of a procedure that own nothing are lent
+      lent_there : (sub_of program n).result ≡ None → AreLent s facts_now formals actuals
+      lent_there is =
+          are_lent s facts_now formals actuals called.differ
+          (apart_there program effects ready.accepted.no_reports (flow_sub own named)
+          (standing.in_program table typed effects input ready state top older outer named p frames of_sub at_point) main_turn.point
+          (standing.in_sub table typed effects input ready state top older outer named p frames of_sub at_point) n actuals result e called.answers is)
+          (subst (λ b. AllowsAll facts_now (acts (flow.actual_acts (map (passing s b) formals) actuals))) of_procedure copies_allowed)
+          (subst (λ b. AllKeep (is_fixed s) (acts (flow.actual_acts (map (passing s b) formals) actuals))) of_procedure copies_keep)
+          (λ y has formal. record {
+            of_in = mode_in (object_at s y).mode (second_true (is_formal s y) (is_in (object_at s y).mode) (first_true (is_in_formal s y) (is_owning s.table (object_at s y).of) formal));
+            owning = second_true (is_in_formal s y) (is_owning s.table (object_at s y).of) formal;
+            access = ready.class.procedures n (ap (λ (z : Signature). z.result) (signature_is program n) ∙ is) y (there_formals y has) (called.formals y has) formal;
+          })
+        where
+          of_procedure : procedure ≡ true
+          of_procedure = ap (λ r. not (is_some r)) is
+
+          first_true : (a b : Bool) → a && b ≡ true → a ≡ true
+          first_true true b is = refl
+          first_true false b is = cc
+
+          second_true : (a b : Bool) → a && b ≡ true → b ≡ true
+          second_true true b is = is
+          second_true false b is = cc
+
+          mode_in : (how : Mode) → is_in how ≡ true → how ≡ mode.In
+          mode_in mode.In is = refl
+          mode_in how is = cc
+
+      -- a function has formals of mode `in` alone
       by_callee : (((x : ℕ) → Has formals x → (object_at s x).mode ≡ mode.In) × ((x : ℕ) → Has formals x → IsCopiedBack s x → ⊥)
           × ((x : ℕ) → Has formals x → is_view_formal s x ≡ true → sees_only s x ≡ true))
-          ⊎ ((x : ℕ) → Has formals x → is_view_formal s x ≡ false)
+          ⊎ AreLent s facts_now formals actuals
       by_callee = by_result (sub_of program n).result refl
         where
           sees_shown : (a b c d : Bool) → b ≡ true → d ≡ false → a || ((b || c) && not d) ≡ true
@@ -397,26 +442,22 @@ module _ (table : Table) (typed : TypedProgram) (effects : Effects) (input : Lis
           sees_shown false true c true e f = cc
           sees_shown false false c d e f = cc
 
-          there : (x : ℕ) → Has formals x → Has (sub_at s n).formals x
-          there x has = subst (λ z. Has z x) (sym (ap (λ (z : Signature). z.formals) (signature_is program n))) has
-
           by_result : (r : Option ℕ) → (sub_of program n).result ≡ r
               → (((x : ℕ) → Has formals x → (object_at s x).mode ≡ mode.In) × ((x : ℕ) → Has formals x → IsCopiedBack s x → ⊥)
-                  × ((x : ℕ) → Has formals x → is_view_formal s x ≡ true → sees_only s x ≡ true))
-              ⊎ ((x : ℕ) → Has formals x → is_view_formal s x ≡ false)
+              × ((x : ℕ) → Has formals x → is_view_formal s x ≡ true → sees_only s x ≡ true))
+              ⊎ AreLent s facts_now formals actuals
           by_result (Some of) is =
               let answers : (sub_at s n).result ≡ Some of = ap (λ (z : Signature). z.result) (signature_is program n) ∙ is in
-              let modes : (x : ℕ) → Has formals x → (object_at s x).mode ≡ mode.In = (λ x has. ready.class.modes n of answers x (there x has)) in
-              inl (modes, (λ x has back. back (modes x has)), λ x has formal. elim (ready.class.functions n of answers x (there x has) (called.formals x has)) [
-                | inl plain ↦ absurd (scalar_no_view s in_formals x plain (formal_view s x formal))
-                | inr shown ↦ sees_shown (is_observer s x) (is_view_formal s x) (is_in_formal s x && is_anonymous (view_of s x)) (is_exclusive s x) formal shown.1
-              ])
-          by_result None is = inr (λ x has. ready.class.procedures n (ap (λ (z : Signature). z.result) (signature_is program n) ∙ is) x (there x has) (called.formals x has))
+              let modes : (x : ℕ) → Has formals x → (object_at s x).mode ≡ mode.In = (λ x has. ready.class.modes n of answers x (there_formals x has)) in
+              inl (modes, (λ x has back. back (modes x has)), λ x has formal.
+                  sees_shown (is_observer s x) (is_view_formal s x) (is_in_formal s x && is_anonymous (view_of s x)) (is_exclusive s x) formal
+                  (ready.class.functions n of answers x (there_formals x has) (called.formals x has) formal))
+          by_result None is = inr (lent_there is)
 
       clear_there : AreClear s facts_now formals actuals
       clear_there = elim by_callee [
         | inl modes ↦ all_clear s procedure formals actuals facts_now modes.0 copies_allowed
-        | inr none ↦ none_clear s procedure formals actuals facts_now none
+        | inr lent ↦ lent_clears s facts_now formals actuals (λ y has formal m of. (lent y has formal m of).clear)
       ]
 
       abbrev pub Given : List Passed → Type 0
@@ -601,14 +642,18 @@ module _ (table : Table) (typed : TypedProgram) (effects : Effects) (input : Lis
         pub all_passed_ways : (ways_taken : List Way) × ArePassedOn s state.memory cells depth facts_called next_there formals passed ways_taken outs
             × ((k : Way) → Has ways_taken k → IsNamedBy s formals actuals k)
         all_passed_ways =
-            all_passed_on s ready.owns state.memory cells depth views view_now facts_called next_there procedure formals actuals passed own_facts laid kinds
+            all_passed_on s ready.owns ready.accepted.settled state.memory cells depth views view_now facts_called next_there procedure formals actuals passed own_facts laid kinds
             called.local called.differ
             within_next no_overlap copies_leave copies_own (λ c has. has)
 
         abbrev pub ways_taken : List Way
         ways_taken = all_passed_ways.0
 
-        out_base : (o : Out) → Has outs o → (y : ℕ) × (ways.base_of o.way ≡ ways.OfRoot (ways.OfVariable depth y))
+        -- they begin at variables of the frame, or of package objects
+        homed : (to : Way) → Has ways_taken to → IsHomed s depth to
+        homed to has = passed_base s state.memory cells depth facts_called next_there formals passed ways_taken outs all_passed_ways.1 to has
+
+        out_base : (o : Out) → Has outs o → IsHomed s depth o.way
         out_base o has =
             passed_base s state.memory cells depth facts_called next_there formals passed ways_taken outs all_passed_ways.1 o.way
             (outs_taken s state.memory cells depth facts_called next_there formals passed ways_taken outs all_passed_ways.1 o has)
@@ -619,8 +664,7 @@ module _ (table : Table) (typed : TypedProgram) (effects : Effects) (input : Lis
         outs_apart : (y : ℕ) (w z : Way) → views.way y ≡ Some w → IsForeign (home s depth) w → outs_gone z → ways.Under z w ⊎ ways.Under w z → ⊥
         outs_apart y w z has foreign (inl gone) meets = well_before.whole y w z has foreign gone meets
         outs_apart y w z has foreign (inr (o, has_o, under)) meets =
-            apart_by_base w z foreign.0 foreign.1 depth (out_base o has_o).0 foreign.2 (base_under o.way z under ∙ (out_base o has_o).1)
-            (λ same. (let low = far_views y w has foreign in omega (arith, low, same))) meets
+            homed_apart s depth o.way (out_base o has_o) w z foreign under meets
 
         -- the state is sound with views under the facts after the acts, where what is to be emptied may be gone
         abbrev around_outs : Around (home s depth)
@@ -696,15 +740,48 @@ module _ (table : Table) (typed : TypedProgram) (effects : Effects) (input : Lis
                       (subst (λ z. overlaps z cell.by.actual.name ≡ true) (sym by.3) (subst (λ z. overlaps (ways.name_of to) z ≡ true) (sym cell.called) over))
                 ]
 
+        -- a package object that is passed to be copied back to is written
+        act_of_passed : (b : alias.Passed) → Has (alias.passed formals actuals) b → IsCopiedBack s b.formal → is_package_object s b.actual.name.root ≡ true
+            → Has (written_by effects top.frame.sub) b.actual.name.root
+        act_of_passed b has back shared =
+            let act = copied_act s procedure formals actuals b has back in
+            innermost.act_writes_it table typed effects input ready state top below more_frames rest named p frames deep stages running awaiting of_sub at_point path views viewed_before kept scope holds placed_before above
+            b.actual.name.root shared main_turn.point (standing.in_sub table typed effects input ready state top older outer named p frames of_sub at_point) act.0
+            (subst (λ z. Has z act.0) (sym values_are ∙ standing.acts_agree table typed effects input ready state top older outer named p frames of_sub at_point)
+            (Has-append_right values copies act.0 act.1)) act.2
+
+        written_to : (to : Way) → Has ways_taken to → is_package_object s (ways.number_of to) ≡ true → Has (written_by effects top.frame.sub) (ways.number_of to)
+        written_to to has shared =
+            let by = all_passed_ways.2 to has in
+            subst (λ (z : PlaceName). Has (written_by effects top.frame.sub) z.root) by.3
+            (act_of_passed by.0 by.1 by.2 (ap (λ (z : PlaceName). is_package_object s z.root) by.3 ∙ shared))
+
+        -- and the callee doesn't use it
+        unused_to : (to : Way) → Has ways_taken to → is_package_object s (ways.number_of to) ≡ true → Uses effects n (ways.number_of to) → ⊥
+        unused_to to has shared uses =
+            let by = all_passed_ways.2 to has in
+            passed_unused program effects ready.accepted.no_reports (flow_sub own named)
+            (standing.in_program table typed effects input ready state top older outer named p frames of_sub at_point) main_turn.point
+            (standing.in_sub table typed effects input ready state top older outer named p frames of_sub at_point) n actuals result e called.answers
+            (λ of answers x has. ready.class.modes n of answers x has) by.0 by.1 by.2 (ap (λ (z : PlaceName). is_package_object s z.root) by.3 ∙ shared)
+            (subst (λ (z : PlaceName). Uses effects n z.root) (sym by.3) uses)
+
+        -- so the frames around keep nothing of it
+        spared_to : (to : Way) (has : Has ways_taken to) → IsSpared table typed effects unmoved_stage local state depth older between (homed to has).1
+        spared_to to has l name lent root =
+            let begin = homed to has in
+            let at : ways.base_of to ≡ ways.OfRoot (ways.OfVariable (home s depth begin.1) begin.1) = begin.2 ∙ ap (λ f. ways.OfRoot (ways.OfVariable f begin.1)) begin.3 in
+            let number : ways.number_of to ≡ begin.1 = number_based (home s depth) to begin.1 (base_named (home s depth) to begin.1 at) at in
+            let written = written_to to has (ap (is_package_object s) (number ∙ sym root) ∙ lent.5) in
+            innermost.spared_here table typed effects input ready state top below more_frames rest named p frames deep stages running awaiting of_sub at_point path views viewed_before kept scope holds placed_before above
+            l name lent (written_disturbs table typed effects ready.accepted.effects_are l top.frame.sub name.root
+            (subst (Has (written_by effects top.frame.sub)) (number ∙ sym root) written))
+
         pub open_there : IsOpen (home s depth) other_all ways_taken
         open_there = record {
           free = λ k w under gone. (let root = gone_low table typed effects unmoved_stage local state depth older between w gone in
               hand_base (sym (base_under (ways.Object (ways.OfHand k)) w under) ∙ root.2));
-          whole = λ to has w under gone. (
-              let root = gone_low table typed effects unmoved_stage local state depth older between w gone in
-              let base = passed_base s state.memory cells depth facts_called next_there formals passed ways_taken outs all_passed_ways.1 to has in
-              let frames_same = (same_variable root.0 root.1 depth base.0 (sym root.2 ∙ base_under to w under ∙ base.1)).0 in
-              let less = root.3 in omega (arith, frames_same, less));
+          whole = λ to has w under gone. gone_clear table typed effects unmoved_stage local state depth older between to (homed to has) (spared_to to has) w gone (base_under to w under);
           none = λ w k keeps_it. keeps_it;
         }
           where
@@ -763,7 +840,7 @@ module _ (table : Table) (typed : TypedProgram) (effects : Effects) (input : Lis
         enters =
             all_declared s ready.accepted.settled ready.owns in_formals (waiting_in easy.state) depth views far_views facts_called next_there cells cell_begins other_all state.leaks formals passed ways_taken outs
             state.memory state.memory all_passed_ways.1 open_there (viewed_easy plain_there.0).1 (viewed_easy plain_there.0).1
-            (λ c has. ((named_cell c has).reaches, cell_aside c has)) well_all blank_formals (λ o has y q k is. refl) (same_cells state.memory state.memory refl)
+            (λ c has. ((named_cell c has).reaches, cell_aside c has)) well_all blank_formals (λ o has f y q some is k. refl) (same_cells state.memory state.memory refl)
 
         abbrev declared_there : AreDeclared s ready.accepted.settled ready.owns in_formals (waiting_in easy.state) depth views far_views facts_called next_there cells cell_begins formals passed ways_taken state.leaks leaks_then
             state.memory with_all
@@ -823,10 +900,24 @@ module _ (table : Table) (typed : TypedProgram) (effects : Effects) (input : Lis
               | inl fact ↦ spared_then name (subst (λ z. Has z (Moved name)) facts_there fact) shared uses
               | inr taken ↦ (
                   let from = Has-map_from (λ (to : Way). Moved (ways.name_of to)) ways_taken (Moved name) taken in
-                  true_false (is_package_object s name.root) shared
-                  (subst (λ (z : PlaceName). is_package_object s z.root ≡ false) (moved_same (ways.name_of from.0) name from.2)
-                  (passed_own s state.memory cells depth facts_called next_there formals passed ways_taken outs all_passed_ways.1 from.0 from.1)))
+                  let same : ways.name_of from.0 ≡ name = moved_same (ways.name_of from.0) name from.2 in
+                  unused_to from.0 from.1 (ap (λ (z : PlaceName). is_package_object s z.root) same ∙ shared) (subst (λ (z : PlaceName). Uses effects n z.root) (sym same) uses))
             ]
+
+        taken_then : AreTaken s cells with_all depth facts_called next_there (returns_of formals passed) ways_taken
+        taken_then = enters.2
+
+        -- no number stands in what is taken
+        bare_there : (w : Way) (l : ways.Loc) (q : List Step) → IsBareOf s waits_there w l q → (r : List Step) (k : ℕ)
+            → word_in s.table (content s with_all [] l) (r ++ q) ≡ ways.Held k → ⊥
+        bare_there w l q (taken, inl (c, has, way, is)) r k held =
+            let inside = ((passed_one s state.memory cells depth facts_called next_there formals passed ways_taken outs all_passed_ways.1 (ways.along w q) taken).2).inside in
+            part_apart (view_here s easy.state) w c.cell (subst (λ z. ways.Reaches (view_here s easy.state) z (ways.OfCell c.cell)) way (named_cell c has).reaches)
+            (ways.OfVariable inside.frame inside.object) q inside.steps inside.way
+        bare_there w l q (taken, inr (y, also, way, is)) r k held =
+            taken_bare s cells with_all depth facts_called next_there (returns_of formals passed) ways_taken taken_then 0 y q
+            (subst (λ z. Has ways_taken (ways.along z q)) (sym way) taken) r k
+            (subst (λ z. word_in s.table (content s with_all [] z) (r ++ q) ≡ ways.Held k) (sym is) held)
 
         is_waiting : IsWaiting table typed effects after_call n (returns_of formals passed) waits_there
         is_waiting = record {
@@ -846,7 +937,7 @@ module _ (table : Table) (typed : TypedProgram) (effects : Effects) (input : Lis
           ];
           lends = lends_there;
           unmoved = λ name has shared uses. kept_unused name has shared uses;
-          written = λ to has shared. absurd (true_false (is_package_object s (ways.number_of to)) shared (passed_own s state.memory cells depth facts_called next_there formals passed ways_taken outs all_passed_ways.1 to has));
+          written = λ to has shared. written_to to has shared;
           uses = λ x uses. called_used program effects ready.accepted.effects_are top.frame.sub (flow_sub own named) sub_at_all sub_less n callee_less
               main_turn.point (standing.in_sub table typed effects input ready state top older outer named p frames of_sub at_point) actuals result e x uses;
           writes = λ x written. called_writes program effects ready.accepted.effects_are top.frame.sub (flow_sub own named) sub_at_all sub_less n callee_less
@@ -874,9 +965,7 @@ module _ (table : Table) (typed : TypedProgram) (effects : Effects) (input : Lis
                 declared_there.stays c.way begin.0 begin.1 begin.2 begin.3 (cell_aside c has) c.cell (named_cell c has).reaches);
             aside = cell_aside c has;
           };
-          bare = λ w l p (taken, (c, has, way, is)) q k held. (let inside = ((passed_one s state.memory cells depth facts_called next_there formals passed ways_taken outs all_passed_ways.1 (ways.along w p) taken).2).inside in
-              absurd (part_apart (view_here s easy.state) w c.cell (subst (λ z. ways.Reaches (view_here s easy.state) z (ways.OfCell c.cell)) way (named_cell c has).reaches)
-              (ways.OfVariable depth inside.object) p inside.steps inside.way));
+          bare = bare_there;
           taken = subst (λ z. AreTaken s cells with_all top.depth z next_there (returns_of formals passed) all_passed_ways.0) (sym facts_there)
               (subst (λ d. AreTaken s cells with_all d facts_called next_there (returns_of formals passed) all_passed_ways.0) (sym deep) enters.2);
         }
@@ -894,11 +983,11 @@ module _ (table : Table) (typed : TypedProgram) (effects : Effects) (input : Lis
               far = λ w k keeps_it. (let root = kept_low table typed effects unmoved_stage local state depth older between w k keeps_it in
                   subst (λ z. ways.Reaches z w (ways.OfCell k)) view_called
                   (declared_there.stays w root.0 root.1 root.2 (λ same. (let less = root.3 in omega (arith, less, same)))
-                  (λ to taken. (
-                  let base = passed_base s state.memory cells depth facts_called next_there formals passed ways_taken outs all_passed_ways.1 to taken in
-                  past_other to w depth base.0 root.0 root.1 base.1 root.2 (λ same. (let less = root.3 in omega (arith, less, same))))) k
+                  (λ to taken past. kept_clear table typed effects unmoved_stage local state depth older between to (homed to taken) (spared_to to taken) w k keeps_it
+                  (base_under to w (past_under to w past))) k
                   (((viewed_easy plain_there.0).0).far w k keeps_it)));
-              bare = bare_still table typed effects unmoved_stage local older easy.state after_call declared_there.carried.cells ((viewed_easy plain_there.0).0).bare;
+              bare = bare_still table typed effects unmoved_stage local older easy.state after_call (λ c q k held. sym (declared_there.carried.cells c q) ∙ held)
+                  (λ y q r k there shared held. held_called 0 y (r ++ q) k (λ above_it. omega (arith, above_it)) held) ((viewed_easy plain_there.0).0).bare;
             }) running.2
 
         -- what is gone then is known to those that wait
@@ -933,7 +1022,7 @@ module _ (table : Table) (typed : TypedProgram) (effects : Effects) (input : Lis
         -- ---- the views of what is called
 
         abbrev opened : Opens (steps.here main_turn) ready.accepted.settled (waiting_in easy.state) state.leaks state.memory [] other facts_now views (viewed_easy plain_there.0).1
-            (viewed_easy plain_there.0).0 holds_now alone live_now in_formals index_law ready.owns ready.class.parts_named formals_low procedure formals passed
+            (viewed_easy plain_there.0).0 holds_now alone live_now in_formals index_law ready.owns ready.class.parts_named formals_low procedure formals actuals passed
         opened =
             all_opened (steps.here main_turn) ready.accepted.settled (waiting_in easy.state) state.leaks state.memory [] other facts_now views (viewed_easy plain_there.0).1
             (viewed_easy plain_there.0).0 holds_now alone live_now in_formals index_law ready.owns ready.class.parts_named formals_low procedure formals actuals passed called.differ given
@@ -941,49 +1030,91 @@ module _ (table : Table) (typed : TypedProgram) (effects : Effects) (input : Lis
         abbrev callee_views : Views
         callee_views = opened.0
 
-        -- one that has a way is in a function
-        takes_none : (y : ℕ) (w : Way) → callee_views.way y ≡ Some w → all_passed_ways.0 ≡ []
-        takes_none y w has =
-            let found = opened.1.way y w has in
+        from_there : AreLent s facts_now formals actuals → (y : ℕ) (w : Way) → callee_views.way y ≡ Some w
+            → IsFrom s depth views facts_now (alias.passed formals actuals) y w
+        from_there lent =
+            opened_from (steps.here main_turn) ready.accepted.settled (waiting_in easy.state) state.leaks state.memory [] other facts_now views (viewed_easy plain_there.0).1
+            (viewed_easy plain_there.0).0 holds_now alone live_now in_formals index_law ready.owns ready.class.parts_named formals_low procedure formals actuals passed callee_views opened.1 lent
+
+        low_called : (y : ℕ) (w : Way) → callee_views.way y ≡ Some w → IsLow s depth w
+        low_called =
+            low_of (steps.here main_turn) ready.accepted.settled (waiting_in easy.state) state.leaks state.memory [] other facts_now views (viewed_easy plain_there.0).1
+            (viewed_easy plain_there.0).0 holds_now alone live_now in_formals index_law ready.owns ready.class.parts_named formals_low procedure formals actuals passed callee_views opened.1
+
+        less_now : (f : Fact) → Has facts_called f → Has facts_now f
+        less_now f has =
+            Has-append_left own_facts handed_on f
+            (subst (λ fs. Has fs f) (standing.facts_are table typed effects input ready state top older outer named p frames of_sub at_point path)
+            (none_new f (subst (λ z. Has z f) (sym facts_there) has)))
+
+        -- no place that is taken meets what they see
+        meets_taken : (y : ℕ) (w : Way) → callee_views.way y ≡ Some w → (to : Way) → Has ways_taken to → Meet w to → ⊥
+        meets_taken y w has to taken meets =
+            let by = all_passed_ways.2 to taken in
             elim by_callee [
-              | inr none ↦ absurd (true_false (is_view_formal s y) found.0 (none y found.1))
-              | inl modes ↦ none_there all_passed_ways.0 (λ k k_has. (
-                  let by_name = all_passed_ways.2 k k_has in
-                  modes.1 (by_name.0).formal (passed_formal formals actuals by_name.0 by_name.1) by_name.2))
+              | inl modes ↦ modes.1 (by.0).formal (passed_formal formals actuals by.0 by.1) by.2
+              | inr lent ↦ (
+                  let one = passed_one s state.memory cells depth facts_called next_there formals passed ways_taken outs all_passed_ways.1 to taken in
+                  let inside = (one.2).inside in
+                  from_place s depth views facts_now (alias.passed formals actuals) y w (from_there lent y w has) around_outs (view_here s easy.state) facts_called well_all less_now
+                  by.0 by.1 by.2 to by.3 (inside_named s ready.accepted.settled depth one.1 to inside)
+                  (ap (sees_only s) (inside_number s ready.accepted.settled depth one.1 to inside)
+                  ∙ owner_sees s inside.object (inside_plain s ready.accepted.settled depth one.1 to inside) inside.owner)
+                  (one.2).unlent (subst (Meet w) (sym (inside_itself s ready.accepted.settled depth one.1 to inside views)) meets))
+            ]
+
+        -- nor one that another one of them sees, if it changes that
+        callee_apart : (x y : ℕ) (w u : Way) → callee_views.way x ≡ Some w → callee_views.way y ≡ Some u → (y ≡ x → ⊥) → sees_only s x ≡ false
+            → ways.Under w u ⊎ ways.Under u w → ⊥
+        callee_apart x y w u has there differs plain meets =
+            let found = opened.1.way x w has in
+            elim by_callee [
+              | inl modes ↦ true_false (sees_only s x) (modes.2 x found.1 found.0) plain
+              | inr lent ↦ from_apart s depth views facts_now (alias.passed formals actuals) x w (from_there lent x w has) other (view_here s easy.state) (viewed_easy plain_there.0).0
+                  y u (from_there lent y u there) differs meets
+            ]
+
+        -- none of the frames around goes past what it changes
+        callee_past : ArePast s (suc depth) callee_views (waits_there ∷ older)
+        callee_past x w has named plain k m keeps past =
+            let found = opened.1.way x w has in
+            elim by_callee [
+              | inl modes ↦ true_false (sees_only s x) (modes.2 x found.1 found.0) plain
+              | inr lent ↦ by_frame (from_there lent x w has) keeps
             ]
           where
-            none_there : (ks : List Way) → ((k : Way) → Has ks k → ⊥) → ks ≡ []
-            none_there [] none = refl
-            none_there (k ∷ ks) none = absurd (none k (inl refl))
-
-        callee_sees : (y : ℕ) (w : Way) → callee_views.way y ≡ Some w → sees_only s y ≡ true
-        callee_sees y w has =
-            let found = opened.1.way y w has in
-            elim by_callee [
-              | inl modes ↦ modes.2 y found.1 found.0
-              | inr none ↦ absurd (true_false (is_view_formal s y) found.0 (none y found.1))
+            by_frame : IsFrom s depth views facts_now (alias.passed formals actuals) x w → KeptBy (waits_there ∷ older) k m → ⊥
+            by_frame from (g, inr there, way) =
+                from_far s depth views facts_now (alias.passed formals actuals) x w from other (view_here s easy.state) (viewed_easy plain_there.0).0 k m (g, there, way) past
+            by_frame from (g, inl same, way) = elim (subst (λ z. IsWayOf z k m) (sym same) way) [
+              | inl (y, is, cell) ↦ from_past s depth views facts_now (alias.passed formals actuals) x w from other (view_here s easy.state) (viewed_easy plain_there.0).0 y k is past
+              | inr (c, there, is, number) ↦ (
+                  let cell = named_cell c there in
+                  let below : ways.Under c.way (expand views cell.whole) =
+                  subst (λ z. ways.Under z (expand views cell.whole)) cell.leads (expand_under views c.name cell.whole (λ r is. absurd (cell.deep r is)) cell.begins) in
+                  from_place s depth views facts_now (alias.passed formals actuals) x w from around_outs (view_here s easy.state) facts_called well_all less_now
+                  cell.by cell.among cell.back cell.whole cell.called cell.named cell.plain cell.unlent
+                  (inl (under_on w c.way (expand views cell.whole) (past_under w c.way (subst (Past w) (sym is) past)) below)))
             ]
 
         -- its way reaches what it reached
         reach_called : (y : ℕ) (w : Way) (k : ℕ) → callee_views.way y ≡ Some w → ways.Reaches (seen s state.memory (waiting_in easy.state) state.leaks) w (ways.OfCell k)
             → ways.Reaches (view_here s after_call) w (ways.OfCell k)
         reach_called y w k has reach =
-            let are = subst (λ z. ArePassedOn s state.memory cells depth facts_called next_there formals passed z outs) (takes_none y w has) all_passed_ways.1 in
-            let empty = none_emptied s ready.accepted.settled ready.owns in_formals (waiting_in easy.state) depth views far_views facts_called next_there cells cell_begins formals passed outs state.memory are in
-            let leaks_are : state.leaks ≡ leaks_then = sym (ap (λ z. state.leaks ++ found_in s state.memory z) empty ∙ append-nil state.leaks) in
+            let low = low_called y w has in
+            let foreign = foreign_there s depth w low in
+            let below = low_there s depth w (omega (arith)) low in
             subst (λ z. ways.Reaches z w (ways.OfCell k)) view_called
-            (subst (λ z. ways.Reaches (seen s with_all (waiting_in easy.state) z) w (ways.OfCell k)) leaks_are
-            (same_reaches (seen s state.memory (waiting_in easy.state) state.leaks) (seen s with_all (waiting_in easy.state) state.leaks)
-            (none_taken_same s ready.accepted.settled ready.owns in_formals (waiting_in easy.state) depth views far_views facts_called next_there cells cell_begins state.leaks formals passed outs
-            state.memory state.memory are (same_cells state.memory state.memory refl) (viewed_easy plain_there.0).1 (λ c has. (named_cell c has).reaches)) w (ways.OfCell k) reach))
+            (declared_there.stays w foreign.0 foreign.1 foreign.2 (λ same. (let less = below.0 in omega (arith, less, same)))
+            (λ to taken past. meets_taken y w has to taken (inr (past_under to w past))) k reach)
 
-        -- what is gone for the caller and the frames around it is excused by its facts before the call
-        excused_called : all_passed_ways.0 ≡ [] → (z : Way) → GoneElsewhere program effects (waits_there ∷ older) z → ExcusedBy (home s depth) views other facts_now z
-        excused_called none z (g, inr has, what) =
-            elsewhere_excused table typed effects unmoved_stage local state depth older between views own_facts z (g, has, what)
-        excused_called none z (g, inl same, what) = elim (subst (λ (y : ViewStage). IsMovedBy (home s y.stage.depth) y.views (facts_of program effects y.stage) z ⊎ TakenBy y.stage.returns z) (sym same) what) [
-          | inr taken ↦ absurd (subst (λ ks. Has ks taken.0) none taken.1)
-          | inl (u, moved, leads) ↦ inl (inl (
+        -- what is gone for the caller and the frames around it is excused by its facts before the call, or is taken
+        excused_called : (z : Way) → GoneElsewhere program effects (waits_there ∷ older) z → ExcusedBy (home s depth) views other facts_now z ⊎ TakenBy ways_taken z
+        excused_called z (g, inr has, what) =
+            inl (elsewhere_excused table typed effects unmoved_stage local state depth older between views own_facts z (g, has, what))
+        excused_called z (g, inl same, what) = elim (subst (λ (y : ViewStage). IsMovedBy (home s y.stage.depth) y.views (facts_of program effects y.stage) z ⊎ TakenBy y.stage.returns z) (sym same) what) [
+          | inr taken ↦ inr taken
+          | inl (u, moved, leads) ↦ inl (inl (inl (
             u,
             (
               subst (λ d. ways.Named (home s d) u) deep moved.0,
@@ -992,7 +1123,16 @@ module _ (table : Table) (typed : TypedProgram) (effects : Effects) (input : Lis
                   (none_new (Moved (ways.name_of u)) moved.1)),
             ),
             leads,
-          ))
+          )))
+        ]
+
+        callee_whole : (x : ℕ) (w z : Way) → callee_views.way x ≡ Some w → GoneElsewhere program effects (waits_there ∷ older) z → ways.Under z w ⊎ ways.Under w z → ⊥
+        callee_whole x w z has gone meets = elim (excused_called z gone) [
+          | inl excused ↦ opened_whole (steps.here main_turn) ready.accepted.settled (waiting_in easy.state) state.leaks state.memory [] other facts_now views (viewed_easy plain_there.0).1
+              (viewed_easy plain_there.0).0 holds_now alone live_now in_formals index_law ready.owns ready.class.parts_named formals_low procedure formals actuals passed callee_views opened.1
+              (ExcusedBy (home s depth) views other facts_now) (λ y is. is) x w z has excused meets
+          | inr (to, taken, steps_on, is) ↦ meets_taken x w has to taken
+              (meets_front to z w (subst (ways.Under to) (sym is) (under_along to to steps_on (under_itself to))) (flip z w meets))
         ]
 
         entered_sound : Along (Goes after_call)
@@ -1024,12 +1164,9 @@ module _ (table : Table) (typed : TypedProgram) (effects : Effects) (input : Lis
                 owned = λ k has. absurd has;
               };
               views = opened_views (steps.here main_turn) ready.accepted.settled (waiting_in easy.state) state.leaks state.memory [] other facts_now views (viewed_easy plain_there.0).1
-                  (viewed_easy plain_there.0).0 holds_now alone live_now in_formals index_law ready.owns ready.class.parts_named formals_low procedure formals passed callee_views opened.1
-                  (view_here s after_call) (facts_of program effects called_stage) callee_sees reach_called;
-              whole = λ x w z has foreign gone meets.
-                  opened_whole (steps.here main_turn) ready.accepted.settled (waiting_in easy.state) state.leaks state.memory [] other facts_now views (viewed_easy plain_there.0).1
-                  (viewed_easy plain_there.0).0 holds_now alone live_now in_formals index_law ready.owns ready.class.parts_named formals_low procedure formals passed callee_views opened.1
-                  (GoneElsewhere program effects (waits_there ∷ older)) (λ y. excused_called (takes_none x w has) y) x w z has gone meets;
+                  (viewed_easy plain_there.0).0 holds_now alone live_now in_formals index_law ready.owns ready.class.parts_named formals_low procedure formals actuals passed callee_views opened.1
+                  (view_here s after_call) (facts_of program effects called_stage) callee_apart reach_called;
+              whole = λ x w z has foreign gone meets. callee_whole x w z has gone meets;
               past = λ x w has named sees_not k m none. absurd none;
               lends = λ l k none. absurd none;
               far = λ w k none. absurd none;
@@ -1056,13 +1193,13 @@ module _ (table : Table) (typed : TypedProgram) (effects : Effects) (input : Lis
               within = λ x k view at. (let own_way = callee_held x k view at in (callee_placed x own_way.0 own_way.1).within);
               only = λ x w has. formal_view s x (opened.1.way x w has).0;
               lies = opened_lies (steps.here main_turn) ready.accepted.settled (waiting_in easy.state) state.leaks state.memory [] other facts_now views (viewed_easy plain_there.0).1
-                  (viewed_easy plain_there.0).0 holds_now alone live_now in_formals index_law ready.owns ready.class.parts_named formals_low procedure formals passed callee_views opened.1 (omega (arith));
+                  (viewed_easy plain_there.0).0 holds_now alone live_now in_formals index_law ready.owns ready.class.parts_named formals_low procedure formals actuals passed callee_views opened.1 (omega (arith));
               owners = λ x w has. (let found = opened.1.way x w has in subst (IsOwners s) found.3 ((found.2).1).owners);
               passed = λ x w has formal at_home. subst (ways.Named (home s (suc depth))) (opened.1.ups x) at_home;
-              own = λ x w has sees_not. absurd (true_false (sees_only s x) (callee_sees x w has) sees_not);
+              own = λ x w has sees_not given_not. absurd (true_false (is_given s x) (ap (λ b. b || (is_in_formal s x && is_anonymous (view_of s x))) (opened.1.way x w has).0) given_not);
             };
             placed = callee_placed;
-            past = λ x w has named sees_not. absurd (true_false (sees_only s x) (callee_sees x w has) sees_not);
+            past = callee_past;
             none_above = λ f x k less view at. elim (declared_there.views f x view) [
               | inl same ↦ above f x k (omega (arith, less)) view (sym same ∙ at)
               | inr shown ↦ (let up = shown.0 in omega (arith, less, up))
@@ -1089,19 +1226,20 @@ module _ (table : Table) (typed : TypedProgram) (effects : Effects) (input : Lis
                 no_anonymous : IsKindOfFormal s x → is_anonymous (view_of s x) ≡ true → ⊥
                 no_anonymous (inl plain) anonymous = scalar_no_view s in_formals x plain (anonymous_view s x anonymous)
                 no_anonymous (inr (inl back)) anonymous = true_false (is_anonymous (view_of s x)) anonymous (named_plain s.table (object_at s x).of back.1)
-                no_anonymous (inr (inr shown)) anonymous = (in_formals x shown.0).1 anonymous
+                no_anonymous (inr (inr (inl shown))) anonymous = (in_formals x shown.0).1 anonymous
+                no_anonymous (inr (inr (inr plain))) anonymous = true_false (is_anonymous (view_of s x)) anonymous (named_plain s.table (object_at s x).of plain.2)
 
             callee_held : (x k : ℕ) → is_view s x ≡ true → (get_or (variable_slots s (home s (suc depth) x) x with_all.variables) 0 no_slot).word ≡ machine.Cell k
                 → (w : Way) × (callee_views.way x ≡ Some w) × (callee_views.cell x ≡ k)
             callee_held =
                 opened_held (steps.here main_turn) ready.accepted.settled (waiting_in easy.state) state.leaks state.memory [] other facts_now views (viewed_easy plain_there.0).1
-                (viewed_easy plain_there.0).0 holds_now alone live_now in_formals index_law ready.owns ready.class.parts_named formals_low procedure formals passed callee_views opened.1
+                (viewed_easy plain_there.0).0 holds_now alone live_now in_formals index_law ready.owns ready.class.parts_named formals_low procedure formals actuals passed callee_views opened.1
                 with_all above local declared_there.views formal_only
 
             callee_placed : ArePlaced program (suc depth) (facts_of program effects called_stage) callee_views called.runs.point.scope
             callee_placed =
                 opened_placed (steps.here main_turn) ready.accepted.settled (waiting_in easy.state) state.leaks state.memory [] other facts_now views (viewed_easy plain_there.0).1
-                (viewed_easy plain_there.0).0 holds_now alone live_now in_formals index_law ready.owns ready.class.parts_named formals_low procedure formals passed callee_views opened.1
+                (viewed_easy plain_there.0).0 holds_now alone live_now in_formals index_law ready.owns ready.class.parts_named formals_low procedure formals actuals passed callee_views opened.1
                 program (facts_of program effects called_stage) called.runs.point.scope refl
                 (λ y has formal. called.begins y has (second_true (is_in_formal s y) (is_owning s.table (object_at s y).of) formal))
 

@@ -228,8 +228,11 @@ module _ (s : Typing) (own_law : OwnsByShape s.table) (depth : ℕ) (facts : Lis
       λ b has. Has-append_right (alias.passed_as x (written e)) (alias.passed formals rest) b has in (
         λ other. elim (kept.0 other) [
           | inl direct ↦ inl direct
-          | inr (scalar, roots) ↦ inr (scalar, one_open x (object_at s x).mode e known outs refl (not_in (object_at s x).mode other) roots each.0 less
-              (λ w is k has over. apart k has (record { formal = x; actual = w }) (among w is) (not_in (object_at s x).mode other) over))
+          | inr (scalar, roots) ↦ inr (
+            scalar,
+            one_open x (object_at s x).mode e known outs refl (not_in (object_at s x).mode other) roots each.0 less
+                (λ w is k has over. apart k has (record { formal = x; actual = w }) (among w is) (not_in (object_at s x).mode other) over),
+          )
         ],
         rest_open x e formals rest known outs none less
             (λ k has b there back over. apart k has b (later b there) back over) (written e) refl

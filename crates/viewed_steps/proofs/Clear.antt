@@ -1,7 +1,6 @@
 -- What is shown to formals that own nothing is neither moved nor borrowed: the acts of the call ask so.
-use Rattle.std.proofs.Common.{◌≡◌, refl, sym, ap, ◌∙◌, subst, inl, inr, ℕ, Bool, true, false, ◌&&◌, List, [], ◌∷◌, ◌++◌, map, Option, Some, None}
+use Rattle.std.proofs.Common.{◌≡◌, refl, sym, ap, ◌∙◌, subst, inl, inr, ℕ, Bool, true, false, ◌&&◌, List, [], ◌∷◌, map, Option, Some, None}
 use Rattle.spark_base.specs.Lists.{Has}
-use Rattle.place_names.specs.declared.act.Act.{Act}
 use Rattle.place_names.specs.declared.act.Act.TheVariants as act
 use Rattle.place_names.specs.declared.act.Mode.{Mode}
 use Rattle.place_names.specs.declared.act.Mode.TheVariants as mode
@@ -12,18 +11,17 @@ use Rattle.place_names.specs.declared.rule.Loan.TheVariants.{Borrowed}
 use Rattle.place_names.specs.declared.rule.Rule.TheVariants.{O10}
 use Rattle.place_names.specs.Rules.{breaks_O10}
 use Rattle.type_definitions.specs.Types.{is_owning}
-use Rattle.typed_tree.specs.Trees.{TypedTree, Name, NoMore, More}
+use Rattle.typed_tree.specs.Trees.{TypedTree, Name, More}
 use Rattle.flow_paths.specs.Objects.{Typing, object_at, is_named_access, view_of, passing, passing_by}
-use Rattle.flow_paths.specs.Names.{Written, written, name_of}
+use Rattle.flow_paths.specs.Names.{Written, written}
 use Rattle.flow_paths.specs.Acts.{naming, actual_act, actual_acts}
 use Rattle.machine.specs.Owners.{is_in_formal}
 use Rattle.owned_ways.specs.Ways.{Way, Allows, AllowsAll, after}
 use Rattle.owned_ways.specs.Ways as ways
 use Rattle.owned_loans.proofs.Clear.{refused}
 use Rattle.soundness.specs.Seen.{is_view_formal}
-use Rattle.soundness.proofs.Scalars.{acts, acts_append, after_append, allows_both, read_effect}
+use Rattle.soundness.proofs.Scalars.{acts, acts_append, allows_both, read_effect}
 use Rattle.owned_loans.proofs.Allowed.{Cleared}
-use Rattle.viewed_soundness.specs.Holds.{sees_only}
 use Rattle.viewed_steps.proofs.Seeing.{IsClear, AreClear}
 
 actual_clears : (facts : List Fact) (access : Bool) (u : Way) → Allows facts (act.Actual (ways.name_of u) mode.In true access) → Cleared facts u

@@ -1,7 +1,7 @@
 -- What a call takes for formals: a scalar value, a scalar place, or another place in a variable of its
 -- caller. A formal of mode `in out` has what its actual had; the place of the actual is gone meanwhile, and
 -- has no number.
-use Rattle.viewed_soundness.specs.Holds.{is_view, sees_only}
+use Rattle.viewed_soundness.specs.Holds.{is_view, sees_only, IsNamed}
 use Rattle.std.proofs.Common.{◌≡◌, refl, sym, ap, ◌∙◌, subst, ◌⊎◌, inl, inr, ℕ, suc, ◌+◌, Bool, true, false, not, ◌&&◌, ◌||◌, List, [], ◌∷◌, ◌++◌, take, drop, length, get_or, arith, if◌then◌else◌, Some}
 use Rattle.std.proofs.lemmas.List.{length-map}
 use Rattle.spark_base.specs.Lists.{Has}
@@ -10,7 +10,7 @@ use Rattle.place_names.specs.declared.fact.Fact.{Fact}
 use Rattle.place_names.specs.declared.fact.Fact.TheVariants.{Moved}
 use Rattle.place_names.specs.declared.rule.Loan.TheVariants.{Borrowed}
 use Rattle.place_names.specs.Names.{Name as PlaceName, overlaps}
-use Rattle.type_definitions.specs.Types.{shape_of, words, full, is_scalar}
+use Rattle.type_definitions.specs.Types.{shape_of, words, full, is_scalar, is_owning}
 use Rattle.flow_paths.specs.Objects.{Typing, object_at, is_variable, is_borrowing, is_observing, is_anonymous, is_observer, is_package_object, view_of}
 use Rattle.machine.specs.Words.{access_offsets}
 use Rattle.machine.specs.Memory.{Slot, Memory, Base, Place, fresh, no_slot, variable_slots, slots_at, slots_of, words_of, gone_at, moved_out, declared}
@@ -21,9 +21,9 @@ use Rattle.machine.specs.States.{Waiting, Leak}
 use Rattle.owned_ways.specs.Ways.{Step, OfVariable, OfHand, Loc, OfRoot, OfCell, Reaches, Way, Object, Empty, Lost, Into, All, Held, Under, Past, Named, along, base_of, number_of, name_of}
 use Rattle.owned_ways.proofs.Locations.{same_loc, under_along, under_itself}
 use Rattle.part_offsets.specs.Parts.{type_in, has_part, IsSettled}
-use Rattle.soundness.specs.Seen.{content, word_in, seen, home, is_view_formal}
+use Rattle.soundness.specs.Seen.{content, word_in, seen, home, is_view_formal, in_hand}
 use Rattle.type_definitions.specs.declared.table.Shape.TheVariants as shape
-use Rattle.soundness.specs.Typed.{Matches, IsCell, OwnsByShape, Kept, Spot}
+use Rattle.soundness.specs.Typed.{Matches, IsCell, OwnsByShape, Kept, Spot, Points}
 use Rattle.soundness.proofs.Memories.{put_other}
 use Rattle.soundness.proofs.Moments.{number_part}
 use Rattle.soundness.proofs.Steps.{matches_words, plain_end, alike, taken_slots, room}
@@ -41,7 +41,7 @@ use Rattle.viewed_steps.proofs.Carried.{inside_homed, inside_low, trunk_is, carr
 use Rattle.viewed_steps.proofs.Outs.{Out, HasStill, places_apart, ways_apart}
 use Rattle.viewed_steps.proofs.Beside.{put_beside}
 use Rattle.viewed_steps.proofs.Declared.{declared_viewed, declared_low}
-use Rattle.viewed_steps.proofs.Views.{AreAccess, AreFar, base_named, view_cases, apart_by_base}
+use Rattle.viewed_steps.proofs.Views.{AreAccess, AreFar, base_named, view_cases}
 
 named_part : (home : ℕ → ℕ) (w : Way) (p : List Step) → Named home w → Named home (along w p)
 named_part home w [] n = n
@@ -113,15 +113,24 @@ IsTyped s m x z = (d : ℕ) (c n : Bool) (k : ℕ) → shape_of s.table (object_
 abbrev pub IsShownOne : Typing → Memory → ℕ → Passed → Type 0
 IsShownOne s m x a = (is_view_formal s x ≡ true) × (z : machine.Word) × (a ≡ Value (z ∷ [])) × IsTyped s m x z
 
+-- Words are a value of a type, and what they designate is of the types of its parts.
+abbrev pub IsFit : Typing → Memory → ℕ → List machine.Word → Type 0
+IsFit s m t ws = (length ws ≡ words s.table t) × Points s m (in_hand (record { of = t; words = ws }))
+
+-- Such a value, for a formal of a type that owns nothing.
+abbrev pub IsCopiedOne : Typing → Memory → ℕ → Passed → Type 0
+IsCopiedOne s m x a =
+    (is_owning s.table (object_at s x).of ≡ false) × IsNamed s.table (object_at s x).of × (ws : List machine.Word) × (a ≡ Value ws) × IsFit s m (object_at s x).of ws
+
 -- A scalar value, or a scalar place in a variable or in one of these cells.
 abbrev pub IsPlainPassed : Typing → List Lodge → Passed → Type 0
 IsPlainPassed s cells (Value ws) = One ws
 IsPlainPassed s cells (From k) = IsPlainPlace s cells k
 IsPlainPassed s cells (To k) = IsPlainPlace s cells k
 
--- Such a one, or such an access value.
+-- Such a one, or such an access value, or a copy.
 abbrev pub IsPlainOne : Typing → Memory → List Lodge → ℕ → Passed → Type 0
-IsPlainOne s m cells x a = ((is_scalar (full s.table (object_at s x).of) ≡ true) × IsPlainPassed s cells a) ⊎ IsShownOne s m x a
+IsPlainOne s m cells x a = ((is_scalar (full s.table (object_at s x).of) ≡ true) × IsPlainPassed s cells a) ⊎ (IsShownOne s m x a ⊎ IsCopiedOne s m x a)
 
 -- A value of one word is passed for a formal.
 abbrev pub IsShownTo : List ℕ → List Passed → ℕ → machine.Word → Type 0

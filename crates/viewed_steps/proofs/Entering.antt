@@ -25,9 +25,9 @@ use Rattle.viewed_soundness.specs.Holds.{sees_only, is_view}
 use Rattle.viewed_steps.specs.Taken.{Lodge, AreCarried, TakenBy, IsPassedOn, IsBare, IsApartFrom, AreTaken}
 use Rattle.viewed_steps.proofs.Left.{cells_same}
 use Rattle.viewed_steps.proofs.Between.{IsHomed, homed_apart, carried_same, carried_then, same_reaches, gone_also, more_gone, base_along, base_under, taken_more}
-use Rattle.viewed_steps.proofs.Carried.{inside_homed, inside_low, start_reached, inside_at, inside_spot, inside_base, inside_owns, inside_word}
-use Rattle.viewed_steps.proofs.Alike.{Enters, IsLaidIn, plain_place, with_one}
-use Rattle.viewed_steps.proofs.Views.{AreFar, apart_by_base, AreAccess}
+use Rattle.viewed_steps.proofs.Carried.{inside_homed, inside_low, start_reached, inside_at, inside_spot, inside_owns, inside_word}
+use Rattle.viewed_steps.proofs.Alike.{IsLaidIn, plain_place}
+use Rattle.viewed_steps.proofs.Views.{AreFar, AreAccess}
 use Rattle.viewed_steps.proofs.Shown.{HasCells, then_cells, taken_cells, Stands, one_stands}
 use Rattle.viewed_steps.proofs.Vacated.{place_checks}
 use Rattle.viewed_steps.proofs.Outs.{Out, IsUnderOne, found_in, HasStill, HaveStill, still_then}
@@ -104,8 +104,10 @@ module _ (s : Typing) (settled : IsSettled s.table) (own_law : OwnsByShape s.tab
   plain_returns n x (From k) formals passed (to ∷ ways) before (inl plain) taken = inl (plain, taken)
   plain_returns n x (To k) formals passed [] before (inl plain) taken = (plain, taken)
   plain_returns n x (To k) formals passed (to ∷ ways) before (inl plain) taken = inl (plain, taken)
-  plain_returns n x (From k) formals passed ways before (inr (shown, z, is, typed)) taken = (let never : From k ≡ Value (z ∷ []) = is in cc)
-  plain_returns n x (To k) formals passed ways before (inr (shown, z, is, typed)) taken = (let never : To k ≡ Value (z ∷ []) = is in cc)
+  plain_returns n x (From k) formals passed ways before (inr (inl (shown, z, is, typed))) taken = (let never : From k ≡ Value (z ∷ []) = is in cc)
+  plain_returns n x (To k) formals passed ways before (inr (inl (shown, z, is, typed))) taken = (let never : To k ≡ Value (z ∷ []) = is in cc)
+  plain_returns n x (From k) formals passed ways before (inr (inr (plain, named, ws, is, fit))) taken = (let never : From k ≡ Value ws = is in cc)
+  plain_returns n x (To k) formals passed ways before (inr (inr (plain, named, ws, is, fit))) taken = (let never : To k ≡ Value ws = is in cc)
 
   nothing_declared : (formals : List ℕ) (passed : List Passed) (ways : List Way) (leaks : List Leak) (m : Memory) → Kept s m hands → AreDeclared formals passed ways leaks leaks m m
   nothing_declared formals passed ways leaks m typed = record {

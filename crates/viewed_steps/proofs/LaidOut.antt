@@ -16,14 +16,13 @@ use Rattle.owned_ways.specs.Ways as ways
 use Rattle.soundness.specs.Seen.{home}
 use Rattle.soundness.specs.Typed.{Matches, IsFixed}
 use Rattle.soundness.specs.Sound.{goes_through_none}
-use Rattle.soundness.proofs.Stays.{One}
 use Rattle.owned_loans.specs.Views.{Views, expand}
 use Rattle.owned_loans.proofs.Safe.{Open}
 use Rattle.viewed_soundness.specs.Holds.{sees_only}
 use Rattle.viewed_steps.specs.Taken.{Lodge, IsLodged, IsInside}
 use Rattle.viewed_steps.specs.Sound.{IsScalarObject}
 use Rattle.viewed_steps.proofs.Outs.{Out}
-use Rattle.viewed_steps.proofs.Entered.{IsTyped}
+use Rattle.viewed_steps.proofs.Entered.{IsTyped, IsFit}
 
 -- ---- what is passed
 
@@ -58,10 +57,10 @@ abbrev pub IsPlaceLaid : Typing → ℕ → Views → ways.View → ℕ → Type
 IsPlaceLaid s depth v view x e k =
     (IsScalarObject s x × IsPlainAt s depth v view e k) ⊎ ((is_scalar (full s.table (object_at s x).of) ≡ false) × IsOwnPut s depth x e k)
 
--- A scalar value, or an access value of the type of the formal.
+-- A value of the type of the formal, or an access value.
 abbrev pub IsValueLaid : Typing → Memory → ℕ → List machine.Word → Type 0
 IsValueLaid s m x ws =
-    (is_owning s.table (object_at s x).of ≡ false → One ws)
+    (is_owning s.table (object_at s x).of ≡ false → IsFit s m (object_at s x).of ws)
     × (is_owning s.table (object_at s x).of ≡ true → (z : machine.Word) × (ws ≡ z ∷ []) × IsTyped s m x z)
 
 -- By the mode: such a value, or a place.

@@ -13,7 +13,8 @@ use Rattle.place_names.specs.declared.fact.Fact.TheVariants.{Moved, Lent}
 use Rattle.place_names.specs.declared.selector.Sel.{Sel}
 use Rattle.place_names.specs.declared.act.Act.{Act}
 use Rattle.place_names.specs.declared.act.Placed.{Placed}
-use Rattle.place_names.specs.Names.{Name as PlaceName, overlaps, covers, begins, is_prefix, is_equal, agrees, agree_along, has_elem}
+use Rattle.place_names.specs.declared.selector.Sel.TheVariants.{Deref}
+use Rattle.place_names.specs.Names.{Name as PlaceName, extend, overlaps, covers, begins, is_prefix, is_equal, agrees, agree_along, has_elem}
 use Rattle.place_names.proofs.Names.{overlaps-sym, both_parts, both_true, is_equal-decides}
 use Rattle.place_names.specs.Facts.{is_moved_under}
 use Rattle.place_names.specs.Reports.{Report}
@@ -32,6 +33,9 @@ use Rattle.soundness.proofs.Scalars.{acts, acts_append, allows_both}
 use Rattle.owned_ways.specs.Ways as ways
 use Rattle.owned_loans.proofs.Clear.{refused}
 use Rattle.owned_loans.proofs.Safe.{Unlent, Unmoved}
+use Rattle.viewed_soundness.specs.Holds.{sees_only, is_fixed, AllKeep}
+use Rattle.viewed_soundness.proofs.Names.{free_sees}
+use Rattle.viewed_soundness.proofs.Evaluated.{keep_both}
 use Rattle.viewed_steps.specs.Ready.{AreDifferent}
 use Rattle.viewed_steps.specs.Sound.{IsCopiedBack}
 use Rattle.viewed_steps.proofs.Passed.{flat_has, later_none}
@@ -44,6 +48,11 @@ lent_unlent facts u owning allowed l h n has over =
 pub lent_unmoved : (facts : List Fact) (u : Way) (owning : Bool) → Allows facts (act.Actual (ways.name_of u) mode.In owning true) → Unmoved facts u
 lent_unmoved facts u owning allowed n has over =
     refused (moved_or_lent (ways.name_of u) (Moved n)) O10 (ways.name_of u) (Moved n) over (allowed (Moved n) has)
+
+-- An actual stands for a formal.
+abbrev pub IsActualOf : List ℕ → TypedTree → ℕ → TypedTree → Type 0
+IsActualOf (x ∷ formals) (More e rest) y a = ((x ≡ y) × (e ≡ a)) ⊎ IsActualOf formals rest y a
+IsActualOf _ _ y a = ⊥
 
 -- What a formal gets has a name among what is passed.
 abbrev pub IsNameOf : List ℕ → TypedTree → ℕ → Written → Type 0
@@ -61,6 +70,17 @@ named_has (x ∷ formals) (More e rest) b has = elim (Has-append_cases (alias.pa
     is_first (Some m) (inr none) = absurd none
 named_has [] actuals b has = absurd has
 named_has (x ∷ formals) _ b has = absurd has
+
+pub actual_named : (formals : List ℕ) (actuals : TypedTree) (y : ℕ) (a : TypedTree) (m : Written) → IsActualOf formals actuals y a → written a ≡ Some m
+    → IsNameOf formals actuals y m
+actual_named (x ∷ formals) (More e rest) y a m (inl (same, is)) called =
+    Has-append_left (alias.passed_as x (written e)) (alias.passed formals rest) (record { formal = y; actual = m })
+    (subst (λ z. Has (alias.passed_as x z) (record { formal = y; actual = m })) (sym (ap written is ∙ called))
+    (inl (λ j. record { formal = same j; actual = m })))
+actual_named (x ∷ formals) (More e rest) y a m (inr later) called =
+    Has-append_right (alias.passed_as x (written e)) (alias.passed formals rest) (record { formal = y; actual = m }) (actual_named formals rest y a m later called)
+actual_named [] actuals y a m of called = absurd of
+actual_named (x ∷ formals) _ y a m of called = absurd of
 
 module _ (s : Typing) where
   -- A formal whose actual may change.
@@ -123,7 +143,7 @@ module _ (s : Typing) where
       (λ j. passing_by (lent.of_in j) (is_owning s.table (object_at s y).of) (true && is_named_access (view_of s y)))
       ∙ (λ j. passing_by mode.In (lent.owning j) (lent.access j))
 
-  abbrev copies_of : List ℕ → TypedTree → List Placed
+  abbrev pub copies_of : List ℕ → TypedTree → List Placed
   copies_of formals actuals = actual_acts (map (passing s true) formals) actuals
 
   -- a fact about a name is there after the act of an actual, but where the act covers it
@@ -217,3 +237,26 @@ module _ (s : Typing) where
               in_out : mode.InOut ≡ mode.Out → ⊥
               in_out e = cc
   lent_clear (x ∷ formals) _ known differ allowed none y m of lent access f has over = absurd of
+
+  -- what is lent isn't fixed
+  pub lent_free : (formals : List ℕ) (actuals : TypedTree) → AllKeep (is_fixed s) (acts (copies_of formals actuals)) → (y : ℕ) (m : Written)
+      → IsNameOf formals actuals y m → IsLentTo y → sees_only s m.name.root ≡ false
+  lent_free [] actuals keep y m of lent = absurd of
+  lent_free (x ∷ formals) (More e rest) keep y m of lent =
+      let each = keep_both (is_fixed s) (acts (actual_act (passing s true x) e)) (acts (copies_of formals rest))
+      (subst (AllKeep (is_fixed s)) (acts_append (actual_act (passing s true x) e) (copies_of formals rest)) keep) in
+      elim (Has-append_cases (alias.passed_as x (written e)) (alias.passed formals rest) (record { formal = y; actual = m }) of) [
+        | inl here ↦ (let is = is_first (written e) here in
+            head_free (written e) is.1 (subst (λ z. AllKeep (is_fixed s) (acts (actual_act z e))) (ap (passing s true) is.0 ∙ lent_passing y lent) each.0))
+        | inr later ↦ lent_free formals rest each.1 y m later lent
+      ]
+    where
+      is_first : (w : Option Written) → Has (alias.passed_as x w) (record { formal = y; actual = m }) → (x ≡ y) × (w ≡ Some m)
+      is_first None here = absurd here
+      is_first (Some k) (inr none_more) = absurd none_more
+      is_first (Some k) (inl same) = (ap (λ (z : alias.Passed). z.formal) same, ap (λ (z : alias.Passed). Some z.actual) same)
+
+      head_free : (w : Option Written) → w ≡ Some m → AllKeep (is_fixed s) (acts (naming w (λ k. act.Actual k mode.In true true))) → sees_only s m.name.root ≡ false
+      head_free w is keeps =
+          free_sees s (extend m.name (Deref ∷ [])) (subst (λ z. AllKeep (is_fixed s) (acts (naming z (λ k. act.Actual k mode.In true true)))) is keeps).0
+  lent_free (x ∷ formals) _ keep y m of lent = absurd of

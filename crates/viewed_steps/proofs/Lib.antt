@@ -40,12 +40,14 @@ pub mod Seeing
 pub mod Clear
 pub mod Called
 -- the views of what is called
+pub mod Exclusive
 pub mod Opening
 pub mod Backed
 pub mod Whole
 pub mod Passed
 pub mod Lending
 pub mod Globals
+pub mod Outside
 pub mod Cells
 pub mod Eased
 pub mod Blank

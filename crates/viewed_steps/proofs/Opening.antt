@@ -1,5 +1,5 @@
 -- The views of what is called: its formals that own nothing, with the ways of what they are shown.
-use Rattle.std.proofs.Common.{◌≡◌, refl, sym, ap, ◌∙◌, subst, ◌⊎◌, inl, inr, ℕ, suc, ◌<◌, get_or, arith, Bool, true, false, ◌&&◌, ◌==◌, eqb-true, eq-eqb, List, [], ◌∷◌, Option, Some, None, if◌then◌else◌}
+use Rattle.std.proofs.Common.{◌≡◌, refl, sym, ap, ◌∙◌, subst, ◌⊎◌, inl, inr, ℕ, suc, ◌<◌, get_or, arith, Bool, true, false, ◌&&◌, ◌==◌, eqb-true, eq-eqb, List, [], ◌∷◌, Some, None, if◌then◌else◌}
 use Rattle.spark_base.specs.Lists.{Has}
 use Rattle.place_names.specs.declared.act.Mode.{Mode}
 use Rattle.place_names.specs.declared.act.Mode.TheVariants as mode
@@ -31,7 +31,10 @@ use Rattle.viewed_steps.specs.Awaited.{is_held}
 use Rattle.viewed_steps.specs.Ready.{AreDifferent}
 use Rattle.viewed_steps.proofs.Called.{IsGiven, AreGiven}
 use Rattle.viewed_steps.proofs.Entered.{IsShownTo}
-use Rattle.viewed_steps.proofs.Seeing.{Sees}
+use Rattle.flow_paths.specs.Aliases as alias
+use Rattle.viewed_steps.proofs.Seeing.{Sees, named_written}
+use Rattle.viewed_steps.proofs.Exclusive.{AreLent, IsFrom}
+use Rattle.viewed_steps.proofs.Lending.{IsActualOf, actual_named}
 use Rattle.viewed_steps.proofs.Views.{AreAccess, not_elsewhere}
 use Rattle.viewed_steps.proofs.Waited.{plain_unheld}
 
@@ -76,16 +79,18 @@ module _ (h : Here) (settled : IsSettled h.typing.table) (hands : List Waiting) 
       AreGiven h settled hands leaks m waits other facts v kept well holds alone live in_formals index_law own_law parts_named formals_low procedure formals actuals passed
 
   -- These formals have the ways of what they are shown, and nothing else has one.
-  pub record AreOpened (formals : List ℕ) (passed : List Passed) (t : Views) : Type 0 where
+  pub record AreOpened (formals : List ℕ) (actuals : TypedTree) (passed : List Passed) (t : Views) : Type 0 where
     pub way : (y : ℕ) (w : Way) → t.way y ≡ Some w → (is_view_formal h.typing y ≡ true) × Has formals y × (sees : SeesHere (t.cell y)) × ((sees.1).way ≡ w)
+        × IsActualOf formals actuals y sees.0
     pub held : (y n : ℕ) → is_view_formal h.typing y ≡ true → IsShownTo formals passed y (machine.Cell n) → (w : Way) × (t.way y ≡ Some w) × (t.cell y ≡ n)
     pub ups : (y : ℕ) → t.up y ≡ Lost 0
 
-  abbrev pub Opens : List ℕ → List Passed → Type 0
-  Opens formals passed = (t : Views) × AreOpened formals passed t
+  abbrev pub Opens : List ℕ → TypedTree → List Passed → Type 0
+  Opens formals actuals passed = (t : Views) × AreOpened formals actuals passed t
 
-  no_opened : (formals : List ℕ) (passed : List Passed) → ((y : ℕ) (z : machine.Word) → IsShownTo formals passed y z → ⊥) → Opens formals passed
-  no_opened formals passed none = (
+  no_opened : (formals : List ℕ) (actuals : TypedTree) (passed : List Passed) → ((y : ℕ) (z : machine.Word) → IsShownTo formals passed y z → ⊥)
+      → Opens formals actuals passed
+  no_opened formals actuals passed none = (
     no_views,
     record {
       way = λ y w has. (let no : None ≡ Some w = has in cc);
@@ -95,12 +100,12 @@ module _ (h : Here) (settled : IsSettled h.typing.table) (hands : List Waiting) 
   )
 
   -- a formal without a cell changes nothing
-  passes_by : (x : ℕ) (a : Passed) (formals : List ℕ) (passed : List Passed) → (is_view_formal s x ≡ true → (n : ℕ) → a ≡ Value (machine.Cell n ∷ []) → ⊥)
-      → Opens formals passed → Opens (x ∷ formals) (a ∷ passed)
-  passes_by x a formals passed none (t, are) = (
+  passes_by : (x : ℕ) (e : TypedTree) (a : Passed) (formals : List ℕ) (rest : TypedTree) (passed : List Passed)
+      → (is_view_formal s x ≡ true → (n : ℕ) → a ≡ Value (machine.Cell n ∷ []) → ⊥) → Opens formals rest passed → Opens (x ∷ formals) (More e rest) (a ∷ passed)
+  passes_by x e a formals rest passed none (t, are) = (
     t,
     record {
-      way = λ y w has. (let found = are.way y w has in (found.0, inr found.1, found.2, found.3));
+      way = λ y w has. (let found = are.way y w has in (found.0, inr found.1, found.2, found.3, inr found.4));
       held = λ y n formal shown. elim shown [
         | inl here ↦ absurd (none (ap (is_view_formal s) here.0 ∙ formal) n here.1)
         | inr later ↦ are.held y n formal later
@@ -109,13 +114,14 @@ module _ (h : Here) (settled : IsSettled h.typing.table) (hands : List Waiting) 
     },
   )
 
-  abbrev IsWay : List ℕ → ℕ → ℕ → Way → ℕ → Type 0
-  IsWay formals x y w c = (is_view_formal s y ≡ true) × Has (x ∷ formals) y × (found : SeesHere c) × ((found.1).way ≡ w)
+  abbrev IsWay : List ℕ → TypedTree → TypedTree → ℕ → ℕ → Way → ℕ → Type 0
+  IsWay formals e rest x y w c =
+      (is_view_formal s y ≡ true) × Has (x ∷ formals) y × (found : SeesHere c) × ((found.1).way ≡ w) × IsActualOf (x ∷ formals) (More e rest) y found.0
 
   -- one with a cell has the way to it
-  opens_one : (x n : ℕ) (formals : List ℕ) (passed : List Passed) → is_view_formal s x ≡ true → SeesHere n → ((y : ℕ) → Has formals y → y ≡ x → ⊥)
-      → Opens formals passed → Opens (x ∷ formals) (Value (machine.Cell n ∷ []) ∷ passed)
-  opens_one x n formals passed formal sees differ (t, are) =
+  opens_one : (x n : ℕ) (e : TypedTree) (formals : List ℕ) (rest : TypedTree) (passed : List Passed) → is_view_formal s x ≡ true → (sees : SeesHere n) → e ≡ sees.0
+      → ((y : ℕ) → Has formals y → y ≡ x → ⊥) → Opens formals rest passed → Opens (x ∷ formals) (More e rest) (Value (machine.Cell n ∷ []) ∷ passed)
+  opens_one x n e formals rest passed formal sees named differ (t, are) =
       (with_view t x (Some (sees.1).way) (Lost 0) (Lost 0) n, record { way = way_of; held = held_of; ups = ups_of })
     where
       same_some : (a b : Way) → Some a ≡ Some b → a ≡ b
@@ -124,12 +130,18 @@ module _ (h : Here) (settled : IsSettled h.typing.table) (hands : List Waiting) 
       same_cell : (a b : ℕ) → machine.Cell a ≡ machine.Cell b → a ≡ b
       same_cell a b e = cc
 
-      way_of : (y : ℕ) (w : Way) → (if y == x then Some (sees.1).way else t.way y) ≡ Some w → IsWay formals x y w (if y == x then n else t.cell y)
+      way_of : (y : ℕ) (w : Way) → (if y == x then Some (sees.1).way else t.way y) ≡ Some w → IsWay formals e rest x y w (if y == x then n else t.cell y)
       way_of y w has = by_object (y == x) refl has
         where
-          by_object : (b : Bool) → (y == x) ≡ b → (if b then Some (sees.1).way else t.way y) ≡ Some w → IsWay formals x y w (if b then n else t.cell y)
-          by_object true e is = (subst (λ z. is_view_formal s z ≡ true) (sym (eqb-true y x e)) formal, inl (sym (eqb-true y x e)), sees, same_some (sees.1).way w is)
-          by_object false e is = (let found = are.way y w is in (found.0, inr found.1, found.2, found.3))
+          by_object : (b : Bool) → (y == x) ≡ b → (if b then Some (sees.1).way else t.way y) ≡ Some w → IsWay formals e rest x y w (if b then n else t.cell y)
+          by_object true same is = (
+            subst (λ z. is_view_formal s z ≡ true) (sym (eqb-true y x same)) formal,
+            inl (sym (eqb-true y x same)),
+            sees,
+            same_some (sees.1).way w is,
+            inl (sym (eqb-true y x same), named),
+          )
+          by_object false same is = (let found = are.way y w is in (found.0, inr found.1, found.2, found.3, inr found.4))
 
       held_of : (y k : ℕ) → is_view_formal s y ≡ true → IsShownTo (x ∷ formals) (Value (machine.Cell n ∷ []) ∷ passed) y (machine.Cell k)
           → (w : Way) × ((if y == x then Some (sees.1).way else t.way y) ≡ Some w) × ((if y == x then n else t.cell y) ≡ k)
@@ -152,48 +164,53 @@ module _ (h : Here) (settled : IsSettled h.typing.table) (hands : List Waiting) 
   no_cell : (n : ℕ) (z : machine.Word) → Value (z ∷ []) ≡ Value (machine.Cell n ∷ []) → ((k : ℕ) → z ≡ machine.Cell k → ⊥) → ⊥
   no_cell n z e none = none n (same_values z (machine.Cell n) e)
 
-  by_word : (x : ℕ) (z : machine.Word) (formals : List ℕ) (passed : List Passed) → is_view_formal s x ≡ true → ((n : ℕ) → z ≡ machine.Cell n → SeesHere n)
-      → ((y : ℕ) → Has formals y → y ≡ x → ⊥) → Opens formals passed → Opens (x ∷ formals) (Value (z ∷ []) ∷ passed)
-  by_word x (machine.Cell n) formals passed formal sees differ rest = opens_one x n formals passed formal (sees n refl) differ rest
-  by_word x (machine.Int k) formals passed formal sees differ rest =
-      passes_by x (Value (machine.Int k ∷ [])) formals passed (λ own n e. no_cell n (machine.Int k) e (λ q is. cc)) rest
-  by_word x (machine.Enumerated k) formals passed formal sees differ rest =
-      passes_by x (Value (machine.Enumerated k ∷ [])) formals passed (λ own n e. no_cell n (machine.Enumerated k) e (λ q is. cc)) rest
-  by_word x machine.Null formals passed formal sees differ rest =
-      passes_by x (Value (machine.Null ∷ [])) formals passed (λ own n e. no_cell n machine.Null e (λ q is. cc)) rest
+  abbrev SeesBy : TypedTree → ℕ → Type 0
+  SeesBy e n = (sees : SeesHere n) × (e ≡ sees.0)
 
-  by_value : (x : ℕ) (ws : List machine.Word) (formals : List ℕ) (passed : List Passed)
-      → (is_view_formal s x ≡ true → (z : machine.Word) × (ws ≡ z ∷ []) × ((n : ℕ) → z ≡ machine.Cell n → SeesHere n))
-      → ((y : ℕ) → Has formals y → y ≡ x → ⊥) → Opens formals passed → Opens (x ∷ formals) (Value ws ∷ passed)
-  by_value x ws formals passed sees differ rest = by_kind (is_view_formal s x) refl
+  by_word : (x : ℕ) (z : machine.Word) (e : TypedTree) (formals : List ℕ) (rest : TypedTree) (passed : List Passed) → is_view_formal s x ≡ true
+      → ((n : ℕ) → z ≡ machine.Cell n → SeesBy e n) → ((y : ℕ) → Has formals y → y ≡ x → ⊥)
+      → Opens formals rest passed → Opens (x ∷ formals) (More e rest) (Value (z ∷ []) ∷ passed)
+  by_word x (machine.Cell n) e formals rest passed formal sees differ more =
+      opens_one x n e formals rest passed formal (sees n refl).0 (sees n refl).1 differ more
+  by_word x (machine.Int k) e formals rest passed formal sees differ more =
+      passes_by x e (Value (machine.Int k ∷ [])) formals rest passed (λ own n is. no_cell n (machine.Int k) is (λ q no. cc)) more
+  by_word x (machine.Enumerated k) e formals rest passed formal sees differ more =
+      passes_by x e (Value (machine.Enumerated k ∷ [])) formals rest passed (λ own n is. no_cell n (machine.Enumerated k) is (λ q no. cc)) more
+  by_word x machine.Null e formals rest passed formal sees differ more =
+      passes_by x e (Value (machine.Null ∷ [])) formals rest passed (λ own n is. no_cell n machine.Null is (λ q no. cc)) more
+
+  by_value : (x : ℕ) (ws : List machine.Word) (e : TypedTree) (formals : List ℕ) (rest : TypedTree) (passed : List Passed)
+      → (is_view_formal s x ≡ true → (z : machine.Word) × (ws ≡ z ∷ []) × ((n : ℕ) → z ≡ machine.Cell n → SeesBy e n))
+      → ((y : ℕ) → Has formals y → y ≡ x → ⊥) → Opens formals rest passed → Opens (x ∷ formals) (More e rest) (Value ws ∷ passed)
+  by_value x ws e formals rest passed sees differ more = by_kind (is_view_formal s x) refl
     where
-      by_kind : (b : Bool) → is_view_formal s x ≡ b → Opens (x ∷ formals) (Value ws ∷ passed)
-      by_kind false e = passes_by x (Value ws) formals passed (λ own n is. true_false (is_view_formal s x) own e) rest
-      by_kind true e =
-          let found = sees e in
-          subst (λ z. Opens (x ∷ formals) (Value z ∷ passed)) (sym found.1) (by_word x found.0 formals passed e found.2 differ rest)
+      by_kind : (b : Bool) → is_view_formal s x ≡ b → Opens (x ∷ formals) (More e rest) (Value ws ∷ passed)
+      by_kind false none = passes_by x e (Value ws) formals rest passed (λ own n is. true_false (is_view_formal s x) own none) more
+      by_kind true formal =
+          let found = sees formal in
+          subst (λ z. Opens (x ∷ formals) (More e rest) (Value z ∷ passed)) (sym found.1) (by_word x found.0 e formals rest passed formal found.2 differ more)
 
-  one_opened : (x : ℕ) (how : Mode) (e : TypedTree) (a : Passed) (formals : List ℕ) (passed : List Passed)
+  one_opened : (x : ℕ) (how : Mode) (e : TypedTree) (a : Passed) (formals : List ℕ) (rest : TypedTree) (passed : List Passed)
       → IsGiven h settled hands leaks m waits other facts v kept well holds alone live in_formals index_law own_law parts_named formals_low procedure x how e a
-      → ((y : ℕ) → Has formals y → y ≡ x → ⊥) → Opens formals passed → Opens (x ∷ formals) (a ∷ passed)
-  one_opened x mode.In e (Value ws) formals passed given differ rest =
-      by_value x ws formals passed
-      (λ formal. (let found = given.1 (second_true (is_in_formal s x) (is_owning s.table (object_at s x).of) formal) in (found.0, found.1, λ n is. (e, found.3 n is)))) differ rest
-  one_opened x mode.Out e (To k) formals passed given differ rest = passes_by x (To k) formals passed (λ own n is. cc) rest
-  one_opened x mode.InOut e (From k) formals passed given differ rest = passes_by x (From k) formals passed (λ own n is. cc) rest
-  one_opened x how e a formals passed given differ rest = absurd given
+      → ((y : ℕ) → Has formals y → y ≡ x → ⊥) → Opens formals rest passed → Opens (x ∷ formals) (More e rest) (a ∷ passed)
+  one_opened x mode.In e (Value ws) formals rest passed given differ more =
+      by_value x ws e formals rest passed
+      (λ formal. (let found = given.1 (second_true (is_in_formal s x) (is_owning s.table (object_at s x).of) formal) in (found.0, found.1, λ n is. ((e, found.3 n is), refl)))) differ more
+  one_opened x mode.Out e (To k) formals rest passed given differ more = passes_by x e (To k) formals rest passed (λ own n is. cc) more
+  one_opened x mode.InOut e (From k) formals rest passed given differ more = passes_by x e (From k) formals rest passed (λ own n is. cc) more
+  one_opened x how e a formals rest passed given differ more = absurd given
 
-  pub all_opened : (formals : List ℕ) (actuals : TypedTree) (passed : List Passed) → AreDifferent formals → Given formals actuals passed → Opens formals passed
-  all_opened [] actuals passed differ given = no_opened [] passed (λ y z shown. shown)
+  pub all_opened : (formals : List ℕ) (actuals : TypedTree) (passed : List Passed) → AreDifferent formals → Given formals actuals passed → Opens formals actuals passed
+  all_opened [] actuals passed differ given = no_opened [] actuals passed (λ y z shown. shown)
   all_opened (x ∷ formals) (More e rest) (a ∷ passed) differ given =
-      one_opened x (object_at s x).mode e a formals passed given.0 differ.0 (all_opened formals rest passed differ.1 given.1)
+      one_opened x (object_at s x).mode e a formals rest passed given.0 differ.0 (all_opened formals rest passed differ.1 given.1)
   all_opened (x ∷ formals) (More e rest) [] differ given = absurd given
   all_opened (x ∷ formals) actuals passed differ given =
-      subst (Opens (x ∷ formals)) (sym given) (no_opened (x ∷ formals) [] (λ y z shown. shown))
+      subst (Opens (x ∷ formals) actuals) (sym given) (no_opened (x ∷ formals) actuals [] (λ y z shown. shown))
 
   -- ---- what holds of these views in the frame of what is called
 
-  module _ (formals : List ℕ) (passed : List Passed) (t : Views) (opened : AreOpened formals passed t) where
+  module _ (formals : List ℕ) (actuals : TypedTree) (passed : List Passed) (t : Views) (opened : AreOpened formals actuals passed t) where
     abbrev next : ℕ
     next = suc h.frame
 
@@ -207,16 +224,35 @@ module _ (h : Here) (settled : IsSettled h.typing.table) (hands : List Waiting) 
     pub low_of : (y : ℕ) (w : Way) → t.way y ≡ Some w → IsLow h.typing h.frame w
     low_of y w has = (let found = opened.way y w has in subst (IsLow s h.frame) found.3 ((found.2).1).low)
 
-    pub opened_views : (view : View) (at_first : List Fact) → ((y : ℕ) (w : Way) → t.way y ≡ Some w → sees_only h.typing y ≡ true) → ((y : ℕ) (w : Way) (n : ℕ) → t.way y ≡ Some w → Reaches (seen h.typing m hands leaks) w (OfCell n) → Reaches view w (OfCell n))
+    pub opened_views : (view : View) (at_first : List Fact)
+        → ((x y : ℕ) (w u : Way) → t.way x ≡ Some w → t.way y ≡ Some u → (y ≡ x → ⊥) → sees_only h.typing x ≡ false → Under w u ⊎ Under u w → ⊥)
+        → ((y : ℕ) (w : Way) (n : ℕ) → t.way y ≡ Some w → Reaches (seen h.typing m hands leaks) w (OfCell n) → Reaches view w (OfCell n))
         → AreViews Next (sees_only h.typing) t view at_first
-    opened_views view at_first sees on y w has =
+    opened_views view at_first apart on y w has =
         let found = opened.way y w has in
         inr (record {
           foreign = foreign_there s h.frame w (low_of y w has);
           given = λ named. subst (Named Next) (opened.ups y) named;
-          alone = λ plain. absurd (true_false (sees_only s y) (sees y w has) plain);
+          alone = λ plain x u there differs given meets. apart y x w u has there differs plain meets;
           reaches = on y w (t.cell y) has (subst (λ z. Reaches (seen s m hands leaks) z (OfCell (t.cell y))) found.3 ((found.2).1).reaches);
         })
+
+    -- with the name of its actual
+    pub opened_from : AreLent h.typing facts formals actuals → (y : ℕ) (w : Way) → t.way y ≡ Some w → IsFrom h.typing h.frame v facts (alias.passed formals actuals) y w
+    opened_from lent y w has =
+        let found = opened.way y w has in
+        let sees = (found.2).1 in
+        let actual = named_written h settled hands leaks m waits other facts v kept well holds alone live index_law own_law parts_named formals_low (found.2).0 sees.from sees.called in
+        let of = actual_named formals actuals y (found.2).0 actual.0 found.4 actual.1 in
+        record {
+          from = sees.from;
+          named = sees.from_named;
+          leads = sym found.3 ∙ sees.leads;
+          actual = actual.0;
+          of = of;
+          called = actual.2;
+          lent = lent y found.1 found.0 actual.0 of;
+        }
 
     pub opened_whole : (gone : Way → Type 0) → ((z : Way) → gone z → ExcusedBy (home h.typing h.frame) v other facts z)
         → (y : ℕ) (w z : Way) → t.way y ≡ Some w → gone z → Under z w ⊎ Under w z → ⊥

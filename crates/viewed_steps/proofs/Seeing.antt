@@ -5,12 +5,12 @@ use Rattle.spark_base.specs.declared.position.Pos.{Pos}
 use Rattle.place_names.specs.declared.fact.Fact.{Fact}
 use Rattle.place_names.specs.Names.{Name as PlaceName}
 use Rattle.type_definitions.specs.declared.table.Shape.TheVariants as shape
-use Rattle.type_definitions.specs.Types.{shape_of, full, is_scalar, view_of as view_of_shape}
+use Rattle.type_definitions.specs.Types.{shape_of, is_scalar, view_of as view_of_shape}
 use Rattle.typed_tree.specs.Trees.{TypedTree, Number, Literal, Text, Name, Component as IntoComponent, Designated, Element, Call, EndOfFile, Parens, Image, Unary, Binary, Short, IsNull, Aggregate, Alike, New, NoMore, More}
 use Rattle.typed_tree.specs.Trees as typed
 use Rattle.flow_paths.specs.Objects.{Typing, object_at, is_anonymous, is_package_object, view_of}
-use Rattle.flow_paths.specs.Names.{waiting as waits_in, name_of}
-use Rattle.flow_paths.specs.Acts.{acts_in, index_acts}
+use Rattle.flow_paths.specs.Names.{Written, written, waiting as waits_in, name_of}
+use Rattle.flow_paths.specs.Acts.{index_acts}
 use Rattle.machine.specs.Words as machine
 use Rattle.machine.specs.Memory.{Memory}
 use Rattle.machine.specs.Evaluate.{Here, Now, AsView, Evaluated, Done, Raises, Traps, evaluate, viewed}
@@ -19,18 +19,17 @@ use Rattle.owned_ways.specs.Ways.{Root, OfVariable, OfHand, Loc, OfCell, Way, Ob
 use Rattle.owned_ways.specs.Ways as ways
 use Rattle.part_offsets.specs.Parts.{IsSettled}
 use Rattle.soundness.specs.Seen.{IsNear, content, trunk, seen, home, is_view_formal}
-use Rattle.soundness.specs.Typed.{Matches, IsCell, OwnsByShape, Kept}
-use Rattle.typed_laws.specs.Needed.{Leads, IndexLaw}
+use Rattle.soundness.specs.Typed.{IsCell, OwnsByShape, Kept}
+use Rattle.typed_laws.specs.Needed.{IndexLaw}
 use Rattle.soundness.proofs.Scalars.{acts}
 use Rattle.soundness.proofs.Stays.{Quiet}
 use Rattle.soundness.proofs.Taking.{Takes, takes_zero}
 use Rattle.owned_loans.specs.Views.{Around, Views, expand, ExcusedBy, IsForeign, Viewed}
 use Rattle.owned_loans.proofs.Allowed.{Cleared}
 use Rattle.owned_loans.proofs.Ended.{stands_itself}
-use Rattle.owned_loans.proofs.Moves.{IsPlace}
 use Rattle.owned_loans.proofs.Ways.{Lifted, lifted_way, base_on}
 use Rattle.viewed_soundness.specs.Holds.{PartsAreNamed, is_view, sees_only, IsOwners, Holds, IsAccess}
-use Rattle.viewed_soundness.proofs.Given.{IsLow, owner_whole, seen_whole}
+use Rattle.viewed_soundness.proofs.Given.{IsLow, lent_whole, seen_whole}
 use Rattle.viewed_soundness.proofs.Names.{true_false, both_no, either_true, plain_sees, stands_owners}
 use Rattle.viewed_soundness.proofs.Sources.{Shows, source_on}
 use Rattle.viewed_steps.specs.Ready.{IsSeen, IsShowable}
@@ -86,6 +85,11 @@ module _ (h : Here) (settled : IsSettled h.typing.table) (hands : List Waiting) 
     pub low : IsLow h.typing h.frame way
     pub whole : (z : Way) → ExcusedBy (home h.typing h.frame) v other facts z → Meets z way → ⊥
 
+  -- what is called by its name is written
+  pub named_written : (e : TypedTree) (w : Way) → IsCalledBy e w → (k : Written) × (written e ≡ Some k) × (k.name ≡ ways.name_of w)
+  named_written (Name p y path u) w called = (record { pos = p; name = name_of y path; of = u }, refl, sym called)
+  named_written e w none = absurd none
+
   abbrev pub IsSeenAs : ℕ → TypedTree → List machine.Word → Type 0
   IsSeenAs x e ws = (z : machine.Word) × (ws ≡ z ∷ []) × IsTyped h.typing m x z × ((n : ℕ) → z ≡ machine.Cell n → Sees e n)
 
@@ -99,10 +103,6 @@ module _ (h : Here) (settled : IsSettled h.typing.table) (hands : List Waiting) 
         by_way : (o : Option Way) → v.way y ≡ o → v.way y ≡ None
         by_way None e = e
         by_way (Some k) e = absurd (true_false (is_view s y) (holds.only y k e) (both_no (is_anonymous (view_of s y)) (is_view_formal s y) showable.1 owner))
-
-    is_place : is_view_formal h.typing y ≡ false → IsPlace v w
-    is_place owner (OfVariable f x) e = subst (λ z. v.way z ≡ None) (sym root ∙ ap number_of e) (no_way owner)
-    is_place owner (OfHand k) e = absurd (subst (Named Home) e named)
 
     by_owner : is_view_formal h.typing y ≡ false → Sees e n
     by_owner owner =
@@ -118,7 +118,7 @@ module _ (h : Here) (settled : IsSettled h.typing.table) (hands : List Waiting) 
           owners = stands_owners s h.frame v m (All w) holds named (inl (ap (is_view_formal s) root ∙ owner));
           reaches = reaches;
           low = inl (subst (Named Home) (sym itself) named, ap (λ z. is_package_object s (number_of z)) itself ∙ ap (is_package_object s) root ∙ showable.0);
-          whole = owner_whole s h.frame other v (seen s m hands leaks) facts well alone w named plain (is_place owner) (clears (sym (ap (sees_only s) root) ∙ plain));
+          whole = lent_whole s h.frame other v (seen s m hands leaks) facts well alone w named plain (clears (sym (ap (sees_only s) root) ∙ plain));
         }
 
     by_formal : is_view_formal h.typing y ≡ true → Sees e n
@@ -136,8 +136,14 @@ module _ (h : Here) (settled : IsSettled h.typing.table) (hands : List Waiting) 
           owners = stands_owners s h.frame v m (All w) holds named (inr l.0);
           reaches = reaches;
           low = inr (((far.0).0, (far.0).1, base ∙ (far.0).2, (far.0).3), (let less = far.1 in omega (arith, less)), far.2);
-          whole = seen_whole s h.frame other v (seen s m hands leaks) facts well alone w named l.0 (ap (sees_only s) l.1 ∙ showable.2 formal);
+          whole = by_sees (sees_only s y) refl;
         }
+      where
+        by_sees : (b : Bool) → sees_only s y ≡ b → (z : Way) → ExcusedBy (home h.typing h.frame) v other facts z → Meets z (expand v (All w)) → ⊥
+        by_sees true sees =
+            let l = lifted (either_true (is_anonymous (view_of s y)) (is_view_formal s y) formal) in
+            seen_whole s h.frame other v (seen s m hands leaks) facts well alone w named l.0 (ap (sees_only s) l.1 ∙ sees)
+        by_sees false plain = lent_whole s h.frame other v (seen s m hands leaks) facts well alone w named (ap (sees_only s) root ∙ plain) (clears plain)
 
     pub sees_it : Sees e n
     sees_it = by_kind (is_view_formal s y) refl

@@ -1,9 +1,9 @@
 -- A formal that owns nothing gets its value: owners see what they saw, and the variables of other views
 -- stay.
-use Rattle.std.proofs.Common.{◌≡◌, refl, sym, ap, ◌∙◌, subst, ◌⊎◌, inl, inr, ℕ, zero, suc, arith, ◌+◌, true, false, not, List, [], ◌∷◌, ◌++◌, take, drop, length, get_or}
+use Rattle.std.proofs.Common.{◌≡◌, refl, sym, ap, ◌∙◌, subst, ◌⊎◌, inl, inr, ℕ, zero, suc, arith, ◌+◌, ◌&&◌, Bool, true, false, not, List, [], ◌∷◌, ◌++◌, take, drop, length, get_or}
 use Rattle.type_definitions.specs.declared.table.Shape.TheVariants as shape
-use Rattle.type_definitions.specs.Types.{shape_of, components_of, words, words_of as shape_words}
-use Rattle.flow_paths.specs.Objects.{Typing, object_at}
+use Rattle.type_definitions.specs.Types.{shape_of, components_of, is_owning, words, words_of as shape_words}
+use Rattle.flow_paths.specs.Objects.{Typing, object_at, is_anonymous, view_of}
 use Rattle.machine.specs.Words.{access_offsets}
 use Rattle.machine.specs.Words as machine
 use Rattle.machine.specs.Memory.{Slot, Memory, Base, Place, HeapCell, fresh, cell, no_cell, no_slot, variable_slots, slots_at, slots_of, at_number, gone_at, put, with_slots, words_of, moved_out, declared}
@@ -12,19 +12,22 @@ use Rattle.machine.specs.Calls.{Passed, Value, From, To, with_formal}
 use Rattle.machine.specs.States.{Waiting, Leak}
 use Rattle.owned_ways.specs.Ways.{Step, OfVariable, OfHand, Loc, OfRoot, OfCell, Inside, IsSame}
 use Rattle.owned_ways.proofs.Locations.{same_loc}
-use Rattle.part_offsets.specs.Parts.{type_in, offset_in, IsSettled}
+use Rattle.machine.specs.Owners.{is_in_formal}
+use Rattle.part_offsets.specs.Parts.{type_in, offset_in, is_leaf, IsSettled}
 use Rattle.soundness.specs.Seen.{content, trunk, steps_in, word_in, seen, is_view_formal}
-use Rattle.soundness.specs.Typed.{Matches, Points, OwnsByShape, Kept}
-use Rattle.soundness.proofs.Contents.{word_dead}
+use Rattle.soundness.specs.Typed.{Matches, IsCell, Points, OwnsByShape, Kept}
+use Rattle.soundness.proofs.Contents.{word_dead, word_no}
 use Rattle.soundness.proofs.Keeping.{kept_with}
-use Rattle.soundness.proofs.Lasting.{declared_kept}
+use Rattle.soundness.proofs.Lasting.{declared_kept, keeps}
 use Rattle.soundness.proofs.Memories.{put_other, put_same, at_length}
 use Rattle.soundness.proofs.Steps.{plain_end}
-use Rattle.viewed_soundness.specs.Holds.{is_view, IsAccess}
+use Rattle.viewed_soundness.specs.Holds.{is_view, IsNamed, IsAccess}
+use Rattle.viewed_soundness.proofs.Names.{true_false}
+use Rattle.viewed_soundness.proofs.Outcomes.{named_plain}
 use Rattle.viewed_steps.specs.Taken.{Lodge}
 use Rattle.viewed_steps.proofs.Alike.{IsLaidIn, with_one}
-use Rattle.viewed_steps.proofs.Entered.{IsPlainPassed, IsPlainOne, IsTyped, IsShownOne}
-use Rattle.viewed_steps.proofs.Views.{AreAccess}
+use Rattle.viewed_steps.proofs.Entered.{IsPlainPassed, IsPlainOne, IsTyped, IsShownOne, IsFit}
+use Rattle.viewed_steps.proofs.Views.{AreAccess, view_cases}
 
 -- A memory has the cells of another one, with their types.
 pub record HasCells (m n : Memory) : Type 0 where
@@ -61,6 +64,9 @@ moved_cells s k m = with_slots_cells s k (gone_at (access_offsets s.table k.of) 
 
 pub taken_cells : (s : Typing) (k : Place) (f x : ℕ) (ws : List machine.Word) (m : Memory) → HasCells m (declared f x ws (moved_out s k m))
 taken_cells s k f x ws m = (let moved = moved_cells s k m in record { count = moved.count; same = moved.same })
+
+cell_then : (s : Typing) (m n : Memory) → HasCells m n → (d k : ℕ) → IsCell s m d k → IsCell s n d k
+cell_then s m n had d k (some, low, fits) = (some, (let count = had.count in omega (arith, low, count)), subst (Matches s.table d) (sym (had.same k)) fits)
 
 same_variable : (f x g y : ℕ) → OfVariable f x ≡ OfVariable g y → (f ≡ g) × (x ≡ y)
 same_variable f x g y e = (cc, cc)
@@ -120,8 +126,62 @@ module _ (s : Typing) (settled : IsSettled s.table) (own_law : OwnsByShape s.tab
         | inr ne ↦ inl (ap (λ q. (get_or q 0 no_slot).word) (others g y (λ e. ne (ap OfRoot e))))
         | inl e ↦ (
             let here : f ≡ g = cc in let same : x ≡ y = cc in
-            inr (sym here, same, ap (λ w. Value (w ∷ []))
-            (sym (ap (λ q. (get_or q 0 no_slot).word) ((λ j. variable_slots s (sym here j) (sym same j) next.variables) ∙ put_same s f x (fresh (z ∷ [])) m.variables)))))
+            inr (
+              sym here,
+              same,
+              ap (λ w. Value (w ∷ []))
+                  (sym (ap (λ q. (get_or q 0 no_slot).word) ((λ j. variable_slots s (sym here j) (sym same j) next.variables) ∙ put_same s f x (fresh (z ∷ [])) m.variables))),
+            ))
+      ];
+      cells = record { count = refl; same = λ k. refl };
+    }
+
+  module _ (f x : ℕ) (ws : List machine.Word) (m : Memory) (plain : is_owning s.table (object_at s x).of ≡ false) (named : IsNamed s.table (object_at s x).of)
+      (fit : IsFit s m (object_at s x).of ws) (kept : Kept s m hands) where
+    abbrev copied : Memory
+    copied = declared f x ws m
+
+    copied_others : (g y : ℕ) → (OfVariable f x ≡ OfVariable g y → ⊥) → variable_slots s g y copied.variables ≡ variable_slots s g y m.variables
+    copied_others g y ne = put_other s f x g y ne (fresh ws) m.variables
+
+    leafless : (p : List Step) → is_leaf s.table (object_at s x).of p ≡ false
+    leafless = (keeps s settled own_law).ownerless (object_at s x).of plain
+
+    copied_word : (rest : List Waiting) (g y : ℕ) (p : List Step)
+        → word_in s.table (content s copied rest (OfRoot (OfVariable g y))) p ≡ word_in s.table (content s m rest (OfRoot (OfVariable g y))) p
+    copied_word rest g y p = elim (same_loc (OfRoot (OfVariable f x)) (OfRoot (OfVariable g y))) [
+      | inr ne ↦ ap (λ q. word_in s.table (record { of = (object_at s y).of; slots = q; owns = not (is_view_formal s y) }) p) (copied_others g y (λ e. ne (ap OfRoot e)))
+      | inl e ↦ (
+          let same : x ≡ y = cc in
+          let none : is_leaf s.table (object_at s y).of p ≡ false = subst (λ z. is_leaf s.table (object_at s z).of p ≡ false) same (leafless p) in
+          word_no s.table (content s copied rest (OfRoot (OfVariable g y))) p none ∙ sym (word_no s.table (content s m rest (OfRoot (OfVariable g y))) p none))
+    ]
+
+    copied_place : (l : Loc) (p : List Step) → word_in s.table (content s copied hands l) p ≡ word_in s.table (content s m hands l) p
+    copied_place (OfRoot (OfVariable g y)) p = copied_word hands g y p
+    copied_place (OfRoot (OfHand h)) p = refl
+    copied_place (OfCell n) p = refl
+    copied_place (Inside l i) p = copied_place l p
+
+    no_view : is_view s x ≡ true → ⊥
+    no_view view = elim (view_cases s x view) [
+      | inl anonymous ↦ true_false (is_anonymous (view_of s x)) anonymous (named_plain s.table (object_at s x).of named)
+      | inr formal ↦ true_false (is_owning s.table (object_at s x).of) (second_true (is_in_formal s x) (is_owning s.table (object_at s x).of) formal) plain
+    ]
+      where
+        second_true : (a b : Bool) → a && b ≡ true → b ≡ true
+        second_true true b e = e
+        second_true false b e = cc
+
+    pub copied_stands : Stands f x (Value ws) m copied
+    copied_stands = record {
+      same = record { word = λ l. copied_place (trunk l) (steps_in l); made = refl; freed = λ n. refl; leaked = λ n. refl };
+      typed = declared_kept s settled m f x (record { of = (object_at s x).of; words = ws }) hands
+          (kept_with s settled m (record { of = (object_at s x).of; words = ws }) hands fit.1 kept) fit.0 (inl refl);
+      hold = λ g y p. copied_word [] g y p;
+      views = λ g y view. elim (same_loc (OfRoot (OfVariable f x)) (OfRoot (OfVariable g y))) [
+        | inr ne ↦ inl (ap (λ q. (get_or q 0 no_slot).word) (copied_others g y (λ e. ne (ap OfRoot e))))
+        | inl e ↦ (let same : x ≡ y = cc in absurd (no_view (subst (λ z. is_view s z ≡ true) (sym same) view)))
       ];
       cells = record { count = refl; same = λ k. refl };
     }
@@ -137,10 +197,9 @@ module _ (s : Typing) (settled : IsSettled s.table) (own_law : OwnsByShape s.tab
   one_stands f x a before m cells (inl (scalar, plain)) laid had kept =
       let on = with_one s settled own_law in_formals hands leaks f x a m scalar (laid plain) kept in
       record { same = on.same; typed = on.typed; hold = on.hold; views = λ g y view. inl (on.views g y view); cells = plain_cells f x a m }
-  one_stands f x a before m cells (inr (shown, z, is, typed)) laid had kept =
-      subst (λ q. Stands f x q m (with_formal s f x q m)) (sym is) (shown_stands f x z m shown typed_there kept)
-    where
-      typed_there : IsTyped s m x z
-      typed_there d c n k shape_is e =
-          let there = typed d c n k shape_is e in
-          (there.0, (let low = there.1 in let count = had.count in omega (arith, low, count)), subst (Matches s.table d) (sym (had.same k)) there.2)
+  one_stands f x a before m cells (inr (inl (shown, z, is, typed))) laid had kept =
+      subst (λ q. Stands f x q m (with_formal s f x q m)) (sym is)
+      (shown_stands f x z m shown (λ d c n k shape_is e. cell_then s before m had d k (typed d c n k shape_is e)) kept)
+  one_stands f x a before m cells (inr (inr (plain, named, ws, is, fit))) laid had kept =
+      subst (λ q. Stands f x q m (with_formal s f x q m)) (sym is)
+      (copied_stands f x ws m plain named (fit.0, λ p d c n k has shape_is e. cell_then s before m had d k (fit.1 p d c n k has shape_is e)) kept)

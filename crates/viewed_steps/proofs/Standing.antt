@@ -27,7 +27,6 @@ use Rattle.soundness.specs.Seen.{is_view_formal, home}
 use Rattle.soundness.specs.Typed.{Kept}
 use Rattle.typed_laws.specs.Needed.{IsFine}
 use Rattle.soundness.specs.Sound.{IsNoCall, Stage, facts_of, AreStages, InScope, IsNamedSub, IsAtPoint, view_of as view_here}
-use Rattle.soundness.proofs.Contents.{bool_cases}
 use Rattle.soundness.specs.Ready.{IsSupplied}
 use Rattle.soundness.proofs.Passing.{plain_type, signature_is}
 use Rattle.soundness.proofs.Typings.{Agree, flow_agrees, instruction_same}
@@ -78,7 +77,8 @@ module _ (table : Table) (typed : TypedProgram) (effects : Effects) (input : Lis
     | inl plain ↦ absurd (no_both (is_view_formal s x) formal (no_second (is_in_formal s x) (is_owning s.table (object_at s x).of) (plain_type s ready.owns (object_at s x).of plain)))
     | inr other_kind ↦ elim other_kind [
       | inl back ↦ absurd (back.0 (in_mode (object_at s x).mode (middle_true (is_formal s x) (is_in (object_at s x).mode) (is_owning s.table (object_at s x).of) formal)))
-      | inr shown ↦ (shown.1, λ anonymous. unnamed shown.1 anonymous)
+      | inr (inl shown) ↦ (shown.1, λ anonymous. unnamed shown.1 anonymous)
+      | inr (inr plain) ↦ absurd (no_both (is_view_formal s x) formal (no_second (is_in_formal s x) (is_owning s.table (object_at s x).of) plain.1))
     ]
   ]
     where

@@ -24,7 +24,7 @@ use Rattle.soundness.specs.Sound.{Accepted, IsNamedSub, IsAtPoint, IsProcedure, 
 use Rattle.soundness.specs.Ready.{root_of, stored_at, AreScoped, AreNew, AreElaborated, AreReturning}
 use Rattle.typed_laws.specs.Needed.{Matches, Leads, Stays, IsPlace}
 use Rattle.soundness.specs.Seen.{is_view_formal}
-use Rattle.viewed_soundness.specs.Holds.{sees_only, is_fixed, AllKeep}
+use Rattle.viewed_soundness.specs.Holds.{sees_only, is_fixed, AllKeep, IsNamed}
 use Rattle.viewed_steps.specs.Awaited.{is_held, IsTaken, FillsTyped}
 use Rattle.viewed_steps.specs.Sound.{IsScalarObject, IsViewClass, Lasts, IsStoredAt}
 
@@ -60,24 +60,32 @@ pub record AreValued (table : Table) (typed : TypedProgram) : Type 0 where
       → FillsTyped (flow_program table typed) p.instr (drop (taken p.instr) p.scope)
 
 -- What is passed stays within what it names. One that is copied back to is a name of a place of the type of
--- the formal: of a scalar type, or in an object that belongs to no package and is no formal of mode `in`.
+-- the formal: of a scalar type, or in an object that is no formal of mode `in`.
 abbrev pub IsOwnPlace : Typing → TypedTree → Type 0
-IsOwnPlace s e = (y : ℕ) → Has (root_of e) y → (is_package_object s y ≡ false) × (is_view_formal s y ≡ false)
+IsOwnPlace s e = (y : ℕ) → Has (root_of e) y → is_view_formal s y ≡ false
 
 -- What a formal is shown that owns nothing: null, or what a name of its type designates that is rooted in an
 -- own variable of the frame, or in such a formal.
 abbrev pub IsShowable : Typing → ℕ → Type 0
-IsShowable s y = (is_package_object s y ≡ false) × (is_anonymous (view_of s y) ≡ false) × (is_view_formal s y ≡ true → sees_only s y ≡ true)
+IsShowable s y = (is_package_object s y ≡ false) × (is_anonymous (view_of s y) ≡ false)
 
 abbrev pub IsSeen : Typing → ℕ → TypedTree → Type 0
 IsSeen s x typed.Null = Unit {0}
 IsSeen s x (Name p y path u) = Leads s (object_at s y).of path u × Matches s.table u (object_at s x).of × IsShowable s y
 IsSeen s x e = ⊥
 
+-- One of a type that owns nothing gets a scalar value, or a copy of what a name of its type stands for.
+abbrev pub IsCopyOf : Typing → ℕ → TypedTree → Type 0
+IsCopyOf s x (Name p y path u) = Leads s (object_at s y).of path u × Matches s.table u (object_at s x).of
+IsCopyOf s x e = ⊥
+
+abbrev pub IsValueTo : Typing → ℕ → TypedTree → Type 0
+IsValueTo s x e = (IsScalarObject s x × Stays s e) ⊎ (IsNamed s.table (object_at s x).of × IsCopyOf s x e)
+
 -- By the mode, and whether the type of the formal is owning.
 abbrev pub IsActualTo : Typing → ℕ → Mode → TypedTree → Type 0
 IsActualTo s x mode.In e =
-    (is_owning s.table (object_at s x).of ≡ false → Stays s e) × (is_owning s.table (object_at s x).of ≡ true → IsSeen s x e)
+    (is_owning s.table (object_at s x).of ≡ false → IsValueTo s x e) × (is_owning s.table (object_at s x).of ≡ true → IsSeen s x e)
 IsActualTo s x m e =
     (t : ℕ) × IsPlace s e t × Matches s.table t (object_at s x).of × ((is_scalar (full s.table t) ≡ true) ⊎ IsOwnPlace s e)
 

@@ -11,12 +11,12 @@ use Rattle.place_names.specs.declared.fact.Fact.TheVariants.{Moved, Lent}
 use Rattle.place_names.specs.declared.rule.Loan.{Loan}
 use Rattle.place_names.specs.declared.rule.Loan.TheVariants.{Borrowed, Observed}
 use Rattle.place_names.specs.Names.{Name as PlaceName}
-use Rattle.type_definitions.specs.Types.{Table, full, is_scalar}
+use Rattle.type_definitions.specs.Types.{Table, full, is_scalar, is_owning}
 use Rattle.typed_tree.specs.Trees.{TypedTree, Name, NoMore, More}
 use Rattle.typed_tree.specs.Programs.{TypedProgram}
 use Rattle.flow_paths.specs.declared.report.Effects.{Effects}
 use Rattle.flow_paths.specs.Instructions.{Instruction, Declare, Assign, Call, EndScope, Finish}
-use Rattle.flow_paths.specs.Objects.{Typing, object_at, sub_at, is_formal, is_observer, is_package_object, has_scope_end}
+use Rattle.flow_paths.specs.Objects.{Typing, object_at, sub_at, is_formal, is_observer, is_named_access, view_of, is_package_object, has_scope_end}
 use Rattle.flow_paths.specs.Points.{NamedPoint, FlowPoint}
 use Rattle.flow_paths.specs.Laid.{FlowSub, FlowProgram, NamedSub, flow_typing, flow_program, flow_named}
 use Rattle.flow_paths.specs.Paths.{ControlPath}
@@ -28,7 +28,7 @@ use Rattle.machine.specs.Memory.{Memory, variable_slots, no_slot}
 use Rattle.machine.specs.States.{Return, Waiting, Frame, State, Outcome, Goes, Ends, sub_of}
 use Rattle.machine.specs.Owners.{is_in, WellOwned, waiting_in}
 use Rattle.machine.specs.Run.{step}
-use Rattle.owned_ways.specs.Ways.{Loc, Step, OfVariable, OfRoot, Held, Way, Named, Under, Past, along, name_of, number_of, OfCell, Reaches}
+use Rattle.owned_ways.specs.Ways.{Object, Step, OfVariable, OfRoot, Held, Way, Named, Under, Past, name_of, number_of, OfCell, Reaches, Loc, along}
 use Rattle.soundness.specs.Seen.{content, word_in, home, is_view_formal}
 use Rattle.soundness.specs.Typed.{Kept}
 use Rattle.soundness.specs.Sound.{goes_through_none, is_temporary_object, IsNamedSub, IsAtPoint, IsRunnable, Stage, facts_of, AreStages, Uses, IsPlain, InScope, IsTrap}
@@ -42,7 +42,7 @@ use Rattle.viewed_steps.specs.Taken.{TakenBy, Lodge, AreTaken, AreCarried}
 -- ---- the class
 
 -- A formal of a scalar type; or of mode `out` or `in out` and of no anonymous access type; or of mode `in`
--- and of an access type, which owns nothing.
+-- and of an access type, which owns nothing, or of a type that owns nothing and is no anonymous access type.
 abbrev pub IsScalarObject : Typing → ℕ → Type 0
 IsScalarObject s x = is_scalar (full s.table (object_at s x).of) ≡ true
 
@@ -52,8 +52,11 @@ IsCopiedBack s x = (object_at s x).mode ≡ mode.In → ⊥
 abbrev pub IsShown : Typing → ℕ → Type 0
 IsShown s x = (is_view_formal s x ≡ true) × IsAccess s x
 
+abbrev pub IsOwnless : Typing → ℕ → Type 0
+IsOwnless s x = ((object_at s x).mode ≡ mode.In) × (is_owning s.table (object_at s x).of ≡ false) × IsNamed s.table (object_at s x).of
+
 abbrev pub IsKindOfFormal : Typing → ℕ → Type 0
-IsKindOfFormal s x = IsScalarObject s x ⊎ ((IsCopiedBack s x × IsNamed s.table (object_at s x).of) ⊎ IsShown s x)
+IsKindOfFormal s x = IsScalarObject s x ⊎ ((IsCopiedBack s x × IsNamed s.table (object_at s x).of) ⊎ (IsShown s x ⊎ IsOwnless s x))
 
 -- Actuals that are copied back to go through no access value; or they are for formals of scalar types, and are
 -- rooted in objects that belong to no package.
@@ -64,19 +67,19 @@ AreKeptPlaces s (x ∷ formals) (More e rest) =
 AreKeptPlaces s formals actuals = Unit {0}
 
 -- Anonymous access types are those of objects alone, and functions that are called have no results of
--- such types; formals are such, those of functions of mode `in`, and those of procedures of mode `in` of
--- scalar types; actuals are copied back to as above.
+-- such types; formals are such, those of functions of mode `in`, and what they are shown isn't changed through
+-- them; those of procedures of mode `in` that own nothing are of access-to-variable types; actuals are copied
+-- back to as above.
 pub record IsViewClass (program : FlowProgram) : Type 0 where
   pub parts_named : PartsAreNamed program.table
   pub results : AreNamedResults program
   pub formals : (x : ℕ) → is_formal (flow_typing program) x ≡ true → IsKindOfFormal (flow_typing program) x
   pub functions : (n t : ℕ) → (sub_at (flow_typing program) n).result ≡ Some t → (x : ℕ) → Has (sub_at (flow_typing program) n).formals x
-      → is_formal (flow_typing program) x ≡ true
-      → IsScalarObject (flow_typing program) x ⊎ (IsShown (flow_typing program) x × (is_exclusive (flow_typing program) x ≡ false))
+      → is_formal (flow_typing program) x ≡ true → is_view_formal (flow_typing program) x ≡ true → is_exclusive (flow_typing program) x ≡ false
   pub modes : (n t : ℕ) → (sub_at (flow_typing program) n).result ≡ Some t → (x : ℕ) → Has (sub_at (flow_typing program) n).formals x
       → (object_at (flow_typing program) x).mode ≡ mode.In
   pub procedures : (n : ℕ) → (sub_at (flow_typing program) n).result ≡ None → (x : ℕ) → Has (sub_at (flow_typing program) n).formals x
-      → is_formal (flow_typing program) x ≡ true → is_view_formal (flow_typing program) x ≡ false
+      → is_formal (flow_typing program) x ≡ true → is_view_formal (flow_typing program) x ≡ true → is_named_access (view_of (flow_typing program) x) ≡ true
   pub copied : (sub : FlowSub) → Has program.subs sub → (p : FlowPoint) → Has sub.points p → (n : ℕ) (actuals : TypedTree) (result : Option ℕ)
       → p.instr ≡ Call n actuals result → ((x : ℕ) → Has (sub_of program n).formals x → is_formal (flow_typing program) x ≡ true)
       → AreKeptPlaces (flow_typing program) (sub_of program n).formals actuals
@@ -142,7 +145,7 @@ NoneAbove s depth m = (f x n : ℕ) → depth < f → is_view s x ≡ true → (
 -- back.
 abbrev pub AreReturned : Typing → Frame → Type 0
 AreReturned s f =
-    ((x : ℕ) → Has (sub_at s f.sub).formals x → IsScalarObject s x ⊎ (((r : Return) × Has f.returns r × (r.formal ≡ x)) ⊎ (is_view_formal s x ≡ true)))
+    ((x : ℕ) → Has (sub_at s f.sub).formals x → IsScalarObject s x ⊎ (((r : Return) × Has f.returns r × (r.formal ≡ x)) ⊎ ((is_view_formal s x ≡ true) ⊎ (is_owning s.table (object_at s x).of ≡ false))))
     × ((r : Return) → Has f.returns r → is_formal s r.formal ≡ true)
 
 -- Formals that may own are copied back.
@@ -190,9 +193,13 @@ pub record IsKept (s : Typing) (state : State) (g : ViewStage) (c : Lodge) : Typ
   pub reaches : Reaches (owners.view_of s state) c.way (OfCell c.cell)
   pub aside : (to : Way) → Has g.stage.returns to → Past to c.way → ⊥
 
--- A part of such a cell that was taken: its way, its location, and the steps from there.
-abbrev pub IsBareOf : ViewStage → Way → Loc → List Step → Type 0
-IsBareOf g w l p = Has g.stage.returns (along w p) × ((c : Lodge) × Has g.cells c × (c.way ≡ w) × (OfCell c.cell ≡ l))
+-- A package object: its way and its location.
+abbrev pub IsPackageAt : Typing → Way → Loc → Type 0
+IsPackageAt s w l = (y : ℕ) × (is_package_object s y ≡ true) × (Object (OfVariable 0 y) ≡ w) × (OfRoot (OfVariable 0 y) ≡ l)
+
+-- A part of such a cell, or of a package object, that was taken: its way, its location, and the steps from there.
+abbrev pub IsBareOf : Typing → ViewStage → Way → Loc → List Step → Type 0
+IsBareOf s g w l p = Has g.stage.returns (along w p) × (((c : Lodge) × Has g.cells c × (c.way ≡ w) × (OfCell c.cell ≡ l)) ⊎ IsPackageAt s w l)
 
 -- A frame that waits for a call to end. The points that it has executed form a control path to its
 -- next point. What it owns is in scope there, and so are its views, which have their ways still. The
@@ -226,7 +233,7 @@ pub record IsWaiting (table : Table) (typed : TypedProgram) (effects : Effects) 
   pub placed : ArePlaced (flow_program table typed) g.stage.depth (facts_of (flow_program table typed) effects g.stage) g.views point.scope
   pub kept : (c : Lodge) → Has g.cells c → IsKept (flow_typing (flow_program table typed)) state g c
   -- no number stands in what was taken
-  pub bare : (w : Way) (l : Loc) (p : List Step) → IsBareOf g w l p → (q : List Step) (n : ℕ)
+  pub bare : (w : Way) (l : Loc) (p : List Step) → IsBareOf (flow_typing (flow_program table typed)) g w l p → (q : List Step) (n : ℕ)
       → word_in (flow_typing (flow_program table typed)).table (content (flow_typing (flow_program table typed)) state.memory [] l) (q ++ p) ≡ Held n → ⊥
   pub taken : AreTaken (flow_typing (flow_program table typed)) g.cells state.memory g.stage.depth (facts_of (flow_program table typed) effects g.stage)
       (lasting_of (flow_typing (flow_program table typed)) point.scope) backs g.stage.returns
