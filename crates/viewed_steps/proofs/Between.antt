@@ -17,7 +17,7 @@ use Rattle.flow_paths.specs.Objects.{Typing, is_package_object}
 use Rattle.machine.specs.Memory.{Memory, Place}
 use Rattle.machine.specs.States.{Return}
 use Rattle.soundness.specs.Seen.{IsNear, content, word_in, home}
-use Rattle.viewed_steps.specs.Taken.{last_steps, Lodge, IsInside, IsAmong, IsBare, TakenBy, AreTaken, AreCarried}
+use Rattle.viewed_steps.specs.Taken.{Lodge, IsInside, IsAmong, IsBare, TakenBy, AreTaken, AreCarried}
 
 -- where owners see the same, ways reach the same
 pub same_reaches : (s t : View) → IsSame s t → (w : Way) (l : Loc) → Reaches s w l → Reaches t w l
@@ -212,28 +212,6 @@ home_low s d y = by_package (is_package_object s y)
     by_package : (b : Bool) → (if b then 0 else d) < suc d
     by_package true = omega arith
     by_package false = omega arith
-
-pub last_along : (r : Root) (p : List Step) → last_steps (along (Object r) p) ≡ p
-last_along r [] = refl
-last_along r (i ∷ p) = ap (λ z. i ∷ z) (last_along r p)
-
--- no number stands in what was taken
-pub taken_bare : (s : Typing) (cells : List Lodge) (m : Memory) (depth : ℕ) (facts : List Fact) (scope : List ℕ) (returns : List Return) (ways : List Way)
-    → AreTaken s cells m depth facts scope returns ways → (f y : ℕ) (p : List Step) → Has ways (along (Object (OfVariable f y)) p) → (q : List Step) (c : ℕ)
-    → word_in s.table (content s m [] (OfRoot (OfVariable f y))) (q ++ p) ≡ Held c → ⊥
-taken_bare s cells m depth facts scope [] ways none f y p has q c held = absurd (subst (λ z. Has z (along (Object (OfVariable f y)) p)) none has)
-taken_bare s cells m depth facts scope (r ∷ rest) [] taken f y p has q c held = absurd has
-taken_bare s cells m depth facts scope (r ∷ rest) (to ∷ ways) (inl copied) f y p has q c held =
-    taken_bare s cells m depth facts scope rest (to ∷ ways) copied.1 f y p has q c held
-taken_bare s cells m depth facts scope (r ∷ rest) (to ∷ ways) (inr (one, apart, another, more)) f y p (inl same) q c held =
-    let inside = (one.0).inside in
-    let is : along (Object (OfVariable inside.frame inside.object)) inside.steps ≡ along (Object (OfVariable f y)) p = sym inside.way ∙ same in
-    let base = same_variable inside.frame inside.object f y (sym (base_along (Object (OfVariable inside.frame inside.object)) inside.steps) ∙ ap base_of is
-    ∙ base_along (Object (OfVariable f y)) p) in
-    let steps : inside.steps ≡ p = sym (last_along (OfVariable inside.frame inside.object) inside.steps) ∙ ap last_steps is ∙ last_along (OfVariable f y) p in
-    one.1 q c ((λ j. word_in s.table (content s m [] (OfRoot (OfVariable (base.0 j) (base.1 j)))) (q ++ steps j)) ∙ held)
-taken_bare s cells m depth facts scope (r ∷ rest) (to ∷ ways) (inr (one, apart, another, more)) f y p (inr has) q c held =
-    taken_bare s cells m depth facts scope rest ways more f y p has q c held
 
 -- it stays so where no number comes to them
 pub still_taken : (s : Typing) (cells : List Lodge) (m n : Memory) (depth : ℕ) (facts : List Fact) (scope : List ℕ) (returns : List Return) (ways : List Way)

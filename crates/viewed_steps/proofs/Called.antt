@@ -567,8 +567,11 @@ module _ (h : Here) (settled : IsSettled h.typing.table) (hands : List Waiting) 
             steps = steps_in l;
             frame = home h.typing h.frame y;
             at_home = refl;
+            trunk = Object (OfVariable (home h.typing h.frame y) y);
+            start = OfRoot (OfVariable (home h.typing h.frame y) y);
+            stands = inl (refl, refl, base);
+            root = refl;
             way = is ∙ ap (along (Object (OfVariable (home h.typing h.frame y) y))) (sym steps_are);
-            base = base;
             owner = owner;
             there = ap (λ z. has_part h.typing.table (content h.typing m hands z).of (steps_in l)) (sym b) ∙ spot.there;
             at = spot.at ∙ ap (λ z. offset_in h.typing.table (content h.typing m hands z).of (steps_in l)) b;

@@ -45,7 +45,7 @@ use Rattle.place_names.specs.declared.act.Mode.TheVariants as mode
 use Rattle.owned_ways.specs.Ways.{Step, Way, after, AllowsAll, Past}
 use Rattle.owned_ways.specs.Ways as ways
 use Rattle.owned_ways.proofs.Locations.{reaches_along, named_along as rooted_along, past_under, under_along, under_itself}
-use Rattle.soundness.specs.Seen.{is_view_formal, IsNear, content, seen, home, trunk, word_in}
+use Rattle.soundness.specs.Seen.{is_view_formal, IsNear, content, seen, home, trunk, word_in, steps_in}
 use Rattle.owned_ways.proofs.Named.{longer}
 use Rattle.owned_ways.proofs.Dropped.{named_base}
 use Rattle.soundness.proofs.Contents.{word_root}
@@ -86,18 +86,19 @@ use Rattle.viewed_steps.proofs.Apart.{moved_same}
 use Rattle.viewed_steps.proofs.Lent.{Spare, spare_both, loans_stay}
 use Rattle.viewed_steps.proofs.Placed.{within_on, lasts_more, scope_on, placed_on}
 use Rattle.viewed_steps.proofs.Waiting.{StandsBetween, gone_low, kept_low, beside_them, handed, elsewhere_excused, all_on, bare_still}
-use Rattle.viewed_steps.proofs.Between.{gone_also, more_gone, base_along, base_under, same_variable, not_named, IsHomed, homed_apart, number_based, taken_bare, same_reaches}
+use Rattle.viewed_steps.proofs.Between.{gone_also, more_gone, base_along, base_under, same_variable, not_named, IsHomed, homed_apart, number_based, same_reaches}
 use Rattle.viewed_steps.proofs.Ended.{none_some}
 use Rattle.viewed_steps.proofs.Called.{AreGiven, all_laid_out, all_given, all_acted, values_are_read, call_adds_none, passes_to, spare_reads, spare_copies}
 use Rattle.viewed_steps.proofs.Outside.{IsSpared, kept_clear, gone_clear}
 use Rattle.viewed_steps.proofs.Globals.{copied_act, passed_unused}
 use Rattle.viewed_steps.proofs.Apart.{written_disturbs}
 use Rattle.flow_paths.specs.Effects.{written_by}
-use Rattle.viewed_steps.proofs.Aside.{names_off, part_apart}
+use Rattle.viewed_steps.proofs.Aside.{names_off}
+use Rattle.viewed_steps.proofs.Bared.{taken_bare}
 use Rattle.viewed_steps.proofs.LaidOut.{AreLaidOut, outs_of, cells_of, AreOpenActuals}
 use Rattle.viewed_steps.proofs.Outs.{Out, IsUnderOne, found_in}
 use Rattle.viewed_steps.proofs.Entered.{ArePassedOn, IsOpen, AreBlank, not_above, passed_base, outs_taken, inside_plain, inside_named, inside_number, inside_itself, passed_one}
-use Rattle.viewed_steps.proofs.Entering.{owns_there, AreDeclared, Enter, formals_of_returns, all_declared}
+use Rattle.viewed_steps.proofs.Entering.{AtFirst, owns_there, AreDeclared, Enter, formals_of_returns, all_declared}
 use Rattle.viewed_steps.proofs.Passed.{IsNamedBy, all_passed_on, found_there, all_returned, call_goes, apart_or, apart_there}
 use Rattle.viewed_steps.proofs.Cells.{passed_apart, passed_formal, are_kept, all_in, all_open, IsCellNamed, named_before, cells_named}
 use Rattle.viewed_steps.proofs.Standing.{or_right}
@@ -701,7 +702,7 @@ module _ (table : Table) (typed : TypedProgram) (effects : Effects) (input : Lis
                     home s depth (ways.number_of c.way),
                     ways.number_of c.way,
                     named_base (home s depth) c.way named_there,
-                    not_above s ready.accepted.settled ready.owns in_formals (waiting_in easy.state) state.leaks depth views far_views facts_called next_there (ways.number_of c.way),
+                    not_above s ready.accepted.settled ready.owns in_formals (waiting_in easy.state) state.leaks depth views far_views holds.only facts_called next_there cells (ways.number_of c.way),
                   ))
               | inr held_there ↦ (
                   let foreign = held_there.passed.foreign in (
@@ -717,7 +718,7 @@ module _ (table : Table) (typed : TypedProgram) (effects : Effects) (input : Lis
         cell_aside c has to taken past =
             let one = passed_one s state.memory cells depth facts_called next_there formals passed ways_taken outs all_passed_ways.1 to taken in
             let inside = (one.2).inside in
-            let itself : expand views to ≡ to = inside_itself s ready.accepted.settled depth one.1 to inside views in
+            let itself : expand views to ≡ to = inside_itself s ready.accepted.settled depth one.1 to inside views holds.only in
             let plain_to : sees_only s (ways.number_of to) ≡ false =
             ap (sees_only s) (inside_number s ready.accepted.settled depth one.1 to inside)
             ∙ owner_sees s inside.object (inside_plain s ready.accepted.settled depth one.1 to inside) inside.owner in
@@ -813,7 +814,7 @@ module _ (table : Table) (typed : TypedProgram) (effects : Effects) (input : Lis
                   | inl (inl (u, moved, leads)) ↦ elim (stands (home s depth) (sees_only s) views (view_here s easy.state) own_facts well_before.views u
                       (moved.0, well_before.clear.owned (ways.name_of u) moved.1)) [
                         | inl own ↦ not_named (home s depth) (suc depth) x
-                            (not_above s ready.accepted.settled ready.owns in_formals (waiting_in easy.state) state.leaks depth views far_views facts_called next_there) w
+                            (not_above s ready.accepted.settled ready.owns in_formals (waiting_in easy.state) state.leaks depth views far_views holds.only facts_called next_there cells) w
                             (subst (ways.Named (home s depth)) leads own.0) (base_along (ways.Object root) q)
                         | inr held_there ↦ (
                             let foreign = held_there.passed.foreign in
@@ -835,14 +836,17 @@ module _ (table : Table) (typed : TypedProgram) (effects : Effects) (input : Lis
         leaks_same : leaks_then ≡ state.leaks ++ flat_map (λ (leaks : List Leak). leaks) checks_there
         leaks_same = ap (λ z. state.leaks ++ z) (sym (found_there s ready.accepted.settled depth views view_now main_turn.point.pos state.memory formals actuals passed laid))
 
-        enters : Enter s ready.accepted.settled ready.owns in_formals (waiting_in easy.state) depth views far_views facts_called next_there cells cell_begins other_all state.leaks leaks_then formals passed ways_taken
+        at_first : AtFirst s ready.accepted.settled ready.owns in_formals (waiting_in easy.state) depth views far_views holds.only facts_called next_there cells cell_begins state.memory
+        at_first = record { typed = (viewed_easy plain_there.0).1; leaks = state.leaks; owned = well_all.owned; there = λ c has. (named_cell c has).reaches }
+
+        enters : Enter s ready.accepted.settled ready.owns in_formals (waiting_in easy.state) depth views far_views holds.only facts_called next_there cells cell_begins other_all state.leaks leaks_then formals passed ways_taken
             state.memory with_all
         enters =
-            all_declared s ready.accepted.settled ready.owns in_formals (waiting_in easy.state) depth views far_views facts_called next_there cells cell_begins other_all state.leaks formals passed ways_taken outs
-            state.memory state.memory all_passed_ways.1 open_there (viewed_easy plain_there.0).1 (viewed_easy plain_there.0).1
-            (λ c has. ((named_cell c has).reaches, cell_aside c has)) well_all blank_formals (λ o has f y q some is k. refl) (same_cells state.memory state.memory refl)
+            all_declared s ready.accepted.settled ready.owns in_formals (waiting_in easy.state) depth views far_views holds.only facts_called next_there cells cell_begins other_all state.leaks formals passed ways_taken outs
+            state.memory state.memory all_passed_ways.1 open_there at_first (viewed_easy plain_there.0).1
+            (λ c has. ((named_cell c has).reaches, cell_aside c has)) well_all blank_formals (λ o has. ((λ f y q some is k. refl), (λ c q k there is. refl))) (same_cells state.memory state.memory refl)
 
-        abbrev declared_there : AreDeclared s ready.accepted.settled ready.owns in_formals (waiting_in easy.state) depth views far_views facts_called next_there cells cell_begins formals passed ways_taken state.leaks leaks_then
+        abbrev declared_there : AreDeclared s ready.accepted.settled ready.owns in_formals (waiting_in easy.state) depth views far_views holds.only facts_called next_there cells cell_begins formals passed ways_taken state.leaks leaks_then
             state.memory with_all
         declared_there = enters.0
 
@@ -882,7 +886,7 @@ module _ (table : Table) (typed : TypedProgram) (effects : Effects) (input : Lis
         held_called f x q k off held = elim (declared_there.held f x q k held) [ inl before ↦ before | inr mine ↦ absurd (off mine.0) ]
 
         not_up : (x : ℕ) → home s depth x ≡ suc depth → ⊥
-        not_up = not_above s ready.accepted.settled ready.owns in_formals (waiting_in easy.state) state.leaks depth views far_views facts_called next_there
+        not_up = not_above s ready.accepted.settled ready.owns in_formals (waiting_in easy.state) state.leaks depth views far_views holds.only facts_called next_there cells
 
         -- the variables of its views stay
         word_still : (x : ℕ) → is_view s x ≡ true
@@ -910,14 +914,15 @@ module _ (table : Table) (typed : TypedProgram) (effects : Effects) (input : Lis
         -- no number stands in what is taken
         bare_there : (w : Way) (l : ways.Loc) (q : List Step) → IsBareOf s waits_there w l q → (r : List Step) (k : ℕ)
             → word_in s.table (content s with_all [] l) (r ++ q) ≡ ways.Held k → ⊥
-        bare_there w l q (taken, inl (c, has, way, is)) r k held =
-            let inside = ((passed_one s state.memory cells depth facts_called next_there formals passed ways_taken outs all_passed_ways.1 (ways.along w q) taken).2).inside in
-            part_apart (view_here s easy.state) w c.cell (subst (λ z. ways.Reaches (view_here s easy.state) z (ways.OfCell c.cell)) way (named_cell c has).reaches)
-            (ways.OfVariable inside.frame inside.object) q inside.steps inside.way
-        bare_there w l q (taken, inr (y, also, way, is)) r k held =
-            taken_bare s cells with_all depth facts_called next_there (returns_of formals passed) ways_taken taken_then 0 y q
-            (subst (λ z. Has ways_taken (ways.along z q)) (sym way) taken) r k
-            (subst (λ z. word_in s.table (content s with_all [] z) (r ++ q) ≡ ways.Held k) (sym is) held)
+        bare_there w l q (taken, top) r k held =
+            taken_bare s cells with_all depth facts_called next_there (view_here s easy.state) (λ c has. (named_cell c has).reaches) (returns_of formals passed) ways_taken taken_then w l
+            (elim top [
+              | inl (c, has, way, is) ↦ (
+                  subst (λ z. ways.Reaches (view_here s easy.state) w z) is (subst (λ z. ways.Reaches (view_here s easy.state) z (ways.OfCell c.cell)) way (named_cell c has).reaches),
+                  ap steps_in (sym is),
+                )
+              | inr (y, also, way, is) ↦ (subst (λ z. ways.Reaches (view_here s easy.state) z l) way (sym is), ap steps_in (sym is))
+            ]) q taken r k held
 
         is_waiting : IsWaiting table typed effects after_call n (returns_of formals passed) waits_there
         is_waiting = record {
@@ -986,7 +991,8 @@ module _ (table : Table) (typed : TypedProgram) (effects : Effects) (input : Lis
                   (λ to taken past. kept_clear table typed effects unmoved_stage local state depth older between to (homed to taken) (spared_to to taken) w k keeps_it
                   (base_under to w (past_under to w past))) k
                   (((viewed_easy plain_there.0).0).far w k keeps_it)));
-              bare = bare_still table typed effects unmoved_stage local older easy.state after_call (λ c q k held. sym (declared_there.carried.cells c q) ∙ held)
+              bare = bare_still table typed effects unmoved_stage local older easy.state after_call
+                  (λ w c q r k there held. declared_there.carried.in_cells c (r ++ q) k (λ taken. (taken.3).1) held)
                   (λ y q r k there shared held. held_called 0 y (r ++ q) k (λ above_it. omega (arith, above_it)) held) ((viewed_easy plain_there.0).0).bare;
             }) running.2
 
@@ -1010,7 +1016,7 @@ module _ (table : Table) (typed : TypedProgram) (effects : Effects) (input : Lis
           λ x has. all_returned s ready.accepted.settled depth views view_now state.memory formals actuals passed laid called.actuals_stay kinds x
               (subst (λ z. Has z x) (ap (λ (z : Signature). z.formals) (signature_is program n)) has),
           λ r has. called.formals r.formal
-              (formals_of_returns s ready.accepted.settled ready.owns in_formals (waiting_in easy.state) depth views far_views facts_called next_there cells cell_begins formals passed r has),
+              (formals_of_returns s ready.accepted.settled ready.owns in_formals (waiting_in easy.state) depth views far_views holds.only facts_called next_there cells cell_begins formals passed r has),
         )
 
         -- nothing that is gone meets what its views see of others
@@ -1060,7 +1066,7 @@ module _ (table : Table) (typed : TypedProgram) (effects : Effects) (input : Lis
                   by.0 by.1 by.2 to by.3 (inside_named s ready.accepted.settled depth one.1 to inside)
                   (ap (sees_only s) (inside_number s ready.accepted.settled depth one.1 to inside)
                   ∙ owner_sees s inside.object (inside_plain s ready.accepted.settled depth one.1 to inside) inside.owner)
-                  (one.2).unlent (subst (Meet w) (sym (inside_itself s ready.accepted.settled depth one.1 to inside views)) meets))
+                  (one.2).unlent (subst (Meet w) (sym (inside_itself s ready.accepted.settled depth one.1 to inside views holds.only)) meets))
             ]
 
         -- nor one that another one of them sees, if it changes that

@@ -46,7 +46,7 @@ module _ (s : Typing) (depth : ℕ) (k : Place) (to : Way) (inside : IsInside s 
     | inr there ↦ ap trunk (there.0).1 ∙ sym (there.0).1
   ]
 
-  start_steps : steps_in inside.start ≡ []
+  pub start_steps : steps_in inside.start ≡ []
   start_steps = elim inside.stands [ inl variable ↦ ap steps_in variable.1 | inr there ↦ ap steps_in (there.0).1 ]
 
   pub trunk_is : trunk (part inside.start inside.steps) ≡ inside.start

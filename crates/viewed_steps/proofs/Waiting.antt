@@ -32,7 +32,7 @@ use Rattle.owned_loans.specs.Views.{on, Around, known_gone, Views, expand, IsThr
 use Rattle.owned_loans.proofs.Ways.{under_on, on_under, on_named, lifts, lifted_root, lifted_way, base_on}
 use Rattle.owned_loans.proofs.Meeting.{stands}
 use Rattle.owned_loans.proofs.Moves.{view_on, own_loan, reached}
-use Rattle.viewed_steps.specs.Taken.{TakenBy, Lodge, IsInside, IsBare}
+use Rattle.viewed_steps.specs.Taken.{TakenBy, Lodge, IsInside, IsBare, IsVariableAt, IsAmong}
 use Rattle.owned_loans.proofs.Meeting.{stands}
 use Rattle.viewed_steps.proofs.Between.{base_along as along_base, number_based, home_low, taken_from as words_taken, taken_base, still_taken, near_base}
 use Rattle.viewed_steps.proofs.Roots.{borrower_goes, view_goes}
@@ -175,7 +175,8 @@ module _ (table : Table) (typed : TypedProgram) (effects : Effects)
 
   -- where cells keep their words, and no number comes to what was taken of package objects
   pub bare_still : (older : List ViewStage) (before after : State)
-      → ((c : ℕ) (q : List Step) (k : ℕ) → word_in s.table (content s after.memory [] (OfCell c)) q ≡ Held k → word_in s.table (content s before.memory [] (OfCell c)) q ≡ Held k)
+      → ((w : Way) (c : ℕ) (p q : List Step) (k : ℕ) → BareElsewhere older w (OfCell c) p
+      → word_in s.table (content s after.memory [] (OfCell c)) (q ++ p) ≡ Held k → word_in s.table (content s before.memory [] (OfCell c)) (q ++ p) ≡ Held k)
       → ((y : ℕ) (p q : List Step) (k : ℕ) → BareElsewhere older (Object (OfVariable 0 y)) (OfRoot (OfVariable 0 y)) p → is_package_object s y ≡ true
       → word_in s.table (content s after.memory [] (OfRoot (OfVariable 0 y))) (q ++ p) ≡ Held k
       → word_in s.table (content s before.memory [] (OfRoot (OfVariable 0 y))) (q ++ p) ≡ Held k)
@@ -187,7 +188,7 @@ module _ (table : Table) (typed : TypedProgram) (effects : Effects)
       one : IsBareOf s g w l p → word_in s.table (content s after.memory [] l) (q ++ p) ≡ Held k → word_in s.table (content s before.memory [] l) (q ++ p) ≡ Held k
       one (taken, inl (c, there, way, is)) held =
           subst (λ z. word_in s.table (content s before.memory [] z) (q ++ p) ≡ Held k) is
-          (cells c.cell (q ++ p) k (subst (λ z. word_in s.table (content s after.memory [] z) (q ++ p) ≡ Held k) (sym is) held))
+          (cells w c.cell p q k (g, has, (taken, inl (c, there, way, refl))) (subst (λ z. word_in s.table (content s after.memory [] z) (q ++ p) ≡ Held k) (sym is) held))
       one (taken, inr (y, shared, way, is)) held =
           subst (λ z. word_in s.table (content s before.memory [] z) (q ++ p) ≡ Held k) is
           (roots y p q k (g, has, (subst (λ z. Has g.stage.returns (along z p)) (sym way) taken, inr (y, shared, refl, refl))) shared
@@ -525,6 +526,14 @@ module _ (table : Table) (typed : TypedProgram) (effects : Effects)
       ]);
     }
 
+    -- its cell is reached
+    pub bare_reached : (w : Way) (n : ℕ) (p : List Step) → BareElsewhere older w (OfCell n) p → Reaches (view_here s state) w (OfCell n)
+    bare_reached w n p (g, has, (taken, inl (c, there, is, cell))) = far w n (g, has, inr (c, there, is, same_cell cell))
+      where
+        same_cell : OfCell c.cell ≡ OfCell n → c.cell ≡ n
+        same_cell e = cc
+    bare_reached w n p (g, has, (taken, inr (y, shared, is, root))) = (let never : OfRoot (OfVariable 0 y) ≡ OfCell n = root in cc)
+
     pub bare_rests : (w : Way) (l : Loc) (p : List Step) → BareElsewhere older w l p
         → ((n : ℕ) × KeptElsewhere older w n × (l ≡ OfCell n)) ⊎ ((r : Root) × (w ≡ Object r) × (l ≡ OfRoot r))
     bare_rests w l p (g, has, (taken, inl (c, there, is, cell))) = inl (c.cell, (g, has, inr (c, there, is, refl)), sym cell)
@@ -794,22 +803,36 @@ module _ (table : Table) (typed : TypedProgram) (effects : Effects)
         aside = kept.aside;
       });
       taken = still_taken s g.cells state.memory next.memory g.stage.depth (facts_of program effects g.stage) (lasting_of s waits.point.scope) backs g.stage.returns
-          (λ k to has inside none p c held. place_on k to has inside (is_package_object s inside.object) refl none p c held) waits.taken;
+          (λ k to has inside among none p c held. place_on k to has inside among none p c held) waits.taken;
     }
       where
         -- no number comes to what was taken
-        place_on : (k : Place) (to : Way) → Has g.stage.returns to → (inside : IsInside s g.stage.depth k to) → (b : Bool) → is_package_object s inside.object ≡ b
-            → IsBare s g.stage.depth k to state.memory inside → IsBare s g.stage.depth k to next.memory inside
-        place_on k to has inside true shared none p c held =
+        variable_on : (k : Place) (to : Way) → Has g.stage.returns to → (inside : IsInside s g.stage.depth k to) → IsVariableAt inside.frame inside.object k inside.trunk inside.start
+            → (b : Bool) → is_package_object s inside.object ≡ b → IsBare s g.stage.depth k to state.memory inside → IsBare s g.stage.depth k to next.memory inside
+        variable_on k to has inside variable true shared none p c held =
             let first : inside.frame ≡ 0 = inside.at_home ∙ ap (λ z. if z then 0 else g.stage.depth) shared in
-            let taken : IsBareOf s g (Object (OfVariable 0 inside.object)) (OfRoot (OfVariable 0 inside.object)) inside.steps =
-            (subst (Has g.stage.returns) (inside.way ∙ ap (λ f. along (Object (OfVariable f inside.object)) inside.steps) first) has, inr (inside.object, shared, refl, refl)) in
-            bare (Object (OfVariable 0 inside.object)) (OfRoot (OfVariable 0 inside.object)) inside.steps taken p c
-            (bare_word s next g (Object (OfVariable 0 inside.object)) (OfRoot (OfVariable 0 inside.object)) inside.steps (p ++ inside.steps) taken
-            ∙ ap (λ f. word_in s.table (content s next.memory [] (OfRoot (OfVariable f inside.object))) (p ++ inside.steps)) (sym first) ∙ held)
-        place_on k to has inside false local_one none p c held =
+            let trunk_is : inside.trunk ≡ Object (OfVariable 0 inside.object) = variable.0 ∙ ap (λ f. Object (OfVariable f inside.object)) first in
+            let start_is : inside.start ≡ OfRoot (OfVariable 0 inside.object) = variable.1 ∙ ap (λ f. OfRoot (OfVariable f inside.object)) first in
+            let taken : IsBareOf s g inside.trunk inside.start inside.steps =
+            (subst (Has g.stage.returns) inside.way has, inr (inside.object, shared, sym trunk_is, sym start_is)) in
+            bare inside.trunk inside.start inside.steps taken p c (bare_word s next g inside.trunk inside.start inside.steps (p ++ inside.steps) taken ∙ held)
+        variable_on k to has inside variable false local_one none p c held =
             let own : inside.frame ≡ g.stage.depth = inside.at_home ∙ ap (λ z. if z then 0 else g.stage.depth) local_one in
-            none p c (still inside.frame inside.object (p ++ inside.steps) c (omega (arith, own, some)) (omega (arith, own, less)) held)
+            none p c
+            (subst (λ z. word_in s.table (content s state.memory [] z) (p ++ inside.steps) ≡ Held c) (sym variable.1)
+            (still inside.frame inside.object (p ++ inside.steps) c (omega (arith, own, some)) (omega (arith, own, less))
+            (subst (λ z. word_in s.table (content s next.memory [] z) (p ++ inside.steps) ≡ Held c) variable.1 held)))
+
+        place_on : (k : Place) (to : Way) → Has g.stage.returns to → (inside : IsInside s g.stage.depth k to) → IsAmong g.cells inside.start inside.trunk
+            → IsBare s g.stage.depth k to state.memory inside → IsBare s g.stage.depth k to next.memory inside
+        place_on k to has inside among none p c held = elim inside.stands [
+          | inl variable ↦ variable_on k to has inside variable (is_package_object s inside.object) refl none p c held
+          | inr cell ↦ (
+              let found = among (cell.0).0 (cell.0).1 in
+              let taken : IsBareOf s g inside.trunk inside.start inside.steps =
+              (subst (Has g.stage.returns) inside.way has, inl (found.0, found.1, found.2, ap OfCell found.3 ∙ sym (cell.0).1)) in
+              bare inside.trunk inside.start inside.steps taken p c (bare_word s next g inside.trunk inside.start inside.steps (p ++ inside.steps) taken ∙ held))
+        ]
 
         word_before : (x n : ℕ) → is_view s x ≡ true
             → (get_or (variable_slots s (home s g.stage.depth x) x next.memory.variables) 0 no_slot).word ≡ machine.Cell n
