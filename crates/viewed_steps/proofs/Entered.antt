@@ -184,6 +184,59 @@ passed_one s m cells depth facts scope (x ∷ formals) (a ∷ passed) (k ∷ way
 passed_one s m cells depth facts scope (x ∷ formals) (a ∷ passed) (k ∷ ways) outs (inr (place, later, how, one, apart, differ, more)) to (inr has) =
     passed_one s m cells depth facts scope formals passed ways later more to has
 
+plain_from : (s : Typing) (m : Memory) (cells : List Lodge) (x : ℕ) (a : Passed) → IsPlainOne s m cells x a → (y : ℕ) (k : Place) → x ≡ y → a ≡ From k
+    → is_scalar (full s.table (object_at s y).of) ≡ false → ⊥
+plain_from s m cells x a (inl (plain, at)) y k same is many =
+    true_false (is_scalar (full s.table (object_at s y).of)) (subst (λ z. is_scalar (full s.table (object_at s z).of) ≡ true) same plain) many
+plain_from s m cells x a (inr (inl (shown, z, at, typed))) y k same is many = (let never : Value (z ∷ []) ≡ From k = sym at ∙ is in cc)
+plain_from s m cells x a (inr (inr (plain, named, ws, at, fits))) y k same is many = (let never : Value ws ≡ From k = sym at ∙ is in cc)
+
+-- A place is passed for a formal.
+abbrev pub IsFrom : List ℕ → List Passed → ℕ → Place → Type 0
+IsFrom [] passed y k = ⊥
+IsFrom (x ∷ formals) [] y k = ⊥
+IsFrom (x ∷ formals) (a ∷ passed) y k = ((x ≡ y) × (a ≡ From k)) ⊎ IsFrom formals passed y k
+
+-- it is taken, if it isn't scalar
+pub from_taken : (s : Typing) (m : Memory) (cells : List Lodge) (depth : ℕ) (facts : List Fact) (scope : List ℕ) (formals : List ℕ) (passed : List Passed) (ways : List Way) (outs : List Out)
+    → ArePassedOn s m cells depth facts scope formals passed ways outs → (y : ℕ) (k : Place) → IsFrom formals passed y k → is_scalar (full s.table (object_at s y).of) ≡ false
+    → (to : Way) × Has ways to × IsPassedOn s cells depth facts scope y k to
+from_taken s m cells depth facts scope [] passed ways outs are y k from many = absurd from
+from_taken s m cells depth facts scope (x ∷ formals) [] ways outs are y k from many = absurd from
+from_taken s m cells depth facts scope (x ∷ formals) (a ∷ passed) [] outs are y k (inl (same, is)) many = absurd (plain_from s m cells x a are.0 y k same is many)
+from_taken s m cells depth facts scope (x ∷ formals) (a ∷ passed) [] outs are y k (inr later) many = from_taken s m cells depth facts scope formals passed [] outs are.1 y k later many
+from_taken s m cells depth facts scope (x ∷ formals) (a ∷ passed) (to ∷ ways) outs (inl are) y k (inl (same, is)) many = absurd (plain_from s m cells x a are.0 y k same is many)
+from_taken s m cells depth facts scope (x ∷ formals) (a ∷ passed) (to ∷ ways) outs (inl are) y k (inr later) many =
+    from_taken s m cells depth facts scope formals passed (to ∷ ways) outs are.1 y k later many
+from_taken s m cells depth facts scope (x ∷ formals) (a ∷ passed) (to ∷ ways) outs (inr (place, later_outs, how, one, apart, differ, more)) y k (inl (same, is)) many =
+    (to, inl refl, subst (λ z. IsPassedOn s cells depth facts scope z k to) same (subst (λ z. IsPassedOn s cells depth facts scope x z to) (same_place how) one))
+  where
+    same_place : IsTakenAs facts place to a outs later_outs → place ≡ k
+    same_place (inl (from, whole, rest)) = from_same (sym from ∙ is)
+      where
+        from_same : {a b : Place} → From a ≡ From b → a ≡ b
+        from_same e = cc
+    same_place (inr (pos, goes, rest)) = (let never : To place ≡ From k = sym goes ∙ is in cc)
+from_taken s m cells depth facts scope (x ∷ formals) (a ∷ passed) (to ∷ ways) outs (inr (place, later_outs, how, one, apart, differ, more)) y k (inr later) many =
+    let found = from_taken s m cells depth facts scope formals passed ways later_outs more y k later many in
+    (found.0, inr found.1, found.2)
+
+-- two that are taken are one, or are apart
+pub passed_pair : (s : Typing) (m : Memory) (cells : List Lodge) (depth : ℕ) (facts : List Fact) (scope : List ℕ) (formals : List ℕ) (passed : List Passed) (ways : List Way) (outs : List Out)
+    → ArePassedOn s m cells depth facts scope formals passed ways outs → (u w : Way) → Has ways u → Has ways w → (u ≡ w) ⊎ ((Under u w → ⊥) × (Under w u → ⊥))
+passed_pair s m cells depth facts scope [] passed ways outs are u w has_u has_w = absurd (subst (λ z. Has z u) are.0 has_u)
+passed_pair s m cells depth facts scope (x ∷ formals) [] ways outs are u w has_u has_w = absurd (subst (λ z. Has z u) are.0 has_u)
+passed_pair s m cells depth facts scope (x ∷ formals) (a ∷ passed) [] outs are u w has_u has_w = absurd has_u
+passed_pair s m cells depth facts scope (x ∷ formals) (a ∷ passed) (to ∷ ways) outs (inl are) u w has_u has_w =
+    passed_pair s m cells depth facts scope formals passed (to ∷ ways) outs are.1 u w has_u has_w
+passed_pair s m cells depth facts scope (x ∷ formals) (a ∷ passed) (to ∷ ways) outs (inr (place, later, how, one, apart, differ, more)) u w (inl first) (inl second) = inl (sym first ∙ second)
+passed_pair s m cells depth facts scope (x ∷ formals) (a ∷ passed) (to ∷ ways) outs (inr (place, later, how, one, apart, differ, more)) u w (inl first) (inr has_w) =
+    inr (subst (λ z. (Under z w → ⊥) × (Under w z → ⊥)) first (apart w has_w))
+passed_pair s m cells depth facts scope (x ∷ formals) (a ∷ passed) (to ∷ ways) outs (inr (place, later, how, one, apart, differ, more)) u w (inr has_u) (inl second) =
+    inr (subst (λ z. (Under u z → ⊥) × (Under z u → ⊥)) second ((apart u has_u).1, (apart u has_u).0))
+passed_pair s m cells depth facts scope (x ∷ formals) (a ∷ passed) (to ∷ ways) outs (inr (place, later, how, one, apart, differ, more)) u w (inr has_u) (inr has_w) =
+    passed_pair s m cells depth facts scope formals passed ways later more u w has_u has_w
+
 -- what is emptied is among them
 pub outs_taken : (s : Typing) (m : Memory) (cells : List Lodge) (depth : ℕ) (facts : List Fact) (scope : List ℕ) (formals : List ℕ) (passed : List Passed) (ways : List Way) (outs : List Out)
     → ArePassedOn s m cells depth facts scope formals passed ways outs → (o : Out) → Has outs o → Has ways o.way

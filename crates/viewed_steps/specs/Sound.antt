@@ -16,7 +16,7 @@ use Rattle.typed_tree.specs.Trees.{TypedTree, Name, NoMore, More}
 use Rattle.typed_tree.specs.Programs.{TypedProgram}
 use Rattle.flow_paths.specs.declared.report.Effects.{Effects}
 use Rattle.flow_paths.specs.Instructions.{Instruction, Declare, Assign, Call, EndScope, Finish}
-use Rattle.flow_paths.specs.Objects.{Typing, object_at, sub_at, is_formal, is_observer, is_named_access, view_of, is_package_object, has_scope_end}
+use Rattle.flow_paths.specs.Objects.{Typing, object_at, sub_at, is_anonymous, is_formal, is_observer, is_named_access, view_of, is_package_object, has_scope_end}
 use Rattle.flow_paths.specs.Points.{NamedPoint, FlowPoint}
 use Rattle.flow_paths.specs.Laid.{FlowSub, FlowProgram, NamedSub, flow_typing, flow_program, flow_named}
 use Rattle.flow_paths.specs.Paths.{ControlPath}
@@ -58,12 +58,18 @@ IsOwnless s x = ((object_at s x).mode ≡ mode.In) × (is_owning s.table (object
 abbrev pub IsKindOfFormal : Typing → ℕ → Type 0
 IsKindOfFormal s x = IsScalarObject s x ⊎ ((IsCopiedBack s x × IsNamed s.table (object_at s x).of) ⊎ (IsShown s x ⊎ IsOwnless s x))
 
--- Actuals that are copied back to go through no access value; or they are for formals of scalar types, and are
--- rooted in objects that belong to no package.
+-- Actuals that are copied back to go through no access value; or they are rooted in objects that belong to no
+-- package, and are for formals of scalar types, or of mode `in out` and rooted in owners.
+abbrev pub AreOwners : Typing → TypedTree → Type 0
+AreOwners s e = (y : ℕ) → Has (root_of e) y → (is_anonymous (view_of s y) ≡ false) × (is_view_formal s y ≡ false)
+
+abbrev pub IsReachedBack : Typing → ℕ → TypedTree → Type 0
+IsReachedBack s x e = IsScalarObject s x ⊎ (((object_at s x).mode ≡ mode.InOut) × AreOwners s e)
+
 abbrev pub AreKeptPlaces : Typing → List ℕ → TypedTree → Type 0
 AreKeptPlaces s (x ∷ formals) (More e rest) =
     (is_in (object_at s x).mode ≡ false → (goes_through_none e ≡ true)
-    ⊎ (IsScalarObject s x × ((y : ℕ) → Has (root_of e) y → is_package_object s y ≡ false))) × AreKeptPlaces s formals rest
+    ⊎ (IsReachedBack s x e × ((y : ℕ) → Has (root_of e) y → is_package_object s y ≡ false))) × AreKeptPlaces s formals rest
 AreKeptPlaces s formals actuals = Unit {0}
 
 -- Anonymous access types are those of objects alone, and functions that are called have no results of
