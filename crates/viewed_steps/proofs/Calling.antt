@@ -1,4 +1,6 @@
 -- A call leads on, in the frame of what is called.
+use Rattle.flow_paths.specs.Views.{traversed_of}
+use Rattle.viewed_steps.proofs.Traversed.{none_given, empty_given, named_given}
 use Rattle.typed_tree.specs.declared.object.ObjectKind.{ObjectKind}
 use Rattle.typed_tree.specs.declared.object.ObjectKind.TheVariants as object_kind
 use Rattle.place_names.specs.Facts.{adds}
@@ -20,7 +22,7 @@ use Rattle.type_definitions.specs.Types.{Table, full, is_scalar, is_owning}
 use Rattle.typed_tree.specs.Trees.{TypedTree, Name, NoMore, More}
 use Rattle.typed_tree.specs.Programs.{TypedProgram}
 use Rattle.flow_paths.specs.declared.report.Effects.{Effects}
-use Rattle.flow_paths.specs.Instructions.{Instruction, Call, EndScope, Declare, Assign, Hold}
+use Rattle.flow_paths.specs.Instructions.{Instruction, Call, EndScope, Declare, Assign, Hold, Finish}
 use Rattle.flow_paths.specs.Objects.{Typing, object_at, sub_at, is_anonymous, is_package_object, view_of, traverses, passings, Passing, Signature, passing, is_formal_kind, is_observer, is_formal}
 use Rattle.place_names.specs.Facts.{adds}
 use Rattle.place_names.specs.Reports.{Report}
@@ -81,15 +83,14 @@ use Rattle.place_names.specs.declared.act.Mode.{Mode}
 use Rattle.viewed_soundness.proofs.Given.{IsLow, foreign_there, low_there}
 use Rattle.viewed_steps.specs.Awaited.{AreValuesBut, temporaries_of, lasting_of, awaited, WaitsAt, AreAwaited, AreScalar, FillsTyped, TakesScalars, IsTakenBy}
 use Rattle.viewed_steps.proofs.Waited.{late_scope, within_lasting, lasting_more, Shares, plain_unheld}
-use Rattle.viewed_steps.specs.Sound.{IsCopiedBack, ArePast, AreUnmet, HoldsAt, ArePlaced, NoneAbove, ViewStage, stages_of, GoneElsewhere, Disturbs, IsWaiting, AreWaiting, calls_one, LeadsAlong, IsResting, IsKindOfFormal, IsScalarObject, AreReturned, withheld, KeptBy, IsWayOf, IsBareOf}
+use Rattle.viewed_steps.specs.Sound.{IsCopiedBack, ArePast, AreUnmet, HoldsAt, ArePlaced, NoneAbove, ViewStage, stages_of, GoneElsewhere, Disturbs, IsWaiting, AreWaiting, calls_one, LeadsAlong, IsResting, IsKindOfFormal, IsScalarObject, AreReturned, withheld, KeptBy, IsWayOf, IsBareOf, HasTraversals, NoneGiven}
 use Rattle.viewed_steps.specs.Ready.{IsReady, roots_passed, IsCalled}
 use Rattle.viewed_steps.specs.Taken.{TakenBy, AreTaken, AreCarried, Lodge, IsPassedOn}
 use Rattle.viewed_steps.proofs.Apart.{moved_same}
 use Rattle.viewed_steps.proofs.Lent.{Spare, spare_both, loans_stay}
 use Rattle.viewed_steps.proofs.Placed.{within_on, lasts_more, scope_on, placed_on}
 use Rattle.viewed_steps.proofs.Waiting.{StandsBetween, gone_low, kept_low, beside_them, handed, elsewhere_excused, all_on, bare_still}
-use Rattle.viewed_steps.proofs.Between.{gone_also, more_gone, base_along, base_under, same_variable, not_named, IsHomed, homed_apart, number_based, same_reaches}
-use Rattle.viewed_steps.proofs.Ended.{none_some}
+use Rattle.viewed_steps.proofs.Between.{gone_also, more_gone, base_along, base_under, same_variable, not_named, IsHomed, homed_apart, number_based}
 use Rattle.viewed_steps.proofs.Called.{AreGiven, all_laid_out, all_given, all_acted, values_are_read, call_adds_none, passes_to, spare_reads, spare_copies}
 use Rattle.viewed_steps.proofs.Outside.{IsSpared, kept_clear, gone_clear}
 use Rattle.viewed_steps.proofs.Globals.{copied_act, passed_unused}
@@ -151,7 +152,8 @@ module _ (table : Table) (typed : TypedProgram) (effects : Effects) (input : Lis
       (viewed_before : Viewed (home s (suc (length rest))) (sees_only s) (known_gone (home s (suc (length rest))) (GoneElsewhere program effects (below ∷ more_frames))) views
       (view_here s state) (facts_of program effects top))
       (kept : Kept s state.memory (waiting_in state)) (scope : InScope s state.memory (suc (length rest)) (lasting_of s p.scope)) (holds : HoldsAt s (suc (length rest)) views state.memory p)
-      (placed_before : ArePlaced program (suc (length rest)) (facts_of program effects top) views p.scope × ArePast s (suc (length rest)) views (below ∷ more_frames)) (above : NoneAbove s (suc (length rest)) state.memory) where
+      (placed_before : ArePlaced program (suc (length rest)) (facts_of program effects top) views p.scope × ArePast s (suc (length rest)) views (below ∷ more_frames)) (above : NoneAbove s (suc (length rest)) state.memory
+      × HasTraversals table typed (view_here s state) (record { stage = top; views = views; cells = [] } ∷ (below ∷ more_frames))) where
     abbrev outer : List Frame
     outer = below.stage.frame ∷ rest
 
@@ -452,9 +454,13 @@ module _ (table : Table) (typed : TypedProgram) (effects : Effects) (input : Lis
           by_result (Some of) is =
               let answers : (sub_at s n).result ≡ Some of = ap (λ (z : Signature). z.result) (signature_is program n) ∙ is in
               let modes : (x : ℕ) → Has formals x → (object_at s x).mode ≡ mode.In = (λ x has. ready.class.modes n of answers x (there_formals x has)) in
-              inl (modes, (λ x has back. back (modes x has)), λ x has formal.
-                  sees_shown (is_observer s x) (is_view_formal s x) (is_in_formal s x && is_anonymous (view_of s x)) (is_exclusive s x) formal
-                  (ready.class.functions n of answers x (there_formals x has) (called.formals x has) formal))
+              inl (
+                modes,
+                (λ x has back. back (modes x has)),
+                λ x has formal.
+                    sees_shown (is_observer s x) (is_view_formal s x) (is_in_formal s x && is_anonymous (view_of s x)) (is_exclusive s x) formal
+                    (ready.class.functions n of answers x (there_formals x has) (called.formals x has) formal),
+              )
           by_result None is = inr (lent_there is)
 
       clear_there : AreClear s facts_now formals actuals
@@ -1174,6 +1180,16 @@ module _ (table : Table) (typed : TypedProgram) (effects : Effects) (input : Lis
               (meets_front to z w (subst (ways.Under to) (sym is) (under_along to to steps_on (under_itself to))) (flip z w meets))
         ]
 
+        -- no result waits in the frame below, since a call comes after no return
+        none_below : NoneGiven s below
+        none_below = elim (above.1).0.1 [
+          | inl none ↦ none
+          | inr (some, returned, none_back, was) ↦ absurd (elim (ready.traversing.ending top.frame.sub (running.0).entered some top.before top.frame.next path returned) [
+            | inl (z, ends) ↦ (let never : Call n actuals result ≡ EndScope z = sym e ∙ sym (innermost.instr_there table typed effects input ready state top below more_frames rest named p frames deep stages running awaiting of_sub at_point path views viewed_before kept scope holds placed_before above) ∙ ends in cc)
+            | inr finishes ↦ (let never : Call n actuals result ≡ Finish = sym e ∙ sym (innermost.instr_there table typed effects input ready state top below more_frames rest named p frames deep stages running awaiting of_sub at_point path views viewed_before kept scope holds placed_before above) ∙ finishes in cc)
+          ])
+        ]
+
         entered_sound : Along (Goes after_call)
         entered_sound = (
           record {
@@ -1240,9 +1256,21 @@ module _ (table : Table) (typed : TypedProgram) (effects : Effects) (input : Lis
             placed = callee_placed;
             past = callee_past;
             none_above = λ f x k less view at. elim (declared_there.views f x view) [
-              | inl same ↦ above f x k (omega (arith, less)) view (sym same ∙ at)
+              | inl same ↦ above.0 f x k (omega (arith, less)) view (sym same ∙ at)
               | inr shown ↦ (let up = shown.0 in omega (arith, less, up))
             ];
+            traversals = (
+              (
+                none_given table typed (view_here s after_call) (record { stage = called_stage; views = callee_views; cells = [] })
+                    (empty_given table typed (record { stage = called_stage; views = callee_views; cells = [] }) refl),
+                inl (named_given table typed waits_there left_scope shared.left (innermost.named_left_here table typed effects input ready state top below more_frames rest named p frames deep stages running awaiting of_sub at_point path views viewed_before kept scope holds placed_before above)),
+                (none_below, (above.1).0.2),
+              ),
+              (
+                λ f traversed. (let never : None ≡ Some f = sym (ap (λ b. traversed_of b (sub_of program n).formals) no_traversal) ∙ traversed in cc),
+                ((above.1).1.0, (above.1).1.1),
+              ),
+            );
           },
           calls_one waits_stage cells refl (refl, refl, refl) refl none_new (subst (λ d. AreCarried s (λ f. f ≡ suc d → ⊥) cells [] state.memory with_all) (sym deep) declared_there.carried),
         )
@@ -1273,7 +1301,7 @@ module _ (table : Table) (typed : TypedProgram) (effects : Effects) (input : Lis
             callee_held =
                 opened_held (steps.here main_turn) ready.accepted.settled (waiting_in easy.state) state.leaks state.memory [] other facts_now views (viewed_easy plain_there.0).1
                 (viewed_easy plain_there.0).0 holds_now alone live_now in_formals index_law ready.owns ready.class.parts_named formals_low procedure formals actuals passed callee_views opened.1
-                with_all above local declared_there.views formal_only
+                with_all above.0 local declared_there.views formal_only
 
             callee_placed : ArePlaced program (suc depth) (facts_of program effects called_stage) callee_views called.runs.point.scope
             callee_placed =
