@@ -701,7 +701,8 @@ module _ (s : Typing) (own_law : OwnsByShape s.table) (parts_named : PartsAreNam
       named_kind : IsKindOfFormal s x → IsNamed s.table (object_at s x).of
       named_kind (inl scalar) = scalar_named s.table (object_at s x).of scalar
       named_kind (inr (inl (back, own))) = own
-      named_kind (inr (inr (shown, access))) =
+      named_kind (inr (inr (inr plain))) = plain.2
+      named_kind (inr (inr (inl (shown, access)))) =
           absurd (in_mode (object_at s x).mode copied (both_second (is_formal s x) (is_in (object_at s x).mode)
           (both_first (is_in_formal s x) (is_owning s.table (object_at s x).of) shown)))
 

@@ -42,8 +42,7 @@ pub record IsViewProgram (table : Table) (typed : TypedProgram) (effects : Effec
   pub formals : (x : ℕ) → is_formal (flow_typing (flow_program table typed)) x ≡ true → IsKindOfFormal (flow_typing (flow_program table typed)) x
   pub functions : (n t : ℕ) → (sub_at (flow_typing (flow_program table typed)) n).result ≡ Some t → (x : ℕ)
       → Has (sub_at (flow_typing (flow_program table typed)) n).formals x → is_formal (flow_typing (flow_program table typed)) x ≡ true
-      → IsScalarObject (flow_typing (flow_program table typed)) x
-      ⊎ (IsShown (flow_typing (flow_program table typed)) x × (is_exclusive (flow_typing (flow_program table typed)) x ≡ false))
+      → is_view_formal (flow_typing (flow_program table typed)) x ≡ true → is_exclusive (flow_typing (flow_program table typed)) x ≡ false
   pub modes : (n t : ℕ) → (sub_at (flow_typing (flow_program table typed)) n).result ≡ Some t → (x : ℕ)
       → Has (sub_at (flow_typing (flow_program table typed)) n).formals x → (object_at (flow_typing (flow_program table typed)) x).mode ≡ mode.In
   pub procedures : (n : ℕ) → (sub_at (flow_typing (flow_program table typed)) n).result ≡ None → (x : ℕ)

@@ -63,6 +63,7 @@ use Rattle.soundness.specs.Seen.{seen}
 use Rattle.soundness.specs.Ready.{IsSupplied, Fills}
 use Rattle.soundness.proofs.Onward.{GoesOn, declare_follows, assign_follows}
 use Rattle.viewed_steps.proofs.EachInstruction as each
+use Rattle.viewed_steps.proofs.Turned as turned
 use Rattle.flow_paths.specs.Instructions.{Hold}
 use Rattle.flow_paths.specs.Scopes.{is_within}
 use Rattle.type_definitions.specs.Types.{shape_of}
@@ -508,7 +509,7 @@ module _ (table : Table) (typed : TypedProgram) (effects : Effects) (input : Lis
           finish : (i : Instruction) → p.instr ≡ i → LeadsFrom i (turn main_turn i)
               → Each (GoesOn main_turn Left left IsOld (lasting_of s left_scope) (lasting_of s (brought i left_scope)) inside_left) (turn main_turn i) → Along (turn main_turn p.instr)
           finish i is leads on =
-              each.then_on table typed effects input ready state top below more_frames rest named p frames deep stages running awaiting of_sub at_point path views viewed_before kept scope holds placed_before above going no_calls left
+              turned.then_on table typed effects input ready state top below more_frames rest named p frames deep stages running awaiting of_sub at_point path views viewed_before kept scope holds placed_before above going no_calls left
               (each.spares table typed effects input ready state top below more_frames rest named p frames deep stages running awaiting of_sub at_point path views viewed_before kept scope holds placed_before above going no_calls end) end none
               (turn main_turn p.instr) (subst (λ z. LeadsFrom z (turn main_turn z)) (sym is) leads)
               (subst (λ z. Each (GoesOn main_turn Left left IsOld (lasting_of s left_scope) (lasting_of s (brought z left_scope)) inside_left) (turn main_turn z)) (sym is) on)
