@@ -25,7 +25,7 @@ use Rattle.called_subs.proofs.Main.{points_asked_at}
 use Rattle.called_subs.proofs.Statements.{IsFineSub}
 use Rattle.ready_laws.specs.InOrder.{IsSub}
 use Rattle.order_laws.specs.Orderly.{typed_of, typing_in, bodies_of}
-use Rattle.sound_files.specs.Class.{IsScalarAt, IsShownAt, IsFitActual, AreFitActuals, FormalsAreScalar, FormalsAreKinds, CopyToVariables, PassFitActuals, CallsFunctions, CallsWithOwners}
+use Rattle.sound_files.specs.Class.{IsScalarAt, IsShownAt, IsOwnlessAt, IsFitActual, AreFitActuals, FormalsAreScalar, FormalsAreKinds, CopyToVariables, PassFitActuals, CallsFunctions, CallsWithOwners}
 use Rattle.sound_files.proofs.Functions.{FunctionsTakeIn}
 use Rattle.sound_files.proofs.Weaker.{code_weaker}
 use Rattle.sound_files.proofs.Called.{at_number}
@@ -80,17 +80,23 @@ module _ (p : Program) where
   -- ---- formals
 
   pub kinds_there : FormalsAreKinds p → (x : ℕ) → is_formal wide x ≡ true
-      → IsScalarAt wide x ⊎ ((((object_at wide x).mode ≡ mode.In → ⊥) × (is_anonymous (view_of wide x) ≡ false)) ⊎ IsShownAt wide x)
+      → IsScalarAt wide x
+      ⊎ ((((object_at wide x).mode ≡ mode.In → ⊥) × (is_anonymous (view_of wide x) ≡ false)) ⊎ (IsShownAt wide x ⊎ IsOwnlessAt wide x))
   kinds_there all x is = elim (all x (formal_own x is)) [
     | inl plain ↦ inl (scalar_wide x is plain)
     | inr (inl (back, named)) ↦ inr (inl (
       (λ in_mode. back (sym (ap (λ (o : Object). o.mode) (formal_there x is)) ∙ in_mode)),
       ap (λ (rows : Table). is_anonymous (full rows (object_at wide x).of)) alike.table ∙ ap (λ (o : Object). is_anonymous (full own.table o.of)) (formal_there x is) ∙ named,
     ))
-    | inr (inr (shown, access)) ↦ inr (inr (
+    | inr (inr (inl (shown, access))) ↦ inr (inr (inl (
       view_formal_there x ∙ shown,
       ap (λ (rows : Table). is_named_access (full rows (object_at wide x).of)) alike.table ∙ ap (λ (o : Object). is_named_access (full own.table o.of)) (formal_there x is) ∙ access,
-    ))
+    )))
+    | inr (inr (inr (in_mode, none, named))) ↦ inr (inr (inr (
+      ap (λ (o : Object). o.mode) (formal_there x is) ∙ in_mode,
+      ap (λ (rows : Table). is_owning rows (object_at wide x).of) alike.table ∙ ap (λ (o : Object). is_owning own.table o.of) (formal_there x is) ∙ none,
+      ap (λ (rows : Table). is_anonymous (full rows (object_at wide x).of)) alike.table ∙ ap (λ (o : Object). is_anonymous (full own.table o.of)) (formal_there x is) ∙ named,
+    )))
   ]
 
   -- Those of functions are of mode `in`.
@@ -153,6 +159,6 @@ module _ (p : Program) where
   calls_functions calls = record {
     results = results_fit p calls.results;
     formals = λ x is. inl (calls.formals x is);
-    seen = λ n x has is. inl (scalar_wide x is (calls.formals x (formal_own x is)));
+    seen = λ n t x result has is. inl (scalar_wide x is (calls.formals x (formal_own x is)));
     passed = code_passed calls.formals calls.copied;
   }

@@ -1,12 +1,12 @@
 -- Programs with a main procedure and without anonymous access types, by their text: those without formals and
 -- calls, those that call procedures alone, whose formals are of scalar types, and those that call functions, too,
 -- whose results are. And programs with formals of types that own, and results that stand alone.
-use Rattle.std.specs.Prelude.{◌≡◌, ◌⊎◌, ℕ, true, false, List, ◌∷◌, Option, Some, None, is_some}
+use Rattle.std.specs.Prelude.{◌≡◌, ◌⊎◌, ℕ, true, false, List, ◌∷◌, Option, Some, None}
 use Rattle.spark_base.specs.Lists.{Has}
 use Rattle.place_names.specs.declared.act.Mode.{Mode}
 use Rattle.place_names.specs.declared.act.Mode.TheVariants as mode
 use Rattle.resolved_tree.specs.Trees.{Code, Program}
-use Rattle.type_definitions.specs.Types.{full, is_scalar, shape_of}
+use Rattle.type_definitions.specs.Types.{full, is_scalar, is_owning, shape_of}
 use Rattle.type_definitions.specs.Whole.{known_of}
 use Rattle.typed_tree.specs.Trees.{TypedTree, Name, More}
 use Rattle.typed_tree.specs.Trees as typed
@@ -87,47 +87,57 @@ pub record CallsFunctions (p : Program) : Type 0 where
 abbrev pub IsScalarAt : Typing → ℕ → Type 0
 IsScalarAt s x = is_scalar (full s.table (object_at s x).of) ≡ true
 
--- A formal is of a scalar type; or of mode `out` or `in out` and of no anonymous access type; or of mode `in` and of a named
--- access type.
+-- A formal is of a scalar type; or of mode `out` or `in out`, or of mode `in` and of a type that owns nothing, and of no
+-- anonymous access type; or of mode `in` and of a named access type that owns.
 abbrev pub IsShownAt : Typing → ℕ → Type 0
 IsShownAt s x = (is_view_formal s x ≡ true) × (is_named_access (view_of s x) ≡ true)
+
+abbrev pub IsOwnlessAt : Typing → ℕ → Type 0
+IsOwnlessAt s x = ((object_at s x).mode ≡ mode.In) × (is_owning s.table (object_at s x).of ≡ false) × (is_anonymous (view_of s x) ≡ false)
 
 abbrev pub FormalsAreKinds : Program → Type 0
 FormalsAreKinds p =
     (x : ℕ) → is_formal (typing_in p) x ≡ true
     → IsScalarAt (typing_in p) x
-    ⊎ ((((object_at (typing_in p) x).mode ≡ mode.In → ⊥) × (is_anonymous (view_of (typing_in p) x) ≡ false)) ⊎ IsShownAt (typing_in p) x)
+    ⊎ ((((object_at (typing_in p) x).mode ≡ mode.In → ⊥) × (is_anonymous (view_of (typing_in p) x) ≡ false))
+    ⊎ (IsShownAt (typing_in p) x ⊎ IsOwnlessAt (typing_in p) x))
 
 -- The objects as the program is laid out.
 abbrev pub laid_in : Program → Typing
 laid_in p = flow_typing (flow_program (known_of p).table (typed_of p))
 
--- Those of the third kind are formals of functions, and nothing is changed through them.
+-- Through such formals of functions nothing is changed.
 abbrev pub FunctionsSee : Program → Type 0
 FunctionsSee p =
-    (n x : ℕ) → Has (sub_at (laid_in p) n).formals x → is_formal (laid_in p) x ≡ true
-    → IsScalarAt (laid_in p) x
-    ⊎ (((object_at (laid_in p) x).mode ≡ mode.In → ⊥) ⊎ ((is_some (sub_at (laid_in p) n).result ≡ true) × (is_exclusive (laid_in p) x ≡ false)))
+    (n t x : ℕ) → (sub_at (laid_in p) n).result ≡ Some t → Has (sub_at (laid_in p) n).formals x → is_formal (laid_in p) x ≡ true
+    → IsScalarAt (laid_in p) x ⊎ (is_view_formal (laid_in p) x ≡ true → is_exclusive (laid_in p) x ≡ false)
 
--- An actual for a formal of the third kind is null, or a name of its type that is rooted in a variable of a subprogram, but
+-- An actual for one of a named access type is null, or a name of its type that is rooted in a variable of a subprogram, but
 -- no borrower or observer, or in such a formal.
 abbrev pub IsShownRoot : Typing → ℕ → Type 0
-IsShownRoot s y = (is_package_object s y ≡ false) × (is_anonymous (view_of s y) ≡ false) × (is_view_formal s y ≡ true → sees_only s y ≡ true)
+IsShownRoot s y = (is_package_object s y ≡ false) × (is_anonymous (view_of s y) ≡ false)
 
 abbrev pub IsShownActual : Typing → ℕ → TypedTree → Type 0
 IsShownActual s x typed.Null = Unit {0}
 IsShownActual s x (Name p y path u) = (shape_of s.table u ≡ shape_of s.table (object_at s x).of) × IsShownRoot s y
 IsShownActual s x e = ⊥
 
--- One that is copied back to goes through no access value, or the formal is of a scalar type; and it is rooted in an object
--- that belongs to no package, or else goes through none and the formal is of a scalar type.
+-- One for a formal of mode `in` whose type owns nothing is a name of its type.
+abbrev pub IsCopiedActual : Typing → ℕ → TypedTree → Type 0
+IsCopiedActual s x (Name p y path u) = shape_of s.table u ≡ shape_of s.table (object_at s x).of
+IsCopiedActual s x e = ⊥
+
+-- One that is copied back to goes through no access value, and isn't rooted in a formal of mode `in` that owns; or the formal
+-- is of a scalar type, and it is rooted in an object that belongs to no package, or goes through none.
 abbrev pub IsKeptActual : Typing → ℕ → TypedTree → Type 0
 IsKeptActual s x e =
     (IsScalarAt s x × ((goes_through_none e ≡ true) ⊎ ((y : ℕ) → Has (root_of e) y → is_package_object s y ≡ false)))
-    ⊎ ((goes_through_none e ≡ true) × ((y : ℕ) → Has (root_of e) y → (is_package_object s y ≡ false) × (is_view_formal s y ≡ false)))
+    ⊎ ((goes_through_none e ≡ true) × ((y : ℕ) → Has (root_of e) y → is_view_formal s y ≡ false))
 
 abbrev pub IsFitActual : Typing → ℕ → Mode → TypedTree → Type 0
-IsFitActual s x mode.In e = IsScalarAt s x ⊎ IsShownActual s x e
+IsFitActual s x mode.In e =
+    IsScalarAt s x
+    ⊎ (((is_owning s.table (object_at s x).of ≡ true) × IsShownActual s x e) ⊎ ((is_owning s.table (object_at s x).of ≡ false) × IsCopiedActual s x e))
 IsFitActual s x m e = IsKeptActual s x e
 
 abbrev pub AreFitActuals : Typing → List ℕ → TypedTree → Type 0

@@ -67,6 +67,7 @@ use Rattle.meant_files.specs.Typed.{AreTyped}
 use Rattle.meant_files.proofs.Main.{files_denote}
 use Rattle.meant_files.proofs.Main as meant
 use Rattle.meant_files.proofs.Codes as codes
+use Rattle.scope_laws.proofs.Lists.{and_first, and_second}
 use Rattle.sound_files.specs.Class.{CallsWithOwners}
 use Rattle.sound_files.proofs.Laws.{table_laws, files_declared, integers_scalar, truths_scalar}
 use Rattle.sound_files.proofs.Called.{files_bodies}
@@ -217,7 +218,8 @@ module _ (files : List (List SourceUnit)) where
       formals_plain x is = elim (calls.formals x is) [
         | inl plain ↦ scalar_plain (flow.view_of (typing_in p) x) plain
         | inr (inl (back, plain)) ↦ plain
-        | inr (inr (shown, access)) ↦ access_plain (flow.view_of (typing_in p) x) access
+        | inr (inr (inl (shown, access))) ↦ access_plain (flow.view_of (typing_in p) x) access
+        | inr (inr (inr (in_mode, none, plain))) ↦ plain
       ]
 
       accepted : Accepted table (typed_of p) effects
@@ -270,52 +272,48 @@ module _ (files : List (List SourceUnit)) where
       kinds x is = elim (kinds_there p calls.formals x is) [
         | inl plain ↦ inl plain
         | inr (inl (back, plain)) ↦ inr (inl (back, named_type (shape_of flow_of_files.table (flow.object_at (flow_typing flow_of_files) x).of) plain))
-        | inr (inr (shown, access)) ↦ inr (inr (shown, access_shape (shape_of flow_of_files.table (flow.object_at (flow_typing flow_of_files) x).of) access))
+        | inr (inr (inl (shown, access))) ↦ inr (inr (inl (shown, access_shape (shape_of flow_of_files.table (flow.object_at (flow_typing flow_of_files) x).of) access)))
+        | inr (inr (inr (in_mode, none, plain))) ↦
+            inr (inr (inr (in_mode, none, named_type (shape_of flow_of_files.table (flow.object_at (flow_typing flow_of_files) x).of) plain)))
       ]
 
       fit : PassFit flow_of_files
       fit = passed_there p calls.passed
 
-      not_in : (m : Mode) → (m ≡ mode.In → ⊥) → is_in m ≡ false
-      not_in mode.In back = absurd (back refl)
-      not_in mode.Out back = refl
-      not_in mode.InOut back = refl
-
-      -- of a subprogram's formals none is seen alone, or it is a function
-      formal_by : (n x : ℕ) → Has (flow.sub_at (flow_typing flow_of_files) n).formals x → flow.is_formal (flow_typing flow_of_files) x ≡ true
-          → (is_view_formal (flow_typing flow_of_files) x ≡ false)
-          ⊎ ((is_some (flow.sub_at (flow_typing flow_of_files) n).result ≡ true) × (is_exclusive (flow_typing flow_of_files) x ≡ false))
-      formal_by n x has formal = elim (calls.seen n x has formal) [
-        | inl plain ↦ inl (ap (λ b. is_in_formal (flow_typing flow_of_files) x && b) (plain_type (flow_typing flow_of_files) owns (flow.object_at (flow_typing flow_of_files) x).of plain)
-            ∙ and_false (is_in_formal (flow_typing flow_of_files) x))
-        | inr (inl back) ↦ inl (ap (λ b. (flow.is_formal (flow_typing flow_of_files) x && b) && is_owning flow_of_files.table (flow.object_at (flow_typing flow_of_files) x).of)
-            (not_in (flow.object_at (flow_typing flow_of_files) x).mode back)
-            ∙ ap (λ b. b && is_owning flow_of_files.table (flow.object_at (flow_typing flow_of_files) x).of) (and_false (flow.is_formal (flow_typing flow_of_files) x)))
-        | inr (inr function) ↦ inr function
-      ]
+      -- a formal of a scalar type owns nothing
+      scalar_none : (x : ℕ) → IsScalarObject (flow_typing flow_of_files) x → is_view_formal (flow_typing flow_of_files) x ≡ false
+      scalar_none x plain =
+          ap (λ b. is_in_formal (flow_typing flow_of_files) x && b) (plain_type (flow_typing flow_of_files) owns (flow.object_at (flow_typing flow_of_files) x).of plain)
+          ∙ and_false (is_in_formal (flow_typing flow_of_files) x)
 
       modes : (n t : ℕ) → (flow.sub_at (flow_typing flow_of_files) n).result ≡ Some t → (x : ℕ) → Has (flow.sub_at (flow_typing flow_of_files) n).formals x
           → (flow.object_at (flow_typing flow_of_files) x).mode ≡ mode.In
       modes = modes_there p (functions_in p (units_faultless p no_fault) text_orderly.once)
 
       functions : (n t : ℕ) → (flow.sub_at (flow_typing flow_of_files) n).result ≡ Some t → (x : ℕ) → Has (flow.sub_at (flow_typing flow_of_files) n).formals x
-          → flow.is_formal (flow_typing flow_of_files) x ≡ true
-          → IsScalarObject (flow_typing flow_of_files) x ⊎ (IsShown (flow_typing flow_of_files) x × (is_exclusive (flow_typing flow_of_files) x ≡ false))
-      functions n t result x has formal = elim (kinds x formal) [
-        | inl plain ↦ inl plain
-        | inr (inl (back, named)) ↦ absurd (back (modes n t result x has))
-        | inr (inr shown) ↦ elim (formal_by n x has formal) [
-          | inl none ↦ absurd (let no : true ≡ false = sym shown.0 ∙ none in cc)
-          | inr (some, seen) ↦ inr (shown, seen)
-        ]
+          → flow.is_formal (flow_typing flow_of_files) x ≡ true → is_view_formal (flow_typing flow_of_files) x ≡ true → is_exclusive (flow_typing flow_of_files) x ≡ false
+      functions n t result x has formal view = elim (calls.seen n t x result has formal) [
+        | inl plain ↦ absurd (let no : true ≡ false = sym view ∙ scalar_none x plain in cc)
+        | inr seen ↦ seen view
       ]
 
+      -- what a procedure is shown is of a named access type
       procedures : (n : ℕ) → (flow.sub_at (flow_typing flow_of_files) n).result ≡ None → (x : ℕ) → Has (flow.sub_at (flow_typing flow_of_files) n).formals x
-          → flow.is_formal (flow_typing flow_of_files) x ≡ true → is_view_formal (flow_typing flow_of_files) x ≡ false
-      procedures n result x has formal = elim (formal_by n x has formal) [
-        | inl none ↦ none
-        | inr (some, seen) ↦ absurd (let no : false ≡ true = sym (ap is_some result) ∙ some in cc)
+          → flow.is_formal (flow_typing flow_of_files) x ≡ true → is_view_formal (flow_typing flow_of_files) x ≡ true
+          → flow.is_named_access (flow.view_of (flow_typing flow_of_files) x) ≡ true
+      procedures n result x has formal view = elim (kinds_there p calls.formals x formal) [
+        | inl plain ↦ absurd (let no : true ≡ false = sym view ∙ scalar_none x plain in cc)
+        | inr (inl (back, plain)) ↦ absurd (back (in_mode (flow.object_at (flow_typing flow_of_files) x).mode (and_second (flow.is_formal (flow_typing flow_of_files) x) (is_in (flow.object_at (flow_typing flow_of_files) x).mode)
+            (and_first (is_in_formal (flow_typing flow_of_files) x) (is_owning flow_of_files.table (flow.object_at (flow_typing flow_of_files) x).of) view))))
+        | inr (inr (inl (shown, access))) ↦ access
+        | inr (inr (inr (in_mode, none, plain))) ↦
+            absurd (let no : true ≡ false = sym (and_second (is_in_formal (flow_typing flow_of_files) x) (is_owning flow_of_files.table (flow.object_at (flow_typing flow_of_files) x).of) view) ∙ none in cc)
       ]
+        where
+          in_mode : (m : Mode) → is_in m ≡ true → m ≡ mode.In
+          in_mode mode.In e = refl
+          in_mode mode.Out e = cc
+          in_mode mode.InOut e = cc
 
       passes : PassActuals flow_of_files
       passes =

@@ -16,15 +16,15 @@ use Rattle.machine.specs.Owners.{is_in, is_in_formal}
 use Rattle.soundness.specs.Typed.{OwnsByShape}
 use Rattle.soundness.specs.Sound.{goes_through_none}
 use Rattle.typed_laws.specs.Fine.{Has, Agree, counts, lists}
-use Rattle.typed_laws.specs.Needed.{Matches, Stays, IsPlace}
+use Rattle.typed_laws.specs.Needed.{Matches, IsPlace}
 use Rattle.typed_laws.proofs.Sound.{matches, leads}
 use Rattle.typed_steps.specs.Steps.{Taken, IsPlaceOf, IsActual, ActualsTaken, IsTypedStep, AreTyped}
 use Rattle.soundness.specs.Ready.{root_of}
 use Rattle.soundness.proofs.Passing.{plain_type, signature_there}
 use Rattle.ready_laws.proofs.Actuals.{taken_stays, scalar_back}
-use Rattle.sound_files.specs.Class.{IsShownActual, IsKeptActual, IsFitActual, AreFitActuals}
+use Rattle.sound_files.specs.Class.{IsShownActual, IsCopiedActual, IsKeptActual, IsFitActual, AreFitActuals}
 use Rattle.viewed_steps.specs.Sound.{IsScalarObject, IsKindOfFormal, AreKeptPlaces}
-use Rattle.viewed_steps.specs.Ready.{IsSeen, IsActualTo, AreActualsTo}
+use Rattle.viewed_steps.specs.Ready.{IsSeen, IsCopyOf, IsValueTo, IsActualTo, AreActualsTo}
 use Rattle.view_laws.specs.Program.{PassActuals}
 
 both_second : (a b : Bool) → a && b ≡ true → b ≡ true
@@ -47,6 +47,13 @@ module _ (y : Typing) (whole : counts (shape_of y.table integer) ≡ true) (list
   shown_seen x (Name p z path u) shown (inr (lead, view)) = (leads y whole listed word_law path (object_at y z).of u lead, inl shown.0, shown.1)
   shown_seen x e shown taken = absurd shown
 
+  -- what is copied is a name of the formal's type
+  name_copied : (x : ℕ) (e : TypedTree) → IsCopiedActual y x e → Taken y (object_at y x).of e → IsCopyOf y x e
+  unfolding Has
+  name_copied x (Name p z path u) same (inl has) = (leads y whole listed word_law path (object_at y z).of u has.0, inl same)
+  name_copied x (Name p z path u) same (inr (lead, view)) = (leads y whole listed word_law path (object_at y z).of u lead, inl same)
+  name_copied x e same taken = absurd same
+
   module _ (own_law : OwnsByShape y.table) where
     actual_to : (x : ℕ) (e : TypedTree) → IsKindOfFormal y x → IsFitActual y x (object_at y x).mode e → IsActual y x e → IsActualTo y x (object_at y x).mode e
     actual_to x e kind fit actual = by_mode (object_at y x).mode refl fit actual
@@ -57,16 +64,22 @@ module _ (y : Typing) (whole : counts (shape_of y.table integer) ≡ true) (list
         no_owner : is_owning y.table (object_at y x).of ≡ true → is_owning y.table (object_at y x).of ≡ false → ⊥
         no_owner owns none = (let no : true ≡ false = sym owns ∙ none in cc)
 
-        stays : Taken y (object_at y x).of e → (object_at y x).mode ≡ mode.In → is_owning y.table (object_at y x).of ≡ false → Stays y e
-        stays taken is none = elim kind [
-          | inl plain ↦ taken_stays y whole listed word_law (object_at y x).of e plain taken
+        value : Taken y (object_at y x).of e → IsFitActual y x mode.In e → (object_at y x).mode ≡ mode.In → is_owning y.table (object_at y x).of ≡ false → IsValueTo y x e
+        value taken fit is none = elim kind [
+          | inl plain ↦ inl (plain, taken_stays y whole listed word_law (object_at y x).of e plain taken)
           | inr (inl (back, named)) ↦ absurd (back is)
-          | inr (inr (shown, access)) ↦ absurd (no_owner (both_second (is_in_formal y x) (is_owning y.table (object_at y x).of) shown) none)
+          | inr (inr (inl (shown, access))) ↦ absurd (no_owner (both_second (is_in_formal y x) (is_owning y.table (object_at y x).of) shown) none)
+          | inr (inr (inr (in_mode, owns, named))) ↦ elim fit [
+            | inl plain ↦ inl (plain, taken_stays y whole listed word_law (object_at y x).of e plain taken)
+            | inr (inl (here, shown)) ↦ absurd (no_owner here none)
+            | inr (inr (here, copy)) ↦ inr (named, name_copied x e copy taken)
+          ]
         ]
 
         seen : Taken y (object_at y x).of e → IsFitActual y x mode.In e → is_owning y.table (object_at y x).of ≡ true → IsSeen y x e
         seen taken (inl plain) owns = absurd (no_owner owns (owns_none plain))
-        seen taken (inr shown) owns = shown_seen x e shown taken
+        seen taken (inr (inl (here, shown))) owns = shown_seen x e shown taken
+        seen taken (inr (inr (none, copy))) owns = absurd (no_owner owns none)
 
         copied : IsKeptActual y x e → (t : ℕ) → IsPlaceOf y t e → Agree y.table t (object_at y x).of → IsActualTo y x mode.InOut e
         copied kept t place agree =
@@ -81,7 +94,7 @@ module _ (y : Typing) (whole : counts (shape_of y.table integer) ≡ true) (list
             )
 
         by_mode : (m : Mode) → (object_at y x).mode ≡ m → IsFitActual y x m e → IsActual y x e → IsActualTo y x m e
-        by_mode mode.In is fit g = (stays (rw is at g) is, seen (rw is at g) fit)
+        by_mode mode.In is fit g = (value (rw is at g) fit is, seen (rw is at g) fit)
         by_mode mode.Out is fit g = (let place = rw is at g in copied fit place.0 place.1 place.2)
         by_mode mode.InOut is fit g = (let place = rw is at g in copied fit place.0 place.1 place.2)
 
