@@ -9,7 +9,7 @@ use Rattle.soundness.proofs.Lasting.{ownerless}
 use Rattle.typed_tree.specs.declared.object.ObjectKind.{ObjectKind}
 use Rattle.typed_tree.specs.declared.object.ObjectKind.TheVariants as object_kind
 use Rattle.std.specs.List.{AllByRecursion}
-use Rattle.std.proofs.Common.{◌≡◌, refl, sym, ap, ◌∙◌, subst, ◌⊎◌, inl, inr, ℕ, suc, ◌<◌, Bool, true, false, ◌&&◌, ◌||◌, ◌==◌, eq-eqb, List, [], ◌∷◌, ◌++◌, map, take, drop, length, get_or, arith, Some, None, if◌then◌else◌, Option}
+use Rattle.std.proofs.Common.{◌≡◌, refl, sym, ap, ◌∙◌, subst, ◌⊎◌, inl, inr, ℕ, suc, ◌<◌, Bool, true, false, ◌&&◌, ◌||◌, ◌==◌, eq-eqb, List, [], ◌∷◌, ◌++◌, map, take, drop, length, get_or, arith, Some, None, if◌then◌else◌}
 use Rattle.spark_base.specs.Lists.{Has}
 use Rattle.spark_base.proofs.Lists.{Has-append_left, Has-append_cases, Has-map_from}
 use Rattle.place_names.specs.declared.act.Act.{Act}
@@ -25,7 +25,7 @@ use Rattle.typed_tree.specs.Trees.{Call as CallIn, TypedTree}
 use Rattle.typed_tree.specs.Programs.{TypedProgram}
 use Rattle.flow_paths.specs.declared.report.Effects.{Effects}
 use Rattle.flow_paths.specs.Instructions.{Instruction, EndScope}
-use Rattle.flow_paths.specs.Objects.{Typing, traverses, object_at, is_anonymous, is_package_object, is_variable, is_borrower, is_observer, is_borrowing, is_observing, has_scope_end, view_of}
+use Rattle.flow_paths.specs.Objects.{Typing, object_at, is_anonymous, is_package_object, is_variable, is_borrower, is_observer, is_borrowing, is_observing, has_scope_end, view_of}
 use Rattle.flow_paths.specs.Points.{NamedPoint, FlowPoint}
 use Rattle.flow_paths.specs.Laid.{FlowSub, FlowProgram, NamedSub, number_in, flow_sub, typing_of, flow_typing, flow_program, flow_named}
 use Rattle.flow_paths.specs.Paths.{ControlPath}

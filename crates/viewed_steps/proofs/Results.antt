@@ -41,7 +41,7 @@ use Rattle.owned_ways.specs.Ways.{Step, OfVariable, OfRoot, Way, Held, after, Al
 use Rattle.owned_ways.specs.Ways as ways
 use Rattle.soundness.specs.Seen.{IsNear, content, word_in, home}
 use Rattle.soundness.specs.Typed.{Kept}
-use Rattle.typed_laws.specs.Needed.{IsFine, Stays, Source, Returns}
+use Rattle.typed_laws.specs.Needed.{IsFine, Stays, Source}
 use Rattle.soundness.specs.Sound.{IsNoCall, Stage, facts_of, AreStages, IsRunnable, returns_value, InScope, IsNamedSub, IsAtPoint, view_of as view_here}
 use Rattle.soundness.proofs.Scalars.{acts}
 use Rattle.soundness.proofs.Scoped.{Inside}
@@ -53,7 +53,7 @@ use Rattle.soundness.proofs.Eased.{eased, waits_same}
 use Rattle.soundness.proofs.Successors.{below_one}
 use Rattle.owned_loans.specs.Views.{Around, known_gone, Views, Viewed}
 use Rattle.viewed_soundness.specs.Holds.{IsNamed, AllKeep, is_view, sees_only, is_fixed}
-use Rattle.viewed_soundness.proofs.Outcomes.{named_plain, IsGood, Leads_on}
+use Rattle.viewed_soundness.proofs.Outcomes.{IsGood, Leads_on}
 use Rattle.viewed_steps.specs.Awaited.{AreFor, AreValues, AreValuesBut, temporaries_of, lasting_of, awaited, AreAwaited, AreScalar, FillsTyped, TakesScalars, IsTakenBy, TakesAlone}
 use Rattle.viewed_steps.proofs.Waited.{temporary_first, lasting_more, Shares}
 use Rattle.viewed_steps.specs.Sound.{IsWayOf, ArePast, HoldsAt, ArePlaced, NoneAbove, ViewStage, stages_of, GoneElsewhere, AreWaiting, IsStoredAt, returns_one, LeadsAlong, IsResting, HasTraversals, NoneGiven, IsGivenBelow}
@@ -501,7 +501,7 @@ module _ (table : Table) (typed : TypedProgram) (effects : Effects) (input : Lis
       abbrev value_of : List machine.Word → Waiting
       value_of ws = record { of = of; words = ws }
 
-      abbrev below_with : Waiting → ViewStage
+      abbrev pub below_with : Waiting → ViewStage
       below_with v = record below { stage = record below.stage { frame = record below.stage.frame { waits = v ∷ below.stage.frame.waits } } }
 
       value_there : (ws : List machine.Word) → length ws ≡ words s.table of → (waits : List Waiting) (xs : List ℕ) → AreValuesBut s (Some of) waits xs
@@ -587,7 +587,7 @@ module _ (table : Table) (typed : TypedProgram) (effects : Effects) (input : Lis
       abbrev top_then : Stage
       top_then = standing.at_next table typed effects input ready state top older outer named p frames of_sub at_point path (steps.waiting main_turn) top.frame.loops next_number
 
-      abbrev state_then : List machine.Word → Memory → State
+      abbrev pub state_then : List machine.Word → Memory → State
       state_then ws m = handed_over program input main_turn.point state top.frame below.stage.frame rest of ws m
 
       hands_then : (ws : List machine.Word) (m : Memory) → waiting_in (state_then ws m) ≡ value_of ws ∷ waiting_in easy.state
@@ -754,18 +754,3 @@ module _ (table : Table) (typed : TypedProgram) (effects : Effects) (input : Lis
               (sym is_call)
               (λ source_call. alone_value.source_alone table typed effects input ready state top below more_frames rest named p frames deep stages running awaiting of_sub at_point path views viewed_before kept scope holds placed_before above going_then alone_taken of named_result source_call) source)
         ]
-
-    pub return_step : (e last : TypedTree) → p.instr ≡ Hold (More e last) → Along (turn main_turn (Hold (More e last)))
-    return_step e last is = by_result named.sub.result refl (subst (IsFine s named.sub.result) is (standing.fine table typed effects input ready state top older outer named p frames of_sub at_point))
-      where
-        by_result : (r : Option ℕ) → named.sub.result ≡ r → Returns s r (More e last) → Along (steps.hold main_turn (More e last))
-        by_result None none never = cc
-        by_result (Some of) result (value_there, same, source) =
-            let value_is : value_there ≡ e = cc in
-            let source_here : Source s of e = subst (Source s of) value_is source in
-            let last_is : last ≡ NoMore = cc in
-            let plain_result = innermost.named_result table typed effects input ready state top below more_frames rest named p frames deep stages running awaiting of_sub at_point path views viewed_before kept scope holds placed_before above of result in
-            value_step e last is of result source_here last_is plain_result (elim (innermost.taken_there table typed effects input ready state top below more_frames rest named p frames deep stages running awaiting of_sub at_point path views viewed_before kept scope holds placed_before above) [
-              | inl plain ↦ plain_given e last is of result source_here last_is plain_result plain
-              | inr alone_taken ↦ alone_given e last is of result source_here last_is plain_result alone_taken
-            ])
