@@ -225,7 +225,7 @@ module _ (table : Table) (typed : TypedProgram) (effects : Effects) (input : Lis
 
       -- the first formal, and what it sees
       abbrev first_formal : (f : ℕ) × (traversed_formal s (sub_of program top.frame.sub) ≡ Some f)
-      first_formal = ready.traversing.formal top.frame.sub (ap (traverses s.table) sub_result ∙ view)
+      first_formal = ready.traversing.formal top.frame.sub (running.0).entered (ap (traverses s.table) sub_result ∙ view)
 
       abbrev first : Option Way
       first = ((above.1).1.0 first_formal.0 first_formal.1).0
@@ -238,7 +238,7 @@ module _ (table : Table) (typed : TypedProgram) (effects : Effects) (input : Lis
       none_back = ((above.1).1.0 first_formal.0 first_formal.1).3
 
       formal_view : is_view s first_formal.0 ≡ true
-      formal_view = given_view s first_formal.0 (ready.traversing.first top.frame.sub first_formal.0 first_formal.1).1
+      formal_view = given_view s first_formal.0 (ready.traversing.first top.frame.sub first_formal.0 (running.0).entered first_formal.1).1
 
       -- What is given, by what was in hand before.
       abbrev in_hand : List Waiting
@@ -520,7 +520,7 @@ module _ (table : Table) (typed : TypedProgram) (effects : Effects) (input : Lis
           view_scalar (shape_of s.table gives.result) gives.anonymous (of_call gives.result gives.result_is)
 
       pub view_returned : Along (steps.hold main_turn (More e last))
-      view_returned = elim (ready.traversing.returned named (innermost.named_there table typed effects input ready state top below more_frames rest named p frames deep stages running awaiting of_sub at_point path views viewed_before kept scope holds placed_before above) p (innermost.point_there_now table typed effects input ready state top below more_frames rest named p frames deep stages running awaiting of_sub at_point path views viewed_before kept scope holds placed_before above) e last is of result view) [
+      view_returned = elim (ready.traversing.returned top.frame.sub (running.0).entered named of_sub p (innermost.point_there_now table typed effects input ready state top below more_frames rest named p frames deep stages running awaiting of_sub at_point path views viewed_before kept scope holds placed_before above) e last is of result view) [
         | inl null ↦ elim (innermost.taken_there table typed effects input ready state top below more_frames rest named p frames deep stages running awaiting of_sub at_point path views viewed_before kept scope holds placed_before above) [
           | inl plain ↦ by_null plain null
           | inr alone_taken ↦ absurd (not_alone alone_taken (λ a b actuals call. (let never : TypedNull ≡ CallIn a b actuals = sym null ∙ call in cc)))

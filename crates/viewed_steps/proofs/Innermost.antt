@@ -382,7 +382,7 @@ module _ (table : Table) (typed : TypedProgram) (effects : Effects) (input : Lis
         (λ f traversed only. (
         let no_view : is_view s m.root ≡ false = unless (is_view s m.root) (λ view. true_false (is_package_object s m.root) shared (local m.root view)) in
         let root : m.root ≡ f = only.1 m.root (own_root s (sub_acts (flow_sub own named)) f None m.root no_view) in
-        let given = ready.traversing.first top.frame.sub f
+        let given = ready.traversing.first top.frame.sub f (running.0).entered
         (ap (traversed_formal s) (standing.sub_is table typed effects input ready state top older outer named p frames of_sub at_point) ∙ traversed) in
         true_false (is_view s m.root) (ap (is_view s) root ∙ given_view s f given.1) no_view)))
 

@@ -202,13 +202,14 @@ pub record AreTraversing (table : Table) (typed : TypedProgram) (effects : Effec
   pub first : (n f : ℕ) → IsEntered (flow_program table typed) n
       → traversed_formal (flow_typing (flow_program table typed)) (sub_of (flow_program table typed) n) ≡ Some f
       → (is_formal (flow_typing (flow_program table typed)) f ≡ true) × (is_given (flow_typing (flow_program table typed)) f ≡ true)
-  pub formal : (n : ℕ) → traverses (flow_typing (flow_program table typed)).table (sub_of (flow_program table typed) n).result ≡ true
+  pub formal : (n : ℕ) → IsEntered (flow_program table typed) n → traverses (flow_typing (flow_program table typed)).table (sub_of (flow_program table typed) n).result ≡ true
       → (f : ℕ) × (traversed_formal (flow_typing (flow_program table typed)) (sub_of (flow_program table typed) n) ≡ Some f)
   pub given : (sub : FlowSub) → Has (flow_program table typed).subs sub → (p : FlowPoint) → Has sub.points p → (m : PlaceName) (b : Bool)
       → Has (map (λ (a : Placed). a.act) p.acts) (Give m b)
       → ((f : ℕ) → traversed_formal (flow_typing (flow_program table typed)) sub ≡ Some f → IsOnlyRoot (flow_typing (flow_program table typed)) (sub_acts sub) m.root f → ⊥) → ⊥
   -- one returns null, a name, or what another one gives that goes through a name
-  pub returned : (sub : NamedSub) → Has (flow_named table typed) sub → (p : NamedPoint) → Has sub.points p → (e last : TypedTree) → p.instr ≡ Hold (More e last)
+  pub returned : (n : ℕ) → IsEntered (flow_program table typed) n → (sub : NamedSub) → IsNamedSub (flow_named table typed) n sub → (p : NamedPoint) → Has sub.points p
+      → (e last : TypedTree) → p.instr ≡ Hold (More e last)
       → (of : ℕ) → sub.sub.result ≡ Some of → is_anonymous (full (flow_program table typed).table of) ≡ true
       → (e ≡ Null) ⊎ ((q : Pos) × (y : ℕ) × (path : TypedTree) × (u : ℕ) × IsSourceName (flow_typing (flow_program table typed)) of e q y path u)
   pub ending : (k : ℕ) → IsEntered (flow_program table typed) k → is_some (sub_of (flow_program table typed) k).result ≡ true → (before : List ℕ) (last : ℕ)
