@@ -231,7 +231,7 @@ module _ (table : Table) (typed : TypedProgram) (effects : Effects) (input : Lis
             some_is : (a b : ℕ) → Some a ≡ Some b → a ≡ b
             some_is a b e = cc
 
-        value_anonymous : is_anonymous (full s.table value_there.of) ≡ true
+        pub value_anonymous : is_anonymous (full s.table value_there.of) ≡ true
         value_anonymous = ap (λ z. is_anonymous (full s.table z)) value_of_view ∙ gives.anonymous
 
         pub given_there : IsGivenTo s (view_here s state) depth p.instr views value_there
