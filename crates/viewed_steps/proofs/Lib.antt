@@ -28,6 +28,7 @@ pub mod Opened
 pub mod Emptied
 pub mod Vacated
 pub mod Carried
+pub mod Bared
 pub mod Outs
 pub mod Waited
 pub mod Alike
@@ -64,6 +65,7 @@ pub mod Operands
 pub mod Alone
 pub mod Taking
 pub mod Results
+pub mod Giving
 pub mod ScopeEnds
 pub mod CallEnds
 pub mod Calling
