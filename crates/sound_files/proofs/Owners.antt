@@ -20,12 +20,13 @@ use Rattle.soundness.specs.Sound.{goes_through_none, AreCopied}
 use Rattle.machine.specs.Run.{no_point}
 use Rattle.soundness.proofs.Passing.{signature_is}
 use Rattle.soundness.proofs.Typings.{Agree, flow_agrees}
+use Rattle.viewed_steps.specs.Sound.{LendsShared}
 use Rattle.called_subs.specs.Called.{PointCalls}
 use Rattle.called_subs.proofs.Main.{points_asked_at}
 use Rattle.called_subs.proofs.Statements.{IsFineSub}
 use Rattle.ready_laws.specs.InOrder.{IsSub}
 use Rattle.order_laws.specs.Orderly.{typed_of, typing_in, bodies_of}
-use Rattle.sound_files.specs.Class.{IsScalarAt, IsShownAt, IsOwnlessAt, IsFitActual, AreFitActuals, FormalsAreScalar, FormalsAreKinds, CopyToVariables, PassFitActuals, CallsFunctions, CallsWithOwners}
+use Rattle.sound_files.specs.Class.{IsScalarAt, IsShownAt, IsOwnlessAt, IsFitActual, AreFitActuals, AreShownFit, FormalsAreScalar, FormalsAreKinds, CopyToVariables, PassFitActuals, CallsFunctions, CallsWithOwners}
 use Rattle.sound_files.proofs.Functions.{FunctionsTakeIn}
 use Rattle.sound_files.proofs.Weaker.{code_weaker}
 use Rattle.sound_files.proofs.Called.{at_number}
@@ -154,6 +155,12 @@ module _ (p : Program) where
       (λ n actuals h. subst (λ (z : Signature). AreFitActuals wide z.formals actuals) (sym (signature_same p n)) (scalar_passed all (sub_at own n).formals actuals h))
       sub.body (copied sub has)
 
+  -- what scalar formals get is shown to none
+  scalar_shown : FormalsAreScalar p → (shared : Type 0) (formals : List ℕ) (actuals : TypedTree) → AreShownFit wide shared formals actuals
+  scalar_shown all shared (x ∷ formals) (More e rest) = ((λ is. inl (scalar_wide x is (all x (formal_own x is)))), scalar_shown all shared formals rest)
+  scalar_shown all shared [] actuals = tt
+  scalar_shown all shared (x ∷ formals) actuals = tt
+
   -- It is a part of this one.
   pub calls_functions : CallsFunctions p → CallsWithOwners p
   calls_functions calls = record {
@@ -161,4 +168,5 @@ module _ (p : Program) where
     formals = λ x is. inl (calls.formals x is);
     seen = λ n t x result has is. inl (scalar_wide x is (calls.formals x (formal_own x is)));
     passed = code_passed calls.formals calls.copied;
+    shown = λ sub has q there n actuals result is. scalar_shown calls.formals (LendsShared wide sub) (sub_of flow n).formals actuals;
   }
