@@ -40,6 +40,11 @@ abbrev pub NameWords : ℕ → List Kind → List ℤ → Type 0
 NameWords bound (k ∷ ks) (z ∷ zs) = NamesWord bound k z × NameWords bound ks zs
 NameWords bound ks zs = Unit {0}
 
+-- So of a spot.
+abbrev pub NamesSpot : ℕ → Spot → Type 0
+NamesSpot bound (InStack n) = Unit {0}
+NamesSpot bound (InCell n o) = n < bound
+
 -- Nothing is said where a freed cell is touched, and where numbers are out.
 abbrev pub IsSilent : Stop → Type 0
 IsSilent (Raises e) = ⊥

@@ -12,7 +12,7 @@ use Rattle.slot_heap.specs.Heaps.{words_at}
 use Rattle.run_codes.specs.Codes.{Fill, Checked, Pointer, MovedPointer, Copied, Moved, Waited, New, Default, Repeated, Both, Empty}
 use Rattle.run_codes.specs.Flat.{Got, Given, Stops, Broken, Stop, Spot, Raises, Memory, and_then, kinds, checked, default_words, repeated, some_words}
 use Rattle.handled_runs.specs.Slots.{Slots, word, spot, held}
-use Rattle.handled_runs.specs.Changes.{emptied, made}
+use Rattle.handled_runs.specs.Changes.{moving, made}
 
 -- The words of a value, or why it isn't done, and the memory then.
 pub data Outcome : Type 0 where
@@ -47,7 +47,7 @@ abbrev pub copies : Slots → Got Spot → List Kind → Outcome
 copies s g ks = reads s g (λ p. reads s (held s p ks) (λ zs. Gives zs s))
 
 abbrev pub moves : Slots → Got Spot → List Kind → List ℕ → Outcome
-moves s g ks gone = reads s g (λ p. reads s (held s p ks) (λ zs. reads s (emptied s p ks gone) (Gives zs)))
+moves s g ks gone = reads s g (λ p. reads s (held s p ks) (λ zs. Gives zs (moving s p ks gone)))
 
 unfoldable pub Fills : Table → Fill → Slots → Outcome → Type 0
 Fills table (Checked c low high) s r = r ≡ reads s (and_then (word s c) (checked low high)) (λ w. Gives (w ∷ []) s)
