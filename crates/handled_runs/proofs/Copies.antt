@@ -63,7 +63,7 @@ module _ (handles : List ℕ) (here taken : List Kind) (m : Flat) (s : Slots) (i
   reads_on R ks (Given a) Broken F G same on = absurd same
   reads_on R ks (Stops (Raises e)) y F G same on = subst (λ g. AreAlike handles here taken ks (Halted (Raises e) m) (reads s g G)) (sym same) (stops_alike (Raises e))
   reads_on R ks (Stops (Traps t)) y F G same on = silent_stops handles here taken (Traps t) m (reads s y G) tt
-  reads_on R ks (Stops Memory) y F G same on = silent_stops handles here taken Memory m (reads s y G) tt
+  reads_on R ks (Stops Memory) y F G same on = subst (λ g. AreAlike handles here taken ks (Halted Memory m) (reads s g G)) (sym same) (stops_alike Memory)
   reads_on R ks Broken y F G same on = tt
 
   -- ---- what stands at a place

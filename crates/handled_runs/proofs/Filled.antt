@@ -156,7 +156,7 @@ module _ (handles : List ℕ) (here taken : List Kind) (m : Flat) (s : Slots) (i
   looked_gots (Given z) Broken alike kept = absurd alike
   looked_gots (Stops (Raises e)) y alike kept = alike
   looked_gots (Stops (Traps t)) y alike kept = tt
-  looked_gots (Stops Memory) y alike kept = tt
+  looked_gots (Stops Memory) y alike kept = alike
   looked_gots Broken y alike kept = tt
 
   looked_word : (x : Got ℤ) (z : ℤ) → ((y : ℤ) → x ≡ Given y → NamesWord (length handles) sort.Access y) → ((y : ℤ) → x ≡ Given y → IsKept y) → and_then x access ≡ Given z

@@ -1,5 +1,5 @@
 -- Outcomes that are alike, one after the other.
-use Rattle.std.proofs.Common.{◌≡◌, refl, sym, ap, ◌∙◌, subst, ℕ, zero, suc, ◌+◌, arith, Bool, true, false, not, nat_lt, nat_le, List, [], ◌∷◌, ◌++◌, append_assoc, length-append, length, get_or, ℤ, pos, if◌then◌else◌}
+use Rattle.std.proofs.Common.{◌≡◌, refl, sym, ap, ◌∙◌, subst, ℕ, zero, suc, ◌+◌, arith, Bool, true, false, true≢false, not, nat_lt, nat_le, List, [], ◌∷◌, ◌++◌, append_assoc, length-append, length, get_or, ℤ, pos, if◌then◌else◌}
 use mathlib.Core.Logic.{inl, inr}
 use Rattle.run_values.specs.declared.value.Kind.{Kind}
 use Rattle.run_values.specs.declared.value.Kind.TheVariants as sort
@@ -142,7 +142,7 @@ module _ (handles : List ℕ) (here taken : List Kind) (m : Flat) (s : Slots) (i
   pub cell_alike : (ks : List Kind) (zs : List ℤ) (r : Outcome) → length ks ≡ length zs → NameWords (length handles) ks zs → AreKept ks zs → Makes s ks (all_renamed handles ks zs) r
       → AreAlike handles here taken (sort.Access ∷ []) (flat.made m ks zs) r
   cell_alike ks zs r known names kept makes =
-      by (are_words ks zs) (nat_le (m.live + length zs) heap_words) (nat_lt (length m.cells) most_cells) r refl (subst (λ b. MakesCell b s ks (all_renamed handles ks zs) r) tests makes)
+      by (are_words ks zs) (nat_le (m.live + length zs) heap_words) (nat_lt (length m.cells) most_cells) r refl refl (subst (λ b. MakesCell b s ks (all_renamed handles ks zs) r) tests makes)
     where
       us : List ℤ
       us = all_renamed handles ks zs
@@ -150,10 +150,13 @@ module _ (handles : List ℕ) (here taken : List Kind) (m : Flat) (s : Slots) (i
       tests : nat_le (s.live + length (all_renamed handles ks zs)) heap_words ≡ nat_le (m.live + length zs) heap_words
       tests = ap (λ l. nat_le (l + length (all_renamed handles ks zs)) heap_words) (is.beside.live ∙ is.unmarked.live) ∙ ap (λ l. nat_le (m.live + l) heap_words) (long_renamed handles ks zs known)
 
-      by : (a b c : Bool) (r : Outcome) → are_words ks zs ≡ a → MakesCell b s ks (all_renamed handles ks zs) r
+      numbers : nat_lt s.made most_cells ≡ nat_lt (length m.cells) most_cells
+      numbers = ap (λ n. nat_lt n most_cells) (is.beside.made ∙ unmarked_long is.whole.cells m.cells is.unmarked.cells)
+
+      by : (a b c : Bool) (r : Outcome) → are_words ks zs ≡ a → nat_lt (length m.cells) most_cells ≡ c → MakesCell b s ks (all_renamed handles ks zs) r
           → AreAlike handles here taken (sort.Access ∷ [])
           (if not a then Failed else (if b then (if c then Done (pos (suc (length m.cells)) ∷ []) (with_cell m (values ks zs)) else Halted Memory m) else Halted (Raises StorageError) m)) r
-      by true true true (Gives ws t) are (h, new, word, made) =
+      by true true true (Gives ws t) are room (h, new, word, made, few) =
           let after = during_made handles here taken m s h ks zs is new names kept are in
           let long = length-append handles (h ∷ []) in
           let count : length handles ≡ length m.cells = is.beside.cells.len ∙ unmarked_long is.whole.cells m.cells is.unmarked.cells in record {
@@ -164,10 +167,10 @@ module _ (handles : List ℕ) (here taken : List Kind) (m : Flat) (s : Slots) (i
             kept = (tt, tt);
             during = subst (During (handles ++ h ∷ []) here taken (with_cell m (values ks zs))) (sym made) after;
           }
-      by true true true (Ends x t) are made = made.0
-      by true true true Fails are made = absurd made
-      by true true false (Gives ws t) are made = tt
-      by true true false (Ends x t) are made = inl tt
-      by true true false Fails are made = tt
-      by true false c r are made = subst (StopsAlike handles here taken (Raises StorageError) m) (sym made) (stops_alike handles here taken m s is (Raises StorageError))
-      by false b c r are made = tt
+      by true true true (Ends x t) are room made = made.0
+      by true true true Fails are room made = absurd made
+      by true true false (Gives ws t) are room (h, new, word, made, few) = absurd (true≢false (sym few ∙ (numbers ∙ room)))
+      by true true false (Ends x t) are room made = inr (inl made.0)
+      by true true false Fails are room made = absurd made
+      by true false c r are room made = subst (StopsAlike handles here taken (Raises StorageError) m) (sym made) (stops_alike handles here taken m s is (Raises StorageError))
+      by false b c r are room made = tt

@@ -67,7 +67,7 @@ pub record Alike (handles : List ℕ) (here taken ks : List Kind) (zs : List ℤ
 abbrev pub GoOn : List ℕ → List Kind → List Kind → Flat → Slots → Type 0
 GoOn handles here taken m s = (more : List ℕ) × During (handles ++ more) here taken m s
 
--- They stop for the same reason, but for where nothing is said. Memory may be out alone.
+-- They stop for the same reason, but for where nothing is said. Over the heap memory may be out alone.
 abbrev pub StopsAlike : List ℕ → List Kind → List Kind → Stop → Flat → Outcome → Type 0
 StopsAlike handles here taken x m (Gives us s) = IsSilent x
 StopsAlike handles here taken x m (Ends y s) = IsSilent x ⊎ ((y ≡ Memory) ⊎ ((x ≡ y) × GoOn handles here taken m s))

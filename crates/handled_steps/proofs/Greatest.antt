@@ -113,7 +113,7 @@ then_keep (Ends x t) r P keeps so on = subst FillsPeaks (sym so) keeps
 then_keep Fails r P keeps so on = subst FillsPeaks (sym so) tt
 
 cell_makes : (b : Bool) (s : Slots) (ks : List Kind) (zs : List ℤ) (r : Outcome) → KeepsPeaks s → MakesCell b s ks zs r → FillsPeaks r
-cell_makes true s ks zs (Gives us t) keeps (h, new, word, is) = subst KeepsPeaks (sym is) (made_keeps s keeps h ks zs)
+cell_makes true s ks zs (Gives us t) keeps (h, new, word, is, few) = subst KeepsPeaks (sym is) (made_keeps s keeps h ks zs)
 cell_makes true s ks zs (Ends x t) keeps is = subst KeepsPeaks (sym is.1) keeps
 cell_makes true s ks zs Fails keeps is = tt
 cell_makes false s ks zs r keeps is = subst FillsPeaks (sym is) keeps

@@ -156,7 +156,7 @@ module _ (table : Table) (handles : List ℕ) (here taken : List Kind) (m : Flat
   read_alike R formal (Given a) Broken F G is on = absurd is
   read_alike R formal (Stops (Raises e)) y F G is on = subst (λ g. One formal (Halted (Raises e) m) (on_read s g G)) (sym is) (stop (Raises e))
   read_alike R formal (Stops (Traps e)) y F G is on = silent (Traps e) (on_read s y G) tt
-  read_alike R formal (Stops Memory) y F G is on = silent Memory (on_read s y G) tt
+  read_alike R formal (Stops Memory) y F G is on = subst (λ g. One formal (Halted Memory m) (on_read s g G)) (sym is) (stop Memory)
   read_alike R formal Broken y F G is on = tt
 
   there_passed : (formal : ℕ) (p q : Passed) → PassedAlike table handles here formal p q → One formal (Done p m) (Passes (q ∷ []) s)

@@ -65,7 +65,7 @@ module _ (handles : List ℕ) (here : List Kind) (z : Both handles here) (pointe
     where
       by : (b : Bool) → points.are_taken t ≡ b → Turned b u r → OutcomesAlike z.table handles (kinds_after t here z.point.does) (if b then points.done t z.point.does else points.Wants) r
       by true e so = done_alike z.point.does r (looks.1 e) so
-      by false e so = tt
+      by false e so = so
 
 -- ---- a step
 
@@ -122,7 +122,7 @@ module _ (table : Table) (pointers : HavePointers table) (program : Program) (in
   outcomes_on handles more ks (points.Ends (Raised x p) a) r is = ends_on handles more (Raised x p) a r is
   outcomes_on handles more ks (points.Ends Spent a) r is = ends_on handles more Spent a r is
   outcomes_on handles more ks (points.Ends (Trapped x p) a) r is = tt
-  outcomes_on handles more ks points.Wants r is = tt
+  outcomes_on handles more ks points.Wants r is = is
   outcomes_on handles more ks points.Fails r is = tt
 
   ends_then : (handles : List ℕ) (e : Ending) (a : points.State) (g r : Outcome) (P : State → Outcome → Type 0) → EndsAlike table handles e a g → Then P g r → EndsAlike table handles e a r
@@ -155,5 +155,5 @@ module _ (table : Table) (pointers : HavePointers table) (program : Program) (in
       by now (points.Ends (Raised d p) x) g e is so on = ends_then handles (Raised d p) x g r (Within n table program input) is so
       by now (points.Ends Spent x) g e is so on = ends_then handles Spent x g r (Within n table program input) is so
       by now (points.Ends (Trapped d p) x) g e is so on = tt
-      by now points.Wants g e is so on = tt
+      by now points.Wants g e is so on = subst (λ x. Then (Within n table program input) x r) is so
       by now points.Fails g e is so on = tt

@@ -34,7 +34,7 @@ wants_alike table handles here (points.Ends Normal a) = tt
 wants_alike table handles here (points.Ends (Raised x p) a) = tt
 wants_alike table handles here (points.Ends Spent a) = tt
 wants_alike table handles here (points.Ends (Trapped x p) a) = tt
-wants_alike table handles here points.Wants = tt
+wants_alike table handles here points.Wants = refl
 wants_alike table handles here points.Fails = tt
 
 -- ---- a step of both
@@ -217,7 +217,7 @@ module _ (handles : List ℕ) (here : List Kind) (z : Both handles here) where
     pub stops_alike : (there : List Kind) (x : Stop) → OutcomesAlike z.table handles there (points.halted flat_turn x m) (halted slot_turn x s)
     stops_alike there (Raises e) = (refl, (here, (more, ended_alike)))
     stops_alike there (Traps e) = tt
-    stops_alike there Memory = tt
+    stops_alike there Memory = refl
 
     -- after what is only read
     pub read_on : {A B : Type 0} (R : A → B → Type 0) (there : List Kind) (x : Got A) (y : Got B) (F : A → points.Outcome) (G : B → Outcome) → GotsAlike R x y
@@ -229,7 +229,7 @@ module _ (handles : List ℕ) (here : List Kind) (z : Both handles here) where
     read_on R there (Stops (Raises e)) y F G alike on =
         subst (λ v. OutcomesAlike z.table handles there (points.halted flat_turn (Raises e) m) (on_got slot_turn s v G)) (sym alike) (stops_alike there (Raises e))
     read_on R there (Stops (Traps e)) y F G alike on = tt
-    read_on R there (Stops Memory) y F G alike on = tt
+    read_on R there (Stops Memory) y F G alike on = subst (λ v. OutcomesAlike z.table handles there points.Wants (on_got slot_turn s v G)) (sym alike) refl
     read_on R there Broken y F G alike on = tt
 
   -- In the course of the point.
@@ -296,7 +296,7 @@ module _ (handles : List ℕ) (here : List Kind) (z : Both handles here) where
   pub silent_halts : (m : Flat) (there : List Kind) (x : Stop) (r : Outcome) → IsSilent x → OutcomesAlike z.table handles there (points.halted flat_turn x m) r
   silent_halts m there (Raises e) r silent = absurd silent
   silent_halts m there (Traps e) r silent = tt
-  silent_halts m there Memory r silent = tt
+  silent_halts m there Memory r silent = absurd silent
 
   pub made_on : (ks taken there : List Kind) (x : Made (List ℤ)) (y : values.Outcome) (F : List ℤ → Flat → points.Outcome) (G : List ℤ → Slots → Outcome) → AreAlike handles here taken ks x y
       → ((zs : List ℤ) (m : Flat) (us : List ℤ) (s : Slots) → x ≡ Done zs m → Alike handles here taken ks zs m us s → OutcomesAlike z.table handles there (F zs m) (G us s))

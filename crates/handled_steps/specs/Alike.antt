@@ -63,8 +63,8 @@ EndsAlike table handles e a (Ends d b) = (d ≡ e) × ((ks : List Kind) × ((mor
 EndsAlike table handles e a Wants = Unit {0}
 EndsAlike table handles e a Fails = ⊥
 
--- Both go on, or end in the same way. Over the heap memory may be out. Nothing is said where a freed cell is touched or
--- freed again, where numbers are out, and where something isn't there. `here` has the kinds of the stack after the step.
+-- Both go on, or end in the same way. Over the heap memory may be out alone. Nothing is said where a freed cell is touched
+-- or freed again, and where something isn't there. `here` has the kinds of the stack after the step.
 abbrev pub OutcomesAlike : Table → List ℕ → List Kind → points.Outcome → Outcome → Type 0
 OutcomesAlike table handles here (points.Goes a) (Goes b) = LaterAlike table handles here a b
 OutcomesAlike table handles here (points.Goes a) (Ends e b) = ⊥
@@ -74,7 +74,7 @@ OutcomesAlike table handles here (points.Ends Normal a) r = EndsAlike table hand
 OutcomesAlike table handles here (points.Ends (Raised x p) a) r = EndsAlike table handles (Raised x p) a r
 OutcomesAlike table handles here (points.Ends Spent a) r = EndsAlike table handles Spent a r
 OutcomesAlike table handles here (points.Ends (Trapped x p) a) r = Unit {0}
-OutcomesAlike table handles here points.Wants r = Unit {0}
+OutcomesAlike table handles here points.Wants r = r ≡ Wants
 OutcomesAlike table handles here points.Fails r = Unit {0}
 
 -- ---- the kinds of the stack
