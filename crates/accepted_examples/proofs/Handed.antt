@@ -40,6 +40,7 @@ use Rattle.file_positions.proofs.Cuts.{cut_in_order}
 use Rattle.called_subs.specs.Called.{Calls, CodeCalls}
 use Rattle.order_laws.specs.Orderly.{typed_of, typing_in}
 use Rattle.sound_files.specs.Class.{CallsProcedures, IsScalarAt, FormalsAreKinds, AreOwnActuals, CopyToVariables, PassOwnObjects}
+use Rattle.sound_files.proofs.Results.{results_fit}
 use Rattle.viewed_files.proofs.Files.{parsed_called_sound}
 use Rattle.accepted_runs.proofs.Runs.{RunsAreSound}
 use Rattle.accepted_runs.proofs.Views.{AreInSecondViewClass}
@@ -146,7 +147,7 @@ passed =
     (tt, ((((λ is owns y has. elim has [ inl same ↦ subst (λ z. is_package_object own z ≡ false) same refl | inr none ↦ absurd none ]), tt), (tt, tt)), tt))
 
 pub class : AreInSecondViewClass files
-class = record { main = 2; is_main = is_main; calls = record { results = inl calls; formals = formals; copied = copied; passed = passed } }
+class = record { main = 2; is_main = is_main; calls = record { results = results_fit (program_of files) (inl calls); formals = formals; copied = copied; passed = passed } }
 
 -- ---- nothing is reported of it
 

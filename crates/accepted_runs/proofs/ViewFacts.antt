@@ -1,5 +1,6 @@
 -- In runs of programs with borrowers and observers that `check` accepts, no leak check fails that the leak plan
--- excuses: where results are of scalar types, and formals, too, or of mode `in out`, and so without formals and calls.
+-- excuses: where results are of scalar types or stand alone, and formals are of scalar types or of mode `in out`, and so
+-- without formals and calls.
 use Rattle.std.proofs.Common.{◌≡◌, ℕ, List, Some}
 use Rattle.spark_base.specs.declared.limits.TheConstants.{SOURCE_BYTES}
 use Rattle.ada_tree.specs.declared.unit.SourceUnit.{SourceUnit}

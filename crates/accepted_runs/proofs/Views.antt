@@ -1,5 +1,5 @@
--- The runs of programs with borrowers and observers that `check` accepts are sound: where results are of scalar types,
--- and formals too, or of mode `in out`; and so without formals and calls.
+-- The runs of programs with borrowers and observers that `check` accepts are sound: where results are of scalar types or
+-- stand alone, and formals are of scalar types or of mode `in out`; and so without formals and calls.
 use Rattle.std.proofs.Common.{◌≡◌, inl, ℕ, List, Some}
 use Rattle.spark_base.specs.declared.limits.TheConstants.{TOKENS, SOURCE_BYTES}
 use Rattle.ada_tree.specs.declared.unit.SourceUnit.{SourceUnit}
@@ -29,9 +29,9 @@ use Rattle.accepted_runs.specs.Classes.{AreInThirdClass}
 
 -- ---- with calls
 
--- Formals are of scalar types, or of mode `in out` and of no anonymous access type. Results are of scalar types, or
--- procedures alone are called. Actuals of modes `out` and `in out` go through no access value, and those for formals of
--- other types than scalar ones belong to no package.
+-- What a function gives is of a scalar type, or stands alone and is of no anonymous access type. Formals are of scalar types,
+-- or of mode `in out` and of no anonymous access type. Actuals of modes `out` and `in out` go through no access value, and
+-- those for formals of other types than scalar ones belong to no package.
 pub record AreInSecondViewClass (trees : List (List SourceUnit)) : Type 0 where
   -- there is a main procedure, so that there are runs
   pub main : ℕ

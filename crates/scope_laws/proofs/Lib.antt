@@ -19,3 +19,4 @@ pub mod Given
 pub mod Results
 pub mod Alone
 pub mod Followed
+pub mod Begun

@@ -24,6 +24,7 @@ use Rattle.order_laws.specs.Orderly.{typed_of, typing_in, bodies_of}
 use Rattle.sound_files.specs.Class.{IsScalarAt, AreOwnActuals, FormalsAreScalar, FormalsAreKinds, PassOwnObjects, CallsFunctions, CallsWithOwners}
 use Rattle.sound_files.proofs.Functions.{FunctionsTakeScalars}
 use Rattle.sound_files.proofs.Called.{at_number}
+use Rattle.sound_files.proofs.Results.{results_fit}
 use Rattle.sound_files.proofs.Classes.{all_of, signature_at, signature_same, signature_there, all_called}
 
 module _ (p : Program) where
@@ -128,7 +129,7 @@ module _ (p : Program) where
   -- It is a part of this one.
   pub calls_functions : CallsFunctions p → CallsWithOwners p
   calls_functions calls = record {
-    results = calls.results;
+    results = results_fit p calls.results;
     formals = λ x is. inl (calls.formals x is);
     copied = calls.copied;
     passed = all_called p Passed (λ n actuals. scalar_passed calls.formals (sub_at own n).formals actuals);

@@ -1,6 +1,6 @@
 -- Programs with a main procedure and without anonymous access types, by their text: those without formals and
 -- calls, those that call procedures alone, whose formals are of scalar types, and those that call functions, too,
--- whose results are. And programs with formals of types that own.
+-- whose results are. And programs with formals of types that own, and results that stand alone.
 use Rattle.std.specs.Prelude.{◌≡◌, ◌⊎◌, ℕ, true, false, List, ◌∷◌, Option, Some, None}
 use Rattle.spark_base.specs.Lists.{Has}
 use Rattle.place_names.specs.declared.act.Mode.TheVariants as mode
@@ -17,6 +17,7 @@ use Rattle.machine.specs.States.{sub_of}
 use Rattle.soundness.specs.Sound.{calls_nothing, calls_procedures, AreCopied}
 use Rattle.soundness.specs.Ready.{root_of}
 use Rattle.gathered_laws.specs.Named.{IsNamed}
+use Rattle.scope_laws.specs.Alone.{ResultsFit}
 use Rattle.called_subs.specs.Called.{CodeCalls}
 use Rattle.order_laws.specs.Orderly.{typed_of, typing_in, bodies_of}
 use Rattle.meant_files.specs.Formless.{IsFormless}
@@ -99,9 +100,13 @@ abbrev pub PassOwnObjects : Program → Type 0
 PassOwnObjects p =
     (sub : TypedSub) → Has (typed_of p).subs sub → CodeCalls (λ n actuals. AreOwnActuals (typing_in p) (sub_at (typing_in p) n).formals actuals) sub.body
 
+-- What a function gives is of a scalar type; or it stands alone, and is of no anonymous access type: an object is declared
+-- with it, or it is assigned or returned.
+abbrev pub AllResultsFit : Program → Type 0
+AllResultsFit p = (sub : TypedSub) → Has (bodies_of p) sub → ResultsFit (typing_in p) sub.body
+
 pub record CallsWithOwners (p : Program) : Type 0 where
-  -- results are of scalar types; or procedures alone are called
-  pub results : CallsProcedures (flow_program (known_of p).table (typed_of p)) ⊎ ResultsAreScalar p
+  pub results : AllResultsFit p
   pub formals : FormalsAreKinds p
   -- actuals of modes `out` and `in out` go through no access value
   pub copied : CopyToVariables p

@@ -290,7 +290,7 @@ module _ (table : Table) (typed : TypedProgram) (effects : Effects) (given : IsV
           ((given.order.bodies given.order.first (subst (λ subs. Has subs given.order.first) (sym given.order.subs) (inl refl))).numbered x has).1
 
   -- the initial values of package objects name nothing that owns, and no view
-  names_none : (named : NamedSub) → Elaborates named → (p : NamedPoint) → Has named.points p → (x : ℕ) → Has (named_in p.instr) x → has_scope_end s x ≡ true → ⊥
+  pub names_none : (named : NamedSub) → Elaborates named → (p : NamedPoint) → Has named.points p → (x : ℕ) → Has (named_in p.instr) x → has_scope_end s x ≡ true → ⊥
   names_none named e p there x names lasts =
       let declared = package_declares s (unnumbered own) given.order.first given.order.declares text_owners p (subst (λ (z : NamedSub). Has z.points p) (sym e) there)
       (still_there named e p there) in
@@ -314,7 +314,7 @@ module _ (table : Table) (typed : TypedProgram) (effects : Effects) (given : IsV
       by true false is none = refl
       by false b is none = refl
 
-  supplied_there : (named : NamedSub) → Has (flow_named table typed) named → (p : NamedPoint) → Has named.points p → IsSupplied s p
+  pub supplied_there : (named : NamedSub) → Has (flow_named table typed) named → (p : NamedPoint) → Has named.points p → IsSupplied s p
   supplied_there = ordered.supplied_there table typed effects given.accepted given.owns given.order given.answered given.passed given.still
 
   new_in : (named : NamedSub) → Has (flow_named table typed) named → IsNewIn (flow_sub own named)

@@ -48,13 +48,13 @@ use Rattle.view_laws.proofs.Formals.{passed_named}
 
 -- ---- lists
 
-dropped_has : (k : ℕ) (xs : List ℕ) (x : ℕ) → Has (drop k xs) x → Has xs x
+pub dropped_has : (k : ℕ) (xs : List ℕ) (x : ℕ) → Has (drop k xs) x → Has xs x
 dropped_has zero [] x has = has
 dropped_has zero (y ∷ xs) x has = has
 dropped_has (suc k) [] x has = has
 dropped_has (suc k) (y ∷ xs) x has = inr (dropped_has k xs x has)
 
-beside_first : (k : ℕ) (t : ℕ) (xs : List ℕ) (x : ℕ) → Has (drop (suc k) (t ∷ xs)) x → Has xs x
+pub beside_first : (k : ℕ) (t : ℕ) (xs : List ℕ) (x : ℕ) → Has (drop (suc k) (t ∷ xs)) x → Has xs x
 beside_first k t xs x has = dropped_has k xs x has
 
 taken_has : (k : ℕ) (xs : List ℕ) (x : ℕ) → Has (take k xs) x → Has xs x
@@ -90,7 +90,7 @@ temporary_from (o ∷ os) ts lasts (suc x) is = temporary_from os ts (λ y. last
 
 -- ---- what is taken alone
 
-takes_one : (i : Instruction) (q : Pos) (n : ℕ) (a : TypedTree) → Takes i (typed_tree.Call q n a) → (k : ℕ) × (taken i ≡ suc k)
+pub takes_one : (i : Instruction) (q : Pos) (n : ℕ) (a : TypedTree) → Takes i (typed_tree.Call q n a) → (k : ℕ) × (taken i ≡ suc k)
 unfolding waiting
 takes_one i q n a (inl (x, is)) = (0, ap taken is)
 takes_one i q n a (inr (inl (p, x, path, u, is, none))) = (waiting path, ap taken is ∙ (let one : 1 + waiting path ≡ suc (waiting path) = omega arith in one))
@@ -125,7 +125,7 @@ module _ (table : Table) (typed : TypedProgram) (effects : Effects) (given : IsV
   abbrev May : ℕ → Type 0
   May n = GivesNamed own n
 
-  weaker : (n : ℕ) → Asked n → May n
+  pub weaker : (n : ℕ) → Asked n → May n
   weaker n scalar t is = no_anonymous (full own.table t) (scalar t is)
 
   -- a temporary of a scalar type, or no temporary
@@ -240,10 +240,10 @@ module _ (table : Table) (typed : TypedProgram) (effects : Effects) (given : IsV
 
     named_good : (p : NamedPoint) → Has named.points p → (x : ℕ) → Has (named_in p.instr) x → Good x
     named_good p there x names = elim (seen_has (is_package_object own) (drop (taken p.instr) p.scope) (named_in p.instr) x
-      (ordered.body_is_left table typed effects given.accepted given.owns given.order given.answered given.passed given.still named body p there) names) [
-        | inl outer ↦ good_object x (shared_object x outer)
-        | inr within ↦ left_good p there x (within_has x (drop (taken p.instr) p.scope) within)
-      ]
+        (ordered.body_is_left table typed effects given.accepted given.owns given.order given.answered given.passed given.still named body p there) names) [
+          | inl outer ↦ good_object x (shared_object x outer)
+          | inr within ↦ left_good p there x (within_has x (drop (taken p.instr) p.scope) within)
+        ]
 
     -- So what is named is no temporary whose scope has an end.
     pub body_unheld : (p : NamedPoint) → Has named.points p → (x : ℕ) → Has (named_in p.instr) x → is_held s x ≡ false
@@ -320,10 +320,10 @@ module _ (table : Table) (typed : TypedProgram) (effects : Effects) (given : IsV
       where
         by : (i : Instruction) → p.instr ≡ i → (left : List ℕ) → AllGood Good left → Fills s i left → FillsTyped program i left
         by (Call n actuals (Some x)) is left good fills = λ r result. (
-          let found = call_type p there n actuals x is in
-          let both : Some r ≡ Some found.0 = sym result ∙ result_same n ∙ found.1 in
-          let same : r ≡ found.0 = cc in
-          inr (same ∙ sym found.2))
+            let found = call_type p there n actuals x is in
+            let both : Some r ≡ Some found.0 = sym result ∙ result_same n ∙ found.1 in
+            let same : r ≡ found.0 = cc in
+            inr (same ∙ sym found.2))
         by (Evaluate x e (Some op)) is left good fills = (given.truths, truth_type p there x e op is)
         by (Evaluate t e None) is left good (y, others, same, temporary) = (
           given.truths,

@@ -1,6 +1,6 @@
 -- Borrowers and observers of files that break no rule are in order, and the runs of their program are sound where
--- nothing is reported and formals and results are of scalar types.
-use Rattle.std.proofs.Common.{◌≡◌, refl, sym, ◌∙◌, subst, ◌⊎◌, inl, inr, ℕ, Bool, true, false, List, [], ◌∷◌, Some, None}
+-- nothing is reported, results are of scalar types or stand alone, and formals are of scalar types or of mode `in out`.
+use Rattle.std.proofs.Common.{◌≡◌, refl, sym, ◌∙◌, subst, inl, inr, ℕ, Bool, true, false, List, [], ◌∷◌, Some, None}
 use Rattle.spark_base.specs.Lists.{Has}
 use Rattle.ada_lexer.specs.Tokens.{Cut}
 use Rattle.ada_tree.specs.declared.unit.SourceUnit.{SourceUnit}
@@ -44,7 +44,7 @@ use Rattle.typed_laws.specs.Fine.{Laws, counts, lists}
 use Rattle.typed_steps.specs.Steps.{AreTyped as AreStepsTyped}
 use Rattle.typed_points.specs.Meant.{AreMeantUnits, typing_meant}
 use Rattle.soundness.specs.Typed.{OwnsByShape}
-use Rattle.soundness.specs.Sound.{Accepted, ArePlainResults, RunIsSound}
+use Rattle.soundness.specs.Sound.{Accepted, RunIsSound}
 use Rattle.soundness.proofs.Points.{flow_table}
 use Rattle.viewed_soundness.specs.Holds.{PartsAreNamed}
 use Rattle.ready_laws.specs.InOrder.{IsInOrder, IsSub, AreAnswered, AreStill, ArePassed}
@@ -61,13 +61,13 @@ use Rattle.meant_files.specs.Typed.{AreTyped}
 use Rattle.meant_files.proofs.Main.{files_denote}
 use Rattle.meant_files.proofs.Main as meant
 use Rattle.meant_files.proofs.Codes as codes
-use Rattle.sound_files.specs.Class.{CallsProcedures, CallsWithOwners}
+use Rattle.sound_files.specs.Class.{CallsWithOwners}
 use Rattle.sound_files.proofs.Laws.{table_laws, files_declared, integers_scalar, truths_scalar}
 use Rattle.sound_files.proofs.Called.{files_bodies}
 use Rattle.sound_files.proofs.Mains.{main_formless}
 use Rattle.sound_files.proofs.Functions.{functions_scalar}
 use Rattle.sound_files.proofs.Owners.{kinds_there, functions_there, main_there, passed_there}
-use Rattle.sound_files.proofs.Classes.{copies, are_answered, plain_results, temporaries_plain}
+use Rattle.sound_files.proofs.Classes.{copies, are_answered}
 use Rattle.typed_files.proofs.Main.{files_fine, files_steps}
 use Rattle.sound_files.proofs.Main.{files_orderly}
 use Rattle.viewed_steps.specs.Ready.{IsReady}
@@ -77,7 +77,6 @@ use Rattle.viewed_steps.specs.Sound.{IsKindOfFormal}
 use Rattle.view_laws.specs.Program.{PassActuals, IsViewProgram}
 use Rattle.view_laws.proofs.Ready.{views_ready}
 use Rattle.viewed_files.proofs.Sources.{scalar_plain}
-use Rattle.viewed_files.proofs.Named.{named_sources}
 use Rattle.viewed_files.proofs.Passed.{actuals_passed}
 use Rattle.viewed_files.proofs.Main.{IsGiven, views_in_order}
 
@@ -234,9 +233,6 @@ module _ (files : List (List SourceUnit)) where
       integers : is_scalar (full table integer) ≡ true
       integers = integers_scalar files apart ended up named no_fault files_views
 
-      results : CallsProcedures flow_of_files ⊎ ArePlainResults (flow_typing flow_of_files)
-      results = plain_results p calls.results truths
-
       passed : ArePassed flow_of_files
       passed =
           typed_passed flow_of_files (subst (λ (rows : Table). counts (shape_of rows integer) ≡ true) same_table laws.whole)
@@ -263,13 +259,13 @@ module _ (files : List (List SourceUnit)) where
         accepted = accepted;
         owns = owns;
         parts_named = subst PartsAreNamed same_table parts_named;
-        results = results;
-        temporaries = temporaries_plain p calls.results truths integers order.lasting;
+        integers = subst (λ (rows : Table). is_scalar (full rows integer) ≡ true) same_table integers;
+        truths = subst (λ (rows : Table). is_scalar (full rows boolean) ≡ true) same_table truths;
         formals = kinds;
         functions = functions_there p (functions_scalar p (units_faultless p no_fault) text_orderly.once calls.formals);
         copied = λ sub has q there n actuals result is known. copies p calls.copied sub has q there n actuals result is;
-        sources = named_sources flow_of_files typed results;
         order = order;
+        results = λ sub has. calls.results sub (subst (λ subs. Has subs sub) (sym rest_is) has);
         answered = subst (AreAnswered table (typed_of p)) rest_is (are_answered p (files_bodies files up named) typed);
         passes = passes;
         passed = passed;

@@ -300,4 +300,4 @@ module _ (p : Program) (made : ℕ → Type 0) (laws : Laws (known_of p) made) (
 
     -- The views of the program are in order.
     pub views_in_order : AreViewsInOrder table (typed_of p) (elaboration s p.units) (bodies_of p)
-    views_in_order = record { values = package_values; inner = inner; layered = body_layered; local = local_views }
+    views_in_order = record { values = package_values; seen = given.values; inner = inner; layered = body_layered; local = local_views }
