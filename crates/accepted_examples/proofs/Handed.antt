@@ -117,15 +117,15 @@ formals x is =
     by (is_formal own x) (object_at own x).mode (is_anonymous (full own.table (object_at own x).of)) is
     (at_any (λ (o : Object). kind_if_formal o ≡ true) own.objects text_io refl (each kind_if_formal own.objects kinds) x)
   where
+    no_in : mode.InOut ≡ mode.In → ⊥
+    no_in e = cc
+
     by : (f : Bool) (m : Mode) (a : Bool) → f ≡ true → not f || (is_back m && not a) ≡ true → IsScalarAt own x ⊎ ((m ≡ mode.In → ⊥) × (a ≡ false))
     by false m a f e = absurd (true≢false (sym f))
     by true mode.InOut false f e = inr (no_in, refl)
     by true mode.InOut true f e = absurd (true≢false (sym e))
     by true mode.In a f e = absurd (true≢false (sym e))
     by true mode.Out a f e = absurd (true≢false (sym e))
-
-    no_in : mode.InOut ≡ mode.In → ⊥
-    no_in e = cc
 
 -- Of three subprograms, the last one calls.
 of_three : (P : TypedSub → Type 0) (a b c : TypedSub) → P a → P b → P c → (sub : TypedSub) → Has (a ∷ (b ∷ (c ∷ []))) sub → P sub

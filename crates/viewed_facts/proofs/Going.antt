@@ -1,5 +1,5 @@
 -- Each step of a sound state whose facts are exact leads to such a state, in a program that is ready.
-use Rattle.viewed_soundness.specs.Holds.{sees_only}
+use Rattle.viewed_soundness.specs.Holds.{is_view, sees_only}
 use Rattle.std.proofs.Common.{◌<◌, ◌≡◌, refl, sym, ◌∙◌, subst, ◌⊎◌, inl, inr, ℕ, suc, true, false, List, [], ◌∷◌, length, arith, Some, None}
 use Rattle.spark_base.specs.Lists.{Has}
 use Rattle.place_names.specs.declared.fact.Fact.{Fact}
@@ -24,7 +24,7 @@ use Rattle.soundness.specs.Typed.{Kept}
 use Rattle.soundness.specs.Sound.{Stage, facts_of, AreStages, IsRunnable, InScope, IsNamedSub, IsAtPoint, IsNoCall, IsOnward, view_of as view_here}
 use Rattle.soundness.proofs.Points.{sub_there}
 use Rattle.owned_loans.specs.Views.{known_gone, Views, Viewed}
-use Rattle.viewed_steps.specs.Sound.{IsResting, HoldsAt, ArePlaced, NoneAbove, ViewStage, stages_of, GoneElsewhere, AreWaiting, IsRunning, AreTurned, AreLeft, Follows, steps_on, leaves_scope, begins_main, returns_one, calls_one, ends_one, LeadsAlong}
+use Rattle.viewed_steps.specs.Sound.{ArePast, IsResting, HoldsAt, ArePlaced, NoneAbove, ViewStage, stages_of, GoneElsewhere, AreWaiting, IsRunning, AreTurned, AreLeft, Follows, steps_on, leaves_scope, begins_main, returns_one, calls_one, ends_one, LeadsAlong}
 use Rattle.viewed_steps.specs.Awaited.{AreAwaited, lasting_of}
 use Rattle.viewed_steps.specs.Ready.{IsReady}
 use Rattle.viewed_steps.proofs.Waiting.{StandsBetween, all_between}
@@ -47,7 +47,7 @@ module _ (table : Table) (typed : TypedProgram) (effects : Effects) (input : Lis
   abbrev s : Typing
   s = flow_typing program
 
-  abbrev local : (x : ℕ) → is_anonymous (view_of s x) ≡ true → is_package_object s x ≡ false
+  abbrev local : (x : ℕ) → is_view s x ≡ true → is_package_object s x ≡ false
   local = standing.local table typed effects input ready
 
   abbrev unmoved_stage : (e : Stage) → e.frame.sub ≡ 0 → (name : PlaceName) → Has (facts_of program effects e) (Moved name) → ⊥
@@ -165,7 +165,7 @@ module _ (table : Table) (typed : TypedProgram) (effects : Effects) (input : Lis
             let passed = passed_of s state.memory next.stage.depth (facts_of program effects next.stage) (lasting_of s waits.point.scope) backs next.stage.returns waits.taken to there in
             let own : Definite next w = same_stage next g is w definite in
             passed_clean s ready.accepted.settled next.stage.depth (facts_of program effects next.stage) (lasting_of s waits.point.scope) passed.0 to passed.1 (standing.no_in_formals table typed effects input ready) next.views (view_here s state)
-            waits.views waits.clear w (own.0, own.1, own.3) under)
+            waits.views waits.clear w own under)
         | inr other ↦
             other_clean s state.memory g.stage.depth next.stage.depth (facts_of program effects next.stage) (lasting_of s waits.point.scope) backs next.stage.returns waits.taken
             (lower_there next around same g other) to there w named under
@@ -230,13 +230,13 @@ module _ (table : Table) (typed : TypedProgram) (effects : Effects) (input : Lis
 
   -- ---- what holds at a step
 
-  packages_of : (state : State) (top : Stage) (views : Views) (older : List ViewStage) → IsRunning table typed effects state (record { stage = top; views = views }) older
+  packages_of : (state : State) (top : Stage) (views : Views) (older : List ViewStage) → IsRunning table typed effects state (record { stage = top; views = views; cells = [] }) older
       → older ≡ [] → top.frame.sub ≡ 0
   packages_of state top views [] running none = running.0
   packages_of state top views (below ∷ more) running none = cc
 
   between_of : (state : State) (top : Stage) (views : Views) (older : List ViewStage) (fs : List Frame) → AreStages (top ∷ stages_of older) fs
-      → IsRunning table typed effects state (record { stage = top; views = views }) older → (g : ViewStage) → Has older g → Between state top.depth g
+      → IsRunning table typed effects state (record { stage = top; views = views; cells = [] }) older → (g : ViewStage) → Has older g → Between state top.depth g
   between_of state top views older [] stages running g has = absurd stages
   between_of state top views [] (f ∷ outer) stages running g has = absurd has
   between_of state top views (below ∷ more) (f ∷ outer) stages running g has =
@@ -274,8 +274,8 @@ module _ (table : Table) (typed : TypedProgram) (effects : Effects) (input : Lis
       (viewed_before : Viewed (home s (suc (length rest))) (sees_only s) (known_gone (home s (suc (length rest))) (GoneElsewhere program effects (below ∷ more_frames))) views
       (view_here s state) (facts_of program effects top))
       (kept : Kept s state.memory (waiting_in state)) (scope : InScope s state.memory (suc (length rest)) (lasting_of s p.scope)) (holds : HoldsAt s (suc (length rest)) views state.memory p)
-      (placed_before : ArePlaced program (facts_of program effects top) views p.scope) (above : NoneAbove s (suc (length rest)) state.memory)
-      (exact_before : Told (seen s state.memory [] []) (IsDefiniteOf program effects (record { stage = top; views = views } ∷ (below ∷ more_frames)))) where
+      (placed_before : ArePlaced program (suc (length rest)) (facts_of program effects top) views p.scope × ArePast s (suc (length rest)) views (below ∷ more_frames)) (above : NoneAbove s (suc (length rest)) state.memory)
+      (exact_before : Told (seen s state.memory [] []) (IsDefiniteOf program effects (record { stage = top; views = views; cells = [] } ∷ (below ∷ more_frames)))) where
     main_told : (next : State) → step program input state ≡ Goes next → (later : Views) → AreClearThen top later → Stays p.instr views later
         → Told (seen s next.memory [] []) (Here (suc (length rest)) later (facts_then top) (below ∷ more_frames))
     main_told next goes later (only, clear) (inr (y, is, left)) =
@@ -289,13 +289,13 @@ module _ (table : Table) (typed : TypedProgram) (effects : Effects) (input : Lis
         (sym (sub_there table typed top.frame.sub named of_sub)) has)) turned)
 
   step_told : (state : State) (top : Stage) (views : Views) (older : List ViewStage) (fs : List Frame) → state.frames ≡ fs → AreStages (top ∷ stages_of older) fs
-      → IsRunning table typed effects state (record { stage = top; views = views }) older → AreAwaited table typed None (top ∷ stages_of older)
+      → IsRunning table typed effects state (record { stage = top; views = views; cells = [] }) older → AreAwaited table typed None (top ∷ stages_of older)
       → ControlPath (path_points program effects (sub_of program top.frame.sub)) top.before top.frame.next
       → Viewed (home s top.depth) (sees_only s) (known_gone (home s top.depth) (GoneElsewhere program effects older)) views (view_here s state) (facts_of program effects top)
       → Kept s state.memory (waiting_in state)
       → (named : NamedSub) → IsNamedSub (flow_named table typed) top.frame.sub named → (p : NamedPoint) → IsAtPoint named.points top.frame.next p
       → InScope s state.memory top.depth (lasting_of s p.scope) → HoldsAt s top.depth views state.memory p → ArePlaced program (facts_of program effects top) views p.scope
-      → NoneAbove s top.depth state.memory → Told (seen s state.memory [] []) (IsDefiniteOf program effects (record { stage = top; views = views } ∷ older))
+      → NoneAbove s top.depth state.memory → Told (seen s state.memory [] []) (IsDefiniteOf program effects (record { stage = top; views = views; cells = [] } ∷ older))
       → (next : State) → step program input state ≡ Goes next → (later : Views) → AreClearThen top later → Stays p.instr views later
       → Told (seen s next.memory [] []) (Here top.depth later (facts_then top) older)
   step_told state top views [] fs is stages running awaiting path well kept named of_sub p at_point scope holds there above exact next goes later clear stays =
@@ -314,12 +314,12 @@ module _ (table : Table) (typed : TypedProgram) (effects : Effects) (input : Lis
   exactly_step state (sound, exact) = by (step program input state) refl (sound_along table typed effects input ready state sound)
     where
       by : (outcome : Outcome) → step program input state ≡ outcome
-          → LeadsAlong table typed effects sound.point.instr state.memory (record { stage = sound.top; views = sound.views }) sound.older outcome
+          → LeadsAlong table typed effects sound.point.instr state.memory (record { stage = sound.top; views = sound.views; cells = [] }) sound.older outcome
           → LeadsExactly table typed effects outcome
       by (Ends how after_step) is leads = tt
       by (Goes after_step) is leads = (
         leads.0,
-        follows_told sound.point.instr state after_step (record { stage = sound.top; views = sound.views }) sound.older (packages_of state sound.top sound.views sound.older sound.running)
+        follows_told sound.point.instr state after_step (record { stage = sound.top; views = sound.views; cells = [] }) sound.older (packages_of state sound.top sound.views sound.older sound.running)
             (between_of state sound.top sound.views sound.older state.frames sound.stages sound.running)
             (named_definite (home s sound.top.depth) (sees_only s) (known_gone (home s sound.top.depth) (GoneElsewhere program effects sound.older)) sound.views (λ z. ⊥) (λ w none. absurd none)
             (view_here s state) (facts_of program effects sound.top) sound.viewed)

@@ -62,7 +62,7 @@ module _ (s : Typing) (settled : IsSettled s.table) (own_law : OwnsByShape s.tab
   outs_also other outs = gone_also (home s depth) other (λ w. other.gone w ⊎ IsUnderOne outs w)
 
   -- one place is gone
-  abbrev away : Around (home s depth) → Way → Around (home s depth)
+  abbrev pub away : Around (home s depth) → Way → Around (home s depth)
   away other to = gone_also (home s depth) other (λ w. other.gone w ⊎ ((p : List Step) × (w ≡ along to p)))
 
   -- The cells of places are there, and no way that is to be taken goes before one.
@@ -219,16 +219,16 @@ module _ (s : Typing) (settled : IsSettled s.table) (own_law : OwnsByShape s.tab
   abbrev IsFrom : Way → Type 0
   IsFrom to = (y : ℕ) × (base_of to ≡ OfRoot (OfVariable depth y))
 
-  below_apart : (to : Way) → IsFrom to → (y : ℕ) (w z : Way) → v.way y ≡ Some w → IsForeign (home s depth) w → Under to z → Under z w ⊎ Under w z → ⊥
+  pub below_apart : (to : Way) → IsFrom to → (y : ℕ) (w z : Way) → v.way y ≡ Some w → IsForeign (home s depth) w → Under to z → Under z w ⊎ Under w z → ⊥
   below_apart to (object, base) y w z has foreign under meets =
       apart_by_base w z foreign.0 foreign.1 depth object foreign.2 (base_under to z under ∙ base)
       (λ same. (let low = far y w has foreign in omega (arith, low, same))) meets
 
-  along_under : (to w : Way) → (p : List Step) × (w ≡ along to p) → Under to w
+  pub along_under : (to w : Way) → (p : List Step) × (w ≡ along to p) → Under to w
   along_under to w (p, is) = subst (Under to) (sym is) (under_along to to p (under_itself to))
 
   -- the others are open still
-  others_open : (other : Around (home s depth)) (to : Way) (ways : List Way) → IsFrom to → IsApartFrom to ways → IsOpen (home s depth) other (to ∷ ways)
+  pub others_open : (other : Around (home s depth)) (to : Way) (ways : List Way) → IsFrom to → IsApartFrom to ways → IsOpen (home s depth) other (to ∷ ways)
       → IsOpen (home s depth) (away other to) ways
   others_open other to ways from apart open_there = record {
     free = λ h w under o. elim o [
@@ -243,7 +243,7 @@ module _ (s : Typing) (settled : IsSettled s.table) (own_law : OwnsByShape s.tab
   }
 
   -- what isn't emptied is open, too
-  taken_open : (other : Around (home s depth)) (to : Way) (ways : List Way) (outs : List Out) → ((o : Out) → Has outs o → Has ways o.way)
+  pub taken_open : (other : Around (home s depth)) (to : Way) (ways : List Way) (outs : List Out) → ((o : Out) → Has outs o → Has ways o.way)
       → ((z : Way) → Has ways z → IsFrom z) → IsApartFrom to ways → IsOpen (home s depth) other (to ∷ ways)
       → IsOpen (home s depth) (outs_also other outs) (to ∷ [])
   taken_open other to ways outs among from apart open_there = record {
@@ -266,7 +266,7 @@ module _ (s : Typing) (settled : IsSettled s.table) (own_law : OwnsByShape s.tab
   }
 
   -- the place of one that isn't emptied is gone beside those that are
-  beside_outs : (other : Around (home s depth)) (to : Way) (outs : List Out) (leaks : List Leak) (m : Memory)
+  pub beside_outs : (other : Around (home s depth)) (to : Way) (outs : List Out) (leaks : List Leak) (m : Memory)
       → ViewedIn (away (outs_also other outs) to) leaks m → ViewedIn (outs_also (away other to) outs) leaks m
   beside_outs other to outs leaks m viewed =
       more_gone (home s depth) (sees_only s) v (away (outs_also other outs) to) ((outs_also (away other to) outs).gone)
@@ -281,7 +281,7 @@ module _ (s : Typing) (settled : IsSettled s.table) (own_law : OwnsByShape s.tab
 
   -- ---- what a place has still is leaked
 
-  still_checks : (x : ℕ) (k : Place) (to : Way) (one : IsPassedOn s depth facts scope x k to) (pos : Pos) (leaks : List Leak) (before m : Memory)
+  pub still_checks : (x : ℕ) (k : Place) (to : Way) (one : IsPassedOn s depth facts scope x k to) (pos : Pos) (leaks : List Leak) (before m : Memory)
       → Kept s before hands → HasStill s depth before m to
       → Checks s.table (content s m hands (trunk (inside_at s depth k to one.inside))) (steps_in (inside_at s depth k to one.inside)) leaks (leaks ++ leaks_at s pos before k)
   still_checks x k to one pos leaks before m typed still =

@@ -1,6 +1,6 @@
 -- What a call passes: places that aren't scalar aren't lent, and don't overlap; those of mode `in out` aren't
 -- moved, and those of mode `out` are emptied; and what a call leads to after its actuals.
-use Rattle.std.proofs.Common.{◌≡◌, refl, sym, ap, ◌∙◌, subst, ◌⊎◌, inl, inr, ℕ, Bool, true, false, not, ◌&&◌, ◌||◌, List, [], ◌∷◌, ◌++◌, map, flat_map, nat_le, Option, Some, None, is_some, if◌then◌else◌, append-nil, append_assoc}
+use Rattle.std.proofs.Common.{◌≡◌, refl, sym, ap, ◌∙◌, subst, ◌⊎◌, inl, inr, ℕ, Bool, true, false, not, ◌&&◌, ◌||◌, ◌==◌, eqb-true, eq-eqb, List, [], ◌∷◌, ◌++◌, map, flat_map, nat_le, Option, Some, None, is_some, if◌then◌else◌, append-nil, append_assoc}
 use Rattle.std.proofs.lemmas.Grind.{flat_map-append}
 use Rattle.std.specs.List.{list_any, filter}
 use Rattle.spark_base.specs.Lists.{Has}
@@ -14,7 +14,10 @@ use Rattle.place_names.specs.declared.act.Placed.{Placed}
 use Rattle.place_names.specs.declared.fact.Fact.{Fact}
 use Rattle.place_names.specs.declared.fact.Fact.TheVariants.{Moved, Lent}
 use Rattle.place_names.specs.declared.rule.Rule.TheVariants.{A1, O10}
-use Rattle.place_names.specs.Names.{overlaps, strict_prefixes}
+use Rattle.place_names.specs.declared.selector.Sel.{Sel}
+use Rattle.place_names.specs.declared.selector.Sel.TheVariants.{Field, Elem, Deref}
+use Rattle.place_names.specs.Names.{Name as PlaceName, is_equal, begins, is_prefix, agree_along, overlaps, has_elem, covers, strict_prefixes}
+use Rattle.place_names.proofs.Names.{both_parts, both_true}
 use Rattle.place_names.specs.Facts.{adds, removes, effect}
 use Rattle.place_names.specs.Rules.{lent, moved_or_borrowed, moved_or_lent, breaks_O2, breaks_O3, breaks_O10}
 use Rattle.place_names.specs.Reports.{Report}
@@ -94,6 +97,43 @@ passed_unmoved facts u true access allowed n has over =
 passed_unmoved facts u false access allowed n has over =
     refused (breaks_O10 (ways.name_of u) mode.InOut false access (Moved n)) O10 (ways.name_of u) (Moved n)
     (either_left (moved_or_borrowed (ways.name_of u) (Moved n)) (breaks_O3 (ways.name_of u) (Moved n)) over) (allowed (Moved n) has)
+
+-- ---- what is moved after the act
+
+equal_flip : (s t : Sel) → is_equal s t ≡ true → is_equal t s ≡ true
+equal_flip (Field i) (Field j) e = eq-eqb j i (sym (eqb-true i j e))
+equal_flip (Field i) Elem e = cc
+equal_flip (Field i) Deref e = cc
+equal_flip Elem (Field j) e = cc
+equal_flip Elem Elem e = refl
+equal_flip Elem Deref e = cc
+equal_flip Deref (Field j) e = cc
+equal_flip Deref Elem e = cc
+equal_flip Deref Deref e = refl
+
+begins_agree : (a b : List Sel) → begins a b ≡ true → agree_along b a ≡ true
+begins_agree [] [] e = refl
+begins_agree [] (t ∷ b) e = refl
+begins_agree (s ∷ a) [] e = cc
+begins_agree (s ∷ a) (t ∷ b) e =
+    let parts = both_parts (is_equal s t) (begins a b) e in both_true (is_equal t s) (agree_along b a) (equal_flip s t parts.0) (begins_agree a b parts.1)
+
+covers_overlaps : (k n : PlaceName) → covers k n ≡ true → overlaps n k ≡ true
+covers_overlaps k n e =
+    let prefix = both_parts (k.root == n.root) (begins k.sels n.sels) (both_parts (is_prefix k n) (not (has_elem k.sels)) e).0 in
+    both_true (n.root == k.root) (agree_along n.sels k.sels) (eq-eqb n.root k.root (sym (eqb-true k.root n.root prefix.0))) (begins_agree k.sels n.sels prefix.1)
+
+-- after an act of mode `out` no part of its place is known to be moved
+out_cleared : (k : PlaceName) (owning access : Bool) (facts : List Fact) (n : PlaceName) → Has (effect (act.Actual k mode.Out owning access) facts) (Moved n) → covers k n ≡ true → ⊥
+out_cleared k owning access facts n has covered =
+    elim (Has-append_cases (filter (λ g. not (removes (act.Actual k mode.Out owning access) g)) facts) [] (Moved n) has) [
+      | inl old ↦ refuted (covers k n) covered (Has-filter (λ g. not (removes (act.Actual k mode.Out owning access) g)) facts (Moved n) old).1
+      | inr never ↦ never
+    ]
+  where
+    refuted : (b : Bool) → b ≡ true → not b ≡ true → ⊥
+    refuted true e none = cc
+    refuted false e none = cc
 
 -- ---- what the rules on actuals say
 
@@ -185,6 +225,19 @@ IsNamedBy s formals actuals to =
     × (is_scalar (full s.table (object_at s b.formal).of) ≡ false)
 
 module _ (s : Typing) where
+  -- the name of one doesn't overlap those of later ones
+  pub first_apart : (x : ℕ) (e : TypedTree) (m : Written) (formals : List ℕ) (actuals : TypedTree) → IsCopiedBack s x → written e ≡ Some m
+      → ((r : Report) → Has (overlap_reports s (alias.passed (x ∷ formals) (More e actuals))) r → ⊥)
+      → (b : alias.Passed) → Has (alias.passed formals actuals) b → IsCopiedBack s b.formal → overlaps m.name b.actual.name ≡ true → ⊥
+  first_apart x e m formals actuals back is none b has also over =
+      let first : alias.Passed = record { formal = x; actual = m } in
+      let all : alias.passed (x ∷ formals) (More e actuals) ≡ first ∷ alias.passed formals actuals =
+      ap (λ z. alias.passed_as x z ++ alias.passed formals actuals) is in
+      apart_pair s first b back also
+      (λ r report. none r (subst (λ z. Has (overlap_reports s z) r) (sym all)
+      (Has-append_left (flat_map (pair_reports s first) (alias.passed formals actuals)) (overlap_reports s (alias.passed formals actuals)) r
+      (flat_has (pair_reports s first) (alias.passed formals actuals) b r has report)))) over
+
   -- what is apart from all later ones
   pub apart_from : (x : ℕ) (e : TypedTree) (m : Written) (formals : List ℕ) (actuals : TypedTree) (to : Way) (ways_left : List Way) → IsCopiedBack s x
       → written e ≡ Some m → m.name ≡ ways.name_of to
@@ -192,14 +245,8 @@ module _ (s : Typing) where
       → ((k : Way) → Has ways_left k → IsNamedBy s formals actuals k) → IsApartFrom to ways_left
   apart_from x e m formals actuals to ways_left in_out is called none names k has =
       let b = names k has in
-      let first : alias.Passed = record { formal = x; actual = m } in
-      let all : alias.passed (x ∷ formals) (More e actuals) ≡ first ∷ alias.passed formals actuals =
-      ap (λ z. alias.passed_as x z ++ alias.passed formals actuals) is in
       let apart : overlaps (ways.name_of to) (ways.name_of k) ≡ true → ⊥ =
-      (λ over. apart_pair s first b.0 in_out b.2
-      (λ r report. none r (subst (λ z. Has (overlap_reports s z) r) (sym all)
-      (Has-append_left (flat_map (pair_reports s first) (alias.passed formals actuals)) (overlap_reports s (alias.passed formals actuals)) r
-      (flat_has (pair_reports s first) (alias.passed formals actuals) b.0 r b.1 report))))
+      (λ over. first_apart x e m formals actuals in_out is none b.0 b.1 b.2
       (subst (λ z. overlaps z b.0.actual.name ≡ true) (sym called) (subst (λ z. overlaps (ways.name_of to) z ≡ true) (sym b.3) over))) in (
         λ under. apart (under_front to k under),
         λ under. apart (under_overlaps k to under),
@@ -280,7 +327,7 @@ module _ (s : Typing) (own_law : OwnsByShape s.table) (settled : IsSettled s.tab
       → Allows known (act.Actual (name_of y path) how (is_owning s.table (object_at s x).of) (procedure && is_named_access (view_of s x)))
       → ((w : Way) → Allows known (act.Actual (ways.name_of w) how (is_owning s.table (object_at s x).of) (procedure && is_named_access (view_of s x))) → Unlent known w)
       → (Allows known (act.Actual (ways.name_of own.0) how (is_owning s.table (object_at s x).of) (procedure && is_named_access (view_of s x)))
-      → IsTakenAs facts k own.0 a outs later)
+      → IsTakenAs facts k own.0 a outs later × ((n : PlaceName) → Has facts (Moved n) → covers (ways.name_of own.0) n ≡ true → ⊥))
       → Passes formals actuals passed later → Passes (x ∷ formals) (More (Name p y path u) actuals) (a ∷ passed) outs
   own_first x how p y u path k a formals actuals passed known outs later back many (to, inside, called, object_is, fits) local differ within none less allowed unlent taken (ways_left, are, names) =
       let actual : Written = record { pos = p; name = name_of y path; of = u } in
@@ -290,7 +337,7 @@ module _ (s : Typing) (own_law : OwnsByShape s.table) (settled : IsSettled s.tab
         inr (
           k,
           later,
-          taken by_way,
+          (taken by_way).0,
           record {
             inside = inside;
             fits = fits;
@@ -299,6 +346,7 @@ module _ (s : Typing) (own_law : OwnsByShape s.table) (settled : IsSettled s.tab
             many = many;
             within = λ owns. within inside.object (inl (sym object_is)) inside.own owns;
             unlent = λ l h n has over. unlent to by_way l h n (less (Lent l h n) has) over;
+            cleared = (taken by_way).1;
           },
           apart_from s x (Name p y path u) actual formals actuals to ways_left back refl (sym called) none names,
           differ,
@@ -342,19 +390,31 @@ module _ (s : Typing) (own_law : OwnsByShape s.table) (settled : IsSettled s.tab
       let access : Bool = procedure && is_named_access (view_of s x) in
       own_first x mode.InOut p y u path k (From k) formals actuals passed known later later (back_of x mode.InOut is no_in_out) many own local differ within none less
       (act_allowed x mode.InOut p y u path known is no_in_out allowed) (λ w by_way. passed_unlent known w owning access by_way)
-      (λ by_way. inl (refl, (λ n has over. passed_unmoved known own.0 owning access by_way n (less (Moved n) has) over), refl)) rest
+      (λ by_way. (
+        inl (refl, (λ n has over. passed_unmoved known own.0 owning access by_way n (less (Moved n) has) over), refl),
+        λ n has covered. passed_unmoved known own.0 owning access by_way n (less (Moved n) has) (covers_overlaps (ways.name_of own.0) n covered),
+      )) rest
   in_out_first x e k formals actuals passed known later is many never local differ within none less allowed rest = absurd never
+
+  -- what is left after the act of an actual
+  abbrev LessAfter : List Fact → ℕ → TypedTree → Type 0
+  LessAfter known x e = (f : Fact) → Has facts f → Has (after (acts (actual_act (passing s procedure x) e)) known) f
 
   out_first : (x : ℕ) (e : TypedTree) (k : Place) (formals : List ℕ) (actuals : TypedTree) (passed : List Passed) (known : List Fact) (later : List Out)
       → (object_at s x).mode ≡ mode.Out → is_scalar (full s.table (object_at s x).of) ≡ false → (own : IsOwnPut s depth x e k) → is_package_object s x ≡ false
-      → DiffersFrom x formals → IsWithin e → NoOverlap (x ∷ formals) (More e actuals) → ((f : Fact) → Has facts f → Has known f) → AllowsOne known x e
+      → DiffersFrom x formals → IsWithin e → NoOverlap (x ∷ formals) (More e actuals) → ((f : Fact) → Has facts f → Has known f) → LessAfter known x e → AllowsOne known x e
       → Passes formals actuals passed later → Passes (x ∷ formals) (More e actuals) (To k ∷ passed) (own_out s depth x e k own ++ later)
-  out_first x (Name p y path u) k formals actuals passed known later is many own local differ within none less allowed rest =
+  out_first x (Name p y path u) k formals actuals passed known later is many own local differ within none less less_after allowed rest =
       let owning : Bool = is_owning s.table (object_at s x).of in
       let access : Bool = procedure && is_named_access (view_of s x) in
       own_first x mode.Out p y u path k (To k) formals actuals passed known (record { way = own.0; place = k; pos = p } ∷ later) later (back_of x mode.Out is no_out) many own local differ
-      within none less (act_allowed x mode.Out p y u path known is no_out allowed) (λ w by_way. out_unlent known w owning access by_way) (λ by_way. inr (p, refl, refl)) rest
-  out_first x e k formals actuals passed known later is many never local differ within none less allowed rest = absurd never
+      within none less (act_allowed x mode.Out p y u path known is no_out allowed) (λ w by_way. out_unlent known w owning access by_way) (λ by_way. (
+        inr (p, refl, refl),
+        λ n has covered. out_cleared (name_of y path) owning access known n
+            (subst (λ z. Has (after (acts (actual_act (passing_by z owning access) (Name p y path u))) known) (Moved n)) is (less_after (Moved n) has))
+            (subst (λ z. covers z n ≡ true) own.2 covered),
+      )) rest
+  out_first x e k formals actuals passed known later is many never local differ within none less less_after allowed rest = absurd never
 
   -- a value of mode `in`
   value_first : (x : ℕ) (ws : List machine.Word) → (object_at s x).mode ≡ mode.In → IsKindOfFormal s x → IsValueLaid s m x ws → IsPlainOne s m cells x (Value ws)
@@ -379,23 +439,23 @@ module _ (s : Typing) (own_law : OwnsByShape s.table) (settled : IsSettled s.tab
   first_passed : (x : ℕ) (how : Mode) (e : TypedTree) (a : Passed) (formals : List ℕ) (actuals : TypedTree) (passed : List Passed) (known : List Fact) (later : List Out)
       → (object_at s x).mode ≡ how → (laid : IsLaidOne s m depth v view x how e a) → IsKindOfFormal s x → is_package_object s x ≡ false → DiffersFrom x formals → IsWithin e
       → NoOverlap (x ∷ formals) (More e actuals) ⊎ ((y : ℕ) → Has (x ∷ formals) y → IsCopiedBack s y → IsScalarObject s y)
-      → ((f : Fact) → Has facts f → Has known f) → AllowsOne known x e → ((c : Lodge) → Has (cell_of s m depth v view x how e a laid) c → Has cells c)
+      → ((f : Fact) → Has facts f → Has known f) → LessAfter known x e → AllowsOne known x e → ((c : Lodge) → Has (cell_of s m depth v view x how e a laid) c → Has cells c)
       → Passes formals actuals passed later → Passes (x ∷ formals) (More e actuals) (a ∷ passed) (out_of s m depth v view x how e a laid ++ later)
-  first_passed x mode.In e (Value ws) formals actuals passed known later is laid kind local differ within none less allowed lodged rest =
+  first_passed x mode.In e (Value ws) formals actuals passed known later is laid kind local differ within none less less_after allowed lodged rest =
       plain_first x e (Value ws) formals actuals passed later (value_first x ws is kind laid) rest
-  first_passed x mode.Out e (To k) formals actuals passed known later is (inl (plain, there)) kind local differ within none less allowed lodged rest =
+  first_passed x mode.Out e (To k) formals actuals passed known later is (inl (plain, there)) kind local differ within none less less_after allowed lodged rest =
       plain_first x e (To k) formals actuals passed later (inl (plain, plain_place_of e k there lodged)) rest
-  first_passed x mode.Out e (To k) formals actuals passed known later is (inr (many, own)) kind local differ within (inl none) less allowed lodged rest =
-      out_first x e k formals actuals passed known later is many own local differ within none less allowed rest
-  first_passed x mode.InOut e (From k) formals actuals passed known later is (inl (plain, there)) kind local differ within none less allowed lodged rest =
+  first_passed x mode.Out e (To k) formals actuals passed known later is (inr (many, own)) kind local differ within (inl none) less less_after allowed lodged rest =
+      out_first x e k formals actuals passed known later is many own local differ within none less less_after allowed rest
+  first_passed x mode.InOut e (From k) formals actuals passed known later is (inl (plain, there)) kind local differ within none less less_after allowed lodged rest =
       plain_first x e (From k) formals actuals passed later (inl (plain, plain_place_of e k there lodged)) rest
-  first_passed x mode.InOut e (From k) formals actuals passed known later is (inr (many, own)) kind local differ within (inl none) less allowed lodged rest =
+  first_passed x mode.InOut e (From k) formals actuals passed known later is (inr (many, own)) kind local differ within (inl none) less less_after allowed lodged rest =
       in_out_first x e k formals actuals passed known later is many own local differ within none less allowed rest
-  first_passed x mode.Out e (To k) formals actuals passed known later is (inr (many, own)) kind local differ within (inr plain) less allowed lodged rest =
+  first_passed x mode.Out e (To k) formals actuals passed known later is (inr (many, own)) kind local differ within (inr plain) less less_after allowed lodged rest =
       absurd (true_false (is_scalar (full s.table (object_at s x).of)) (plain x (inl refl) (back_of x mode.Out is no_out)) many)
-  first_passed x mode.InOut e (From k) formals actuals passed known later is (inr (many, own)) kind local differ within (inr plain) less allowed lodged rest =
+  first_passed x mode.InOut e (From k) formals actuals passed known later is (inr (many, own)) kind local differ within (inr plain) less less_after allowed lodged rest =
       absurd (true_false (is_scalar (full s.table (object_at s x).of)) (plain x (inl refl) (back_of x mode.InOut is no_in_out)) many)
-  first_passed x how e a formals actuals passed known later is laid kind local differ within none less allowed lodged rest = absurd laid
+  first_passed x how e a formals actuals passed known later is laid kind local differ within none less less_after allowed lodged rest = absurd laid
 
   pub all_passed_on : (formals : List ℕ) (actuals : TypedTree) (passed : List Passed) (known : List Fact) → (laid : AreLaidOut s m depth v view formals actuals passed)
       → ((x : ℕ) → Has formals x → IsKindOfFormal s x) → ((x : ℕ) → Has formals x → is_package_object s x ≡ false) → AreDifferent formals
@@ -416,6 +476,10 @@ module _ (s : Typing) (own_law : OwnsByShape s.table) (settled : IsSettled s.tab
       (λ f has. after_less (acts (copies_of (x ∷ formals) (More e rest)))
       (λ b there. (let from = Has-map_from (λ (z : Placed). z.act) (copies_of (x ∷ formals) (More e rest)) b there in
       λ g new. copies_add s own_law procedure (x ∷ formals) (More e rest) from.0 from.1 g (subst (λ z. Has (adds z) g) (sym from.2) new))) known f (subst (λ z. Has z f) same has))
+      (λ f has. after_less others
+      (λ b there. (let from = Has-map_from (λ (z : Placed). z.act) (copies_of formals rest) b there in
+      λ g new. copies_add s own_law procedure formals rest from.0 from.1 g (subst (λ z. Has (adds z) g) (sym from.2) new)))
+      (after first known) f (subst (λ z. Has z f) (same ∙ ap (λ z. after z known) both ∙ after_append first others known) has))
       each.0 (λ c has. lodged c (Has-append_left (cell_of s m depth v view x (object_at s x).mode e a laid.0) (cells_of s m depth v view formals rest passed laid.1) c has))
       (all_passed_on formals rest passed (after first known) laid.1 (λ y has. kinds y (inr has)) (λ y has. local y (inr has)) differ.1
       (λ y has. within y (Has-append_right (root_of e) (roots_passed rest) y has)) (elim none [ inl no_reports ↦ inl (later_none s x e formals rest no_reports) | inr plain ↦ inr (λ y has. plain y (inr has)) ])
