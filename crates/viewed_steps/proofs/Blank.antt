@@ -7,7 +7,7 @@ use Rattle.flow_paths.specs.Objects.{Typing, is_anonymous}
 use Rattle.machine.specs.Words as machine
 use Rattle.machine.specs.Memory.{Memory, fresh, no_slot}
 use Rattle.machine.specs.States.{Waiting, Leak}
-use Rattle.owned_ways.specs.Ways.{IsSame}
+use Rattle.owned_ways.specs.Ways.{Loc, Way, Object, Lost, Into, All, View, Reaches, IsSame}
 use Rattle.part_offsets.specs.Parts.{type_in, offset_in, IsSettled}
 use Rattle.soundness.specs.Seen.{in_hand, seen}
 use Rattle.soundness.specs.Typed.{IsCell, Points, Kept}
@@ -21,9 +21,23 @@ use Rattle.viewed_soundness.proofs.Names.{view_access}
 use Rattle.viewed_soundness.proofs.Viewing.{view_leaf}
 use Rattle.viewed_steps.proofs.Eased.{same_back}
 
+-- what ways reach goes by what owners see
+reaches_same : (a b : View) → IsSame a b → (w : Way) (l : Loc) → Reaches a w l → Reaches b w l
+reaches_same a b same (Object r) l is = is
+reaches_same a b same (Lost n) l is = (same.leaked n ∙ is.0, is.1)
+reaches_same a b same (Into w i) l (m, there, is) = (m, reaches_same a b same w m there, is)
+reaches_same a b same (All w) l (m, n, there, held, is) = (m, n, reaches_same a b same w m there, same.word m ∙ held, is)
+
 module _ (s : Typing) (settled : IsSettled s.table) (m : Memory) (v : Waiting) (rest : List Waiting) (view : is_anonymous (full s.table v.of) ≡ true) where
   unseen : (leaks : List Leak) → IsSame (seen s m rest leaks) (seen s m (v ∷ rest) leaks)
   unseen leaks = blank_hand s m leaks v rest (λ p. word_no s.table (in_hand v) p (view_leaf s.table settled v.of view p))
+
+  pub reached_without : (leaks : List Leak) (w : Way) (l : Loc) → Reaches (seen s m (v ∷ rest) leaks) w l → Reaches (seen s m rest leaks) w l
+  reached_without leaks =
+      reaches_same (seen s m (v ∷ rest) leaks) (seen s m rest leaks) (same_back (seen s m rest leaks) (seen s m (v ∷ rest) leaks) (unseen leaks))
+
+  pub reached_with : (leaks : List Leak) (w : Way) (l : Loc) → Reaches (seen s m rest leaks) w l → Reaches (seen s m (v ∷ rest) leaks) w l
+  reached_with leaks = reaches_same (seen s m rest leaks) (seen s m (v ∷ rest) leaks) (unseen leaks)
 
   module _ (at_home : ℕ → ℕ) (observer : ℕ → Bool) (other : Around at_home) (views : Views) (leaks : List Leak) (facts : List Fact) where
     pub with_view : Viewed at_home observer other views (seen s m rest leaks) facts → Viewed at_home observer other views (seen s m (v ∷ rest) leaks) facts

@@ -1,4 +1,7 @@
 -- The end of a call leads on, in the frame below.
+use Rattle.viewed_steps.proofs.Traversed.{none_given}
+use Rattle.viewed_steps.proofs.Low.{given_again}
+use Rattle.std.specs.List.{AllByRecursion}
 use Rattle.std.proofs.Common.{◌≡◌, refl, sym, ap, ◌∙◌, subst, ◌⊎◌, inl, inr, ℕ, suc, ◌<◌, ◌≤◌, Bool, true, false, ◌||◌, ◌==◌, eq-eqb, List, [], ◌∷◌, ◌++◌, length, get_or, arith, Option, Some, None, if◌then◌else◌, not}
 use Rattle.std.proofs.Math.Nat.{eq-or-lt_of_le}
 use Rattle.std.specs.Prelude.{is_some}
@@ -21,7 +24,7 @@ use Rattle.flow_paths.specs.Effects.{path_points}
 use Rattle.flow_paths.specs.Scopes.{is_temporary, is_within}
 use Rattle.machine.specs.Words as machine
 use Rattle.machine.specs.Memory.{Memory, no_slot, variable_slots, without_frame}
-use Rattle.machine.specs.Evaluate.{Exception}
+use Rattle.machine.specs.Evaluate.{Exception, Now, Evaluated, Done, Raises, Traps}
 use Rattle.machine.specs.States.{Waiting, Frame, State, sub_of, Outcome, Goes, Return, Normal, Ends}
 use Rattle.machine.specs.Run.{no_point}
 use Rattle.machine.specs.Step.{Turn, turn, counted}
@@ -43,7 +46,7 @@ use Rattle.owned_loans.proofs.Ended.{stands_itself}
 use Rattle.viewed_soundness.proofs.Names.{neither, true_false}
 use Rattle.viewed_steps.specs.Awaited.{AreFor, AreValues, temporaries_of, lasting_of, awaited, AreAwaited}
 use Rattle.viewed_steps.proofs.Waited.{others_only, lasting_within}
-use Rattle.viewed_steps.specs.Sound.{ArePast, HoldsAt, ArePlaced, NoneAbove, ViewStage, stages_of, GoneElsewhere, IsWaiting, AreWaiting, ends_one, LeadsAlong, IsResting}
+use Rattle.viewed_steps.specs.Sound.{ArePast, HoldsAt, ArePlaced, NoneAbove, ViewStage, stages_of, GoneElsewhere, IsWaiting, AreWaiting, ends_one, LeadsAlong, IsResting, HasTraversals, NoneGiven, AreTraversals}
 use Rattle.viewed_steps.specs.Ready.{IsReady}
 use Rattle.viewed_steps.proofs.Waiting.{StandsBetween, all_between, handed, all_on, gone_low, kept_low, far, theirs, bare_still}
 use Rattle.viewed_steps.proofs.Left.{owned_left, covered_left, reach_left, reach_before, gone_before, other_word, no_word, whole_there}
@@ -101,7 +104,8 @@ module _ (table : Table) (typed : TypedProgram) (effects : Effects) (input : Lis
       (viewed_before : Viewed (home s (suc (length rest))) (sees_only s) (known_gone (home s (suc (length rest))) (GoneElsewhere program effects (below ∷ more_frames))) views
       (view_here s state) (facts_of program effects top))
       (kept : Kept s state.memory (waiting_in state)) (scope : InScope s state.memory (suc (length rest)) (lasting_of s p.scope)) (holds : HoldsAt s (suc (length rest)) views state.memory p)
-      (placed_before : ArePlaced program (suc (length rest)) (facts_of program effects top) views p.scope × ArePast s (suc (length rest)) views (below ∷ more_frames)) (above : NoneAbove s (suc (length rest)) state.memory) where
+      (placed_before : ArePlaced program (suc (length rest)) (facts_of program effects top) views p.scope × ArePast s (suc (length rest)) views (below ∷ more_frames)) (above : NoneAbove s (suc (length rest)) state.memory
+      × HasTraversals table typed (view_here s state) (record { stage = top; views = views; cells = [] } ∷ (below ∷ more_frames))) where
     abbrev outer : List Frame
     outer = below.stage.frame ∷ rest
 
@@ -383,7 +387,7 @@ module _ (table : Table) (typed : TypedProgram) (effects : Effects) (input : Lis
           (lasting_of s waits.point.scope) around_low free_low whole_low none_kept below.cells begins_low top.frame.returns below.stage.returns (steps.start main_turn) waits.taken
           (λ c has. ((waits.kept c has).reaches, (waits.kept c has).aside)) kept viewed_low
 
-      module _ (mid : Memory) (on : Backed mid) where
+      module _ (mid : Memory) (on : Backed mid) (same_mid : top.frame.returns ≡ [] → mid ≡ state.memory) where
         abbrev left_state : State
         left_state = counted (record state { frames = below.stage.frame ∷ rest; memory = without_frame depth mid })
 
@@ -500,7 +504,7 @@ module _ (table : Table) (typed : TypedProgram) (effects : Effects) (input : Lis
         above_left f x n less view e = elim (same_or_not f depth) [
           | inl same_depth ↦ no_word s mid depth x n
               (subst (λ z. (get_or (variable_slots s z x left_memory.variables) 0 no_slot).word ≡ machine.Cell n) same_depth e)
-          | inr ne ↦ above f x n (higher f low (length rest) less low_is ne) view (sym (words_before f x ne view) ∙ e)
+          | inr ne ↦ above.0 f x n (higher f low (length rest) less low_is ne) view (sym (words_before f x ne view) ∙ e)
         ]
 
         -- what was gone stays so in the frames that are left, but in the places that were taken
@@ -515,6 +519,10 @@ module _ (table : Table) (typed : TypedProgram) (effects : Effects) (input : Lis
               cells = λ c q. left_there.1 c q ∙ on.carried.cells c q;
             }
 
+        -- nothing given waits in others
+        none_in : more_frames ≡ h ∷ others → NoneGiven s h × AllByRecursion (NoneGiven s) others
+        none_in same_more = subst (AllByRecursion (NoneGiven s)) same_more (above.1).0.2
+
         others_left : AreWaiting table typed effects left_state below.stage.frame.sub below.stage.frame.returns (h ∷ others)
         others_left =
             all_on table typed effects unmoved_stage local state left_state low
@@ -526,10 +534,10 @@ module _ (table : Table) (typed : TypedProgram) (effects : Effects) (input : Lis
             below.stage.frame.sub below.stage.frame.returns (h ∷ others) rest stages_there.2 (let same_depth = low_is in omega (arith, same_depth))
             (record {
               far = λ w n keeps. (let root = kept_low table typed effects unmoved_stage local state below.stage.depth (h ∷ others) between_low w n keeps in
-            reach_on w n (on.stays w root.0 root.1 root.2 (λ same_depth. (let less = root.3 in omega (arith, less, same_depth)))
-            (λ to has. (let base = words_taken s below.cells state.memory below.stage.depth their_facts (lasting_of s waits.point.scope) top.frame.returns below.stage.returns waits.taken to has in
-            past_other to w below.stage.depth base.0 root.0 root.1 base.1 root.2 (λ same_depth. (let less = root.3 in omega (arith, less, same_depth))))) n
-            (far table typed effects unmoved_stage local state below.stage.depth (h ∷ others) between_low w n keeps)));
+                  reach_on w n (on.stays w root.0 root.1 root.2 (λ same_depth. (let less = root.3 in omega (arith, less, same_depth)))
+                  (λ to has. (let base = words_taken s below.cells state.memory below.stage.depth their_facts (lasting_of s waits.point.scope) top.frame.returns below.stage.returns waits.taken to has in
+                  past_other to w below.stage.depth base.0 root.0 root.1 base.1 root.2 (λ same_depth. (let less = root.3 in omega (arith, less, same_depth))))) n
+                  (far table typed effects unmoved_stage local state below.stage.depth (h ∷ others) between_low w n keeps)));
               bare = bare_still table typed effects unmoved_stage local (h ∷ others) state left_state left_carried.cells
                   (theirs table typed effects unmoved_stage local state below.stage.depth (h ∷ others) between_low).bare;
             }) waiting.1
@@ -558,9 +566,31 @@ module _ (table : Table) (typed : TypedProgram) (effects : Effects) (input : Lis
             placed = waits.placed;
             past = waiting.3;
             none_above = above_left;
+            traversals = (
+              (
+                elim (above.1).0.1 [
+                  | inl none ↦ none_given table typed (view_here s left_state) (record { stage = below.stage; views = below.views; cells = [] }) none
+                  | inr (some, returned, none_back, was) ↦ λ other_named other_of q at_q w others same_first seen_there.
+                      given_again s below.stage.depth below.views q.instr (view_here s state) (view_here s left_state) w (was other_named other_of q at_q w others same_first seen_there)
+                      (λ u same_way k reach. reach_on u k (subst (λ z. ways.Reaches (seen s z (waiting_in state) state.leaks) u (ways.OfCell k)) (sym (same_mid none_back)) reach))
+                ],
+                inl (none_in same_more).0,
+                (none_in same_more).1,
+              ),
+              (subst (λ z. AreTraversals table typed (below ∷ z)) same_more (above.1).1.1),
+            );
           },
           ends_one below.cells (ap (λ z. below ∷ z) same_more) left_carried,
         )
+
+    -- what is done, and more
+    backs_with : (Q R : Memory → Type 0) (y : Evaluated Memory) → Backs Q y → ((m : Memory) (now : Now) → y ≡ Done m now → R m) → Backs (λ m. Q m × R m) y
+    backs_with Q R (Done m now) back more = (back, more m now refl)
+    backs_with Q R (Raises e now) back more = tt
+    backs_with Q R (Traps e now) never more = never
+
+    done_memory : (m k : Memory) (now begun : Now) → ◌≡◌ {A = Evaluated Memory} (Done m now) (Done k begun) → m ≡ k
+    done_memory m k now begun e = cc
 
     pub ends_call : p.instr ≡ Finish → Along (turn main_turn Finish)
     ends_call is = by_rest rest more_frames refl refl stages running.2 viewed_own awaiting.1
@@ -583,7 +613,10 @@ module _ (table : Table) (typed : TypedProgram) (effects : Effects) (input : Lis
         by_rest (k ∷ r) (h ∷ m) same_rest same_more stages_there waiting well still =
             let there : AreStages (stages_of (below ∷ (h ∷ m))) (below.stage.frame ∷ rest) =
             subst (λ z. AreStages (stages_of (below ∷ (h ∷ m))) (below.stage.frame ∷ z)) (sym same_rest) stages_there in
-            returns_lead main_turn Along (λ mid. Backed h m there waiting well still is mid)
+            returns_lead main_turn Along (λ mid. Backed h m there waiting well still is mid × (top.frame.returns ≡ [] → mid ≡ state.memory))
             ends_raised below.stage.frame k r (ap (λ z. below.stage.frame ∷ z) same_rest)
-            (λ mid on. returns_to h m there waiting well still is mid on same_more)
-            (given_back h m there waiting well still is)
+            (λ mid on. returns_to h m there waiting well still is mid on.0 on.1 same_more)
+            (backs_with (λ mid. Backed h m there waiting well still is mid) (λ mid. top.frame.returns ≡ [] → mid ≡ state.memory)
+            (steps.copied_back main_turn top.frame.returns (steps.start main_turn)) (given_back h m there waiting well still is)
+            (λ mid now e none. done_memory mid state.memory now (steps.start main_turn)
+            (sym e ∙ ap (λ z. steps.copied_back main_turn z (steps.start main_turn)) none)))

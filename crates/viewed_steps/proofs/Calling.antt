@@ -1,4 +1,6 @@
 -- A call leads on, in the frame of what is called.
+use Rattle.flow_paths.specs.Views.{traversed_of}
+use Rattle.viewed_steps.proofs.Traversed.{none_given, empty_given, named_given}
 use Rattle.typed_tree.specs.declared.object.ObjectKind.{ObjectKind}
 use Rattle.typed_tree.specs.declared.object.ObjectKind.TheVariants as object_kind
 use Rattle.place_names.specs.Facts.{adds}
@@ -20,7 +22,7 @@ use Rattle.type_definitions.specs.Types.{Table, full, is_scalar, is_owning}
 use Rattle.typed_tree.specs.Trees.{TypedTree, Name, NoMore, More}
 use Rattle.typed_tree.specs.Programs.{TypedProgram}
 use Rattle.flow_paths.specs.declared.report.Effects.{Effects}
-use Rattle.flow_paths.specs.Instructions.{Instruction, Call, EndScope, Declare, Assign, Hold}
+use Rattle.flow_paths.specs.Instructions.{Instruction, Call, EndScope, Declare, Assign, Hold, Finish}
 use Rattle.flow_paths.specs.Objects.{Typing, object_at, sub_at, is_anonymous, is_package_object, view_of, traverses, passings, Passing, Signature, passing, is_formal_kind, is_observer, is_formal}
 use Rattle.place_names.specs.Facts.{adds}
 use Rattle.place_names.specs.Reports.{Report}
@@ -79,7 +81,7 @@ use Rattle.place_names.specs.declared.act.Mode.{Mode}
 use Rattle.viewed_soundness.proofs.Given.{IsLow, foreign_there, low_there}
 use Rattle.viewed_steps.specs.Awaited.{AreValuesBut, temporaries_of, lasting_of, awaited, WaitsAt, AreAwaited, AreScalar, FillsTyped, TakesScalars, IsTakenBy}
 use Rattle.viewed_steps.proofs.Waited.{late_scope, within_lasting, lasting_more, Shares, plain_unheld}
-use Rattle.viewed_steps.specs.Sound.{IsCopiedBack, ArePast, AreUnmet, HoldsAt, ArePlaced, NoneAbove, ViewStage, stages_of, GoneElsewhere, Disturbs, IsWaiting, AreWaiting, calls_one, LeadsAlong, IsResting, IsKindOfFormal, IsScalarObject, AreReturned, withheld, KeptBy, IsWayOf}
+use Rattle.viewed_steps.specs.Sound.{IsCopiedBack, ArePast, AreUnmet, HoldsAt, ArePlaced, NoneAbove, ViewStage, stages_of, GoneElsewhere, Disturbs, IsWaiting, AreWaiting, calls_one, LeadsAlong, IsResting, IsKindOfFormal, IsScalarObject, AreReturned, withheld, KeptBy, IsWayOf, HasTraversals, NoneGiven}
 use Rattle.viewed_steps.specs.Ready.{IsReady, roots_passed, IsCalled}
 use Rattle.viewed_steps.specs.Taken.{TakenBy, AreTaken, AreCarried, Lodge}
 use Rattle.viewed_steps.proofs.Apart.{moved_same}
@@ -144,7 +146,8 @@ module _ (table : Table) (typed : TypedProgram) (effects : Effects) (input : Lis
       (viewed_before : Viewed (home s (suc (length rest))) (sees_only s) (known_gone (home s (suc (length rest))) (GoneElsewhere program effects (below ∷ more_frames))) views
       (view_here s state) (facts_of program effects top))
       (kept : Kept s state.memory (waiting_in state)) (scope : InScope s state.memory (suc (length rest)) (lasting_of s p.scope)) (holds : HoldsAt s (suc (length rest)) views state.memory p)
-      (placed_before : ArePlaced program (suc (length rest)) (facts_of program effects top) views p.scope × ArePast s (suc (length rest)) views (below ∷ more_frames)) (above : NoneAbove s (suc (length rest)) state.memory) where
+      (placed_before : ArePlaced program (suc (length rest)) (facts_of program effects top) views p.scope × ArePast s (suc (length rest)) views (below ∷ more_frames)) (above : NoneAbove s (suc (length rest)) state.memory
+      × HasTraversals table typed (view_here s state) (record { stage = top; views = views; cells = [] } ∷ (below ∷ more_frames))) where
     abbrev outer : List Frame
     outer = below.stage.frame ∷ rest
 
@@ -1083,6 +1086,16 @@ module _ (table : Table) (typed : TypedProgram) (effects : Effects) (input : Lis
               (meets_front to z w (subst (ways.Under to) (sym is) (under_along to to steps_on (under_itself to))) (flip z w meets))
         ]
 
+        -- no result waits in the frame below, since a call comes after no return
+        none_below : NoneGiven s below
+        none_below = elim (above.1).0.1 [
+          | inl none ↦ none
+          | inr (some, returned, none_back, was) ↦ absurd (elim (ready.traversing.ending top.frame.sub (running.0).entered some top.before top.frame.next path returned) [
+            | inl (z, ends) ↦ (let never : Call n actuals result ≡ EndScope z = sym e ∙ sym (innermost.instr_there table typed effects input ready state top below more_frames rest named p frames deep stages running awaiting of_sub at_point path views viewed_before kept scope holds placed_before above) ∙ ends in cc)
+            | inr finishes ↦ (let never : Call n actuals result ≡ Finish = sym e ∙ sym (innermost.instr_there table typed effects input ready state top below more_frames rest named p frames deep stages running awaiting of_sub at_point path views viewed_before kept scope holds placed_before above) ∙ finishes in cc)
+          ])
+        ]
+
         entered_sound : Along (Goes after_call)
         entered_sound = (
           record {
@@ -1149,9 +1162,21 @@ module _ (table : Table) (typed : TypedProgram) (effects : Effects) (input : Lis
             placed = callee_placed;
             past = callee_past;
             none_above = λ f x k less view at. elim (declared_there.views f x view) [
-              | inl same ↦ above f x k (omega (arith, less)) view (sym same ∙ at)
+              | inl same ↦ above.0 f x k (omega (arith, less)) view (sym same ∙ at)
               | inr shown ↦ (let up = shown.0 in omega (arith, less, up))
             ];
+            traversals = (
+              (
+                none_given table typed (view_here s after_call) (record { stage = called_stage; views = callee_views; cells = [] })
+                    (empty_given table typed (record { stage = called_stage; views = callee_views; cells = [] }) refl),
+                inl (named_given table typed waits_there left_scope shared.left (innermost.named_left_here table typed effects input ready state top below more_frames rest named p frames deep stages running awaiting of_sub at_point path views viewed_before kept scope holds placed_before above)),
+                (none_below, (above.1).0.2),
+              ),
+              (
+                λ f traversed. (let never : None ≡ Some f = sym (ap (λ b. traversed_of b (sub_of program n).formals) no_traversal) ∙ traversed in cc),
+                ((above.1).1.0, (above.1).1.1),
+              ),
+            );
           },
           calls_one waits_stage cells refl (refl, refl, refl) refl none_new (subst (λ d. AreCarried s (λ f. f ≡ suc d → ⊥) [] state.memory with_all) (sym deep) declared_there.carried),
         )
@@ -1182,7 +1207,7 @@ module _ (table : Table) (typed : TypedProgram) (effects : Effects) (input : Lis
             callee_held =
                 opened_held (steps.here main_turn) ready.accepted.settled (waiting_in easy.state) state.leaks state.memory [] other facts_now views (viewed_easy plain_there.0).1
                 (viewed_easy plain_there.0).0 holds_now alone live_now in_formals index_law ready.owns ready.class.parts_named formals_low procedure formals actuals passed callee_views opened.1
-                with_all above local declared_there.views formal_only
+                with_all above.0 local declared_there.views formal_only
 
             callee_placed : ArePlaced program (suc depth) (facts_of program effects called_stage) callee_views called.runs.point.scope
             callee_placed =

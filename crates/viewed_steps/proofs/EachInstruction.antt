@@ -1,5 +1,8 @@
 -- Each instruction leads on, but calls and their ends, operands that wait, returns with a value, and
 -- ends of scopes.
+use Rattle.viewed_steps.proofs.Rooted.{rooted_on}
+use Rattle.viewed_steps.proofs.Traversed.{declared_source, assigned_source, given_on, none_given, named_given}
+use Rattle.flow_paths.specs.Views.{sub_acts}
 use Rattle.soundness.proofs.Passing.{plain_type}
 use Rattle.std.proofs.Common.{◌≡◌, refl, sym, ap, ◌∙◌, subst, ◌⊎◌, inl, inr, ℕ, suc, ◌+◌, ◌<◌, Bool, true, false, not, ◌||◌, List, [], ◌∷◌, ◌++◌, map, drop, length, arith, append-nil, Option, Some, None, nat_lt, int_le, ◌&&◌, if◌then◌else◌, take}
 use Rattle.spark_base.specs.Lists.{Has}
@@ -14,11 +17,11 @@ use Rattle.place_names.specs.declared.rule.Loan.TheVariants.{Observed}
 use Rattle.place_names.specs.Names.{Name as PlaceName}
 use Rattle.type_definitions.specs.Types.{Table, is_scalar, full, shape_of}
 use Rattle.type_definitions.specs.declared.table.Shape.TheVariants as shape
-use Rattle.typed_tree.specs.Trees.{TypedTree, TypedCode, Name, NoMore, More}
+use Rattle.typed_tree.specs.Trees.{TypedTree, TypedCode, Name, Call as CallIn, NoMore, More}
 use Rattle.typed_tree.specs.Programs.{TypedProgram}
 use Rattle.flow_paths.specs.declared.report.Effects.{Effects}
 use Rattle.flow_paths.specs.Instructions.{Instruction, Skip, Declare, Assign, Call, Output, Input, Release, Test, Choose, Start, Next, Evaluate, LeaveLoop, Hold, EndScope, Finish, Fall}
-use Rattle.flow_paths.specs.Objects.{Typing, object_at, is_anonymous, is_package_object, is_observer, view_of, has_scope_end, is_variable}
+use Rattle.flow_paths.specs.Objects.{Typing, object_at, sub_at, is_anonymous, is_package_object, is_observer, view_of, has_scope_end, is_variable}
 use Rattle.flow_paths.specs.Names.{has_call, waiting as waits_in, name_of}
 use Rattle.flow_paths.specs.Acts as flow
 use Rattle.flow_paths.specs.Acts.{acts_in}
@@ -62,12 +65,12 @@ use Rattle.soundness.proofs.Continued.{got_with, released_with, started_with, in
 use Rattle.soundness.proofs.Successors.{not_true, below_one, below_two, successor_there}
 use Rattle.owned_loans.specs.Views.{Around, known_gone, Views, Viewed, Unused, IsForeign}
 use Rattle.viewed_soundness.specs.Holds.{AllKeep, is_view, sees_only, is_fixed, is_given}
-use Rattle.viewed_soundness.proofs.Names.{plain_named, true_false}
+use Rattle.viewed_soundness.proofs.Names.{plain_named, true_false, given_view}
 use Rattle.viewed_soundness.proofs.Evaluated.{keep_both}
 use Rattle.viewed_soundness.proofs.Outcomes.{named_plain, IsGood, Leads_on, decides_on, choose_on, assign_on, Turned}
 use Rattle.viewed_steps.specs.Awaited.{AreValues, temporaries_of, is_held, lasting_of, awaited, AreAwaited, AreScalar, TakesScalars}
 use Rattle.viewed_steps.proofs.Waited.{lasting_within, within_lasting}
-use Rattle.viewed_steps.specs.Sound.{ArePast, Lasts, HoldsAt, ArePlaced, NoneAbove, ViewStage, stages_of, GoneElsewhere, AreWaiting, IsStoredAt, AreTurned, steps_on, LeadsAlong, IsResting}
+use Rattle.viewed_steps.specs.Sound.{ArePast, Lasts, HoldsAt, ArePlaced, NoneAbove, ViewStage, stages_of, GoneElsewhere, AreWaiting, IsStoredAt, AreTurned, steps_on, LeadsAlong, IsResting, HasTraversals}
 use Rattle.viewed_steps.specs.Ready.{AreOrderly, IsReady}
 use Rattle.viewed_steps.proofs.Declared.{IsElsewhere, not_gone, declare_on}
 use Rattle.viewed_steps.proofs.Released.{released_on}
@@ -76,7 +79,9 @@ use Rattle.viewed_steps.proofs.Rounds.{skip_leads, line_leads, next_leads, outpu
 use Rattle.viewed_steps.proofs.Lent.{Spare, loans_stay, spare_acts}
 use Rattle.viewed_steps.proofs.Placed.{brought_more, lasts_more, scope_on, placed_on, MayBe, turned_placed, turned_lies}
 use Rattle.owned_loans.proofs.Meeting.{named_view}
-use Rattle.viewed_steps.proofs.Sources.{leads_or, own_there, view_declared, view_assigned}
+use Rattle.viewed_soundness.specs.Taken.{GivesPlainly}
+use Rattle.viewed_steps.specs.Traversals.{GivesView, IsSourceIn}
+use Rattle.viewed_steps.proofs.Sources.{leads_or, view_scalar, own_there, view_declared, view_assigned}
 use Rattle.viewed_steps.proofs.Beside.{IsOther, OthersKept, others_keep}
 use Rattle.viewed_steps.proofs.Waiting.{StandsBetween, AreTheirs, beside_them, handed, apart_elsewhere}
 use Rattle.viewed_steps.proofs.Standing.{or_right}
@@ -115,7 +120,8 @@ module _ (table : Table) (typed : TypedProgram) (effects : Effects) (input : Lis
       (viewed_before : Viewed (home s (suc (length rest))) (sees_only s) (known_gone (home s (suc (length rest))) (GoneElsewhere program effects (below ∷ more_frames))) views
       (view_here s state) (facts_of program effects top))
       (kept : Kept s state.memory (waiting_in state)) (scope : InScope s state.memory (suc (length rest)) (lasting_of s p.scope)) (holds : HoldsAt s (suc (length rest)) views state.memory p)
-      (placed_before : ArePlaced program (suc (length rest)) (facts_of program effects top) views p.scope × ArePast s (suc (length rest)) views (below ∷ more_frames)) (above : NoneAbove s (suc (length rest)) state.memory) where
+      (placed_before : ArePlaced program (suc (length rest)) (facts_of program effects top) views p.scope × ArePast s (suc (length rest)) views (below ∷ more_frames)) (above : NoneAbove s (suc (length rest)) state.memory
+      × HasTraversals table typed (view_here s state) (record { stage = top; views = views; cells = [] } ∷ (below ∷ more_frames))) where
     abbrev outer : List Frame
     outer = below.stage.frame ∷ rest
 
@@ -269,12 +275,12 @@ module _ (table : Table) (typed : TypedProgram) (effects : Effects) (input : Lis
 
     module _ (going : (x : ℕ) → p.instr ≡ EndScope x → ⊥) (no_calls : IsNoCall p.instr) where
       abbrev pub may : ℕ → ℕ → Type 0
-      may x y = MayBe program (scope_behind p) x y × IsStoredAt p.instr x
+      may x y = MayBe program (scope_behind p) x y × IsStoredAt p.instr x × IsSourceIn (sub_acts (sub_of program top.frame.sub)) x y
 
-      more : (y : ℕ) → is_within y left_scope ≡ true → is_within y (scope_behind p) ≡ true
+      pub more : (y : ℕ) → is_within y left_scope ≡ true → is_within y (scope_behind p) ≡ true
       more y within = brought_more p.instr going left_scope y within
 
-      lasts_behind : (r z : ℕ) → Lasts program p.scope r z → Lasts program (scope_behind p) r z
+      pub lasts_behind : (r z : ℕ) → Lasts program p.scope r z → Lasts program (scope_behind p) r z
       lasts_behind r z lasts = lasts_more program left_scope (scope_behind p) r z more ((innermost.lasts_left table typed effects input ready state top below more_frames rest named p frames deep stages running awaiting of_sub at_point path views viewed_before kept scope holds placed_before above) r z lasts)
 
       abbrev pub Good : List Fact → State → Type 0
@@ -363,7 +369,7 @@ module _ (table : Table) (typed : TypedProgram) (effects : Effects) (input : Lis
       up_named : (z : ℕ) (w : Way) → views.way z ≡ Some w → ways.Named (home s depth) w → ways.Named (home s depth) (views.up z)
       up_named z w has at_home = (named_view (home s depth) (sees_only s) views (view_here s state) facts_now viewed.views z w has at_home).named
 
-      unused : (x : ℕ) (v : TypedTree) → p.instr ≡ Declare x v → is_package_object s x ≡ false → Unused (home s depth) other.lent views facts_now x
+      pub unused : (x : ℕ) (v : TypedTree) → p.instr ≡ Declare x v → is_package_object s x ≡ false → Unused (home s depth) other.lent views facts_now x
       unused x v e mine = record {
         unmoved = λ name has root. elim (from_both (Moved name) has) [
           | inl mine_fact ↦ packages.new_before table typed effects input ready state top older outer named p frames of_sub at_point path x v e name mine_fact root
@@ -415,6 +421,21 @@ module _ (table : Table) (typed : TypedProgram) (effects : Effects) (input : Lis
         | inr there ↦ absurd (not_handed name there)
       ]
 
+      in_sub : (a : Act) → Has (acts_of_main p.instr) a → Has (sub_acts (sub_of program top.frame.sub)) a
+      in_sub = standing.acts_in_sub table typed effects input ready state top older outer named p frames of_sub at_point
+
+      -- a view isn't scalar
+      plain_call : (r : Pos) (n : ℕ) (actuals : TypedTree) → GivesPlainly s (CallIn r n actuals) → (t : ℕ) → (sub_at s n).result ≡ Some t → is_scalar (full s.table t) ≡ true
+      unfolding GivesPlainly
+      plain_call r n actuals plainly = plainly
+
+      first_plain : (e : TypedTree) → GivesPlainly s (More e NoMore) → GivesPlainly s e
+      unfolding GivesPlainly
+      first_plain e plainly = plainly.0
+
+      gives_many : (n of : ℕ) → GivesView s n of → ((t : ℕ) → (sub_at s n).result ≡ Some t → is_scalar (full s.table t) ≡ true) → ⊥
+      gives_many n of gives scalar = view_scalar (shape_of s.table gives.result) gives.anonymous (scalar gives.result gives.result_is)
+
       declares : Plainly → (x : ℕ) (v : TypedTree) (e : p.instr ≡ Declare x v) → FirstSource s (object_at s x).of v
           → AllowsAll facts_now (acts_of_main (Declare x v)) → AllKeep (is_fixed s) (acts_of_main (Declare x v)) → LeadsFrom (Declare x v) (turn main_turn (Declare x v))
       unfolding waits_in
@@ -434,13 +455,24 @@ module _ (table : Table) (typed : TypedProgram) (effects : Effects) (input : Lis
               (subst (λ z. Leads_on easy ready.accepted.settled ready.owns other alone views ready.class.parts_named may refl refl (after (acts_of_main (Declare x z)) facts_now) (Declared x (More (Name q y source u) NoMore) easy)) (sym here_is)
               (view_declared easy ready.accepted.settled ready.owns other alone in_formals views ready.class.parts_named may refl refl given_words
               q x y u source view (orderly.variables x (inl (inl (v, e))) view) (home_frame x (local x (anonymous_view s x view))) text_there.1 takes
-              older_there (record { lasts = lasts_behind y x lasts; within = in_behind; view = view; plain = variable_stays x (orderly.variables x (inl (inl (v, e))) view) }, inl (v, e)) facts_now (good plain.0) (unused x v e (local x (anonymous_view s x view)))
+              older_there (
+                record { lasts = lasts_behind y x lasts; within = in_behind; view = view; plain = variable_stays x (orderly.variables x (inl (inl (v, e))) view) },
+                inl (v, e),
+                declared_source s x view (orderly.variables x (inl (inl (v, e))) view) (Name q y source u) q y source u (inl refl) (sub_acts (sub_of program top.frame.sub))
+                    (λ a has. in_sub a (subst (λ i. Has (acts_of_main i) a) (sym e) (subst (λ z. Has (acts_of_main (Declare x z)) a) (sym here_is) has))),
+              ) facts_now (good plain.0) (unused x v e (local x (anonymous_view s x view)))
               (subst (λ z. AllowsAll facts_now (acts_of_main (Declare x z))) here_is allowed_there))))
 
           by_view : (b : Bool) → is_anonymous (view_of s x) ≡ b → LeadsFrom (Declare x v) (turn main_turn (Declare x v))
           by_view true view =
               let source = orderly.declared x v e view in
-              from_source v refl source.0 source.1 source.3 source.2 source.4 view source.5 source.6
+              elim source.6 [
+                | inl is ↦ from_source v refl source.0 source.1 source.3 source.2 (source.5 ∙ ap (λ z. More z NoMore) is) view source.7 source.8
+                | inr (r, n, more, is, gives) ↦ absurd (gives_many n (object_at s x).of gives
+                    (plain_call r n (More (Name source.0 source.1 source.2 source.3) more)
+                    (first_plain (CallIn r n (More (Name source.0 source.1 source.2 source.3) more))
+                    (subst (GivesPlainly s) (source.5 ∙ ap (λ z. More z NoMore) is) (subst (TakesScalars s) e plain.1)))))
+              ]
           by_view false owner =
               declared_main (Declare x v) x v (declare_on easy ready.accepted.settled ready.owns other alone in_formals views ready.class.parts_named may refl refl given_words
               x v (plain_named s.table (object_at s x).of owner) (orderly.begun x v e) text (subst (TakesScalars s) e plain.1) (takes_of plain.0 (Declare x v) e)
@@ -491,7 +523,11 @@ module _ (table : Table) (typed : TypedProgram) (effects : Effects) (input : Lis
               → AllowsAll facts_now (acts_of_main (Assign (Name q x NoMore (object_at s x).of) e)) → Goal (Name q x NoMore (object_at s x).of) e
           to_view source view instr_is allowed_here =
               let found = orderly.assigned q x (object_at s x).of e instr_is view in
-              from_name found.0 found.1 found.3 found.2 found.4 found.5 found.6
+              elim found.4 [
+                | inl named_so ↦ from_name found.0 found.1 found.3 found.2 named_so found.5 found.6
+                | inr (r, n, more, call_is, gives) ↦ absurd (gives_many n (object_at s x).of gives
+                    (plain_call r n (More (Name found.0 found.1 found.2 found.3) more) (subst (GivesPlainly s) call_is (subst (TakesScalars s) instr_is plain.1))))
+              ]
             where
               from_name : (r : Pos) (y w : ℕ) (rest : TypedTree) → e ≡ Name r y rest w → (is_observer s x ≡ true → Lasts program p.scope y x)
                   → (is_observer s x ≡ false → y ≡ x) → Goal (Name q x NoMore (object_at s x).of) e
@@ -509,6 +545,8 @@ module _ (table : Table) (typed : TypedProgram) (effects : Effects) (input : Lis
                       plain = variable_stays x variable_here;
                     },
                     inr (q, (object_at s x).of, e, instr_is),
+                    assigned_source s x view variable_here (Name r y rest w) r y rest w (inl refl) (sub_acts (sub_of program top.frame.sub)) p.pos q itself
+                        (λ a has. in_sub a (subst (λ i. Has (acts_of_main i) a) (sym instr_is) (subst (λ z. Has (acts_of_main (Assign (Name q x NoMore (object_at s x).of) z)) a) (sym here_is) has))),
                   ) in
                   let takes : Takes (waits_in rest) given_words [] =
                   takes_as (taken (Assign (Name q x NoMore of) (Name r y rest w))) (waits_in rest) given_words [] (nothing_more (waits_in rest))
@@ -764,6 +802,38 @@ module _ (table : Table) (typed : TypedProgram) (effects : Effects) (input : Lis
         | inr (y, from, comes) ↦ true_false (is_given s x) formal (own_there s x (orderly.variables x (inl from.1) (from.0).view))
       ]
 
+      -- no result waits that isn't taken, and what the first formal sees stays
+      traversals_on : (after_step : State) (waits : List Waiting) (loops : List Loop) (n : ℕ) → returns_value p.instr ≡ false → (p.instr ≡ Finish → ⊥) → Left waits
+          → (turned_views : Views) (facts : List Fact)
+          → Turned easy ready.accepted.settled ready.owns other alone views ready.class.parts_named may refl refl turned_views facts
+          → HasTraversals table typed (view_here s after_step)
+          (record { stage = standing.at_next table typed effects input ready state top older outer named p frames of_sub at_point path waits loops n; views = turned_views; cells = [] } ∷ older)
+      traversals_on after_step waits loops n none end are turned_views facts turned = (
+        given_on table typed (view_here s state) (view_here s after_step) (record { stage = top; views = views; cells = [] })
+            (record { stage = standing.at_next table typed effects input ready state top older outer named p frames of_sub at_point path waits loops n; views = turned_views; cells = [] }) older
+            (none_given table typed (view_here s after_step) (record { stage = standing.at_next table typed effects input ready state top older outer named p frames of_sub at_point path waits loops n; views = turned_views; cells = [] })
+            (named_given table typed (record { stage = standing.at_next table typed effects input ready state top older outer named p frames of_sub at_point path waits loops n; views = turned_views; cells = [] }) (scope_behind p) are (innermost.named_behind table typed effects input ready state top below more_frames rest named p frames deep stages running awaiting of_sub at_point path views viewed_before kept scope holds placed_before above no_calls)))
+            (λ g given. elim given [
+              | inl nothing ↦ inl nothing
+              | inr (some, returned, none_back, was) ↦ absurd (elim (ready.traversing.ending top.frame.sub (running.0).entered some top.before top.frame.next path returned) [
+                | inl (y, ends) ↦ going y (sym (innermost.instr_there table typed effects input ready state top below more_frames rest named p frames deep stages running awaiting of_sub at_point path views viewed_before kept scope holds placed_before above) ∙ ends)
+                | inr finishes ↦ end (sym (innermost.instr_there table typed effects input ready state top below more_frames rest named p frames deep stages running awaiting of_sub at_point path views viewed_before kept scope holds placed_before above) ∙ finishes)
+              ])
+            ]) (above.1).0,
+        (
+          (λ f traversed. (
+              let old = (above.1).1.0 f traversed in
+              let view = given_view s f (ready.traversing.first top.frame.sub f traversed).1 in (
+                old.0,
+                rooted_on s (sub_acts (sub_of program top.frame.sub)) f old.0 view views turned_views
+                    (λ x w has. elim (turned x w has) [ inl same ↦ inl (sym same.way ∙ has) | inr (y, from, comes) ↦ inr (y, from.2, comes.under) ]) old.1,
+                old.2,
+                old.3,
+              ))),
+          (above.1).1.1,
+        ),
+      )
+
       pub goes_there : sparing → (p.instr ≡ Finish → ⊥) → returns_value p.instr ≡ false → (after_step : State) (waits : List Waiting) (loops : List Loop) (k : ℕ)
           → k < successors p.instr → ((n : ℕ) → successor main_turn k ≡ Some n → after_step.frames ≡ record top.frame { waits = waits; loops = loops; next = n } ∷ outer)
           → Left waits → Inside s IsOld after_step.memory depth (lasting_of s (scope_behind p)) → LeadsFrom p.instr (Goes after_step) → OthersKept s depth state.memory after_step.memory
@@ -794,7 +864,7 @@ module _ (table : Table) (typed : TypedProgram) (effects : Effects) (input : Lis
             own = well.holds.own;
           })
           (((innermost.placed_by table typed effects input ready state top below more_frames rest named p frames deep stages running awaiting of_sub at_point path views viewed_before kept scope holds placed_before above) (after (acts_of_main p.instr) facts_now) (after (acts_of_main p.instr) own_facts) turned_views (q.0).scope ((innermost.own_loans table typed effects input ready state top below more_frames rest named p frames deep stages running awaiting of_sub at_point path views viewed_before kept scope holds placed_before above) (acts_of_main p.instr)) placed_next), well.viewed.past)
-          (still_above after_step.memory stay) views
+          (still_above after_step.memory stay, traversals_on after_step waits loops next.0 none end are turned_views (after (acts_of_main p.instr) facts_now) turned) views
           (steps_on no_calls end going (refl, refl, refl) (turned_so turned_views turned) refl)
 
       pub then_on : (left : Left (steps.waiting main_turn)) → sparing → (p.instr ≡ Finish → ⊥) → returns_value p.instr ≡ false → (outcome : Outcome)

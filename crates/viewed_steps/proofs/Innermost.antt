@@ -1,5 +1,6 @@
 -- The innermost frame of a run, beside those that wait: which acts its facts and theirs allow, where
 -- its variables own, and that the others wait still.
+use Rattle.viewed_steps.proofs.Traversed.{named_left, named_brought}
 use Rattle.viewed_soundness.specs.Holds.{is_view, sees_only, is_given}
 use Rattle.soundness.proofs.Lasting.{ownerless}
 use Rattle.typed_tree.specs.declared.object.ObjectKind.{ObjectKind}
@@ -40,7 +41,7 @@ use Rattle.owned_ways.specs.Ways.{Step, OfVariable, OfRoot, Way, Held, after, Al
 use Rattle.owned_ways.specs.Ways as ways
 use Rattle.soundness.specs.Seen.{IsNear, content, word_in, home}
 use Rattle.soundness.specs.Typed.{Kept}
-use Rattle.soundness.specs.Sound.{Stage, facts_of, AreStages, Uses, IsRunnable, is_temporary_object, returns_value, has_returned, InScope, IsNamedSub, IsAtPoint, view_of as view_here, IsPlainValue}
+use Rattle.soundness.specs.Sound.{Stage, facts_of, AreStages, Uses, IsRunnable, is_temporary_object, returns_value, has_returned, InScope, IsNamedSub, IsAtPoint, view_of as view_here, IsPlainValue, IsNoCall}
 use Rattle.soundness.specs.Ready.{stored_at, IsSupplied}
 use Rattle.soundness.proofs.Contents.{bool_cases, word_no}
 use Rattle.machine.specs.Run.{no_point}
@@ -58,8 +59,8 @@ use Rattle.owned_loans.specs.Views.{Around, known_gone, Views, Viewed}
 use Rattle.viewed_soundness.proofs.Names.{true_false, given_view}
 use Rattle.viewed_steps.specs.Awaited.{AreFor, AreValues, temporaries_of, is_held, lasting_of, awaited, AreAwaited, AreScalar, TakesScalars, IsTakenBy, IsTaken}
 use Rattle.viewed_steps.proofs.Waited.{plain_unheld, ended_held, lasting_within, within_lasting, lasting_more, brought_temporaries, Shares, shares, scalar_values}
-use Rattle.viewed_steps.specs.Sound.{ArePast, HoldsAt, ArePlaced, NoneAbove, Lasts, ViewStage, stages_of, GoneElsewhere, Disturbs, AreWaiting, LeadsOn, IsResting}
-use Rattle.viewed_steps.specs.Ready.{AreOrderly, IsReady}
+use Rattle.viewed_steps.specs.Sound.{ArePast, HoldsAt, ArePlaced, NoneAbove, Lasts, ViewStage, stages_of, GoneElsewhere, Disturbs, AreWaiting, LeadsOn, IsResting, HasTraversals}
+use Rattle.viewed_steps.specs.Ready.{AreOrderly, IsReady, AreNamedIn}
 use Rattle.viewed_steps.proofs.Lent.{ends, Spare, spare_has}
 use Rattle.viewed_steps.proofs.Inherited.{after_more, lending_uses, apart_borrowed, apart_seen}
 use Rattle.viewed_steps.proofs.Beside.{OthersKept, faint_held}
@@ -122,7 +123,8 @@ module _ (table : Table) (typed : TypedProgram) (effects : Effects) (input : Lis
       (viewed_before : Viewed (home s (suc (length rest))) (sees_only s) (known_gone (home s (suc (length rest))) (GoneElsewhere program effects (below ∷ more_frames))) views
       (view_here s state) (facts_of program effects top))
       (kept : Kept s state.memory (waiting_in state)) (scope : InScope s state.memory (suc (length rest)) (lasting_of s p.scope)) (holds : HoldsAt s (suc (length rest)) views state.memory p)
-      (placed_before : ArePlaced program (suc (length rest)) (facts_of program effects top) views p.scope × ArePast s (suc (length rest)) views (below ∷ more_frames)) (above : NoneAbove s (suc (length rest)) state.memory) where
+      (placed_before : ArePlaced program (suc (length rest)) (facts_of program effects top) views p.scope × ArePast s (suc (length rest)) views (below ∷ more_frames)) (above : NoneAbove s (suc (length rest)) state.memory
+      × HasTraversals table typed (view_here s state) (record { stage = top; views = views; cells = [] } ∷ (below ∷ more_frames))) where
     abbrev pub outer : List Frame
     outer = below.stage.frame ∷ rest
 
@@ -455,6 +457,13 @@ module _ (table : Table) (typed : TypedProgram) (effects : Effects) (input : Lis
       holder = λ named_up sees. (let h = old.holder named_up sees in (h.0, h.1, lasts_left h.0 x h.2, h.3));
     })
 
+    -- what is in scope afterwards, but for the result of a call, is of no anonymous type if it is a temporary
+    pub named_left_here : AreNamedIn s left_scope
+    named_left_here = named_left s p (ready.valued.seen named named_there p point_there_now)
+
+    pub named_behind : IsNoCall p.instr → AreNamedIn s (scope_behind p)
+    named_behind no_calls = named_brought program p.instr left_scope no_calls supplied_here.1 (ready.valued.fills named named_there p point_there_now) named_left_here
+
     -- the values that wait on, after an instruction that fills no temporary
     abbrev pub Left : List Waiting → Type 0
     Left waits = AreValues s waits (scope_behind p)
@@ -546,7 +555,7 @@ module _ (table : Table) (typed : TypedProgram) (effects : Effects) (input : Lis
     -- the variables of views above stay without numbers
     pub still_above : (m : Memory) → OthersKept s depth state.memory m → NoneAbove s depth m
     still_above m stay f x n less view e =
-        above f x n less view (sym (stay f x (λ first. omega (arith, less, first)) (λ same_depth. omega (arith, less, same_depth)) 0).word ∙ e)
+        above.0 f x n less view (sym (stay f x (λ first. omega (arith, less, first)) (λ same_depth. omega (arith, less, same_depth)) 0).word ∙ e)
 
     -- those that wait do so still
     pub wait_still : (next : State) (after_scope : List ℕ) → Inside s IsOld next.memory depth after_scope → OthersKept s depth state.memory next.memory

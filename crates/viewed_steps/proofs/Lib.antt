@@ -9,6 +9,8 @@ pub mod Placed
 pub mod Ended
 pub mod Sources
 pub mod Sighted
+pub mod Traversed
+pub mod Low
 pub mod Returned
 pub mod Beside
 pub mod Inherited
@@ -56,6 +58,7 @@ pub mod Innermost
 pub mod EachInstruction
 pub mod Operands
 pub mod Alone
+pub mod Taking
 pub mod Results
 pub mod ScopeEnds
 pub mod CallEnds

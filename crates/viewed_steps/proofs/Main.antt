@@ -1,8 +1,9 @@
 -- The state before the first step is sound, and so each moment of the run is well owned, and none is
 -- a trap.
+use Rattle.viewed_steps.proofs.Traversed.{none_given, empty_given, begins_given, procedure_traverses}
 use Rattle.viewed_soundness.specs.Holds.{sees_only}
 use Rattle.viewed_steps.specs.Awaited.{lasting_of}
-use Rattle.std.proofs.Common.{◌≡◌, refl, sym, ap, subst, ℕ, zero, suc, Bool, true, false, nat_le, List, [], ◌∷◌, ◌++◌, get_or, inl, inr, Some, None, if◌then◌else◌}
+use Rattle.std.proofs.Common.{◌≡◌, refl, sym, ap, subst, ℕ, zero, suc, Bool, true, false, nat_le, List, [], ◌∷◌, ◌++◌, get_or, inl, inr, Some, None, if◌then◌else◌, ◌∙◌}
 use Rattle.spark_base.specs.Lists.{Has}
 use Rattle.type_definitions.specs.Types.{Table}
 use Rattle.typed_tree.specs.Programs.{TypedProgram}
@@ -20,7 +21,7 @@ use Rattle.machine.specs.Owners.{WellOwned}
 use Rattle.machine.specs.Run.{empty_memory, frames_at_start, state_at_start, step, then_on, within, run_of, main_of, moment}
 use Rattle.owned_ways.specs.Ways.{Way, Lost}
 use Rattle.soundness.specs.Seen.{home, seen}
-use Rattle.soundness.specs.Sound.{Stage, IsTrap, ending_of, RunIsSound}
+use Rattle.soundness.specs.Sound.{Stage, IsTrap, ending_of, RunIsSound, view_of as view_here}
 use Rattle.soundness.proofs.Defaults.{none_default}
 use Rattle.soundness.proofs.Keeping.{cell_has}
 use Rattle.soundness.proofs.Owners.{well_owned}
@@ -85,6 +86,9 @@ module _ (table : Table) (typed : TypedProgram) (effects : Effects) (input : Lis
       (sound : IsSound table typed effects state)
       × ((g : ViewStage) → Has (record { stage = sound.top; views = sound.views; cells = [] } ∷ sound.older) g → g.stage.before ≡ [])
 
+  abbrev first_frame : ViewStage
+  first_frame = record { stage = stage_of 0 0; views = no_views; cells = [] }
+
   -- the package objects are declared first
   packages_start : (p : NamedPoint) (rest : List NamedPoint) → ready.packages.points ≡ p ∷ rest → IsFresh (started (frame_at_start 0 [] ∷ []))
   packages_start p rest is = (
@@ -115,6 +119,7 @@ module _ (table : Table) (typed : TypedProgram) (effects : Effects) (input : Lis
       placed = λ x w has. absurd (none_some w has);
       past = λ x w has. absurd (none_some w has);
       none_above = λ f x n less view e. empty_word s f x n e;
+      traversals = (none_given table typed (view_here s (started (frame_at_start 0 [] ∷ []))) first_frame (empty_given table typed first_frame refl), tt);
     },
     λ g has. elim has [ inl e ↦ ap (λ (z : ViewStage). z.stage.before) (sym e) | inr none ↦ absurd none ],
   )
@@ -158,6 +163,16 @@ module _ (table : Table) (typed : TypedProgram) (effects : Effects) (input : Lis
       placed = λ x w has. absurd (none_some w has);
       past = λ x w has. absurd (none_some w has);
       none_above = λ f x n less view e. empty_word s f x n e;
+      traversals = (
+        begins_given table typed (view_here s (started (frame_at_start ready.main [] ∷ (frame_at_start 0 [] ∷ [])))) (record { stage = stage_of ready.main 1; views = no_views; cells = [] })
+            first_frame refl refl,
+        (
+          λ f traversed. absurd (procedure_traverses table typed (sub_of program ready.main) f
+              (ap (λ (z : FlowSub). z.result) (sub_there table typed ready.main ready.main_there.named ready.main_there.stands)
+              ∙ ready.main_there.procedure ready.main_there.named ready.main_there.stands) traversed),
+          tt,
+        ),
+      );
     },
     λ g has. elim has [
       | inl e ↦ ap (λ (z : ViewStage). z.stage.before) (sym e)

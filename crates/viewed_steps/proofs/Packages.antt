@@ -1,5 +1,6 @@
 -- The package objects are elaborated: no part of theirs is moved, no object has a way, and the main
 -- procedure begins after them.
+use Rattle.viewed_steps.proofs.Traversed.{none_given, empty_given, begins_given, procedure_traverses}
 use Rattle.soundness.specs.Ready.{Fills}
 use Rattle.viewed_steps.proofs.Waited.{within_lasting, lasting_within, lasting_more, plain_unheld}
 use Rattle.std.proofs.Common.{◌≡◌, refl, sym, ap, ◌∙◌, subst, inl, inr, ℕ, ◌<◌, true, false, not, ◌||◌, ◌==◌, eq-eqb, List, [], ◌∷◌, ◌++◌, drop, get_or, arith, Option, Some, None, if◌then◌else◌, length}
@@ -245,6 +246,15 @@ module _ (table : Table) (typed : TypedProgram) (effects : Effects) (input : Lis
       placed = λ x w has. no_views views none x w has;
       past = λ x w has. no_views views none x w has;
       none_above = λ f x n less view e. above f x n (omega (arith, less)) view e;
+      traversals = (
+        begins_given table typed (view_here s state) (record { stage = stage ready.main 1; views = views; cells = [] }) below refl (first.1).0,
+        (
+          λ f traversed. absurd (procedure_traverses table typed (sub_of program ready.main) f
+              (ap (λ (z : FlowSub). z.result) (sub_there table typed ready.main ready.main_there.named ready.main_there.stands)
+              ∙ ready.main_there.procedure ready.main_there.named ready.main_there.stands) traversed),
+          tt,
+        ),
+      );
     }
 
   module _ (state : State) (top : Stage) (named : NamedSub) (p : NamedPoint) (frames : state.frames ≡ top.frame ∷ []) (deep : top.depth ≡ 0) (views : Views)
@@ -403,7 +413,14 @@ module _ (table : Table) (typed : TypedProgram) (effects : Effects) (input : Lis
                   passed = λ y w has. no_views turned_views none_now y w has;
                   own = λ y w has. no_views turned_views none_now y w has;
                 })
-                ((λ y w has. no_views turned_views none_now y w has), (λ y w has. no_views turned_views none_now y w has)) nones views
+                ((λ y w has. no_views turned_views none_now y w has), (λ y w has. no_views turned_views none_now y w has)) (
+                  nones,
+                  (
+                    none_given table typed (view_here s after_step) (record { stage = standing.at_next table typed effects input ready state top [] [] named p frames of_sub at_point path [] top.frame.loops found.0; views = turned_views; cells = [] })
+                        (empty_given table typed (record { stage = standing.at_next table typed effects input ready state top [] [] named p frames of_sub at_point path [] top.frame.loops found.0; views = turned_views; cells = [] }) refl),
+                    tt,
+                  ),
+                ) views
                 (steps_on (calls_plain x v e) (λ end. (let never : Declare x v ≡ Finish = sym e ∙ end in cc))
                 (λ y end. (let never : Declare x v ≡ EndScope y = sym e ∙ end in cc)) (refl, refl, refl) (λ y w has. no_views turned_views none_now y w has) refl))
             | inr none ↦ (

@@ -1,6 +1,9 @@
 -- An operand of a short circuit, whose value waits, and a return with a value, which waits in the frame
 -- of the caller, lead on.
-use Rattle.viewed_soundness.proofs.Names.{plain_named}
+use Rattle.viewed_steps.proofs.Traversed.{none_given, empty_given}
+use Rattle.flow_paths.specs.Views.{sub_acts}
+use Rattle.viewed_steps.specs.Traversals.{IsSourceIn}
+use Rattle.viewed_soundness.proofs.Names.{plain_named, true_false}
 use Rattle.viewed_soundness.specs.Taken.{GivesPlainly}
 use Rattle.std.proofs.Common.{◌≡◌, refl, sym, ap, ◌∙◌, subst, ◌⊎◌, inl, inr, ℕ, suc, ◌+◌, ◌<◌, Bool, true, false, ◌||◌, ◌==◌, List, [], ◌∷◌, ◌++◌, drop, length, get_or, arith, append-nil, Option, Some, None, if◌then◌else◌, take}
 use Rattle.spark_base.specs.Lists.{Has}
@@ -15,7 +18,7 @@ use Rattle.typed_tree.specs.Trees.{TypedTree, NoMore, More, Name, Call as CallIn
 use Rattle.typed_tree.specs.Programs.{TypedProgram}
 use Rattle.flow_paths.specs.declared.report.Effects.{Effects}
 use Rattle.flow_paths.specs.Instructions.{Instruction, Call, Evaluate, Hold, EndScope, Finish, Declare, Assign}
-use Rattle.flow_paths.specs.Objects.{Typing, is_package_object, object_at}
+use Rattle.flow_paths.specs.Objects.{Typing, is_package_object, object_at, is_anonymous}
 use Rattle.flow_paths.specs.Names.{waiting as waits_in}
 use Rattle.flow_paths.specs.Acts as flow
 use Rattle.flow_paths.specs.Acts.{acts_in}
@@ -53,7 +56,7 @@ use Rattle.viewed_soundness.specs.Holds.{IsNamed, AllKeep, is_view, sees_only, i
 use Rattle.viewed_soundness.proofs.Outcomes.{named_plain, IsGood, Leads_on}
 use Rattle.viewed_steps.specs.Awaited.{AreFor, AreValues, AreValuesBut, temporaries_of, lasting_of, awaited, AreAwaited, AreScalar, FillsTyped, TakesScalars, IsTakenBy, TakesAlone}
 use Rattle.viewed_steps.proofs.Waited.{temporary_first, lasting_more, Shares}
-use Rattle.viewed_steps.specs.Sound.{IsWayOf, ArePast, HoldsAt, ArePlaced, NoneAbove, ViewStage, stages_of, GoneElsewhere, AreWaiting, IsStoredAt, returns_one, LeadsAlong, IsResting}
+use Rattle.viewed_steps.specs.Sound.{IsWayOf, ArePast, HoldsAt, ArePlaced, NoneAbove, ViewStage, stages_of, GoneElsewhere, AreWaiting, IsStoredAt, returns_one, LeadsAlong, IsResting, HasTraversals}
 use Rattle.viewed_steps.specs.Taken.{TakenBy}
 use Rattle.viewed_steps.specs.Ready.{IsReady}
 use Rattle.viewed_steps.proofs.Lent.{Spare, loans_stay}
@@ -127,7 +130,8 @@ module _ (table : Table) (typed : TypedProgram) (effects : Effects) (input : Lis
       (viewed_before : Viewed (home s (suc (length rest))) (sees_only s) (known_gone (home s (suc (length rest))) (GoneElsewhere program effects (below ∷ more_frames))) views
       (view_here s state) (facts_of program effects top))
       (kept : Kept s state.memory (waiting_in state)) (scope : InScope s state.memory (suc (length rest)) (lasting_of s p.scope)) (holds : HoldsAt s (suc (length rest)) views state.memory p)
-      (placed_before : ArePlaced program (suc (length rest)) (facts_of program effects top) views p.scope × ArePast s (suc (length rest)) views (below ∷ more_frames)) (above : NoneAbove s (suc (length rest)) state.memory) where
+      (placed_before : ArePlaced program (suc (length rest)) (facts_of program effects top) views p.scope × ArePast s (suc (length rest)) views (below ∷ more_frames)) (above : NoneAbove s (suc (length rest)) state.memory
+      × HasTraversals table typed (view_here s state) (record { stage = top; views = views; cells = [] } ∷ (below ∷ more_frames))) where
     abbrev outer : List Frame
     outer = below.stage.frame ∷ rest
 
@@ -259,7 +263,7 @@ module _ (table : Table) (typed : TypedProgram) (effects : Effects) (input : Lis
     Along outcome = LeadsAlong table typed effects p.instr state.memory (record { stage = top; views = views; cells = [] }) (below ∷ more_frames) outcome
 
     abbrev may : ℕ → ℕ → Type 0
-    may x y = MayBe program (scope_behind p) x y × IsStoredAt p.instr x
+    may x y = MayBe program (scope_behind p) x y × IsStoredAt p.instr x × IsSourceIn (sub_acts (sub_of program top.frame.sub)) x y
 
     abbrev LeadsFrom : Instruction → Outcome → Type 0
     LeadsFrom i outcome = Leads_on easy ready.accepted.settled ready.owns other alone views ready.class.parts_named may refl refl (after (acts_of_main i) facts_now) outcome
@@ -593,6 +597,13 @@ module _ (table : Table) (typed : TypedProgram) (effects : Effects) (input : Lis
       abbrev facts_then : List Fact
       facts_then = after (acts_of_main p.instr) own_facts
 
+      -- it is of no anonymous type
+      named_value : (ws : List machine.Word) (waits others : List Waiting) (w : Waiting) → value_of ws ∷ waits ≡ w ∷ others → is_anonymous (full s.table w.of) ≡ true → ⊥
+      named_value ws waits others w same seen_there = true_false (is_anonymous (full s.table of)) (ap (λ (z : Waiting). is_anonymous (full s.table z.of)) first ∙ seen_there) (named_plain s.table of named_result)
+        where
+          first : value_of ws ≡ w
+          first = cc
+
       returned_to : (ws : List machine.Word) (m : Memory)
           → Viewed (home s depth) (sees_only s) other views (seen s m (value_of ws ∷ waiting_in easy.state) state.leaks) (after (acts (acts_in s e)) facts_now)
           → Kept s m (value_of ws ∷ waiting_in easy.state) → Holds s depth views m → length ws ≡ words s.table of → Inside s IsOld m depth (lasting_of s left_scope)
@@ -675,6 +686,14 @@ module _ (table : Table) (typed : TypedProgram) (effects : Effects) (input : Lis
                   (placed_by (after (acts_of_main p.instr) facts_now) facts_then views (found.0).scope (own_loans (acts_of_main p.instr)) placed_next));
               past = subst (λ d. ArePast s d views (below_with v ∷ more_frames)) (sym deep) (past_with v placed_before.1);
               none_above = subst (λ d. NoneAbove s d m) (sym deep) (still_above m stay);
+              traversals = (
+                (
+                  none_given table typed (view_here s (state_then ws m)) (record { stage = top_then; views = views; cells = [] }) (empty_given table typed (record { stage = top_then; views = views; cells = [] }) no_value_left),
+                  inl (λ w others same seen_there. named_value ws below.stage.frame.waits others w same seen_there),
+                  (above.1).0.2,
+                ),
+                ((above.1).1.0, (above.1).1.1),
+              );
             },
             returns_one no_call_then no_finish_then going_then below more_frames (v ∷ below.stage.frame.waits) refl (refl, refl, refl) (λ x w has. inl has) refl,
           )

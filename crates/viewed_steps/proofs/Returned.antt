@@ -245,12 +245,12 @@ module _ (t : Turn) (settled : IsSettled (typing t).table) (own_law : OwnsByShap
         (subst (λ n. Allows facts (act.Give n borrows)) (sym called) (subst (λ z. Allows z (act.Give (name_of y path) borrows)) indexes_change_nothing both.1.0)))))
 
   -- What is given goes on from what the first formal sees. It is enough that no other root isn't refuted.
-  pub goes_on : (acts_there : List Act) (f : ℕ) → is_view s f ≡ true → AreRooted s acts_there f v → (y d : ℕ) (name : PlaceName) (z : machine.Word)
+  pub goes_on : (acts_there : List Act) (f : ℕ) (seen_first : Option Way) → is_view s f ≡ true → AreRooted s acts_there f seen_first v → (y d : ℕ) (name : PlaceName) (z : machine.Word)
       → ((IsOnlyRoot s acts_there y f → ⊥) → ⊥) → Comes y d name z → (k : ℕ) → z ≡ machine.Cell k
-      → (w : Way) × (v.way f ≡ Some w) × (r : List Go) × Reaches (seen s m hands t.state.leaks) (on w r) (OfCell k)
-  goes_on acts_there f view rooted y d name z only coming k e =
+      → (w : Way) × (seen_first ≡ Some w) × (r : List Go) × Reaches (seen s m hands t.state.leaks) (on w r) (OfCell k)
+  goes_on acts_there f seen_first view rooted y d name z only coming k e =
       let there : Way = on (All coming.place) coming.rest in
-      let first = certain (v.way f) (expand v there) (λ none. only (λ one. none (goes_on_from s acts_there f view v rooted y one there
+      let first = certain seen_first (expand v there) (λ none. only (λ one. none (goes_on_from s acts_there f seen_first view v rooted y one there
       (λ is. (let l = coming.lifted is k e in let more = lifted_on v (All coming.place) coming.rest l.0 in (more.0, more.1 ∙ l.1)))))) in
       let rest = under_on first.0 (expand v there) first.2 in
       (first.0, first.1, rest.0, subst (λ x. Reaches (seen s m hands t.state.leaks) x (OfCell k)) rest.1 (coming.reached k e))

@@ -1,6 +1,6 @@
 -- Each view of a frame has a root in the text, and what has the first formal for its one root sees what
 -- that sees, or goes on from there.
-use Rattle.std.proofs.Common.{◌≡◌, refl, sym, ap, ◌∙◌, subst, ◌⊎◌, inl, inr, ℕ, Bool, true, false, not, ◌&&◌, ◌||◌, List, Some, IsTrue}
+use Rattle.std.proofs.Common.{◌≡◌, refl, sym, ap, ◌∙◌, subst, ◌⊎◌, inl, inr, ℕ, Bool, true, false, not, ◌&&◌, ◌||◌, List, Some, IsTrue, Option}
 use Rattle.place_names.specs.declared.act.Act.{Act}
 use Rattle.flow_paths.specs.Objects.{Typing, object_at, is_variable, is_borrowing, is_observing, view_of}
 use Rattle.flow_paths.specs.Views.{Roots, itself, borrows, observes, IsOnlyRoot, holds_loans}
@@ -23,7 +23,7 @@ is_true : (b : Bool) → b ≡ true → IsTrue b
 is_true true e = refl
 is_true false e = cc
 
-module _ (s : Typing) (acts : List Act) (f : ℕ) where
+module _ (s : Typing) (acts : List Act) (f : ℕ) (first : Option Way) where
   -- an object that is no view is its own root
   own_root : (x : ℕ) → is_view s x ≡ false → Roots s acts x x
   own_root x plain =
@@ -43,10 +43,10 @@ module _ (s : Typing) (acts : List Act) (f : ℕ) where
     plain_apart : (r : ℕ) → is_view s r ≡ false → r ≡ f → ⊥
     plain_apart r plain same = (let no : false ≡ true = sym plain ∙ ap (is_view s) same ∙ view in cc)
 
-    module _ (before later : Views) (stays : later.way f ≡ before.way f) where
+    module _ (before later : Views) where
       -- from what its source has
       from_source : (x y : ℕ) (w : Way) → ((r : ℕ) → Roots s acts y r → Roots s acts x r)
-          → (is_view s y ≡ true → (k : Way) × (before.way y ≡ Some k) × Under k w) → AreRooted s acts f before → IsRootedIn s acts later f x w
+          → (is_view s y ≡ true → (k : Way) × (before.way y ≡ Some k) × Under k w) → AreRooted s acts f first before → IsRootedIn s acts f first x w
       from_source x y w roots under rooted = elim (bool_cases (is_view s y)) [
         | inr plain ↦ (y, roots y (own_root y plain), λ same. absurd (plain_apart y plain same))
         | inl is ↦ (
@@ -54,12 +54,12 @@ module _ (s : Typing) (acts : List Act) (f : ℕ) where
             let old = rooted y from.0 from.1 in (
               old.0,
               roots old.0 old.1,
-              λ same. (let first = old.2 same in (first.0, stays ∙ first.1, under_on first.0 from.0 w first.2 from.2)),
+              λ same. (let it = old.2 same in (it.0, it.1, under_on it.0 from.0 w it.2 from.2)),
             ))
       ]
 
-      by_source : (x y : ℕ) (w : Way) → IsSourceIn acts x y → (is_view s y ≡ true → (k : Way) × (before.way y ≡ Some k) × Under k w) → AreRooted s acts f before
-          → IsRootedIn s acts later f x w
+      by_source : (x y : ℕ) (w : Way) → IsSourceIn acts x y → (is_view s y ≡ true → (k : Way) × (before.way y ≡ Some k) × Under k w) → AreRooted s acts f first before
+          → IsRootedIn s acts f first x w
       by_source x y w (inl same) under rooted = from_source x y w (λ r root. subst (λ z. Roots s acts z r) same root) under rooted
       by_source x y w (inr (m, root, inl has)) under rooted =
           from_source x y w (λ r there. borrows x r m has (subst (λ z. Roots s acts z r) (sym root) there)) under rooted
@@ -69,23 +69,21 @@ module _ (s : Typing) (acts : List Act) (f : ℕ) where
       -- Views that have their ways, or got them from sources in the text, are rooted.
       pub rooted_on : ((x : ℕ) (w : Way) → later.way x ≡ Some w → (before.way x ≡ Some w)
           ⊎ ((y : ℕ) × IsSourceIn acts x y × (is_view s y ≡ true → (k : Way) × (before.way y ≡ Some k) × Under k w)))
-          → AreRooted s acts f before → AreRooted s acts f later
+          → AreRooted s acts f first before → AreRooted s acts f first later
       rooted_on turned rooted x w has = elim (turned x w has) [
-        | inl same ↦ (
-            let old = rooted x w same in
-            (old.0, old.1, λ e. (let first = old.2 e in (first.0, stays ∙ first.1, first.2))))
+        | inl same ↦ rooted x w same
         | inr (y, source, under) ↦ by_source x y w source under rooted
       ]
 
     -- What has the first formal for its one root goes on from what that sees.
-    pub goes_on_from : (v : Views) → AreRooted s acts f v → (y : ℕ) → IsOnlyRoot s acts y f → (k : Way) → (is_view s y ≡ true → (l : Lifted v k) × (l.object ≡ y))
-        → (w : Way) × (v.way f ≡ Some w) × Under w (expand v k)
+    pub goes_on_from : (v : Views) → AreRooted s acts f first v → (y : ℕ) → IsOnlyRoot s acts y f → (k : Way) → (is_view s y ≡ true → (l : Lifted v k) × (l.object ≡ y))
+        → (w : Way) × (first ≡ Some w) × Under w (expand v k)
     goes_on_from v rooted y only k lifted = elim (bool_cases (is_view s y)) [
       | inr plain ↦ absurd (plain_apart y plain (only.1 y (own_root y plain)))
       | inl is ↦ (
           let l = lifted is in
           let old = rooted l.0.object l.0.way l.0.has in
           let same : old.0 ≡ f = only.1 old.0 (subst (λ z. Roots s acts z old.0) l.1 old.1) in
-          let first = old.2 same in
-          (first.0, first.1, under_on first.0 l.0.way (expand v k) first.2 (subst (Under l.0.way) (sym (lifted_way v k l.0)) (on_under l.0.way l.0.rest))))
+          let it = old.2 same in
+          (it.0, it.1, under_on it.0 l.0.way (expand v k) it.2 (subst (Under l.0.way) (sym (lifted_way v k l.0)) (on_under l.0.way l.0.rest))))
     ]

@@ -1,4 +1,12 @@
 -- The end of a scope leads on.
+use Rattle.std.specs.Prelude.{get_or}
+use Rattle.machine.specs.Run.{no_point}
+use Rattle.viewed_steps.proofs.Standing.{or_right}
+use Rattle.flow_paths.specs.Views.{sub_acts}
+use Rattle.viewed_soundness.proofs.Names.{given_view}
+use Rattle.viewed_steps.proofs.Rooted.{rooted_on}
+use Rattle.viewed_steps.proofs.Low.{BeginsLow, given_still, reaches_low, undeclared_words}
+use Rattle.viewed_steps.proofs.Traversed.{none_given, named_given}
 use Rattle.viewed_soundness.specs.Holds.{is_view, sees_only}
 use Rattle.soundness.specs.Ready.{Fills, IsSupplied}
 use Rattle.std.proofs.Common.{◌≡◌, refl, sym, ap, ◌∙◌, subst, ◌⊎◌, inl, inr, ℕ, zero, suc, ◌<◌, true, false, List, [], ◌∷◌, ◌++◌, map, drop, length, arith, Some, None}
@@ -21,17 +29,17 @@ use Rattle.flow_paths.specs.Paths.{ControlPath}
 use Rattle.flow_paths.specs.Effects.{path_points}
 use Rattle.place_names.specs.Rules.{forbids}
 use Rattle.flow_paths.specs.Scopes.{taken, brought, scope_behind, is_ready, Leads, is_last}
-use Rattle.machine.specs.Memory.{Memory}
-use Rattle.machine.specs.States.{Waiting, Frame, State, Outcome, Goes, Ends, sub_of}
+use Rattle.machine.specs.Memory.{Memory, undeclared}
+use Rattle.machine.specs.States.{Waiting, Frame, State, Outcome, Goes, Ends, sub_of, Loop}
 use Rattle.machine.specs.Step.{Turn, turn, successor}
 use Rattle.machine.specs.Step as steps
 use Rattle.machine.specs.Typed.{successors}
 use Rattle.machine.specs.Owners.{waiting_in}
 use Rattle.owned_ways.specs.Ways.{Step, OfVariable, OfRoot, Way, Held, after, AllowsAll}
 use Rattle.owned_ways.specs.Ways as ways
-use Rattle.soundness.specs.Seen.{IsNear, content, word_in, home}
+use Rattle.soundness.specs.Seen.{IsNear, content, word_in, home, seen}
 use Rattle.soundness.specs.Typed.{Kept}
-use Rattle.soundness.specs.Sound.{IsNoCall, Stage, facts_of, AreStages, IsRunnable, returns_value, InScope, IsNamedSub, IsAtPoint, view_of as view_here, is_temporary_object}
+use Rattle.soundness.specs.Sound.{IsNoCall, Stage, facts_of, AreStages, IsRunnable, returns_value, InScope, IsNamedSub, IsAtPoint, view_of as view_here, is_temporary_object, has_returned}
 use Rattle.soundness.proofs.Scoped.{Inside}
 use Rattle.soundness.proofs.Inherited.{Splits, allowed_beside}
 use Rattle.soundness.proofs.Around.{IsFar}
@@ -44,13 +52,13 @@ use Rattle.owned_loans.specs.Views.{Around, known_gone, Views, Viewed}
 use Rattle.viewed_soundness.proofs.Outcomes.{Is_left}
 use Rattle.viewed_steps.specs.Awaited.{AreValues, lasting_of, awaited, AreAwaited}
 use Rattle.viewed_steps.proofs.Waited.{plain_unheld, last_lasting, lasting_last}
-use Rattle.viewed_steps.specs.Sound.{ArePast, HoldsAt, ArePlaced, NoneAbove, ViewStage, stages_of, GoneElsewhere, AreWaiting, AreLeft, leaves_scope, LeadsAlong, IsResting}
+use Rattle.viewed_steps.specs.Sound.{ArePast, HoldsAt, ArePlaced, NoneAbove, ViewStage, stages_of, GoneElsewhere, AreWaiting, AreLeft, leaves_scope, LeadsAlong, IsResting, HasTraversals}
 use Rattle.viewed_steps.specs.Ready.{AreOrderly, IsReady}
 use Rattle.viewed_steps.proofs.Inherited.{lent_end}
 use Rattle.viewed_steps.proofs.Placed.{scope_on}
 use Rattle.viewed_steps.proofs.Ended.{views_left, ends_well, placed_left, holds_left, leaves, leaves_others}
 use Rattle.viewed_steps.proofs.Beside.{OthersKept, end_scope_keeps}
-use Rattle.viewed_steps.proofs.Waiting.{StandsBetween, AreTheirs, beside_them, handed, handed_lent}
+use Rattle.viewed_steps.proofs.Waiting.{StandsBetween, AreTheirs, beside_them, handed, handed_lent, kept_low}
 use Rattle.viewed_steps.proofs.Standing as standing
 use Rattle.viewed_steps.proofs.Packages as packages
 use Rattle.viewed_steps.proofs.Innermost as innermost
@@ -82,7 +90,8 @@ module _ (table : Table) (typed : TypedProgram) (effects : Effects) (input : Lis
       (viewed_before : Viewed (home s (suc (length rest))) (sees_only s) (known_gone (home s (suc (length rest))) (GoneElsewhere program effects (below ∷ more_frames))) views
       (view_here s state) (facts_of program effects top))
       (kept : Kept s state.memory (waiting_in state)) (scope : InScope s state.memory (suc (length rest)) (lasting_of s p.scope)) (holds : HoldsAt s (suc (length rest)) views state.memory p)
-      (placed_before : ArePlaced program (suc (length rest)) (facts_of program effects top) views p.scope × ArePast s (suc (length rest)) views (below ∷ more_frames)) (above : NoneAbove s (suc (length rest)) state.memory) where
+      (placed_before : ArePlaced program (suc (length rest)) (facts_of program effects top) views p.scope × ArePast s (suc (length rest)) views (below ∷ more_frames)) (above : NoneAbove s (suc (length rest)) state.memory
+      × HasTraversals table typed (view_here s state) (record { stage = top; views = views; cells = [] } ∷ (below ∷ more_frames))) where
     abbrev outer : List Frame
     outer = below.stage.frame ∷ rest
 
@@ -275,6 +284,50 @@ module _ (table : Table) (typed : TypedProgram) (effects : Effects) (input : Lis
             (subst (λ d. ways.Named (home s d) w) deep at_home),
       )
 
+      -- what was given to the frame below is given still
+      low_views : (x : ℕ) (w : Way) → below.views.way x ≡ Some w → BeginsLow depth w
+      low_views x w has = kept_low table typed effects unmoved_stage local state depth older between w (below.views.cell x) (below, inl refl, inl (x, has, refl))
+
+      below_less : below.stage.depth < depth
+      below_less = (let is_deep = stages.0 in omega (arith, is_deep))
+
+      traversals_left : (after_step : State) → after_step.memory ≡ undeclared depth y state.memory → (waits : List Waiting) (loops : List Loop) → Left waits
+          → HasTraversals table typed (view_here s after_step)
+          (record { stage = standing.at_next table typed effects input ready state top older outer named p frames of_sub at_point path waits loops next_point.0; views = left_views; cells = [] } ∷ older)
+      traversals_left after_step memory waits loops are =
+          let there : ViewStage =
+          record { stage = standing.at_next table typed effects input ready state top older outer named p frames of_sub at_point path waits loops next_point.0; views = left_views; cells = [] } in (
+            (
+              none_given table typed (view_here s after_step) there (named_given table typed there (scope_behind p) are (innermost.named_behind table typed effects input ready state top below more_frames rest named p frames deep stages running awaiting of_sub at_point path views viewed_before kept scope holds placed_before above no_call_here)),
+              elim (above.1).0.1 [
+                | inl none ↦ inl none
+                | inr (some, returned, none_back, was) ↦ inr (
+                  some,
+                  or_right (returns_value (get_or (sub_of program top.frame.sub).points top.frame.next no_point).instr) (has_returned (sub_of program top.frame.sub) top.before) returned,
+                  none_back,
+                  λ other_named other_of q at_q.
+                      given_still s depth below.stage.depth below_less (omega arith) below.views low_views q.instr (view_here s state) (view_here s after_step) below.stage.frame.waits
+                      (λ w low k reach. reaches_low depth (view_here s state) (view_here s after_step)
+                      (λ l is_low. undeclared_words s depth y state.memory (waiting_in state) (waiting_in after_step) state.leaks after_step.leaks l is_low
+                      ∙ ap (λ z. (seen s z (waiting_in after_step) after_step.leaks).word l) (sym memory)) w low.0 low.1 low.2 low.3 (ways.OfCell k) reach)
+                      (was other_named other_of q at_q),
+                )
+              ],
+              (above.1).0.2,
+            ),
+            (
+              λ f traversed. (
+                  let old = (above.1).1.0 f traversed in
+                  let view = given_view s f (ready.traversing.first top.frame.sub f traversed).1 in (
+                    old.0,
+                    rooted_on s (sub_acts (sub_of program top.frame.sub)) f old.0 view views left_views (λ x w has. inl (were_left x w has).0) old.1,
+                    old.2,
+                    old.3,
+                  )),
+              (above.1).1.1,
+            ),
+          )
+
       then_left : (outcome : Outcome)
           → Is_left main_turn ready.accepted.settled ready.owns other alone views ready.class.parts_named no_source frames nothing_taken
           left_views y (after (acts_of_main (EndScope y)) facts_now) outcome
@@ -304,7 +357,7 @@ module _ (table : Table) (typed : TypedProgram) (effects : Effects) (input : Lis
                 (λ x within sees region. orderly.followed y x is at_next_point.0 (next_point.0, next_point.2, at_next_point.1) within sees region)
                 lead facts_now end_allowed.0 viewed kept holds placed (not_lent y not_shared)))),
             still_viewed.past,
-          ) (still_above after_step.memory stay) views
+          ) (still_above after_step.memory stay, traversals_left after_step memory on.waits on.loops on.are) views
           (leaves_scope y is (refl, refl, refl) were_left refl)
 
       pub ends_scope : Along (turn main_turn (EndScope y))

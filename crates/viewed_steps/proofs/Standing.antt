@@ -1,4 +1,7 @@
 -- A frame that stands at a point of a program that is ready: its acts, its facts and its successors.
+use Rattle.flow_paths.specs.Views.{sub_acts}
+use Rattle.spark_base.proofs.Lists.{Has-append_left, Has-append_right}
+use Rattle.std.specs.Prelude.{flat_map}
 use Rattle.std.proofs.Common.{◌≡◌, refl, sym, ap, ◌∙◌, subst, inl, inr, ℕ, Bool, true, false, ◌&&◌, ◌||◌, List, [], ◌∷◌, ◌++◌, length, get_or, append-nil, Option, None, not}
 use Rattle.spark_base.specs.Lists.{Has}
 use Rattle.place_names.specs.declared.act.Mode.{Mode}
@@ -37,7 +40,7 @@ use Rattle.owned_loans.specs.Views.{known_gone, Views, Viewed}
 use Rattle.viewed_soundness.specs.Holds.{is_view, IsAccess, AllKeep, sees_only, is_fixed}
 use Rattle.viewed_steps.specs.Awaited.{AreFor, AreValues, temporaries_of, lasting_of, WaitsAt, AreAwaited}
 use Rattle.viewed_steps.proofs.Waited.{leads_temporaries}
-use Rattle.viewed_steps.specs.Sound.{ArePast, HoldsAt, ArePlaced, NoneAbove, ViewStage, stages_of, GoneElsewhere, IsRunning, Follows, LeadsAlong}
+use Rattle.viewed_steps.specs.Sound.{ArePast, HoldsAt, ArePlaced, NoneAbove, ViewStage, stages_of, GoneElsewhere, IsRunning, Follows, LeadsAlong, HasTraversals}
 use Rattle.viewed_steps.specs.Ready.{IsReady}
 use Rattle.viewed_steps.proofs.Views.{AreAccess, view_cases}
 
@@ -219,6 +222,17 @@ module _ (table : Table) (typed : TypedProgram) (effects : Effects) (input : Lis
     pub keeps_there : AllKeep (is_fixed s) (acts_here p.instr)
     keeps_there = subst (λ z. AllKeep (is_fixed s) (acts z)) (sym acts_agree) (ready.orderly.kept sub in_program here in_sub)
 
+    -- its acts are some of its subprogram
+    pub acts_in_sub : (a : Act) → Has (acts_here p.instr) a → Has (sub_acts (sub_of program top.frame.sub)) a
+    acts_in_sub a has =
+        subst (λ z. Has (sub_acts z) a) (sym sub_is) (among sub.points here in_sub (subst (λ z. Has (acts z) a) acts_agree has))
+      where
+        among : (ps : List FlowPoint) (k : FlowPoint) → Has ps k → Has (acts k.acts) a → Has (flat_map (λ (z : FlowPoint). acts z.acts) ps) a
+        among [] k never has = absurd never
+        among (z ∷ ps) k (inl same) has =
+            Has-append_left (acts z.acts) (flat_map (λ (z : FlowPoint). acts z.acts) ps) a (subst (λ (z : FlowPoint). Has (acts z.acts) a) (sym same) has)
+        among (z ∷ ps) k (inr later) has = Has-append_right (acts z.acts) (flat_map (λ (z : FlowPoint). acts z.acts) ps) a (among ps k later has)
+
     module _ (path : ControlPath (path_points program effects (sub_of program top.frame.sub)) top.before top.frame.next) where
       pub path_here : ControlPath points top.before top.frame.next
       path_here = subst (λ (z : FlowSub). ControlPath (path_points program effects z) top.before top.frame.next) sub_is path
@@ -276,7 +290,7 @@ module _ (table : Table) (typed : TypedProgram) (effects : Effects) (input : Lis
           → Kept s after_step.memory (waiting_in after_step) → InScope s after_step.memory (length outer) (lasting_of s q.scope)
           → HoldsAt s (length outer) views after_step.memory q
           → ArePlaced program (length outer) (after (acts_here p.instr) facts) views q.scope × ArePast s (length outer) views older
-          → NoneAbove s (length outer) after_step.memory → (before : Views)
+          → NoneAbove s (length outer) after_step.memory × HasTraversals table typed (view_here s after_step) (record { stage = at_next waits loops n; views = views; cells = [] } ∷ older) → (before : Views)
           → Follows program effects p.instr state.memory (record { stage = top; views = before; cells = [] }) older after_step.memory (record { stage = at_next waits loops n; views = views; cells = [] }) older
           → LeadsAlong table typed effects p.instr state.memory (record { stage = top; views = before; cells = [] }) older (Goes after_step)
       goes_to_next plain after_step waits loops n next q at is deep stages views running awaited viewed kept scope holds placed above before follows =
@@ -305,7 +319,8 @@ module _ (table : Table) (typed : TypedProgram) (effects : Effects) (input : Lis
               placed = subst (λ d. ArePlaced program d (facts_of program effects (at_next waits loops n)) views q.scope) (sym deep)
                   (subst (λ z. ArePlaced program (length outer) z views q.scope) (sym facts_there) placed.0);
               past = subst (λ d. ArePast s d views older) (sym deep) placed.1;
-              none_above = subst (λ d. NoneAbove s d after_step.memory) (sym deep) above;
+              none_above = subst (λ d. NoneAbove s d after_step.memory) (sym deep) above.0;
+              traversals = above.1;
             },
             follows,
           )

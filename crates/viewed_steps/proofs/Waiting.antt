@@ -519,11 +519,15 @@ module _ (table : Table) (typed : TypedProgram) (effects : Effects)
     pub bare_begins : (w : Way) (l : Loc) (p : List Step) → BareElsewhere older w l p
         → (f : ℕ) × (x : ℕ) × (base_of w ≡ OfRoot (OfVariable f x)) × ((f ≡ home s depth x → ⊥) ⊎ ((k : Loan) × IsLentFor k (along w p)))
     bare_begins w l p (g, has, (taken, (c, there, is, cell))) =
-        let b = begins_elsewhere w c.cell (g, has, inr (c, there, is, refl)) in
-        (b.0, b.1, b.2, elim b.3 [
-          | inl away ↦ inl away
-          | inr (k, m) ↦ inr (k, (m.0, m.1, under_along m.0 w p m.2, m.3))
-        ])
+        let b = begins_elsewhere w c.cell (g, has, inr (c, there, is, refl)) in (
+          b.0,
+          b.1,
+          b.2,
+          elim b.3 [
+            | inl away ↦ inl away
+            | inr (k, m) ↦ inr (k, (m.0, m.1, under_along m.0 w p m.2, m.3))
+          ],
+        )
 
     -- what was taken is gone for them
     pub emptied_there : (w : Way) (l : Loc) (p : List Step) → BareElsewhere older w l p → (q : List Step)

@@ -2,7 +2,9 @@
 --
 -- A frame that waits for a call to end has its views still: what was called names no object of the
 -- frame, and leaves package objects alone of which a part is lent.
-use Rattle.std.specs.Prelude.{◌≡◌, ◌⊎◌, ◌<◌, ℕ, true, false, List, [], ◌∷◌, ◌++◌, map, get_or, Option, Some, None, suc}
+use Rattle.std.specs.List.{AllByRecursion}
+use Rattle.viewed_steps.specs.Traversals.{AreRooted, SeesFirst, AreGiven}
+use Rattle.std.specs.Prelude.{◌≡◌, ◌⊎◌, ◌<◌, ℕ, true, false, List, [], ◌∷◌, ◌++◌, map, get_or, Option, Some, None, suc, is_some}
 use Rattle.spark_base.specs.Lists.{Has}
 use Rattle.spark_base.specs.declared.position.Pos.{Pos}
 use Rattle.place_names.specs.declared.act.Mode.TheVariants as mode
@@ -16,22 +18,22 @@ use Rattle.typed_tree.specs.Trees.{TypedTree, Name, NoMore, More}
 use Rattle.typed_tree.specs.Programs.{TypedProgram}
 use Rattle.flow_paths.specs.declared.report.Effects.{Effects}
 use Rattle.flow_paths.specs.Instructions.{Instruction, Declare, Assign, Call, EndScope, Finish}
-use Rattle.flow_paths.specs.Objects.{Typing, object_at, sub_at, is_formal, is_observer, is_named_access, view_of, is_package_object, has_scope_end}
+use Rattle.flow_paths.specs.Objects.{Typing, object_at, sub_at, is_formal, is_observer, is_named_access, view_of, is_package_object, has_scope_end, is_anonymous}
 use Rattle.flow_paths.specs.Points.{NamedPoint, FlowPoint}
 use Rattle.flow_paths.specs.Laid.{FlowSub, FlowProgram, NamedSub, flow_typing, flow_program, flow_named}
 use Rattle.flow_paths.specs.Paths.{ControlPath}
 use Rattle.flow_paths.specs.Effects.{written_by, path_points}
 use Rattle.flow_paths.specs.Scopes.{is_within}
-use Rattle.flow_paths.specs.Views.{encloses, scope_of}
+use Rattle.flow_paths.specs.Views.{encloses, scope_of, traversed_formal, sub_acts}
 use Rattle.machine.specs.Words.{Cell}
 use Rattle.machine.specs.Memory.{Memory, variable_slots, no_slot}
 use Rattle.machine.specs.States.{Return, Waiting, Frame, State, Outcome, Goes, Ends, sub_of}
 use Rattle.machine.specs.Owners.{is_in, WellOwned, waiting_in}
 use Rattle.machine.specs.Run.{step}
-use Rattle.owned_ways.specs.Ways.{Loc, Step, OfVariable, OfRoot, Held, Way, Named, Under, Past, along, name_of, number_of, OfCell, Reaches}
+use Rattle.owned_ways.specs.Ways.{Loc, Step, OfVariable, OfRoot, Held, Way, Named, Under, Past, along, name_of, number_of, OfCell, Reaches, View}
 use Rattle.soundness.specs.Seen.{content, word_in, home, is_view_formal}
 use Rattle.soundness.specs.Typed.{Kept}
-use Rattle.soundness.specs.Sound.{goes_through_none, is_temporary_object, IsNamedSub, IsAtPoint, IsRunnable, Stage, facts_of, AreStages, Uses, IsPlain, InScope, IsTrap}
+use Rattle.soundness.specs.Sound.{goes_through_none, is_temporary_object, IsNamedSub, IsAtPoint, IsRunnable, Stage, facts_of, AreStages, Uses, IsPlain, InScope, IsTrap, has_returned}
 use Rattle.soundness.specs.Sound as owners
 use Rattle.owned_loans.specs.Views.{known_gone, Views, IsMovedBy, AreClear, IsForeign, AreViews, Viewed, expand}
 use Rattle.viewed_soundness.specs.Holds.{IsNamed, IsAccess, PartsAreNamed, is_view, sees_only, IsOwners, is_given, is_exclusive}
@@ -265,6 +267,52 @@ AreWaiting table typed effects state callee backs (g ∷ (h ∷ older)) =
     IsWaiting table typed effects state callee backs g × AreWaiting table typed effects state g.stage.frame.sub g.stage.frame.returns (h ∷ older)
     × AreUnmet (flow_program table typed) effects g (h ∷ older) × ArePast (flow_typing (flow_program table typed)) g.stage.depth g.views (h ∷ older)
 
+-- ---- traversal functions
+
+-- The latest value that waits in a frame, if it is of an anonymous type, is given to what takes it.
+abbrev pub IsGivenIn : Table → TypedProgram → View → ViewStage → Type 0
+IsGivenIn table typed view g =
+    (named : NamedSub) → IsNamedSub (flow_named table typed) g.stage.frame.sub named → (p : NamedPoint) → IsAtPoint named.points g.stage.frame.next p
+    → AreGiven (flow_typing (flow_program table typed)) view g.stage.depth p.instr g.views g.stage.frame.waits
+
+-- In a frame that waits there is none; but the innermost frame may have given the one below its result.
+abbrev pub NoneGiven : Typing → ViewStage → Type 0
+NoneGiven s g = (w : Waiting) (others : List Waiting) → g.stage.frame.waits ≡ w ∷ others → is_anonymous (full s.table w.of) ≡ true → ⊥
+
+abbrev pub IsGivenBelow : Table → TypedProgram → View → ViewStage → ViewStage → Type 0
+IsGivenBelow table typed view inner g =
+    NoneGiven (flow_typing (flow_program table typed)) g
+    ⊎ ((is_some (sub_of (flow_program table typed) inner.stage.frame.sub).result ≡ true)
+    × (has_returned (sub_of (flow_program table typed) inner.stage.frame.sub) inner.stage.before ≡ true) × (inner.stage.frame.returns ≡ [])
+    × IsGivenIn table typed view g)
+
+abbrev pub AreGivenIn : Table → TypedProgram → View → List ViewStage → Type 0
+AreGivenIn table typed view [] = Unit {0}
+AreGivenIn table typed view (e ∷ []) = IsGivenIn table typed view e
+AreGivenIn table typed view (e ∷ (g ∷ older)) =
+    IsGivenIn table typed view e × IsGivenBelow table typed view e g
+    × AllByRecursion (NoneGiven (flow_typing (flow_program table typed))) older
+
+-- What the first formal of a traversal function sees in its frame is what the first actual designates in the
+-- frame below, and each view in the frame has its root in the text.
+abbrev pub IsTraversal : Table → TypedProgram → ViewStage → ViewStage → Type 0
+IsTraversal table typed inner g =
+    (f : ℕ) → traversed_formal (flow_typing (flow_program table typed)) (sub_of (flow_program table typed) inner.stage.frame.sub) ≡ Some f
+    → (first : Option Way)
+    × AreRooted (flow_typing (flow_program table typed)) (sub_acts (sub_of (flow_program table typed) inner.stage.frame.sub)) f first inner.views
+    × ((named : NamedSub) → IsNamedSub (flow_named table typed) g.stage.frame.sub named → (p : NamedPoint) → IsAtPoint named.points g.stage.frame.next p
+    → SeesFirst (flow_typing (flow_program table typed)) g.stage.depth p.instr inner.stage.frame.sub g.views first)
+    × (inner.stage.frame.returns ≡ [])
+
+abbrev pub AreTraversals : Table → TypedProgram → List ViewStage → Type 0
+AreTraversals table typed [] = Unit {0}
+AreTraversals table typed (e ∷ []) = Unit {0}
+AreTraversals table typed (e ∷ (g ∷ older)) = IsTraversal table typed e g × AreTraversals table typed (g ∷ older)
+
+-- What traversal functions give, and what they go through.
+abbrev pub HasTraversals : Table → TypedProgram → View → List ViewStage → Type 0
+HasTraversals table typed view stages = AreGivenIn table typed view stages × AreTraversals table typed stages
+
 -- ---- a state
 
 -- The frame of the package objects alone; or that of a subprogram with those around it.
@@ -300,6 +348,7 @@ pub record IsSound (table : Table) (typed : TypedProgram) (effects : Effects) (s
   pub placed : ArePlaced (flow_program table typed) top.depth (facts_of (flow_program table typed) effects top) views point.scope
   pub past : ArePast (flow_typing (flow_program table typed)) top.depth views older
   pub none_above : NoneAbove (flow_typing (flow_program table typed)) top.depth state.memory
+  pub traversals : HasTraversals table typed (owners.view_of (flow_typing (flow_program table typed)) state) (record { stage = top; views = views; cells = [] } ∷ older)
 
 -- ---- where the frames come from
 
