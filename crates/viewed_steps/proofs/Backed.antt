@@ -37,8 +37,8 @@ use Rattle.viewed_soundness.proofs.Names.{both_no, true_false, owner_sees}
 use Rattle.viewed_soundness.proofs.Evaluated.{matches_named}
 use Rattle.viewed_steps.proofs.Left.{cells_same}
 use Rattle.viewed_steps.specs.Taken.{Lodge, IsPlainPlace, IsCopiedTo, AreCarried, TakenBy, IsInside, IsPassedOn, IsBare, IsTaken, IsApartFrom, IsAnother, AreTaken}
-use Rattle.viewed_steps.proofs.Between.{carried_same, carried_then, taken_more, same_reaches, gone_also, more_gone, IsClearOf, base_along, base_under, same_variable, not_named, taken_less}
-use Rattle.viewed_steps.proofs.Carried.{trunk_is, carried_gone, carried_cells, carried_gone_to, carried_cells_to, inside_at, inside_spot, inside_reached, inside_base, inside_owns, inside_word, variable_clear, carried_bare, carried_held, carried_off, carried_off_stays, carried_holds, carried_to, carried_to_stays, past_other}
+use Rattle.viewed_steps.proofs.Between.{IsHomed, home_low, carried_same, carried_then, taken_more, same_reaches, gone_also, more_gone, IsClearOf, base_along, base_under, same_variable, not_named, taken_less}
+use Rattle.viewed_steps.proofs.Carried.{inside_homed, inside_low, trunk_is, carried_gone, carried_cells, carried_gone_to, carried_cells_to, inside_at, inside_spot, inside_reached, inside_base, inside_owns, inside_word, variable_clear, carried_bare, carried_held, carried_off, carried_off_stays, carried_holds, carried_to, carried_to_stays, past_other}
 use Rattle.viewed_steps.proofs.Beside.{put_beside}
 use Rattle.viewed_steps.proofs.Alike.{Enters, moved_there, stored_there, one_then, if_back, backs_on, IsPlainSpot, fixed_plain, plain_place, one_there}
 use Rattle.viewed_steps.proofs.Entered.{matches_back, inside_plain, inside_named, inside_number, inside_itself}
@@ -99,7 +99,7 @@ module _ (t : Turn) (settled : IsSettled (typing t).table) (own_law : OwnsByShap
     pub typed : Kept (typing t) n hands
     pub viewed : ViewedAway [] [] n
     pub held : (g y : ℕ) (p : List Step) (c : ℕ) → word_in (typing t).table (content (typing t) n [] (OfRoot (OfVariable g y))) p ≡ Held c
-        → (word_in (typing t).table (content (typing t) m [] (OfRoot (OfVariable g y))) p ≡ Held c) ⊎ ((g ≡ depth) × (is_within y scope ≡ true))
+        → (word_in (typing t).table (content (typing t) m [] (OfRoot (OfVariable g y))) p ≡ Held c) ⊎ ((g ≡ home (typing t) depth y) × (is_package_object (typing t) y ≡ false → is_within y scope ≡ true))
     pub empty : (r : Return) → Has returns r → (p : List Step) (c : ℕ)
         → word_in (typing t).table (content (typing t) n [] (OfRoot (OfVariable (suc depth) r.formal))) p ≡ Held c → ⊥
     pub views : (g y : ℕ) → is_view (typing t) y ≡ true
@@ -133,7 +133,7 @@ module _ (t : Turn) (settled : IsSettled (typing t).table) (own_law : OwnsByShap
   -- ---- one that is given back
 
   module _ (r : Return) (rest : List Return) (to : Way) (ways : List Way) (m : Memory) (taken : IsTaken (typing t) m depth facts scope r to)
-      (apart : IsApartFrom to ways) (another : IsAnother r.formal rest) (begin : (k : Way) → Has ways k → (y : ℕ) × (base_of k ≡ OfRoot (OfVariable depth y)))
+      (apart : IsApartFrom to ways) (another : IsAnother r.formal rest) (begin : (k : Way) → Has ways k → IsHomed s depth k)
       (typed : Kept (typing t) m hands) (viewed : ViewedAway (r ∷ rest) (to ∷ ways) m) where
     abbrev passed : IsPassedOn (typing t) depth facts scope r.formal r.to to
     passed = taken.0
@@ -163,9 +163,10 @@ module _ (t : Turn) (settled : IsSettled (typing t).table) (own_law : OwnsByShap
     formal_inside = record {
       object = r.formal;
       steps = [];
+      frame = suc depth;
+      at_home = sym (ap (λ b. if b then 0 else suc depth) passed.formal);
       way = refl;
       base = ap (λ z. memory.OfVariable z r.formal) (ap (λ b. if b then 0 else length t.outer) passed.formal ∙ deep);
-      own = passed.formal;
       owner = passed.owner;
       there = refl;
       at = refl;
@@ -210,11 +211,12 @@ module _ (t : Turn) (settled : IsSettled (typing t).table) (own_law : OwnsByShap
     clean w under (inr (inl o)) = whole r.formal w (base_under root w under) o
     clean w under (inr (inr (inl (k, has, p, is)))) =
         let base = from_depth k has in
-        let frames = (same_variable (suc depth) r.formal depth base.0
-        (sym (base_under root w under) ∙ ap base_of is ∙ base_along k p ∙ base.1)).0 in omega (arith, frames)
+        let frames = (same_variable (suc depth) r.formal base.0 base.1
+        (sym (base_under root w under) ∙ ap base_of is ∙ base_along k p ∙ base.2)).0 in
+        let at_home = base.3 in let low = home_low s depth base.1 in omega (arith, frames, at_home, low)
       where
-        from_depth : (k : Way) → Has (to ∷ ways) k → (y : ℕ) × (base_of k ≡ OfRoot (OfVariable depth y))
-        from_depth k (inl same) = (inside.object, ap base_of (sym same) ∙ inside_base s depth r.to to inside)
+        from_depth : (k : Way) → Has (to ∷ ways) k → IsHomed s depth k
+        from_depth k (inl same) = subst (IsHomed s depth) same (inside_homed s depth r.to to inside)
         from_depth k (inr has) = begin k has
     clean w under (inr (inr (inr (x, base, none)))) =
         none r (inl refl) (same_variable (suc depth) r.formal (suc depth) x (sym (base_under root w under) ∙ base)).1
@@ -271,7 +273,7 @@ module _ (t : Turn) (settled : IsSettled (typing t).table) (own_law : OwnsByShap
     fits = matches_back s r.to.of (object_at s r.formal).of passed.fits
 
     bare : (p : List Step) (c : ℕ) → word_in s.table (content s mid (got ∷ hands) (trunk at)) (p ++ steps_in at) ≡ Held c → ⊥
-    bare p c held = taken.1 p c (held_mid depth inside.object (p ++ inside.steps) c (sym (inside_word s depth r.to to inside mid (got ∷ hands) p) ∙ held))
+    bare p c held = taken.1 p c (held_mid inside.frame inside.object (p ++ inside.steps) c (sym (inside_word s depth r.to to inside mid (got ∷ hands) p) ∙ held))
 
     plain_name : observer (number_of to) ≡ false
     plain_name = ap observer (inside_number s settled depth r.to to inside) ∙ owner_sees s inside.object (inside_plain s settled depth r.to to inside) inside.owner
@@ -289,10 +291,10 @@ module _ (t : Turn) (settled : IsSettled (typing t).table) (own_law : OwnsByShap
     free_hands w under (inl o) = free (length hands) w under o
     free_hands w under (inr (inl (k, has, p, is))) =
         let base = from_depth k has in
-        hand_base (sym (base_under (Object (OfHand (length hands))) w under) ∙ ap base_of is ∙ base_along k p ∙ base.1)
+        hand_base (sym (base_under (Object (OfHand (length hands))) w under) ∙ ap base_of is ∙ base_along k p ∙ base.2)
       where
-        from_depth : (k : Way) → Has (to ∷ ways) k → (y : ℕ) × (base_of k ≡ OfRoot (OfVariable depth y))
-        from_depth k (inl same) = (inside.object, ap base_of (sym same) ∙ inside_base s depth r.to to inside)
+        from_depth : (k : Way) → Has (to ∷ ways) k → IsHomed s depth k
+        from_depth k (inl same) = subst (IsHomed s depth) same (inside_homed s depth r.to to inside)
         from_depth k (inr has) = begin k has
 
         hand_base : {h f x : ℕ} → OfRoot (OfHand h) ≡ OfRoot (OfVariable f x) → ⊥
@@ -305,7 +307,7 @@ module _ (t : Turn) (settled : IsSettled (typing t).table) (own_law : OwnsByShap
     pub one_viewed : ViewedAway rest ways next
     one_viewed =
         carried_to s settled (home s depth) observer v second (AwayBy rest ways) second_apart mid got hands leaks facts r.to at to viewed_mid kept_mid spot_to reached owns_to
-        long fits bare depth inside.object (inside_base s depth r.to to inside) free_hands clear_to
+        long fits bare inside.frame inside.object (inside_base s depth r.to to inside) free_hands clear_to
         (λ w o off. elim o [
           | inl away_there ↦ inl away_there
           | inr more ↦ elim more [ inl taken_there ↦ inr (inl (taken_less to ways w taken_there off)) | inr left ↦ inr (inr left) ]
@@ -320,10 +322,10 @@ module _ (t : Turn) (settled : IsSettled (typing t).table) (own_law : OwnsByShap
         carried_holds s settled (home s depth) observer v second (AwayBy rest ways) second_apart mid got hands leaks facts r.to at to viewed_mid kept_mid spot_to reached owns_to
         long fits bare g y p c held
 
-    in_place : (g y : ℕ) (p q : List Step) → part (OfRoot (OfVariable g y)) p ≡ part at q → (g ≡ depth) × (y ≡ inside.object)
+    in_place : (g y : ℕ) (p q : List Step) → part (OfRoot (OfVariable g y)) p ≡ part at q → (g ≡ inside.frame) × (y ≡ inside.object)
     in_place g y p q is =
-        same_variable g y depth inside.object
-        (sym (trunk_part (OfRoot (OfVariable g y)) p) ∙ ap trunk is ∙ trunk_part at q ∙ trunk_part (OfRoot (OfVariable depth inside.object)) inside.steps)
+        same_variable g y inside.frame inside.object
+        (sym (trunk_part (OfRoot (OfVariable g y)) p) ∙ ap trunk is ∙ trunk_part at q ∙ trunk_part (OfRoot (OfVariable inside.frame inside.object)) inside.steps)
 
     -- the way of what is in the place
     in_place_way : (g y : ℕ) (p q : List Step) → part (OfRoot (OfVariable g y)) p ≡ part at q → along (Object (OfVariable g y)) p ≡ along to q
@@ -347,7 +349,7 @@ module _ (t : Turn) (settled : IsSettled (typing t).table) (own_law : OwnsByShap
           (OfRoot (OfVariable (suc depth) r.formal)) root viewed typed spot tt refl owns clean g y p gone);
       cells = λ c p.
           carried_cells_to s settled (home s depth) observer v second (AwayBy rest ways) second_apart mid got hands leaks facts r.to at to viewed_mid kept_mid spot_to reached owns_to
-          long fits bare depth inside.object (trunk_is s depth r.to to inside) c p
+          long fits bare inside.frame inside.object (trunk_is s depth r.to to inside) c p
           ∙ carried_cells s settled (home s depth) observer v first (AwayBy rest (to ∷ ways)) first_apart m hands leaks facts formal
           (OfRoot (OfVariable (suc depth) r.formal)) root viewed typed spot tt refl owns clean (suc depth) r.formal refl c p;
     }
@@ -366,27 +368,31 @@ module _ (t : Turn) (settled : IsSettled (typing t).table) (own_law : OwnsByShap
             no_number e = cc
 
     pub one_held : (g y : ℕ) (p : List Step) (c : ℕ) → word_in s.table (content s next [] (OfRoot (OfVariable g y))) p ≡ Held c
-        → (word_in s.table (content s m [] (OfRoot (OfVariable g y))) p ≡ Held c) ⊎ ((g ≡ depth) × (is_within y scope ≡ true))
+        → (word_in s.table (content s m [] (OfRoot (OfVariable g y))) p ≡ Held c) ⊎ ((g ≡ home s depth y) × (is_package_object s y ≡ false → is_within y scope ≡ true))
     one_held g y p c held = elim (holds_next g y p c held) [
       | inl before ↦ inl (held_mid g y p c before)
       | inr (q, is) ↦ (let there = in_place g y p q is in
-          inr (there.0, ap (λ z. is_within z scope) there.1 ∙ passed.within (ap (λ z. is_owning s.table (object_at s z).of) (sym there.1) ∙ owning_there y g p c held)))
+          inr (
+            there.0 ∙ inside.at_home ∙ ap (home s depth) (sym there.1),
+            (λ local. ap (λ z. is_within z scope) there.1
+                ∙ passed.within (ap (is_package_object s) (sym there.1) ∙ local) (ap (λ z. is_owning s.table (object_at s z).of) (sym there.1) ∙ owning_there y g p c held)),
+          ))
     ]
 
     pub one_empty : (p : List Step) (c : ℕ) → word_in s.table (content s next [] (OfRoot (OfVariable (suc depth) r.formal))) p ≡ Held c → ⊥
     one_empty p c held = elim (holds_next (suc depth) r.formal p c held) [
       | inl before ↦ empty_mid p c before
-      | inr (q, is) ↦ (let frames = (in_place (suc depth) r.formal p q is).0 in omega (arith, frames))
+      | inr (q, is) ↦ (let frames = (in_place (suc depth) r.formal p q is).0 in let low = inside_low s depth r.to to inside in omega (arith, frames, low))
     ]
 
     -- the other places have none still
     pub one_bare : (k : Place) (w : Way) → Has ways w → (there : IsInside s depth k w) → IsBare s depth k w m there → IsBare s depth k w next there
-    one_bare k w has there none p c held = elim (holds_next depth there.object (p ++ there.steps) c held) [
-      | inl before ↦ none p c (held_mid depth there.object (p ++ there.steps) c before)
+    one_bare k w has there none p c held = elim (holds_next there.frame there.object (p ++ there.steps) c held) [
+      | inl before ↦ none p c (held_mid there.frame there.object (p ++ there.steps) c before)
       | inr (q, is) ↦
           parts_apart (seen s mid (got ∷ hands) leaks) to w at (inside_at s depth k w there) viewed_mid.owned reached
           (inside_reached s depth k w there (seen s mid (got ∷ hands) leaks)) (apart w has).0 (apart w has).1 q p
-          (sym is ∙ part_append (OfRoot (OfVariable depth there.object)) p there.steps)
+          (sym is ∙ part_append (OfRoot (OfVariable there.frame there.object)) p there.steps)
     ]
       where
         part_append : (l : Loc) (p q : List Step) → part l (p ++ q) ≡ part (part l q) p
@@ -397,7 +403,7 @@ module _ (t : Turn) (settled : IsSettled (typing t).table) (own_law : OwnsByShap
         → Reaches (seen s m hands leaks) w (OfCell c) → Reaches (seen s next hands leaks) w (OfCell c)
     one_stays w g y base off aside c reach =
         carried_to_stays s settled (home s depth) observer v second (AwayBy rest ways) second_apart mid got hands leaks facts r.to at to viewed_mid kept_mid spot_to reached owns_to
-        long fits bare depth inside.object (inside_base s depth r.to to inside) w g y base aside c
+        long fits bare inside.frame inside.object (inside_base s depth r.to to inside) w g y base aside c
         (carried_off_stays s settled (home s depth) observer v first (AwayBy rest (to ∷ ways)) first_apart m hands leaks facts formal
         (OfRoot (OfVariable (suc depth) r.formal)) root viewed typed spot tt refl owns clean (suc depth) r.formal refl w g y base (past_other root w (suc depth) r.formal g y refl base off) c reach)
 
@@ -420,12 +426,12 @@ module _ (t : Turn) (settled : IsSettled (typing t).table) (own_law : OwnsByShap
   -- ---- all of them
 
   pub taken_base : (m : Memory) (returns : List Return) (ways : List Way) → AreTaken s cells m depth facts scope returns ways → (k : Way) → Has ways k
-      → (y : ℕ) × (base_of k ≡ OfRoot (OfVariable depth y))
+      → IsHomed s depth k
   taken_base m [] ways none k has = absurd (subst (λ z. Has z k) none has)
   taken_base m (r ∷ rest) [] taken k has = absurd has
   taken_base m (r ∷ rest) (to ∷ ways) (inl copied) k has = taken_base m rest (to ∷ ways) copied.1 k has
   taken_base m (r ∷ rest) (to ∷ ways) (inr (one, apart, another, more)) k (inl same) =
-      ((one.0).inside.object, ap base_of (sym same) ∙ inside_base s depth r.to to (one.0).inside)
+      subst (IsHomed s depth) same (inside_homed s depth r.to to (one.0).inside)
   taken_base m (r ∷ rest) (to ∷ ways) (inr (one, apart, another, more)) k (inr has) = taken_base m rest ways more k has
 
   pub taken_on : (m n : Memory) (returns : List Return) (ways : List Way)
@@ -500,7 +506,7 @@ module _ (t : Turn) (settled : IsSettled (typing t).table) (own_law : OwnsByShap
         | inr later ↦ elim later [ inl taken_there ↦ inr (inl taken_there) | inr left ↦ inr (inr (left_more r rest w left)) ]
       ])
       (same_viewed (home s depth) (sees_only s) (away (r ∷ rest) ways) v (seen s begun.memory hands leaks) (seen s next hands leaks) facts on.same viewed))
-      (taken_on begun.memory next rest ways (λ k w has there none p c held. none p c (sym (on.hold depth there.object (p ++ there.steps)) ∙ held)) taken))))
+      (taken_on begun.memory next rest ways (λ k w has there none p c held. none p c (sym (on.hold there.frame there.object (p ++ there.steps)) ∙ held)) taken))))
 
   taken_first : (r : Return) (rest : List Return) (to : Way) (ways : List Way) (begun : Now) → (taken : IsTaken s begun.memory depth facts scope r to)
       → IsApartFrom to ways → IsAnother r.formal rest → AreTaken s cells begun.memory depth facts scope rest ways → AreThere (to ∷ ways) begun.memory → Kept s begun.memory hands
@@ -514,7 +520,7 @@ module _ (t : Turn) (settled : IsSettled (typing t).table) (own_law : OwnsByShap
       let ws : List machine.Word = words_of s begun.memory formal in
       let begin_ways = taken_base m rest ways later in
       let next : Memory = stored s r.to ws (moved_out s formal begun.memory) in
-      subst (GivenBack (r ∷ rest) (to ∷ ways) begun.memory) (sym (given_is t r rest begun depth (taken.0).inside.object (taken.0).inside.base))
+      subst (GivenBack (r ∷ rest) (to ∷ ways) begun.memory) (sym (given_is t r rest begun (taken.0).inside.frame (taken.0).inside.object (taken.0).inside.base))
       (if_back (λ n. IsBack (r ∷ rest) (to ∷ ways) begun.memory n) (fits_type s.table r.to.of ws) ws begun
       (λ us n. copied_back t rest (record n { memory = stored s r.to us (moved_out s formal n.memory) }))
       (backs_on (λ n. IsBack rest ways next n) (λ n. IsBack (r ∷ rest) (to ∷ ways) begun.memory n)
@@ -529,7 +535,7 @@ module _ (t : Turn) (settled : IsSettled (typing t).table) (own_law : OwnsByShap
           | inr there ↦ back.empty q there
           | inl same ↦ (λ p c held. elim (back.held (suc depth) r.formal p c (subst (λ (z : Return). word_in s.table (content s n [] (OfRoot (OfVariable (suc depth) z.formal))) p ≡ Held c) (sym same) held)) [
             | inl h ↦ one_empty r rest to ways m taken apart another begin_ways typed viewed p c h
-            | inr h ↦ (let frames = h.0 in omega (arith, frames))
+            | inr h ↦ (let frames = h.0 in let low = home_low s depth r.formal in omega (arith, frames, low))
           ])
         ];
         views = λ g y view. back.views g y view ∙ one_views r rest to ways m taken apart another begin_ways typed viewed g y view;

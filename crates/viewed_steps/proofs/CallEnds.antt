@@ -10,6 +10,7 @@ use Rattle.place_names.specs.declared.act.Act.{Act}
 use Rattle.place_names.specs.declared.fact.Fact.{Fact}
 use Rattle.place_names.specs.declared.fact.Fact.TheVariants.{Moved}
 use Rattle.place_names.specs.Names.{Name as PlaceName}
+use Rattle.place_names.specs.Facts.{place}
 use Rattle.type_definitions.specs.Types.{Table}
 use Rattle.typed_tree.specs.declared.object.ObjectKind.{ObjectKind}
 use Rattle.typed_tree.specs.declared.object.ObjectKind.TheVariants as object_kind
@@ -39,6 +40,7 @@ use Rattle.soundness.proofs.Contents.{bool_cases, word_no, word_dead}
 use Rattle.soundness.proofs.Steps.{no_leaf}
 use Rattle.soundness.proofs.Typings.{package_same, formal_same}
 use Rattle.soundness.proofs.Around.{same_or_not}
+use Rattle.owned_ways.proofs.Locations.{under_itself, past_under}
 use Rattle.soundness.proofs.Returning.{returned_kept, left_same, left_held, returns_lead, ends_lead, left_waits, ended_owned, Backs}
 use Rattle.owned_loans.specs.Views.{known_gone, Views, IsMovedBy, IsForeign, Viewed, ExcusedBy, Around, IsAway}
 use Rattle.owned_loans.proofs.Moves.{view_on, reached}
@@ -46,9 +48,9 @@ use Rattle.owned_loans.proofs.Ended.{stands_itself}
 use Rattle.viewed_soundness.proofs.Names.{neither, true_false}
 use Rattle.viewed_steps.specs.Awaited.{AreFor, AreValues, temporaries_of, lasting_of, awaited, AreAwaited}
 use Rattle.viewed_steps.proofs.Waited.{others_only, lasting_within}
-use Rattle.viewed_steps.specs.Sound.{ArePast, HoldsAt, ArePlaced, NoneAbove, ViewStage, stages_of, GoneElsewhere, IsWaiting, AreWaiting, ends_one, LeadsAlong, IsResting, HasTraversals, NoneGiven, AreTraversals}
+use Rattle.viewed_steps.specs.Sound.{loan_by, ArePast, HoldsAt, ArePlaced, NoneAbove, ViewStage, stages_of, GoneElsewhere, IsWaiting, AreWaiting, ends_one, LeadsAlong, IsResting, HasTraversals, NoneGiven, AreTraversals}
 use Rattle.viewed_steps.specs.Ready.{IsReady}
-use Rattle.viewed_steps.proofs.Waiting.{StandsBetween, all_between, handed, all_on, gone_low, kept_low, far, theirs, bare_still}
+use Rattle.viewed_steps.proofs.Waiting.{StandsBetween, all_between, handed, all_on, gone_low, kept_low, far, theirs, bare_still, some_frames, unused_there}
 use Rattle.viewed_steps.proofs.Left.{owned_left, covered_left, reach_left, reach_before, gone_before, other_word, no_word, whole_there}
 use Rattle.viewed_steps.proofs.Standing.{or_right}
 use Rattle.viewed_steps.proofs.Standing as standing
@@ -58,8 +60,11 @@ use Rattle.soundness.proofs.Passing.{signature_is}
 use Rattle.owned_ways.proofs.Dropped.{named_base}
 use Rattle.viewed_soundness.specs.Holds.{sees_only, is_view}
 use Rattle.viewed_steps.specs.Taken.{TakenBy, Lodge, AreCarried}
-use Rattle.viewed_steps.proofs.Between.{base_under, same_variable, taken_from as words_taken, taken_base}
-use Rattle.viewed_steps.proofs.Carried.{past_other}
+use Rattle.viewed_steps.proofs.Between.{home_low, homed_apart, base_under, same_variable, taken_from as words_taken, taken_base, IsHomed, number_based, base_along}
+use Rattle.viewed_steps.proofs.Outside.{IsSpared, kept_clear, bare_clear}
+use Rattle.viewed_steps.proofs.Apart.{kept_there, written_disturbs}
+use Rattle.viewed_steps.proofs.Views.{base_named}
+use Rattle.flow_paths.specs.Effects.{written_by}
 use Rattle.viewed_steps.proofs.Backed.{AwayBy, ViewedAway, IsBack, all_given_back}
 use Rattle.viewed_steps.proofs.Whole.{leaves_whole}
 use Rattle.viewed_steps.proofs.Views.{AreAccess, AreFar, lies_far, apart_by_base}
@@ -356,9 +361,9 @@ module _ (table : Table) (typed : TypedProgram) (effects : Effects) (input : Lis
           → ways.Under z w ⊎ ways.Under w z → ⊥
       whole_away x w z has foreign (inl gone) meets = waiting.2 x w z has foreign gone meets
       whole_away x w z has foreign (inr (inl taken)) meets =
-          let base = taken_base below.stage.returns below.stage.depth
+          let base = taken_base s below.stage.returns below.stage.depth
           (words_taken s below.cells state.memory below.stage.depth their_facts (lasting_of s waits.point.scope) top.frame.returns below.stage.returns waits.taken) z taken in
-          apart_by_base w z foreign.0 foreign.1 below.stage.depth base.0 foreign.2 base.1 (λ same. (let under = far_low x w has foreign in omega (arith, under, same))) meets
+          homed_apart s below.stage.depth z base w z foreign (under_itself z) meets
       whole_away x w z has foreign (inr (inr (y, base, none))) meets =
           apart_by_base w z foreign.0 foreign.1 (suc below.stage.depth) y foreign.2 base (λ same. (let under = far_low x w has foreign in omega (arith, under, same))) meets
 
@@ -396,7 +401,7 @@ module _ (table : Table) (typed : TypedProgram) (effects : Effects) (input : Lis
 
         nothing_mid : (x : ℕ) (q : List Step) (n : ℕ) → word_in s.table (content s mid (waiting_in state) (OfRoot (OfVariable depth x))) q ≡ Held n → ⊥
         nothing_mid x q n held = elim (on.held depth x q n held) [
-          | inr same_low ↦ (let a = same_low.0 in let b = low_is in omega (arith, a, b))
+          | inr same_low ↦ (let a = same_low.0 in let b = home_low s low x in let c = low_is in omega (arith, a, b, c))
           | inl before ↦ (
               let copied = left_formal is x q n before in
               on.empty copied.0 copied.1 q n
@@ -434,12 +439,22 @@ module _ (table : Table) (typed : TypedProgram) (effects : Effects) (input : Lis
             → (get_or (variable_slots s f x left_memory.variables) 0 no_slot).word ≡ (get_or (variable_slots s f x state.memory.variables) 0 no_slot).word
         words_before f x ne view = other_word s mid depth f x ne ∙ on.views f x view
 
+        -- a frame of the caller, or that of the package objects
+        home_left : (f x : ℕ) → f ≡ home s low x → (f < low) ⊎ ((f ≡ low) × (is_package_object s x ≡ false))
+        home_left f x at_home = elim (bool_cases (is_package_object s x)) [
+          | inr own ↦ inr (at_home ∙ ap (λ b. if b then 0 else low) own, own)
+          | inl shared ↦ (
+              let none : f ≡ 0 = at_home ∙ ap (λ b. if b then 0 else low) shared in
+              let some = some_frames h others rest stages_there.2 in
+              let same_depth = low_is in inl (omega (arith, none, some, same_depth)))
+        ]
+
         scope_left : (f x : ℕ) (q : List Step) (n : ℕ) → word_in s.table (content s left_memory [] (OfRoot (OfVariable f x))) q ≡ Held n
             → (f < low) ⊎ ((f ≡ low) × (is_within x (lasting_of s (waits.point).scope) ≡ true))
         scope_left f x q n held =
             let before = held_before f x q n held in
             elim (on.held f x q n before.1) [
-              | inr mine ↦ inr mine
+              | inr mine ↦ elim (home_left f x mine.0) [ inl less ↦ inl less | inr at ↦ inr (at.0, mine.1 at.1) ]
               | inl first ↦ elim (same_or_not f low) [
                 | inl e ↦ inr (e, waits.scope x q n (subst (λ z. word_in s.table (content s state.memory [] (OfRoot (OfVariable z x))) q ≡ Held n) e first))
                 | inr other_low ↦ inl (elim (scope f x q n first) [
@@ -519,6 +534,24 @@ module _ (table : Table) (typed : TypedProgram) (effects : Effects) (input : Lis
               cells = λ c q. left_there.1 c q ∙ on.carried.cells c q;
             }
 
+        -- what was taken begins at variables of the frame, or at package objects of which the others keep nothing
+        homed : (to : Way) → Has below.stage.returns to → IsHomed s below.stage.depth to
+        homed to has = words_taken s below.cells state.memory below.stage.depth their_facts (lasting_of s waits.point.scope) top.frame.returns below.stage.returns waits.taken to has
+
+        spared_to : (to : Way) (has : Has below.stage.returns to)
+            → IsSpared table typed effects unmoved_stage local state below.stage.depth (h ∷ others) between_low (homed to has).1
+        spared_to to has l name lent root =
+            let begin = homed to has in
+            let at : ways.base_of to ≡ OfRoot (OfVariable (home s below.stage.depth begin.1) begin.1) =
+            begin.2 ∙ ap (λ f. OfRoot (OfVariable f begin.1)) begin.3 in
+            let number : number_of to ≡ begin.1 = number_based (home s below.stage.depth) to begin.1 (base_named (home s below.stage.depth) to begin.1 at) at in
+            let (g, there, some, f, keeps, shared, kind, name_is) = lent in
+            let written = waits.written to has (ap (is_package_object s) (number ∙ sym root) ∙ shared) in
+            kept_there table typed effects ready.accepted.effects_are (unused_there table typed effects unmoved_stage local) state below.stage.frame.sub below.stage.frame.returns
+            (h ∷ others) waiting.1 g there some f keeps (ap (λ (z : PlaceName). is_package_object s z.root) name_is ∙ shared)
+            (written_disturbs table typed effects ready.accepted.effects_are (loan_by f) below.stage.frame.sub (place f).root
+            (subst (Has (written_by effects below.stage.frame.sub)) (number ∙ sym root ∙ ap (λ (z : PlaceName). z.root) (sym name_is)) written))
+
         -- nothing given waits in others
         none_in : more_frames ≡ h ∷ others → NoneGiven s h × AllByRecursion (NoneGiven s) others
         none_in same_more = subst (AllByRecursion (NoneGiven s)) same_more (above.1).0.2
@@ -528,17 +561,24 @@ module _ (table : Table) (typed : TypedProgram) (effects : Effects) (input : Lis
             all_on table typed effects unmoved_stage local state left_state low
             (λ f x q n some less held. elim (on.held f x q n (held_before f x q n held).1) [
               | inl before ↦ before
-              | inr mine ↦ (let same_low = mine.0 in absurd (omega (arith, less, same_low)))
+              | inr mine ↦ absurd (elim (bool_cases (is_package_object s x)) [
+                | inl shared ↦ (let none : f ≡ 0 = mine.0 ∙ ap (λ b. if b then 0 else low) shared in omega (arith, some, none))
+                | inr own ↦ (let same_low : f ≡ low = mine.0 ∙ ap (λ b. if b then 0 else low) own in omega (arith, less, same_low))
+              ])
             ])
             (λ f x some less view. words_before f x (λ same_depth. (let below_it = low_is in omega (arith, less, same_depth, below_it))) view)
             below.stage.frame.sub below.stage.frame.returns (h ∷ others) rest stages_there.2 (let same_depth = low_is in omega (arith, same_depth))
             (record {
               far = λ w n keeps. (let root = kept_low table typed effects unmoved_stage local state below.stage.depth (h ∷ others) between_low w n keeps in
                   reach_on w n (on.stays w root.0 root.1 root.2 (λ same_depth. (let less = root.3 in omega (arith, less, same_depth)))
-                  (λ to has. (let base = words_taken s below.cells state.memory below.stage.depth their_facts (lasting_of s waits.point.scope) top.frame.returns below.stage.returns waits.taken to has in
-                  past_other to w below.stage.depth base.0 root.0 root.1 base.1 root.2 (λ same_depth. (let less = root.3 in omega (arith, less, same_depth))))) n
+                  (λ to has past. kept_clear table typed effects unmoved_stage local state below.stage.depth (h ∷ others) between_low to (homed to has) (spared_to to has) w n keeps
+                  (base_under to w (past_under to w past))) n
                   (far table typed effects unmoved_stage local state below.stage.depth (h ∷ others) between_low w n keeps)));
-              bare = bare_still table typed effects unmoved_stage local (h ∷ others) state left_state left_carried.cells
+              bare = bare_still table typed effects unmoved_stage local (h ∷ others) state left_state (λ c q k held. sym (left_carried.cells c q) ∙ held)
+                  (λ y q r k there shared held. left_carried.held 0 y (r ++ q) k (λ same_depth. (let at = deep in omega (arith, same_depth, at)))
+                  (λ (to, has, steps_on, goes). bare_clear table typed effects unmoved_stage local state below.stage.depth (h ∷ others) between_low to (homed to has) (spared_to to has)
+                  (ways.Object (OfVariable 0 y)) (OfRoot (OfVariable 0 y)) q there
+                  (sym (base_along (ways.Object (OfVariable 0 y)) (r ++ q)) ∙ ap ways.base_of goes ∙ base_along to steps_on)) held)
                   (theirs table typed effects unmoved_stage local state below.stage.depth (h ∷ others) between_low).bare;
             }) waiting.1
 

@@ -67,7 +67,7 @@ use Rattle.viewed_steps.proofs.Emptied.{out_left, taken_back}
 use Rattle.viewed_steps.proofs.Outs.{Out, IsUnderOne}
 use Rattle.viewed_steps.proofs.Direct.{IsDirect, steps_direct, past_none, direct_leads, direct_itself, IsIn, walked_in, both_quiet, direct_part, part_reached}
 use Rattle.viewed_steps.proofs.LaidOut.{IsValueLaid, IsOwnPut, IsPlainAt, IsPlaceLaid, IsLaidOne, AreLaidOut, own_out, place_out, out_of, outs_of, IsOpenActual, AreOpenActuals}
-use Rattle.viewed_steps.proofs.Entered.{inside_plain, inside_named, inside_number, IsTyped, IsFit}
+use Rattle.viewed_steps.proofs.Entered.{inside_plain, inside_named, inside_number, IsFit}
 use Rattle.viewed_steps.proofs.Released.{nothing_written}
 use Rattle.viewed_steps.proofs.Lent.{ends, Spare, spare_both, spare_naming}
 use Rattle.soundness.proofs.Keeping.{top_points, retyped_points, scalar}
@@ -551,13 +551,12 @@ module _ (h : Here) (settled : IsSettled h.typing.table) (hands : List Waiting) 
   through_given before on e t place plain takes opens allowed = absurd place
 
   own_walked : (on : List (List machine.Word)) (p : Pos) (x y u : ℕ) (path : TypedTree) (q : List Step) (w : Way) → IsNamed h.typing.table u → Matches h.typing.table u (object_at h.typing x).of
-      → is_package_object h.typing y ≡ false → is_view_formal h.typing y ≡ false → w ≡ along (Object (OfVariable (home h.typing h.frame y) y)) q
+      → is_view_formal h.typing y ≡ false → w ≡ along (Object (OfVariable (home h.typing h.frame y) y)) q
       → ways.name_of w ≡ name_of y path → (z : Evaluated Place) → Walked h.typing settled hands leaks m on w u z
       → IsIn (memory.OfVariable (home h.typing h.frame y) y) z → Quiet (at on) (λ k. IsOwnPut h.typing h.frame x (Name p y path u) k) z
-  own_walked on p x y u path q w own fits local owner is called (Done k n) (l, same, spot, reaches, of) base =
+  own_walked on p x y u path q w own fits owner is called (Done k n) (l, same, spot, reaches, of) base =
       let root : Root = OfVariable (home h.typing h.frame y) y in
       let b : trunk l ≡ OfRoot root = spot.base ∙ ap loc_of base in
-      let at_home : home h.typing h.frame y ≡ h.frame = ap (λ z. if z then 0 else h.frame) local in
       let stands : l ≡ part (OfRoot root) q = part_reached (seen h.typing m hands leaks) root q l (subst (λ z. Reaches (seen h.typing m hands leaks) z l) is reaches) in
       let steps_are : steps_in l ≡ q = ap steps_in stands ∙ steps_part (OfRoot root) q ∙ append-nil q in (
         same,
@@ -566,9 +565,10 @@ module _ (h : Here) (settled : IsSettled h.typing.table) (hands : List Waiting) 
           record {
             object = y;
             steps = steps_in l;
-            way = is ∙ (λ j. along (Object (OfVariable (at_home j) y)) (sym steps_are j));
-            base = base ∙ ap (λ z. memory.OfVariable z y) at_home;
-            own = local;
+            frame = home h.typing h.frame y;
+            at_home = refl;
+            way = is ∙ ap (along (Object (OfVariable (home h.typing h.frame y) y))) (sym steps_are);
+            base = base;
             owner = owner;
             there = ap (λ z. has_part h.typing.table (content h.typing m hands z).of (steps_in l)) (sym b) ∙ spot.there;
             at = spot.at ∙ ap (λ z. offset_in h.typing.table (content h.typing m hands z).of (steps_in l)) b;
@@ -580,16 +580,16 @@ module _ (h : Here) (settled : IsSettled h.typing.table) (hands : List Waiting) 
           subst (λ z. Matches h.typing.table z (object_at h.typing x).of) (sym of) fits,
         ),
       )
-  own_walked on p x y u path q w own fits local owner is called (Raises e n) there base = there
-  own_walked on p x y u path q w own fits local owner is called (Traps t n) never base = absurd never
+  own_walked on p x y u path q w own fits owner is called (Raises e n) there base = there
+  own_walked on p x y u path q w own fits owner is called (Traps t n) never base = absurd never
 
   own_given : (on : List (List machine.Word)) (x : ℕ) (p : Pos) (y u : ℕ) (path : TypedTree) (way : List run.Step) → IsNamed h.typing.table u → Matches h.typing.table u (object_at h.typing x).of
-      → is_package_object h.typing y ≡ false → is_view_formal h.typing y ≡ false → GoesAlong h.typing.table (object_at h.typing y).of u path way → IsDirect way
+      → is_view_formal h.typing y ≡ false → GoesAlong h.typing.table (object_at h.typing y).of u path way → IsDirect way
       → Quiet (at on) (λ k. IsOwnPut h.typing h.frame x (Name p y path u) k) (walked h.typing way (variable_place h y) (at on))
-  own_given on x p y u path way own fits local owner goes direct =
+  own_given on x p y u path way own fits owner goes direct =
       let root : Way = Object (OfVariable (home h.typing h.frame y) y) in
       let flat = direct_part (OfVariable (home h.typing h.frame y) y) way direct [] in
-      own_walked on p x y u path flat.0 (way_along way root) own fits local owner flat.1
+      own_walked on p x y u path flat.0 (way_along way root) own fits owner flat.1
       (λ j. record { root = number_along way root j; sels = goes.sels root j })
       (walked h.typing way (variable_place h y) (at on))
       (walk h.typing settled hands leaks m on (ExcusedBy (home h.typing h.frame) v other facts) kept well.owned well.known live way (variable_place h y)
@@ -602,14 +602,14 @@ module _ (h : Here) (settled : IsSettled h.typing.table) (hands : List Waiting) 
       → IsOwnPlace h.typing e → Takes (waits_in e) before on → goes_through_none e ≡ true
       → AllowsAll facts (acts (index_acts h.typing e)) → Quiet (at on) (λ k. IsOwnPut h.typing h.frame x e k) (place_of h e (at before))
   unfolding waits_in goes_through_none
-  own_place_given before on x (Name p y path u) t (leads, type) own fits local takes direct allowed =
+  own_place_given before on x (Name p y path u) t (leads, type) own fits owner takes direct allowed =
       let inner = steps_taking h settled hands leaks m waits other facts v kept well holds alone live index_law own_law parts_named (object_at h.typing y).of u path leads before on takes allowed in
       quiet_then (at on) (λ way. GoesAlong h.typing.table (object_at h.typing y).of u path way × IsDirect way) (λ k. IsOwnPut h.typing h.frame x (Name p y path u) k) (steps_of h path (at before))
       (λ way now. walked h.typing way (variable_place h y) now)
       (both_quiet (at on) (λ way. GoesAlong h.typing.table (object_at h.typing y).of u path way) (steps_of h path (at before)) inner.0 (steps_direct h path direct (at before)))
       (λ way both. own_given on x p y u path way (subst (IsNamed h.typing.table) (sym type) own) (subst (λ z. Matches h.typing.table z (object_at h.typing x).of) (sym type) fits)
-      (local y (inl refl)).0 (local y (inl refl)).1 both.0 both.1)
-  own_place_given before on x e t place own fits local takes direct allowed = absurd place
+      (owner y (inl refl)) both.0 both.1)
+  own_place_given before on x e t place own fits owner takes direct allowed = absurd place
 
   -- ---- all of them
 

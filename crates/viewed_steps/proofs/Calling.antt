@@ -8,7 +8,7 @@ use Rattle.spark_base.proofs.Lists.{Has-map_from, Has-append_left}
 use Rattle.std.proofs.Common.{◌≡◌, refl, sym, ap, ◌∙◌, subst, ◌⊎◌, inl, inr, ℕ, suc, ◌<◌, true, false, ◌==◌, List, [], ◌∷◌, ◌++◌, map, take, drop, length, get_or, arith, Option, Some, None, is_some, Bool, not, ◌||◌, flat_map, ◌&&◌}
 use Rattle.std.specs.Prelude.{is_some}
 use Rattle.spark_base.specs.Lists.{Has}
-use Rattle.spark_base.proofs.Lists.{Has-append_cases, Has-map_from}
+use Rattle.spark_base.proofs.Lists.{Has-append_cases, Has-map_from, Has-append_right}
 use Rattle.place_names.specs.declared.act.Act.{Act}
 use Rattle.place_names.specs.declared.act.Act.TheVariants as act
 use Rattle.place_names.specs.declared.act.Placed.{Placed}
@@ -81,20 +81,23 @@ use Rattle.place_names.specs.declared.act.Mode.{Mode}
 use Rattle.viewed_soundness.proofs.Given.{IsLow, foreign_there, low_there}
 use Rattle.viewed_steps.specs.Awaited.{AreValuesBut, temporaries_of, lasting_of, awaited, WaitsAt, AreAwaited, AreScalar, FillsTyped, TakesScalars, IsTakenBy}
 use Rattle.viewed_steps.proofs.Waited.{late_scope, within_lasting, lasting_more, Shares, plain_unheld}
-use Rattle.viewed_steps.specs.Sound.{IsCopiedBack, ArePast, AreUnmet, HoldsAt, ArePlaced, NoneAbove, ViewStage, stages_of, GoneElsewhere, Disturbs, IsWaiting, AreWaiting, calls_one, LeadsAlong, IsResting, IsKindOfFormal, IsScalarObject, AreReturned, withheld, KeptBy, IsWayOf, HasTraversals, NoneGiven}
+use Rattle.viewed_steps.specs.Sound.{IsCopiedBack, ArePast, AreUnmet, HoldsAt, ArePlaced, NoneAbove, ViewStage, stages_of, GoneElsewhere, Disturbs, IsWaiting, AreWaiting, calls_one, LeadsAlong, IsResting, IsKindOfFormal, IsScalarObject, AreReturned, withheld, KeptBy, IsWayOf, IsBareOf, HasTraversals, NoneGiven}
 use Rattle.viewed_steps.specs.Ready.{IsReady, roots_passed, IsCalled}
 use Rattle.viewed_steps.specs.Taken.{TakenBy, AreTaken, AreCarried, Lodge}
 use Rattle.viewed_steps.proofs.Apart.{moved_same}
 use Rattle.viewed_steps.proofs.Lent.{Spare, spare_both, loans_stay}
 use Rattle.viewed_steps.proofs.Placed.{within_on, lasts_more, scope_on, placed_on}
 use Rattle.viewed_steps.proofs.Waiting.{StandsBetween, gone_low, kept_low, beside_them, handed, elsewhere_excused, all_on, bare_still}
-use Rattle.viewed_steps.proofs.Between.{gone_also, more_gone, base_along, base_under, same_variable, not_named}
+use Rattle.viewed_steps.proofs.Between.{gone_also, more_gone, base_along, base_under, same_variable, not_named, IsHomed, homed_apart, number_based, taken_bare}
 use Rattle.viewed_steps.proofs.Called.{AreGiven, all_laid_out, all_given, all_acted, values_are_read, call_adds_none, passes_to, spare_reads, spare_copies}
-use Rattle.viewed_steps.proofs.Carried.{past_other}
+use Rattle.viewed_steps.proofs.Outside.{IsSpared, kept_clear, gone_clear}
+use Rattle.viewed_steps.proofs.Globals.{copied_act, passed_unused}
+use Rattle.viewed_steps.proofs.Apart.{written_disturbs}
+use Rattle.flow_paths.specs.Effects.{written_by}
 use Rattle.viewed_steps.proofs.Aside.{names_off, part_apart}
 use Rattle.viewed_steps.proofs.LaidOut.{AreLaidOut, outs_of, cells_of, AreOpenActuals}
 use Rattle.viewed_steps.proofs.Outs.{Out, IsUnderOne, found_in}
-use Rattle.viewed_steps.proofs.Entered.{ArePassedOn, IsOpen, AreBlank, not_above, passed_base, outs_taken, passed_own, inside_plain, inside_named, inside_number, inside_itself, passed_one}
+use Rattle.viewed_steps.proofs.Entered.{ArePassedOn, IsOpen, AreBlank, not_above, passed_base, outs_taken, inside_plain, inside_named, inside_number, inside_itself, passed_one}
 use Rattle.viewed_steps.proofs.Entering.{owns_there, AreDeclared, Enter, formals_of_returns, all_declared}
 use Rattle.viewed_steps.proofs.Passed.{IsNamedBy, all_passed_on, found_there, all_returned, call_goes, apart_or, apart_there}
 use Rattle.viewed_steps.proofs.Cells.{passed_apart, passed_formal, are_kept, all_in, all_open, IsCellNamed, named_before, cells_named}
@@ -103,7 +106,7 @@ use Rattle.viewed_steps.proofs.Uses.{called_writes, lent_spared}
 use Rattle.viewed_steps.proofs.Standing as standing
 use Rattle.viewed_steps.proofs.Packages as packages
 use Rattle.viewed_steps.proofs.Innermost as innermost
-use Rattle.viewed_steps.proofs.Views.{AreAccess, AreFar, apart_by_base, all_held, lies_far, not_elsewhere, formal_view, anonymous_view, scalar_no_view, view_cases}
+use Rattle.viewed_steps.proofs.Views.{AreAccess, AreFar, all_held, lies_far, not_elsewhere, formal_view, anonymous_view, scalar_no_view, view_cases, base_named}
 use Rattle.viewed_steps.proofs.Shown.{same_cells}
 use Rattle.viewed_steps.proofs.Seeing.{AreClear}
 use Rattle.viewed_steps.proofs.Clear.{all_clear}
@@ -448,9 +451,13 @@ module _ (table : Table) (typed : TypedProgram) (effects : Effects) (input : Lis
           by_result (Some of) is =
               let answers : (sub_at s n).result ≡ Some of = ap (λ (z : Signature). z.result) (signature_is program n) ∙ is in
               let modes : (x : ℕ) → Has formals x → (object_at s x).mode ≡ mode.In = (λ x has. ready.class.modes n of answers x (there_formals x has)) in
-              inl (modes, (λ x has back. back (modes x has)), λ x has formal.
-                  sees_shown (is_observer s x) (is_view_formal s x) (is_in_formal s x && is_anonymous (view_of s x)) (is_exclusive s x) formal
-                  (ready.class.functions n of answers x (there_formals x has) (called.formals x has) formal))
+              inl (
+                modes,
+                (λ x has back. back (modes x has)),
+                λ x has formal.
+                    sees_shown (is_observer s x) (is_view_formal s x) (is_in_formal s x && is_anonymous (view_of s x)) (is_exclusive s x) formal
+                    (ready.class.functions n of answers x (there_formals x has) (called.formals x has) formal),
+              )
           by_result None is = inr (lent_there is)
 
       clear_there : AreClear s facts_now formals actuals
@@ -648,7 +655,11 @@ module _ (table : Table) (typed : TypedProgram) (effects : Effects) (input : Lis
         abbrev pub ways_taken : List Way
         ways_taken = all_passed_ways.0
 
-        out_base : (o : Out) → Has outs o → (y : ℕ) × (ways.base_of o.way ≡ ways.OfRoot (ways.OfVariable depth y))
+        -- they begin at variables of the frame, or of package objects
+        homed : (to : Way) → Has ways_taken to → IsHomed s depth to
+        homed to has = passed_base s state.memory cells depth facts_called next_there formals passed ways_taken outs all_passed_ways.1 to has
+
+        out_base : (o : Out) → Has outs o → IsHomed s depth o.way
         out_base o has =
             passed_base s state.memory cells depth facts_called next_there formals passed ways_taken outs all_passed_ways.1 o.way
             (outs_taken s state.memory cells depth facts_called next_there formals passed ways_taken outs all_passed_ways.1 o has)
@@ -659,8 +670,7 @@ module _ (table : Table) (typed : TypedProgram) (effects : Effects) (input : Lis
         outs_apart : (y : ℕ) (w z : Way) → views.way y ≡ Some w → IsForeign (home s depth) w → outs_gone z → ways.Under z w ⊎ ways.Under w z → ⊥
         outs_apart y w z has foreign (inl gone) meets = well_before.whole y w z has foreign gone meets
         outs_apart y w z has foreign (inr (o, has_o, under)) meets =
-            apart_by_base w z foreign.0 foreign.1 depth (out_base o has_o).0 foreign.2 (base_under o.way z under ∙ (out_base o has_o).1)
-            (λ same. (let low = far_views y w has foreign in omega (arith, low, same))) meets
+            homed_apart s depth o.way (out_base o has_o) w z foreign under meets
 
         -- the state is sound with views under the facts after the acts, where what is to be emptied may be gone
         abbrev around_outs : Around (home s depth)
@@ -736,15 +746,48 @@ module _ (table : Table) (typed : TypedProgram) (effects : Effects) (input : Lis
                       (subst (λ z. overlaps z cell.by.actual.name ≡ true) (sym by.3) (subst (λ z. overlaps (ways.name_of to) z ≡ true) (sym cell.called) over))
                 ]
 
+        -- a package object that is passed to be copied back to is written
+        act_of_passed : (b : alias.Passed) → Has (alias.passed formals actuals) b → IsCopiedBack s b.formal → is_package_object s b.actual.name.root ≡ true
+            → Has (written_by effects top.frame.sub) b.actual.name.root
+        act_of_passed b has back shared =
+            let act = copied_act s procedure formals actuals b has back in
+            innermost.act_writes_it table typed effects input ready state top below more_frames rest named p frames deep stages running awaiting of_sub at_point path views viewed_before kept scope holds placed_before above
+            b.actual.name.root shared main_turn.point (standing.in_sub table typed effects input ready state top older outer named p frames of_sub at_point) act.0
+            (subst (λ z. Has z act.0) (sym values_are ∙ standing.acts_agree table typed effects input ready state top older outer named p frames of_sub at_point)
+            (Has-append_right values copies act.0 act.1)) act.2
+
+        written_to : (to : Way) → Has ways_taken to → is_package_object s (ways.number_of to) ≡ true → Has (written_by effects top.frame.sub) (ways.number_of to)
+        written_to to has shared =
+            let by = all_passed_ways.2 to has in
+            subst (λ (z : PlaceName). Has (written_by effects top.frame.sub) z.root) by.3
+            (act_of_passed by.0 by.1 by.2 (ap (λ (z : PlaceName). is_package_object s z.root) by.3 ∙ shared))
+
+        -- and the callee doesn't use it
+        unused_to : (to : Way) → Has ways_taken to → is_package_object s (ways.number_of to) ≡ true → Uses effects n (ways.number_of to) → ⊥
+        unused_to to has shared uses =
+            let by = all_passed_ways.2 to has in
+            passed_unused program effects ready.accepted.no_reports (flow_sub own named)
+            (standing.in_program table typed effects input ready state top older outer named p frames of_sub at_point) main_turn.point
+            (standing.in_sub table typed effects input ready state top older outer named p frames of_sub at_point) n actuals result e called.answers
+            (λ of answers x has. ready.class.modes n of answers x has) by.0 by.1 by.2 (ap (λ (z : PlaceName). is_package_object s z.root) by.3 ∙ shared)
+            (subst (λ (z : PlaceName). Uses effects n z.root) (sym by.3) uses)
+
+        -- so the frames around keep nothing of it
+        spared_to : (to : Way) (has : Has ways_taken to) → IsSpared table typed effects unmoved_stage local state depth older between (homed to has).1
+        spared_to to has l name lent root =
+            let begin = homed to has in
+            let at : ways.base_of to ≡ ways.OfRoot (ways.OfVariable (home s depth begin.1) begin.1) = begin.2 ∙ ap (λ f. ways.OfRoot (ways.OfVariable f begin.1)) begin.3 in
+            let number : ways.number_of to ≡ begin.1 = number_based (home s depth) to begin.1 (base_named (home s depth) to begin.1 at) at in
+            let written = written_to to has (ap (is_package_object s) (number ∙ sym root) ∙ lent.5) in
+            innermost.spared_here table typed effects input ready state top below more_frames rest named p frames deep stages running awaiting of_sub at_point path views viewed_before kept scope holds placed_before above
+            l name lent (written_disturbs table typed effects ready.accepted.effects_are l top.frame.sub name.root
+            (subst (Has (written_by effects top.frame.sub)) (number ∙ sym root) written))
+
         pub open_there : IsOpen (home s depth) other_all ways_taken
         open_there = record {
           free = λ k w under gone. (let root = gone_low table typed effects unmoved_stage local state depth older between w gone in
               hand_base (sym (base_under (ways.Object (ways.OfHand k)) w under) ∙ root.2));
-          whole = λ to has w under gone. (
-              let root = gone_low table typed effects unmoved_stage local state depth older between w gone in
-              let base = passed_base s state.memory cells depth facts_called next_there formals passed ways_taken outs all_passed_ways.1 to has in
-              let frames_same = (same_variable root.0 root.1 depth base.0 (sym root.2 ∙ base_under to w under ∙ base.1)).0 in
-              let less = root.3 in omega (arith, frames_same, less));
+          whole = λ to has w under gone. gone_clear table typed effects unmoved_stage local state depth older between to (homed to has) (spared_to to has) w gone (base_under to w under);
           none = λ w k keeps_it. keeps_it;
         }
           where
@@ -803,7 +846,7 @@ module _ (table : Table) (typed : TypedProgram) (effects : Effects) (input : Lis
         enters =
             all_declared s ready.accepted.settled ready.owns in_formals (waiting_in easy.state) depth views far_views facts_called next_there cells cell_begins other_all state.leaks formals passed ways_taken outs
             state.memory state.memory all_passed_ways.1 open_there (viewed_easy plain_there.0).1 (viewed_easy plain_there.0).1
-            (λ c has. ((named_cell c has).reaches, cell_aside c has)) well_all blank_formals (λ o has y q k is. refl) (same_cells state.memory state.memory refl)
+            (λ c has. ((named_cell c has).reaches, cell_aside c has)) well_all blank_formals (λ o has f y q some is k. refl) (same_cells state.memory state.memory refl)
 
         abbrev declared_there : AreDeclared s ready.accepted.settled ready.owns in_formals (waiting_in easy.state) depth views far_views facts_called next_there cells cell_begins formals passed ways_taken state.leaks leaks_then
             state.memory with_all
@@ -863,10 +906,24 @@ module _ (table : Table) (typed : TypedProgram) (effects : Effects) (input : Lis
               | inl fact ↦ spared_then name (subst (λ z. Has z (Moved name)) facts_there fact) shared uses
               | inr taken ↦ (
                   let from = Has-map_from (λ (to : Way). Moved (ways.name_of to)) ways_taken (Moved name) taken in
-                  true_false (is_package_object s name.root) shared
-                  (subst (λ (z : PlaceName). is_package_object s z.root ≡ false) (moved_same (ways.name_of from.0) name from.2)
-                  (passed_own s state.memory cells depth facts_called next_there formals passed ways_taken outs all_passed_ways.1 from.0 from.1)))
+                  let same : ways.name_of from.0 ≡ name = moved_same (ways.name_of from.0) name from.2 in
+                  unused_to from.0 from.1 (ap (λ (z : PlaceName). is_package_object s z.root) same ∙ shared) (subst (λ (z : PlaceName). Uses effects n z.root) (sym same) uses))
             ]
+
+        taken_then : AreTaken s cells with_all depth facts_called next_there (returns_of formals passed) ways_taken
+        taken_then = enters.2
+
+        -- no number stands in what is taken
+        bare_there : (w : Way) (l : ways.Loc) (q : List Step) → IsBareOf s waits_there w l q → (r : List Step) (k : ℕ)
+            → word_in s.table (content s with_all [] l) (r ++ q) ≡ ways.Held k → ⊥
+        bare_there w l q (taken, inl (c, has, way, is)) r k held =
+            let inside = ((passed_one s state.memory cells depth facts_called next_there formals passed ways_taken outs all_passed_ways.1 (ways.along w q) taken).2).inside in
+            part_apart (view_here s easy.state) w c.cell (subst (λ z. ways.Reaches (view_here s easy.state) z (ways.OfCell c.cell)) way (named_cell c has).reaches)
+            (ways.OfVariable inside.frame inside.object) q inside.steps inside.way
+        bare_there w l q (taken, inr (y, also, way, is)) r k held =
+            taken_bare s cells with_all depth facts_called next_there (returns_of formals passed) ways_taken taken_then 0 y q
+            (subst (λ z. Has ways_taken (ways.along z q)) (sym way) taken) r k
+            (subst (λ z. word_in s.table (content s with_all [] z) (r ++ q) ≡ ways.Held k) (sym is) held)
 
         is_waiting : IsWaiting table typed effects after_call n (returns_of formals passed) waits_there
         is_waiting = record {
@@ -886,7 +943,7 @@ module _ (table : Table) (typed : TypedProgram) (effects : Effects) (input : Lis
           ];
           lends = lends_there;
           unmoved = λ name has shared uses. kept_unused name has shared uses;
-          written = λ to has shared. absurd (true_false (is_package_object s (ways.number_of to)) shared (passed_own s state.memory cells depth facts_called next_there formals passed ways_taken outs all_passed_ways.1 to has));
+          written = λ to has shared. written_to to has shared;
           uses = λ x uses. called_used program effects ready.accepted.effects_are top.frame.sub (flow_sub own named) sub_at_all sub_less n callee_less
               main_turn.point (standing.in_sub table typed effects input ready state top older outer named p frames of_sub at_point) actuals result e x uses;
           writes = λ x written. called_writes program effects ready.accepted.effects_are top.frame.sub (flow_sub own named) sub_at_all sub_less n callee_less
@@ -914,9 +971,7 @@ module _ (table : Table) (typed : TypedProgram) (effects : Effects) (input : Lis
                 declared_there.stays c.way begin.0 begin.1 begin.2 begin.3 (cell_aside c has) c.cell (named_cell c has).reaches);
             aside = cell_aside c has;
           };
-          bare = λ w l p (taken, (c, has, way, is)) q k held. (let inside = ((passed_one s state.memory cells depth facts_called next_there formals passed ways_taken outs all_passed_ways.1 (ways.along w p) taken).2).inside in
-              absurd (part_apart (view_here s easy.state) w c.cell (subst (λ z. ways.Reaches (view_here s easy.state) z (ways.OfCell c.cell)) way (named_cell c has).reaches)
-              (ways.OfVariable depth inside.object) p inside.steps inside.way));
+          bare = bare_there;
           taken = subst (λ z. AreTaken s cells with_all top.depth z next_there (returns_of formals passed) all_passed_ways.0) (sym facts_there)
               (subst (λ d. AreTaken s cells with_all d facts_called next_there (returns_of formals passed) all_passed_ways.0) (sym deep) enters.2);
         }
@@ -934,11 +989,11 @@ module _ (table : Table) (typed : TypedProgram) (effects : Effects) (input : Lis
               far = λ w k keeps_it. (let root = kept_low table typed effects unmoved_stage local state depth older between w k keeps_it in
                   subst (λ z. ways.Reaches z w (ways.OfCell k)) view_called
                   (declared_there.stays w root.0 root.1 root.2 (λ same. (let less = root.3 in omega (arith, less, same)))
-                  (λ to taken. (
-                  let base = passed_base s state.memory cells depth facts_called next_there formals passed ways_taken outs all_passed_ways.1 to taken in
-                  past_other to w depth base.0 root.0 root.1 base.1 root.2 (λ same. (let less = root.3 in omega (arith, less, same))))) k
+                  (λ to taken past. kept_clear table typed effects unmoved_stage local state depth older between to (homed to taken) (spared_to to taken) w k keeps_it
+                  (base_under to w (past_under to w past))) k
                   (((viewed_easy plain_there.0).0).far w k keeps_it)));
-              bare = bare_still table typed effects unmoved_stage local older easy.state after_call declared_there.carried.cells ((viewed_easy plain_there.0).0).bare;
+              bare = bare_still table typed effects unmoved_stage local older easy.state after_call (λ c q k held. sym (declared_there.carried.cells c q) ∙ held)
+                  (λ y q r k there shared held. held_called 0 y (r ++ q) k (λ above_it. omega (arith, above_it)) held) ((viewed_easy plain_there.0).0).bare;
             }) running.2
 
         -- what is gone then is known to those that wait

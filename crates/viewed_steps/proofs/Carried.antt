@@ -1,9 +1,9 @@
 -- What a place has is taken by a call, or by its end, and given to a place that has no number: the
 -- state stays sound with views.
-use Rattle.std.proofs.Common.{◌≡◌, refl, sym, ap, ◌∙◌, subst, ◌⊎◌, inl, inr, ℕ, ◌+◌, Bool, true, false, not, List, [], ◌∷◌, ◌++◌, take, drop, length, get_or, append-nil, Some, arith}
+use Rattle.std.proofs.Common.{◌≡◌, refl, sym, ap, ◌∙◌, subst, ◌⊎◌, inl, inr, ℕ, ◌+◌, Bool, true, false, not, List, [], ◌∷◌, ◌++◌, take, drop, length, get_or, append-nil, Some, arith, suc, ◌<◌, if◌then◌else◌}
 use Rattle.place_names.specs.declared.fact.Fact.{Fact}
 use Rattle.type_definitions.specs.Types.{words}
-use Rattle.flow_paths.specs.Objects.{Typing, object_at}
+use Rattle.flow_paths.specs.Objects.{Typing, object_at, is_package_object}
 use Rattle.machine.specs.Words.{access_offsets}
 use Rattle.machine.specs.Words as machine
 use Rattle.machine.specs.Memory.{Slot, Memory, Place, fresh, cell, no_slot, slots_of, slots_at, words_of, gone_at, stored, moved_out}
@@ -22,7 +22,7 @@ use Rattle.soundness.proofs.Steps.{put_count, put_freed, stores, takes}
 use Rattle.owned_loans.specs.Views.{Around, Views, ExcusedBy, Viewed, IsForeign}
 use Rattle.owned_loans.proofs.Moves.{no_hand, view_rooted}
 use Rattle.viewed_steps.specs.Taken.{IsInside}
-use Rattle.viewed_steps.proofs.Between.{gone_also, IsClearOf, moved_between, base_under, base_along, same_variable, not_named}
+use Rattle.viewed_steps.proofs.Between.{IsHomed, gone_also, IsClearOf, moved_between, base_under, base_along, same_variable, not_named}
 use Rattle.viewed_steps.proofs.Views.{AreFar}
 
 -- ---- places in variables
@@ -30,43 +30,54 @@ use Rattle.viewed_steps.proofs.Views.{AreFar}
 module _ (s : Typing) (depth : ℕ) (k : Place) (to : Way) (inside : IsInside s depth k to) where
   -- where it is
   abbrev pub inside_at : Loc
-  inside_at = part (OfRoot (OfVariable depth inside.object)) inside.steps
+  inside_at = part (OfRoot (OfVariable inside.frame inside.object)) inside.steps
 
-  pub trunk_is : trunk (part (OfRoot (OfVariable depth inside.object)) inside.steps) ≡ OfRoot (OfVariable depth inside.object)
-  trunk_is = trunk_part (OfRoot (OfVariable depth inside.object)) inside.steps
+  pub trunk_is : trunk (part (OfRoot (OfVariable inside.frame inside.object)) inside.steps) ≡ OfRoot (OfVariable inside.frame inside.object)
+  trunk_is = trunk_part (OfRoot (OfVariable inside.frame inside.object)) inside.steps
 
-  pub inside_steps : steps_in (part (OfRoot (OfVariable depth inside.object)) inside.steps) ≡ inside.steps
-  inside_steps = steps_part (OfRoot (OfVariable depth inside.object)) inside.steps ∙ append-nil inside.steps
+  pub inside_steps : steps_in (part (OfRoot (OfVariable inside.frame inside.object)) inside.steps) ≡ inside.steps
+  inside_steps = steps_part (OfRoot (OfVariable inside.frame inside.object)) inside.steps ∙ append-nil inside.steps
 
-  pub inside_spot : (m : Memory) (hands : List Waiting) → Spot s m hands k (part (OfRoot (OfVariable depth inside.object)) inside.steps)
+  pub inside_spot : (m : Memory) (hands : List Waiting) → Spot s m hands k (part (OfRoot (OfVariable inside.frame inside.object)) inside.steps)
   inside_spot m hands = record {
     base = trunk_is ∙ ap loc_of (sym inside.base);
     made = subst (λ b. IsMade m b) (sym inside.base) tt;
     at = inside.at ∙ (λ j. offset_in s.table (content s m hands (sym trunk_is j)).of (sym inside_steps j));
     there = (λ j. has_part s.table (content s m hands (trunk_is j)).of (inside_steps j)) ∙ inside.there;
-    of = subst (λ z. Matches s.table k.of (type_in s.table (content s m hands z).of (steps_in (part (OfRoot (OfVariable depth inside.object)) inside.steps)))) (sym trunk_is)
+    of = subst (λ z. Matches s.table k.of (type_in s.table (content s m hands z).of (steps_in (part (OfRoot (OfVariable inside.frame inside.object)) inside.steps)))) (sym trunk_is)
         (subst (λ z. Matches s.table k.of (type_in s.table (object_at s inside.object).of z)) (sym inside_steps) inside.of);
   }
 
-  pub inside_reached : (view : View) → Reaches view to (part (OfRoot (OfVariable depth inside.object)) inside.steps)
+  pub inside_reached : (view : View) → Reaches view to (part (OfRoot (OfVariable inside.frame inside.object)) inside.steps)
   inside_reached view =
-      subst (λ w. Reaches view w (part (OfRoot (OfVariable depth inside.object)) inside.steps)) (sym inside.way)
-      (reaches_along view (Object (OfVariable depth inside.object)) (OfRoot (OfVariable depth inside.object)) inside.steps refl)
+      subst (λ w. Reaches view w (part (OfRoot (OfVariable inside.frame inside.object)) inside.steps)) (sym inside.way)
+      (reaches_along view (Object (OfVariable inside.frame inside.object)) (OfRoot (OfVariable inside.frame inside.object)) inside.steps refl)
 
-  pub inside_base : base_of to ≡ OfRoot (OfVariable depth inside.object)
-  inside_base = ap base_of inside.way ∙ base_along (Object (OfVariable depth inside.object)) inside.steps
+  pub inside_base : base_of to ≡ OfRoot (OfVariable inside.frame inside.object)
+  inside_base = ap base_of inside.way ∙ base_along (Object (OfVariable inside.frame inside.object)) inside.steps
+
+  -- no frame above
+  pub inside_low : inside.frame < suc depth
+  inside_low = by_package (is_package_object s inside.object) inside.at_home
+    where
+      by_package : (b : Bool) → inside.frame ≡ (if b then 0 else depth) → inside.frame < suc depth
+      by_package true is = omega (arith, is)
+      by_package false is = omega (arith, is)
+
+  pub inside_homed : IsHomed s depth to
+  inside_homed = (inside.frame, inside.object, inside_base, inside.at_home)
 
   pub inside_rooted : IsRooted to
-  inside_rooted = subst IsRooted (sym inside.way) (named_along (Object (OfVariable depth inside.object)) inside.steps tt)
+  inside_rooted = subst IsRooted (sym inside.way) (named_along (Object (OfVariable inside.frame inside.object)) inside.steps tt)
 
   pub inside_owns : (m : Memory) (hands : List Waiting) → is_view_formal s inside.object ≡ false
-      → (content s m hands (trunk (part (OfRoot (OfVariable depth inside.object)) inside.steps))).owns ≡ true
+      → (content s m hands (trunk (part (OfRoot (OfVariable inside.frame inside.object)) inside.steps))).owns ≡ true
   inside_owns m hands plain = ap (λ z. (content s m hands z).owns) trunk_is ∙ ap not plain
 
   -- the words there
   pub inside_word : (m : Memory) (hands : List Waiting) (p : List Step)
-      → word_in s.table (content s m hands (trunk (part (OfRoot (OfVariable depth inside.object)) inside.steps))) (p ++ steps_in (part (OfRoot (OfVariable depth inside.object)) inside.steps))
-      ≡ word_in s.table (content s m [] (OfRoot (OfVariable depth inside.object))) (p ++ inside.steps)
+      → word_in s.table (content s m hands (trunk (part (OfRoot (OfVariable inside.frame inside.object)) inside.steps))) (p ++ steps_in (part (OfRoot (OfVariable inside.frame inside.object)) inside.steps))
+      ≡ word_in s.table (content s m [] (OfRoot (OfVariable inside.frame inside.object))) (p ++ inside.steps)
   inside_word m hands p =
       (λ j. word_in s.table (content s m hands (trunk_is j)) (p ++ inside_steps j))
 

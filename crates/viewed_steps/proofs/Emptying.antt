@@ -25,7 +25,7 @@ use Rattle.viewed_soundness.proofs.Names.{owner_sees, both_no, true_false, not_v
 use Rattle.viewed_soundness.proofs.Evaluated.{matches_named}
 use Rattle.viewed_steps.specs.Taken.{AreCarried, IsPassedOn, IsBare}
 use Rattle.viewed_steps.proofs.Between.{gone_also, same_reaches, IsClearOf, same_variable}
-use Rattle.viewed_steps.proofs.Carried.{trunk_is, cell_off, inside_at, inside_spot, inside_reached, inside_rooted, inside_owns, inside_word}
+use Rattle.viewed_steps.proofs.Carried.{inside_low, trunk_is, cell_off, inside_at, inside_spot, inside_reached, inside_rooted, inside_owns, inside_word}
 use Rattle.viewed_steps.proofs.Beside.{put_beside}
 use Rattle.viewed_steps.proofs.Emptied.{IsEmptied, none_left, owner_before, keeps_off, emptied}
 use Rattle.viewed_steps.proofs.Vacated.{vacated, vacated_gone, default_same}
@@ -76,7 +76,7 @@ module _ (s : Typing) (settled : IsSettled s.table) (own_law : OwnsByShape s.tab
   frames_differ f y g z ne e = (let same : f ≡ g = cc in ne same)
 
   -- the variable of the place alone is changed, and then the formal
-  other_base : (g y : ℕ) → (OfVariable depth (passed.inside).object ≡ OfVariable g y → ⊥) → variable_slots s g y mid.variables ≡ variable_slots s g y m.variables
+  other_base : (g y : ℕ) → (OfVariable (passed.inside).frame (passed.inside).object ≡ OfVariable g y → ⊥) → variable_slots s g y mid.variables ≡ variable_slots s g y m.variables
   other_base g y ne =
       put_beside s 0 k.base (take k.at (slots_at s m k.base) ++ marks ++ drop (k.at + length marks) (slots_at s m k.base)) m g y
       (λ e. ne (same_names (sym (passed.inside).base ∙ e)))
@@ -93,7 +93,7 @@ module _ (s : Typing) (settled : IsSettled s.table) (own_law : OwnsByShape s.tab
   blank_mid : (p : List Step) → word_in s.table (content s mid [] (OfRoot (OfVariable (suc depth) x))) p ≡ Empty
   blank_mid p =
       ap (λ z. word_in s.table (record { of = (object_at s x).of; slots = z; owns = not (is_view_formal s x) }) p)
-      (other_base (suc depth) x (frames_differ depth (passed.inside).object (suc depth) x (λ e. omega (arith, e)))) ∙ blank p
+      (other_base (suc depth) x (frames_differ (passed.inside).frame (passed.inside).object (suc depth) x (λ e. (let low = inside_low s depth k to passed.inside in omega (arith, e, low))))) ∙ blank p
 
   -- owners see no change where the formal is declared
   declared_same : IsSame (seen s mid hands found) (seen s next hands found)
@@ -121,7 +121,7 @@ module _ (s : Typing) (settled : IsSettled s.table) (own_law : OwnsByShape s.tab
       ap (λ z. (get_or z 0 no_slot).word)
       (new_other g y (λ e. formal_plain (subst (λ z. is_view s z ≡ true) (sym (same_variable (suc depth) x g y (ap OfRoot e)).1) view))
       ∙ other_base g y (λ e. true_false (is_view s y) view
-      (ap (is_view s) (sym (same_variable depth (passed.inside).object g y (ap OfRoot e)).1)
+      (ap (is_view s) (sym (same_variable (passed.inside).frame (passed.inside).object g y (ap OfRoot e)).1)
       ∙ both_no (is_anonymous (view_of s (passed.inside).object)) (is_view_formal s (passed.inside).object) (inside_plain s settled depth k to passed.inside) (passed.inside).owner)))
 
   -- what is left to be declared has nothing still
@@ -130,7 +130,7 @@ module _ (s : Typing) (settled : IsSettled s.table) (own_law : OwnsByShape s.tab
   out_blank y off p none =
       ap (λ z. word_in s.table (record { of = (object_at s y).of; slots = z; owns = not (is_view_formal s y) }) p)
       (new_other (suc depth) y (λ e. off (sym (same_variable (suc depth) x (suc depth) y (ap OfRoot e)).1))
-      ∙ other_base (suc depth) y (frames_differ depth (passed.inside).object (suc depth) y (λ e. omega (arith, e)))) ∙ none
+      ∙ other_base (suc depth) y (frames_differ (passed.inside).frame (passed.inside).object (suc depth) y (λ e. (let low = inside_low s depth k to passed.inside in omega (arith, e, low))))) ∙ none
 
   module _ (checks : Checks s.table (content s m hands (trunk at)) (steps_in at) leaks found) where
     change : IsEmptied (seen s m hands leaks) (seen s mid hands found) at
@@ -178,7 +178,7 @@ module _ (s : Typing) (settled : IsSettled s.table) (own_law : OwnsByShape s.tab
           subst (λ q. word_in s.table (content s next [] (OfCell c)) q ≡ word_in s.table (content s m [] (OfCell c)) q) (append-nil p)
           (sym (word_part s.table (content s next hands) (OfCell c) p)
           ∙ declared_same.word (part (OfCell c) p)
-          ∙ change.off (part (OfCell c) p) (λ there. cell_off c p at (OfVariable depth (passed.inside).object) (trunk_is s depth k to passed.inside) there)
+          ∙ change.off (part (OfCell c) p) (λ there. cell_off c p at (OfVariable (passed.inside).frame (passed.inside).object) (trunk_is s depth k to passed.inside) there)
           ∙ word_part s.table (content s m hands) (OfCell c) p);
     }
 
@@ -187,8 +187,8 @@ module _ (s : Typing) (settled : IsSettled s.table) (own_law : OwnsByShape s.tab
         change.goes p c
         (word_part s.table (content s mid hands) at p
         ∙ inside_word s depth k to passed.inside mid hands p
-        ∙ sym (word_root s.table (content s mid hands) (OfVariable depth (passed.inside).object) (p ++ (passed.inside).steps))
-        ∙ sym (seen_next depth (passed.inside).object (p ++ (passed.inside).steps)) ∙ held)
+        ∙ sym (word_root s.table (content s mid hands) (OfVariable (passed.inside).frame (passed.inside).object) (p ++ (passed.inside).steps))
+        ∙ sym (seen_next (passed.inside).frame (passed.inside).object (p ++ (passed.inside).steps)) ∙ held)
 
     pub out_stays : (w : Way) → (Past to w → ⊥) → (c : ℕ) → Reaches (seen s m hands leaks) w (OfCell c) → Reaches (seen s next hands found) w (OfCell c)
     out_stays w aside c reach =
@@ -197,8 +197,8 @@ module _ (s : Typing) (settled : IsSettled s.table) (own_law : OwnsByShape s.tab
 
     -- a place that is apart from it has what it had
     pub out_still : (z : Way) → (Under to z → ⊥) × (Under z to → ⊥) → HasStill s depth m next z
-    out_still z apart y q p is =
-        seen_next depth y (p ++ q)
-        ∙ change.off (part (OfRoot (OfVariable depth y)) (p ++ q))
-        (places_apart (seen s m hands leaks) viewed.owned to at reached depth y q p (subst (λ w. (Under to w → ⊥) × (Under w to → ⊥)) is apart))
-        ∙ seen_before depth y (p ++ q)
+    out_still z apart g y q p low is =
+        seen_next g y (p ++ q)
+        ∙ change.off (part (OfRoot (OfVariable g y)) (p ++ q))
+        (places_apart (seen s m hands leaks) viewed.owned to at reached g y q p (subst (λ w. (Under to w → ⊥) × (Under w to → ⊥)) is apart))
+        ∙ seen_before g y (p ++ q)

@@ -19,7 +19,7 @@ use Rattle.machine.specs.Words as machine
 use Rattle.machine.specs.Calls.{Passed, Value, From, To}
 use Rattle.machine.specs.States.{Waiting, Leak}
 use Rattle.owned_ways.specs.Ways.{Step, OfVariable, OfHand, Loc, OfRoot, OfCell, Reaches, Way, Object, Empty, Held, Under, Past, Named, along, base_of, number_of, name_of}
-use Rattle.owned_ways.proofs.Locations.{same_loc}
+use Rattle.owned_ways.proofs.Locations.{same_loc, under_along, under_itself}
 use Rattle.part_offsets.specs.Parts.{type_in, IsSettled}
 use Rattle.soundness.specs.Seen.{content, word_in, seen, home, is_view_formal, in_hand}
 use Rattle.type_definitions.specs.declared.table.Shape.TheVariants as shape
@@ -36,12 +36,12 @@ use Rattle.owned_loans.proofs.Moves.{expand_along}
 use Rattle.viewed_soundness.proofs.Names.{both_no, true_false, view_access, not_view, owner_sees}
 use Rattle.viewed_soundness.proofs.Evaluated.{matches_named}
 use Rattle.viewed_steps.specs.Taken.{Lodge, IsPlainPlace, AreCarried, IsInside, IsPassedOn, IsBare, IsApartFrom}
-use Rattle.viewed_steps.proofs.Between.{gone_also, IsClearOf, base_along, base_under, same_variable}
-use Rattle.viewed_steps.proofs.Carried.{trunk_is, carried_gone, carried_cells, inside_at, inside_spot, inside_reached, inside_base, inside_rooted, inside_owns, inside_word, carried_bare, carried_held, carried_beside, carried_off_stays, carried_off}
+use Rattle.viewed_steps.proofs.Between.{IsHomed, homed_apart, gone_also, IsClearOf, base_along, base_under, same_variable}
+use Rattle.viewed_steps.proofs.Carried.{inside_homed, inside_low, trunk_is, carried_gone, carried_cells, inside_at, inside_spot, inside_reached, inside_base, inside_rooted, inside_owns, inside_word, carried_bare, carried_held, carried_beside, carried_off_stays, carried_off}
 use Rattle.viewed_steps.proofs.Outs.{Out, HasStill, places_apart}
 use Rattle.viewed_steps.proofs.Beside.{put_beside}
 use Rattle.viewed_steps.proofs.Declared.{declared_viewed, declared_low}
-use Rattle.viewed_steps.proofs.Views.{AreAccess, AreFar, view_cases, apart_by_base}
+use Rattle.viewed_steps.proofs.Views.{AreAccess, AreFar, view_cases}
 
 named_part : (home : ℕ → ℕ) (w : Way) (p : List Step) → Named home w → Named home (along w p)
 named_part home w [] n = n
@@ -80,13 +80,13 @@ module _ (s : Typing) (settled : IsSettled s.table) (depth : ℕ) (k : Place) (t
   pub inside_named : Named (home s depth) to
   inside_named =
       subst (Named (home s depth)) (sym inside.way)
-      (named_part (home s depth) (Object (OfVariable depth inside.object)) inside.steps (sym (ap (λ b. if b then 0 else depth) inside.own)))
+      (named_part (home s depth) (Object (OfVariable inside.frame inside.object)) inside.steps inside.at_home)
 
   pub inside_number : number_of to ≡ inside.object
-  inside_number = ap number_of inside.way ∙ number_part (Object (OfVariable depth inside.object)) inside.steps
+  inside_number = ap number_of inside.way ∙ number_part (Object (OfVariable inside.frame inside.object)) inside.steps
 
   pub inside_itself : (v : Views) → expand v to ≡ to
-  inside_itself v = ap (expand v) inside.way ∙ expand_along v (Object (OfVariable depth inside.object)) inside.steps ∙ sym inside.way
+  inside_itself v = ap (expand v) inside.way ∙ expand_along v (Object (OfVariable inside.frame inside.object)) inside.steps ∙ sym inside.way
 
 -- ---- what is passed
 
@@ -145,15 +145,15 @@ ArePassedOn s m cells depth facts scope (x ∷ formals) (a ∷ passed) (to ∷ w
     ⊎ ((k : Place) × (later : List Out) × IsTakenAs facts k to a outs later × IsPassedOn s depth facts scope x k to × IsApartFrom to ways × DiffersFrom x formals
     × ArePassedOn s m cells depth facts scope formals passed ways later)
 
--- the ways of such places begin at variables of the frame
+-- the ways of such places begin at variables of the frame, or at package objects
 pub passed_base : (s : Typing) (m : Memory) (cells : List Lodge) (depth : ℕ) (facts : List Fact) (scope : List ℕ) (formals : List ℕ) (passed : List Passed) (ways : List Way) (outs : List Out)
-    → ArePassedOn s m cells depth facts scope formals passed ways outs → (k : Way) → Has ways k → (y : ℕ) × (base_of k ≡ OfRoot (OfVariable depth y))
+    → ArePassedOn s m cells depth facts scope formals passed ways outs → (k : Way) → Has ways k → IsHomed s depth k
 passed_base s m cells depth facts scope [] passed ways outs none k has = absurd (subst (λ z. Has z k) none.0 has)
 passed_base s m cells depth facts scope (x ∷ formals) [] ways outs none k has = absurd (subst (λ z. Has z k) none.0 has)
 passed_base s m cells depth facts scope (x ∷ formals) (a ∷ passed) [] outs are k has = absurd has
 passed_base s m cells depth facts scope (x ∷ formals) (a ∷ passed) (to ∷ ways) outs (inl are) k has = passed_base s m cells depth facts scope formals passed (to ∷ ways) outs are.1 k has
 passed_base s m cells depth facts scope (x ∷ formals) (a ∷ passed) (to ∷ ways) outs (inr (place, later, how, one, apart, differ, more)) k (inl same) =
-    (one.inside.object, ap base_of (sym same) ∙ inside_base s depth place to one.inside)
+    subst (IsHomed s depth) same (inside_homed s depth place to one.inside)
 passed_base s m cells depth facts scope (x ∷ formals) (a ∷ passed) (to ∷ ways) outs (inr (place, later, how, one, apart, differ, more)) k (inr has) =
     passed_base s m cells depth facts scope formals passed ways later more k has
 
@@ -168,18 +168,6 @@ passed_one s m cells depth facts scope (x ∷ formals) (a ∷ passed) (k ∷ way
     (x, place, subst (IsPassedOn s depth facts scope x place) same one)
 passed_one s m cells depth facts scope (x ∷ formals) (a ∷ passed) (k ∷ ways) outs (inr (place, later, how, one, apart, differ, more)) to (inr has) =
     passed_one s m cells depth facts scope formals passed ways later more to has
-
--- they belong to no package
-pub passed_own : (s : Typing) (m : Memory) (cells : List Lodge) (depth : ℕ) (facts : List Fact) (scope : List ℕ) (formals : List ℕ) (passed : List Passed) (ways : List Way) (outs : List Out)
-    → ArePassedOn s m cells depth facts scope formals passed ways outs → (k : Way) → Has ways k → is_package_object s (number_of k) ≡ false
-passed_own s m cells depth facts scope [] passed ways outs none k has = absurd (subst (λ z. Has z k) none.0 has)
-passed_own s m cells depth facts scope (x ∷ formals) [] ways outs none k has = absurd (subst (λ z. Has z k) none.0 has)
-passed_own s m cells depth facts scope (x ∷ formals) (a ∷ passed) [] outs are k has = absurd has
-passed_own s m cells depth facts scope (x ∷ formals) (a ∷ passed) (to ∷ ways) outs (inl are) k has = passed_own s m cells depth facts scope formals passed (to ∷ ways) outs are.1 k has
-passed_own s m cells depth facts scope (x ∷ formals) (a ∷ passed) (to ∷ ways) outs (inr (place, later, how, one, apart, differ, more)) k (inl same) =
-    ap (is_package_object s) (ap number_of (sym same ∙ one.inside.way) ∙ number_part (Object (OfVariable depth one.inside.object)) one.inside.steps) ∙ one.inside.own
-passed_own s m cells depth facts scope (x ∷ formals) (a ∷ passed) (to ∷ ways) outs (inr (place, later, how, one, apart, differ, more)) k (inr has) =
-    passed_own s m cells depth facts scope formals passed ways later more k has
 
 -- what is emptied is among them
 pub outs_taken : (s : Typing) (m : Memory) (cells : List Lodge) (depth : ℕ) (facts : List Fact) (scope : List ℕ) (formals : List ℕ) (passed : List Passed) (ways : List Way) (outs : List Out)
@@ -254,9 +242,7 @@ module _ (s : Typing) (settled : IsSettled s.table) (own_law : OwnsByShape s.tab
     with_apart : (y : ℕ) (w z : Way) → v.way y ≡ Some w → IsForeign (home s depth) w → with_it.gone z → Under z w ⊎ Under w z → ⊥
     with_apart y w z has foreign (inl gone) meets = viewed.whole y w z has foreign gone meets
     with_apart y w z has foreign (inr (p, is)) meets =
-        apart_by_base w z foreign.0 foreign.1 depth (passed.inside).object foreign.2
-        (ap base_of is ∙ base_along to p ∙ inside_base s depth k to passed.inside)
-        (λ same. (let low = far y w has foreign in omega (arith, low, same))) meets
+        homed_apart s depth to (inside_homed s depth k to passed.inside) w z foreign (subst (Under to) (sym is) (under_along to to p (under_itself to))) meets
 
     spot : Spot s m hands k at
     spot = inside_spot s depth k to passed.inside m hands
@@ -289,7 +275,7 @@ module _ (s : Typing) (settled : IsSettled s.table) (own_law : OwnsByShape s.tab
         carried_off s settled (home s depth) (sees_only s) v other with_it.gone with_apart m hands leaks facts k at to viewed typed spot
         (inside_rooted s depth k to passed.inside) (inside_reached s depth k to passed.inside (seen s m hands leaks))
         (inside_owns s depth k to passed.inside m hands (passed.inside).owner) clean
-        depth (passed.inside).object (inside_base s depth k to passed.inside) clear_to (λ w o. inl o) (λ p. inr (p, refl))
+        (passed.inside).frame (passed.inside).object (inside_base s depth k to passed.inside) clear_to (λ w o. inl o) (λ p. inr (p, refl))
 
     kept_mid : Kept s mid (got ∷ hands)
     kept_mid = (keeps s settled own_law).moved m hands k at spot typed
@@ -298,7 +284,7 @@ module _ (s : Typing) (settled : IsSettled s.table) (own_law : OwnsByShape s.tab
     marks = gone_at (access_offsets s.table k.of) (slots_of s m k)
 
     -- the variable of the place alone is changed
-    other_base : (g y : ℕ) → (OfVariable depth (passed.inside).object ≡ OfVariable g y → ⊥) → variable_slots s g y mid.variables ≡ variable_slots s g y m.variables
+    other_base : (g y : ℕ) → (OfVariable (passed.inside).frame (passed.inside).object ≡ OfVariable g y → ⊥) → variable_slots s g y mid.variables ≡ variable_slots s g y m.variables
     other_base g y ne =
         put_beside s 0 k.base (take k.at (slots_at s m k.base) ++ marks ++ drop (k.at + length marks) (slots_at s m k.base)) m g y
         (λ e. ne (same_names (sym (passed.inside).base ∙ e)))
@@ -317,7 +303,7 @@ module _ (s : Typing) (settled : IsSettled s.table) (own_law : OwnsByShape s.tab
     blank_mid : (p : List Step) → word_in s.table (content s mid (got ∷ hands) (OfRoot (OfVariable (suc depth) x))) p ≡ Empty
     blank_mid p =
         ap (λ z. word_in s.table (record { of = (object_at s x).of; slots = z; owns = not (is_view_formal s x) }) p)
-        (other_base (suc depth) x (frames_differ depth (passed.inside).object (suc depth) x (λ e. omega (arith, e)))) ∙ blank p
+        (other_base (suc depth) x (frames_differ (passed.inside).frame (passed.inside).object (suc depth) x (λ e. (let low = inside_low s depth k to passed.inside in omega (arith, e, low))))) ∙ blank p
 
     pub viewed_next : Viewed (home s depth) (sees_only s) with_it v (seen s next hands leaks) facts
     viewed_next =
@@ -334,7 +320,7 @@ module _ (s : Typing) (settled : IsSettled s.table) (own_law : OwnsByShape s.tab
     pub kept_next : Kept s next hands
     kept_next = declared_kept s settled mid (suc depth) x got hands kept_mid long passed.fits
 
-    bare_mid : (p : List Step) (c : ℕ) → word_in s.table (content s mid [] (OfRoot (OfVariable depth (passed.inside).object))) (p ++ (passed.inside).steps) ≡ Held c → ⊥
+    bare_mid : (p : List Step) (c : ℕ) → word_in s.table (content s mid [] (OfRoot (OfVariable (passed.inside).frame (passed.inside).object))) (p ++ (passed.inside).steps) ≡ Held c → ⊥
     bare_mid p c held =
         carried_bare s settled (home s depth) (sees_only s) v other with_it.gone with_apart m hands leaks facts k at to viewed typed spot
         (inside_rooted s depth k to passed.inside) (inside_reached s depth k to passed.inside (seen s m hands leaks))
@@ -383,7 +369,7 @@ module _ (s : Typing) (settled : IsSettled s.table) (own_law : OwnsByShape s.tab
           carried_cells s settled (home s depth) (sees_only s) v other with_it.gone with_apart m hands leaks facts k at to viewed typed spot
           (inside_rooted s depth k to passed.inside) (inside_reached s depth k to passed.inside (seen s m hands leaks))
           (inside_owns s depth k to passed.inside m hands (passed.inside).owner) clean
-          depth (passed.inside).object (trunk_is s depth k to passed.inside) c p;
+          (passed.inside).frame (passed.inside).object (trunk_is s depth k to passed.inside) c p;
     }
 
     pub one_views : (g y : ℕ) → is_view s y ≡ true
@@ -392,13 +378,13 @@ module _ (s : Typing) (settled : IsSettled s.table) (own_law : OwnsByShape s.tab
         ap (λ z. (get_or z 0 no_slot).word)
         (new_other g y (λ e. formal_plain (subst (λ z. is_view s z ≡ true) (sym (same_variable (suc depth) x g y (ap OfRoot e)).1) view))
         ∙ other_base g y (λ e. true_false (is_view s y) view
-        (ap (is_view s) (sym (same_variable depth (passed.inside).object g y (ap OfRoot e)).1)
+        (ap (is_view s) (sym (same_variable (passed.inside).frame (passed.inside).object g y (ap OfRoot e)).1)
         ∙ both_no (is_anonymous (view_of s (passed.inside).object)) (is_view_formal s (passed.inside).object) (inside_plain s settled depth k to passed.inside) (passed.inside).owner)))
 
     pub one_bare : IsBare s depth k to next passed.inside
     one_bare p c held =
         bare_mid p c
-        (sym (new_word depth (passed.inside).object (frames_differ (suc depth) x depth (passed.inside).object (λ e. omega (arith, e))) (p ++ (passed.inside).steps)) ∙ held)
+        (sym (new_word (passed.inside).frame (passed.inside).object (frames_differ (suc depth) x (passed.inside).frame (passed.inside).object (λ e. (let low = inside_low s depth k to passed.inside in omega (arith, e, low)))) (p ++ (passed.inside).steps)) ∙ held)
 
     -- a way from another frame that doesn't go on after the place reaches what it reached
     pub one_stays : (w : Way) (g y : ℕ) → base_of w ≡ OfRoot (OfVariable g y) → (g ≡ suc depth → ⊥) → (Past to w → ⊥) → (c : ℕ)
@@ -408,7 +394,7 @@ module _ (s : Typing) (settled : IsSettled s.table) (own_law : OwnsByShape s.tab
         (carried_off_stays s settled (home s depth) (sees_only s) v other with_it.gone with_apart m hands leaks facts k at to viewed typed spot
         (inside_rooted s depth k to passed.inside) (inside_reached s depth k to passed.inside (seen s m hands leaks))
         (inside_owns s depth k to passed.inside m hands (passed.inside).owner) clean
-        depth (passed.inside).object (inside_base s depth k to passed.inside) w g y base aside c reach)
+        (passed.inside).frame (passed.inside).object (inside_base s depth k to passed.inside) w g y base aside c reach)
 
     -- what is left to be declared has nothing still
     pub one_blank : (y : ℕ) → (y ≡ x → ⊥) → (p : List Step) → word_in s.table (content s m [] (OfRoot (OfVariable (suc depth) y))) p ≡ Empty
@@ -416,14 +402,14 @@ module _ (s : Typing) (settled : IsSettled s.table) (own_law : OwnsByShape s.tab
     one_blank y off p none =
         new_word (suc depth) y (λ e. off (sym (same_variable (suc depth) x (suc depth) y (ap OfRoot e)).1)) p
         ∙ ap (λ z. word_in s.table (record { of = (object_at s y).of; slots = z; owns = not (is_view_formal s y) }) p)
-        (other_base (suc depth) y (frames_differ depth (passed.inside).object (suc depth) y (λ e. omega (arith, e)))) ∙ none
+        (other_base (suc depth) y (frames_differ (passed.inside).frame (passed.inside).object (suc depth) y (λ e. (let low = inside_low s depth k to passed.inside in omega (arith, e, low))))) ∙ none
 
     -- a place that is apart from it has what it had
     pub one_still : (z : Way) → (Under to z → ⊥) × (Under z to → ⊥) → HasStill s depth m next z
-    one_still z apart y q p is =
-        new_word depth y (frames_differ (suc depth) x depth y (λ e. omega (arith, e))) (p ++ q)
+    one_still z apart g y q p low is =
+        new_word g y (frames_differ (suc depth) x g y (λ e. omega (arith, e, low))) (p ++ q)
         ∙ carried_beside s settled (home s depth) (sees_only s) v other with_it.gone with_apart m hands leaks facts k at to viewed typed spot
         (inside_rooted s depth k to passed.inside) (inside_reached s depth k to passed.inside (seen s m hands leaks))
-        (inside_owns s depth k to passed.inside m hands (passed.inside).owner) clean depth y (p ++ q)
-        (places_apart (seen s m hands leaks) viewed.owned to at (inside_reached s depth k to passed.inside (seen s m hands leaks)) depth y q p
+        (inside_owns s depth k to passed.inside m hands (passed.inside).owner) clean g y (p ++ q)
+        (places_apart (seen s m hands leaks) viewed.owned to at (inside_reached s depth k to passed.inside (seen s m hands leaks)) g y q p
         (subst (λ w. (Under to w → ⊥) × (Under w to → ⊥)) is apart))

@@ -24,11 +24,11 @@ use Rattle.owned_loans.proofs.Moves.{same_viewed}
 use Rattle.viewed_soundness.specs.Holds.{sees_only, is_view}
 use Rattle.viewed_steps.specs.Taken.{Lodge, AreCarried, TakenBy, IsPassedOn, IsBare, IsApartFrom, AreTaken}
 use Rattle.viewed_steps.proofs.Left.{cells_same}
-use Rattle.viewed_steps.proofs.Between.{carried_same, carried_then, same_reaches, gone_also, more_gone, base_along, base_under, taken_more}
-use Rattle.viewed_steps.proofs.Carried.{inside_at, inside_spot, inside_base, inside_owns, inside_word}
+use Rattle.viewed_steps.proofs.Between.{IsHomed, homed_apart, carried_same, carried_then, same_reaches, gone_also, more_gone, base_along, base_under, taken_more}
+use Rattle.viewed_steps.proofs.Carried.{inside_homed, inside_low, inside_at, inside_spot, inside_owns, inside_word}
 use Rattle.viewed_steps.proofs.Alike.{IsLaidIn, plain_place}
+use Rattle.viewed_steps.proofs.Views.{AreFar, AreAccess}
 use Rattle.viewed_steps.proofs.Shown.{HasCells, then_cells, taken_cells, Stands, one_stands}
-use Rattle.viewed_steps.proofs.Views.{AreAccess, AreFar, apart_by_base}
 use Rattle.viewed_steps.proofs.Vacated.{place_checks}
 use Rattle.viewed_steps.proofs.Outs.{Out, IsUnderOne, found_in, HasStill, HaveStill, still_then}
 use Rattle.viewed_steps.proofs.Entered.{IsPlainPassed, IsPlainOne, DiffersFrom, ArePassedOn, IsOpen, AreBlank, passed_base, outs_taken, viewed_next, kept_next, one_held, one_carried, one_views, one_bare, one_stays, one_blank, one_still, IsShownTo}
@@ -199,9 +199,9 @@ module _ (s : Typing) (settled : IsSettled s.table) (own_law : OwnsByShape s.tab
     subst (λ z. AreTaken s cells n depth facts scope z (to ∷ ways)) (sym return_is) (inr (
       (
         one,
-        (λ p c is. elim (later.0.held depth (one.inside).object (p ++ (one.inside).steps) c is) [
+        (λ p c is. elim (later.0.held (one.inside).frame (one.inside).object (p ++ (one.inside).steps) c is) [
           | inl h ↦ bare p c h
-          | inr h ↦ (let same = h.0 in omega (arith, same))
+          | inr h ↦ (let same = h.0 in let low = inside_low s depth k to one.inside in omega (arith, same, low))
         ]),
       ),
       apart,
@@ -215,25 +215,19 @@ module _ (s : Typing) (settled : IsSettled s.table) (own_law : OwnsByShape s.tab
   hand_base : (h f x : ℕ) → OfRoot (OfHand h) ≡ OfRoot (OfVariable f x) → ⊥
   hand_base h f x e = cc
 
-  -- a way of a place in the frame, or one that goes on from it
-  abbrev IsFrom : Way → Type 0
-  IsFrom to = (y : ℕ) × (base_of to ≡ OfRoot (OfVariable depth y))
-
-  pub below_apart : (to : Way) → IsFrom to → (y : ℕ) (w z : Way) → v.way y ≡ Some w → IsForeign (home s depth) w → Under to z → Under z w ⊎ Under w z → ⊥
-  below_apart to (object, base) y w z has foreign under meets =
-      apart_by_base w z foreign.0 foreign.1 depth object foreign.2 (base_under to z under ∙ base)
-      (λ same. (let low = far y w has foreign in omega (arith, low, same))) meets
+  pub below_apart : (to : Way) → IsHomed s depth to → (y : ℕ) (w z : Way) → v.way y ≡ Some w → IsForeign (home s depth) w → Under to z → Under z w ⊎ Under w z → ⊥
+  below_apart to from y w z has foreign under meets = homed_apart s depth to from w z foreign under meets
 
   pub along_under : (to w : Way) → (p : List Step) × (w ≡ along to p) → Under to w
   along_under to w (p, is) = subst (Under to) (sym is) (under_along to to p (under_itself to))
 
   -- the others are open still
-  pub others_open : (other : Around (home s depth)) (to : Way) (ways : List Way) → IsFrom to → IsApartFrom to ways → IsOpen (home s depth) other (to ∷ ways)
+  pub others_open : (other : Around (home s depth)) (to : Way) (ways : List Way) → IsHomed s depth to → IsApartFrom to ways → IsOpen (home s depth) other (to ∷ ways)
       → IsOpen (home s depth) (away other to) ways
   others_open other to ways from apart open_there = record {
     free = λ h w under o. elim o [
       | inl gone ↦ open_there.free h w under gone
-      | inr (p, is) ↦ hand_base h depth from.0 (sym (base_under (Object (OfHand h)) w under) ∙ ap base_of is ∙ base_along to p ∙ from.1)
+      | inr (p, is) ↦ hand_base h from.0 from.1 (sym (base_under (Object (OfHand h)) w under) ∙ ap base_of is ∙ base_along to p ∙ from.2)
     ];
     whole = λ z has w under o. elim o [
       | inl gone ↦ open_there.whole z (inr has) w under gone
@@ -244,13 +238,13 @@ module _ (s : Typing) (settled : IsSettled s.table) (own_law : OwnsByShape s.tab
 
   -- what isn't emptied is open, too
   pub taken_open : (other : Around (home s depth)) (to : Way) (ways : List Way) (outs : List Out) → ((o : Out) → Has outs o → Has ways o.way)
-      → ((z : Way) → Has ways z → IsFrom z) → IsApartFrom to ways → IsOpen (home s depth) other (to ∷ ways)
+      → ((z : Way) → Has ways z → IsHomed s depth z) → IsApartFrom to ways → IsOpen (home s depth) other (to ∷ ways)
       → IsOpen (home s depth) (outs_also other outs) (to ∷ [])
   taken_open other to ways outs among from apart open_there = record {
     free = λ h w under o. elim o [
       | inl gone ↦ open_there.free h w under gone
       | inr (one, has, below) ↦ (let root = from one.way (among one has) in
-          hand_base h depth root.0 (sym (base_under (Object (OfHand h)) w under) ∙ base_under one.way w below ∙ root.1))
+          hand_base h root.0 root.1 (sym (base_under (Object (OfHand h)) w under) ∙ base_under one.way w below ∙ root.2))
     ];
     whole = λ z has w under o. elim has [
       | inr never ↦ never
@@ -290,7 +284,7 @@ module _ (s : Typing) (settled : IsSettled s.table) (own_law : OwnsByShape s.tab
       place_checks s settled before hands leaks k at typed (inside_spot s depth k to one.inside before hands)
       (inside_owns s depth k to one.inside before hands (one.inside).owner) pos in
       let same : (p : List Step) → word_in s.table (content s m hands (trunk at)) (p ++ steps_in at) ≡ word_in s.table (content s before hands (trunk at)) (p ++ steps_in at) =
-      λ p. inside_word s depth k to one.inside m hands p ∙ still (one.inside).object (one.inside).steps p (one.inside).way
+      λ p. inside_word s depth k to one.inside m hands p ∙ still (one.inside).frame (one.inside).object (one.inside).steps p (inside_low s depth k to one.inside) (one.inside).way
       ∙ sym (inside_word s depth k to one.inside before hands p) in
       record {
         keeps = first.keeps;
@@ -326,7 +320,7 @@ module _ (s : Typing) (settled : IsSettled s.table) (own_law : OwnsByShape s.tab
       (λ c has. (same_reaches (seen s m hands leaks) (seen s mid hands leaks) on.same c.way (OfCell c.cell) (cells_there c has).0, (cells_there c has).1))
       (same_viewed (home s depth) (sees_only s) (outs_also other outs) v (seen s m hands leaks) (seen s mid hands leaks) facts on.same viewed)
       (λ y has p. on.hold (suc depth) y p ∙ blank y (inr has) p)
-      (λ o has. still_then s depth before m mid o.way (still o has) (λ y q p is. on.hold depth y (p ++ q))) (then_cells before m mid had on.cells))
+      (λ o has. still_then s depth before m mid o.way (still o has) (λ f y q p low is. on.hold f y (p ++ q))) (then_cells before m mid had on.cells))
   all_declared other leaks (x ∷ formals) (a ∷ passed) (to ∷ ways) outs before m (inl are) open_there at_first typed cells_there viewed blank still had =
       let on = one_stands s settled own_law in_formals hands leaks (suc depth) x a before m cells are.0 (λ plain. laid_in leaks m a plain typed (λ c has. (cells_there c has).0)) had typed in
       let mid : Memory = with_formal s (suc depth) x a m in
@@ -335,13 +329,13 @@ module _ (s : Typing) (settled : IsSettled s.table) (own_law : OwnsByShape s.tab
       (λ c has. (same_reaches (seen s m hands leaks) (seen s mid hands leaks) on.same c.way (OfCell c.cell) (cells_there c has).0, (cells_there c has).1))
       (same_viewed (home s depth) (sees_only s) (outs_also other outs) v (seen s m hands leaks) (seen s mid hands leaks) facts on.same viewed)
       (λ y has p. on.hold (suc depth) y p ∙ blank y (inr has) p)
-      (λ o has. still_then s depth before m mid o.way (still o has) (λ y q p is. on.hold depth y (p ++ q))) (then_cells before m mid had on.cells))
+      (λ o has. still_then s depth before m mid o.way (still o has) (λ f y q p low is. on.hold f y (p ++ q))) (then_cells before m mid had on.cells))
   all_declared other leaks (x ∷ formals) (a ∷ passed) (to ∷ ways) outs before m (inr (k, later, inl (is, whole, same), one, apart, differ, more)) open_there at_first typed cells_there viewed blank still had =
       let new = blank x (inl refl) in
       let next : Memory = declared (suc depth) x (words_of s m k) (moved_out s k m) in
       let among = outs_taken s before cells depth facts scope formals passed ways later more in
       let from = passed_base s before cells depth facts scope formals passed ways later more in
-      let root : IsFrom to = ((one.inside).object, inside_base s depth k to one.inside) in
+      let root : IsHomed s depth to = inside_homed s depth k to one.inside in
       let mine = taken_open other to ways later among from apart open_there in
       let here : ViewedIn (outs_also other later) leaks m = subst (λ z. ViewedIn (outs_also other z) leaks m) same viewed in
       subst (λ z. Enter other leaks (leaks ++ found_in s before outs) (x ∷ formals) (z ∷ passed) (to ∷ ways) m (with_formals s (suc depth) (x ∷ formals) (z ∷ passed) m)) (sym is)
@@ -370,7 +364,7 @@ module _ (s : Typing) (settled : IsSettled s.table) (own_law : OwnsByShape s.tab
       let next : Memory = declared (suc depth) x (default s.table (object_at s x).of) (moved_out s k m) in
       let among = outs_taken s before cells depth facts scope formals passed ways later more in
       let from = passed_base s before cells depth facts scope formals passed ways later more in
-      let root : IsFrom to = ((one.inside).object, inside_base s depth k to one.inside) in
+      let root : IsHomed s depth to = inside_homed s depth k to one.inside in
       let out : Out = record { way = to; place = k; pos = pos } in
       let here : ViewedIn (outs_also other (out ∷ later)) leaks m = subst (λ z. ViewedIn (outs_also other z) leaks m) same viewed in
       let found : List Leak = leaks ++ leaks_at s pos before k in

@@ -26,7 +26,8 @@ use Rattle.machine.specs.States.{sub_of}
 use Rattle.soundness.specs.Sound.{Uses}
 use Rattle.soundness.proofs.Passing.{signature_is}
 use Rattle.soundness.proofs.Used.{any_has}
-use Rattle.viewed_steps.specs.Sound.{IsCopiedBack, IsScalarObject}
+use Rattle.viewed_steps.specs.Sound.{IsCopiedBack}
+use Rattle.viewed_steps.proofs.Cells.{passed_formal}
 use Rattle.viewed_steps.proofs.Passed.{no_call_reports}
 use Rattle.viewed_steps.proofs.Whole.{flat_has}
 
@@ -63,26 +64,24 @@ module _ (program : FlowProgram) (effects : Effects) where
       subst (λ z. Has (if z then text_report b.actual.pos A2 b.actual.name ∷ [] else []) (text_report b.actual.pos A2 b.actual.name))
       (sym (λ j. shared j && meets j)) (inl refl)
 
-  -- The callee uses no package object that is passed to be copied back to; or the formals are of scalar types.
-  pub unused_or_plain : AreReports program effects [] → (sub : FlowSub) → Has program.subs sub → (p : FlowPoint) → Has sub.points p
+  -- The callee uses no package object that is passed to be copied back to.
+  pub passed_unused : AreReports program effects [] → (sub : FlowSub) → Has program.subs sub → (p : FlowPoint) → Has sub.points p
       → (n : ℕ) (actuals : TypedTree) (result : Option ℕ) → p.instr ≡ Call n actuals result → is_some (sub_of program n).result ≡ is_some result
-      → ((t : ℕ) → (sub_at s n).result ≡ Some t → (x : ℕ) → Has (sub_at s n).formals x → IsScalarObject s x)
-      → ((b : alias.Passed) → Has (alias.passed (sub_of program n).formals actuals) b → IsCopiedBack s b.formal → is_package_object s b.actual.name.root ≡ true
-      → Uses effects n b.actual.name.root → ⊥) ⊎ ((x : ℕ) → Has (sub_of program n).formals x → IsScalarObject s x)
-  unused_or_plain none sub in_program p in_sub n actuals result e answers plain = by_result (sub_of program n).result refl
+      → ((t : ℕ) → (sub_at s n).result ≡ Some t → (x : ℕ) → Has (sub_at s n).formals x → (object_at s x).mode ≡ mode.In)
+      → (b : alias.Passed) → Has (alias.passed (sub_of program n).formals actuals) b → IsCopiedBack s b.formal → is_package_object s b.actual.name.root ≡ true
+      → Uses effects n b.actual.name.root → ⊥
+  passed_unused none sub in_program p in_sub n actuals result e answers modes b has back shared uses = by_result (sub_of program n).result refl
     where
       reports_are : (o : Option ℕ) → is_some o ≡ false → call_reports s effects (Call n actuals o)
           ≡ (if is_some (sub_at s n).result then [] else passed_reports s effects n (alias.passed (sub_at s n).formals actuals))
       reports_are None no_result = refl
       reports_are (Some of) no_result = cc
 
-      by_result : (o : Option ℕ) → (sub_of program n).result ≡ o
-          → ((b : alias.Passed) → Has (alias.passed (sub_of program n).formals actuals) b → IsCopiedBack s b.formal → is_package_object s b.actual.name.root ≡ true
-          → Uses effects n b.actual.name.root → ⊥) ⊎ ((x : ℕ) → Has (sub_of program n).formals x → IsScalarObject s x)
-      by_result (Some of) given = inr (λ x has.
-          plain of (ap (λ (z : Signature). z.result) (signature_is program n) ∙ given) x
-          (subst (λ z. Has z x) (sym (ap (λ (z : Signature). z.formals) (signature_is program n))) has))
-      by_result None given = inl (λ b has back shared uses.
+      by_result : (o : Option ℕ) → (sub_of program n).result ≡ o → ⊥
+      by_result (Some of) given =
+          back (modes of (ap (λ (z : Signature). z.result) (signature_is program n) ∙ given) b.formal
+          (subst (λ z. Has z b.formal) (sym (ap (λ (z : Signature). z.formals) (signature_is program n))) (passed_formal (sub_of program n).formals actuals b has)))
+      by_result None given =
           no_call_reports program effects none sub in_program p in_sub (text_report b.actual.pos A2 b.actual.name)
           (subst (λ i. Has (call_reports s effects i) (text_report b.actual.pos A2 b.actual.name)) (sym e)
           (subst (λ z. Has z (text_report b.actual.pos A2 b.actual.name)) (sym (reports_are result (sym answers ∙ ap is_some given)))
@@ -92,7 +91,7 @@ module _ (program : FlowProgram) (effects : Effects) where
           (Has-append_right (overlap_reports s (alias.passed (sub_of program n).formals actuals))
           (flat_map (global_reports s effects n) (alias.passed (sub_of program n).formals actuals)) (text_report b.actual.pos A2 b.actual.name)
           (flat_has (global_reports s effects n) (alias.passed (sub_of program n).formals actuals) b (text_report b.actual.pos A2 b.actual.name) has
-          (used_report n b back shared uses))))))))
+          (used_report n b back shared uses)))))))
 
 -- ---- the act of such an actual
 

@@ -49,6 +49,7 @@ pub mod Whole
 pub mod Passed
 pub mod Lending
 pub mod Globals
+pub mod Outside
 pub mod Cells
 pub mod Eased
 pub mod Blank

@@ -344,7 +344,7 @@ module _ (s : Typing) (own_law : OwnsByShape s.table) (settled : IsSettled s.tab
             formal = local;
             owner = copied_owner x back;
             many = many;
-            within = λ owns. within inside.object (inl (sym object_is)) inside.own owns;
+            within = λ own owns. within inside.object (inl (sym object_is)) own owns;
             unlent = λ l h n has over. unlent to by_way l h n (less (Lent l h n) has) over;
             cleared = (taken by_way).1;
           },

@@ -1,7 +1,6 @@
 -- A formal that owns nothing gets its value: owners see what they saw, and the variables of other views
 -- stay.
 use Rattle.std.proofs.Common.{◌≡◌, refl, sym, ap, ◌∙◌, subst, ◌⊎◌, inl, inr, ℕ, zero, suc, arith, ◌+◌, ◌&&◌, Bool, true, false, not, List, [], ◌∷◌, ◌++◌, take, drop, length, get_or}
-use Rattle.type_definitions.specs.declared.table.Shape.TheVariants as shape
 use Rattle.type_definitions.specs.Types.{shape_of, components_of, is_owning, words, words_of as shape_words}
 use Rattle.flow_paths.specs.Objects.{Typing, object_at, is_anonymous, view_of}
 use Rattle.machine.specs.Words.{access_offsets}
@@ -21,12 +20,12 @@ use Rattle.soundness.proofs.Keeping.{kept_with}
 use Rattle.soundness.proofs.Lasting.{declared_kept, keeps}
 use Rattle.soundness.proofs.Memories.{put_other, put_same, at_length}
 use Rattle.soundness.proofs.Steps.{plain_end}
-use Rattle.viewed_soundness.specs.Holds.{is_view, IsNamed, IsAccess}
+use Rattle.viewed_soundness.specs.Holds.{is_view, IsNamed}
 use Rattle.viewed_soundness.proofs.Names.{true_false}
 use Rattle.viewed_soundness.proofs.Outcomes.{named_plain}
 use Rattle.viewed_steps.specs.Taken.{Lodge}
 use Rattle.viewed_steps.proofs.Alike.{IsLaidIn, with_one}
-use Rattle.viewed_steps.proofs.Entered.{IsPlainPassed, IsPlainOne, IsTyped, IsShownOne, IsFit}
+use Rattle.viewed_steps.proofs.Entered.{IsPlainPassed, IsPlainOne, IsTyped, IsFit}
 use Rattle.viewed_steps.proofs.Views.{AreAccess, view_cases}
 
 -- A memory has the cells of another one, with their types.

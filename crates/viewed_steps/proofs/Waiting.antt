@@ -17,7 +17,7 @@ use Rattle.flow_paths.specs.declared.report.Effects.{Effects}
 use Rattle.flow_paths.specs.Objects.{Typing, is_package_object}
 use Rattle.flow_paths.specs.Laid.{FlowProgram, flow_typing, flow_program}
 use Rattle.machine.specs.Words as machine
-use Rattle.machine.specs.Memory.{variable_slots, no_slot}
+use Rattle.machine.specs.Memory.{variable_slots, no_slot, Place}
 use Rattle.machine.specs.States.{Frame, Return, State}
 use Rattle.owned_ways.specs.Ways.{Loc, IsSame, Step, OfVariable, OfHand, OfRoot, OfCell, Way, Root, Object, Lost, Into, All, Held, View, Reaches, Under, Named, IsMoved, base_of, number_of, name_of, part, along}
 use Rattle.owned_ways.proofs.Locations.{under_itself, under_along}
@@ -26,15 +26,15 @@ use Rattle.owned_ways.proofs.Dropped.{named_base}
 use Rattle.soundness.specs.Seen.{IsNear, content, word_in, home}
 use Rattle.soundness.specs.Sound.{Stage, facts_of, AreStages, Uses, view_of as view_here}
 use Rattle.soundness.proofs.Around.{near_or_far, IsFar, near_package, package_named}
-use Rattle.soundness.proofs.Contents.{bool_cases, word_part}
+use Rattle.soundness.proofs.Contents.{bool_cases, word_part, word_root}
 use Rattle.soundness.proofs.Inherited.{Splits}
 use Rattle.owned_loans.specs.Views.{on, Around, known_gone, Views, expand, IsThrough, ExcusedBy, HasLoan, IsForeign, Viewed, Go}
 use Rattle.owned_loans.proofs.Ways.{under_on, on_under, on_named, lifts, lifted_root, lifted_way, base_on}
 use Rattle.owned_loans.proofs.Meeting.{stands}
 use Rattle.owned_loans.proofs.Moves.{view_on, own_loan, reached}
-use Rattle.viewed_steps.specs.Taken.{TakenBy, Lodge}
+use Rattle.viewed_steps.specs.Taken.{TakenBy, Lodge, IsInside, IsBare}
 use Rattle.owned_loans.proofs.Meeting.{stands}
-use Rattle.viewed_steps.proofs.Between.{taken_from as words_taken, taken_base, still_taken, near_base}
+use Rattle.viewed_steps.proofs.Between.{base_along as along_base, number_based, home_low, taken_from as words_taken, taken_base, still_taken, near_base}
 use Rattle.viewed_steps.proofs.Roots.{borrower_goes, view_goes}
 use Rattle.viewed_steps.specs.Awaited.{lasting_of}
 use Rattle.viewed_steps.proofs.Whole.{flat_has}
@@ -88,10 +88,13 @@ cell_word s state n p =
     ∙ ap (word_in s.table (content s state.memory [] (OfCell n))) (append-nil p)
 
 -- of what is bare
-bare_word : (s : Typing) (state : State) (g : ViewStage) (w : Way) (l : Loc) (p q : List Step) → IsBareOf g w l p
+bare_word : (s : Typing) (state : State) (g : ViewStage) (w : Way) (l : Loc) (p q : List Step) → IsBareOf s g w l p
     → (view_here s state).word (part l q) ≡ word_in s.table (content s state.memory [] l) q
-bare_word s state g w l p q (taken, (c, has, way, is)) =
+bare_word s state g w l p q (taken, inl (c, has, way, is)) =
     subst (λ z. (view_here s state).word (part z q) ≡ word_in s.table (content s state.memory [] z) q) is (cell_word s state c.cell q)
+bare_word s state g w l p q (taken, inr (y, shared, way, is)) =
+    subst (λ z. (view_here s state).word (part z q) ≡ word_in s.table (content s state.memory [] z) q) is
+    (word_root s.table (content s state.memory (waiting_in state)) (OfVariable 0 y) q)
 
 pub along_both : (w : Way) (q p : List Step) → along w (q ++ p) ≡ along (along w p) q
 along_both w [] p = refl
@@ -99,7 +102,7 @@ along_both w (i ∷ q) p = ap (λ z. Into z i) (along_both w q p)
 
 -- ---- frames that wait
 
-some_frames : (k : ViewStage) (older : List ViewStage) (outer : List Frame) → AreStages (stages_of (k ∷ older)) outer → 0 < length outer
+pub some_frames : (k : ViewStage) (older : List ViewStage) (outer : List Frame) → AreStages (stages_of (k ∷ older)) outer → 0 < length outer
 some_frames k older [] stages = absurd stages
 some_frames k older (f ∷ outer) stages = omega arith
 
@@ -161,28 +164,34 @@ module _ (table : Table) (typed : TypedProgram) (effects : Effects)
   abbrev pub KeptElsewhere : List ViewStage → Way → ℕ → Type 0
   KeptElsewhere older w n = KeptBy older w n
 
-  -- Parts of those cells that were taken.
+  -- Parts of those cells, and of package objects, that were taken.
   abbrev pub BareElsewhere : List ViewStage → Way → Loc → List Step → Type 0
-  BareElsewhere older w l p = (g : ViewStage) × Has older g × IsBareOf g w l p
+  BareElsewhere older w l p = (g : ViewStage) × Has older g × IsBareOf s g w l p
 
   -- What others keep is there, and no number stands in what was taken.
   pub record AreTheirs (older : List ViewStage) (view : View) : Type 0 where
     pub far : (w : Way) (n : ℕ) → KeptElsewhere older w n → Reaches view w (OfCell n)
     pub bare : (w : Way) (l : Loc) (p : List Step) → BareElsewhere older w l p → (q : List Step) (c : ℕ) → view.word (part l (q ++ p)) ≡ Held c → ⊥
 
-  -- where cells keep their words
+  -- where cells keep their words, and no number comes to what was taken of package objects
   pub bare_still : (older : List ViewStage) (before after : State)
-      → ((c : ℕ) (q : List Step) → word_in s.table (content s after.memory [] (OfCell c)) q ≡ word_in s.table (content s before.memory [] (OfCell c)) q)
+      → ((c : ℕ) (q : List Step) (k : ℕ) → word_in s.table (content s after.memory [] (OfCell c)) q ≡ Held k → word_in s.table (content s before.memory [] (OfCell c)) q ≡ Held k)
+      → ((y : ℕ) (p q : List Step) (k : ℕ) → BareElsewhere older (Object (OfVariable 0 y)) (OfRoot (OfVariable 0 y)) p → is_package_object s y ≡ true
+      → word_in s.table (content s after.memory [] (OfRoot (OfVariable 0 y))) (q ++ p) ≡ Held k
+      → word_in s.table (content s before.memory [] (OfRoot (OfVariable 0 y))) (q ++ p) ≡ Held k)
       → ((w : Way) (l : Loc) (p : List Step) → BareElsewhere older w l p → (q : List Step) (k : ℕ) → (view_here s before).word (part l (q ++ p)) ≡ Held k → ⊥)
       → (w : Way) (l : Loc) (p : List Step) → BareElsewhere older w l p → (q : List Step) (k : ℕ) → (view_here s after).word (part l (q ++ p)) ≡ Held k → ⊥
-  bare_still older before after same none w l p bare q k held = none w l p bare q k (one (bare.2).1 held)
+  bare_still older before after cells roots none w l p (g, has, bare) q k held =
+      none w l p (g, has, bare) q k (bare_word s before g w l p (q ++ p) bare ∙ one bare (sym (bare_word s after g w l p (q ++ p) bare) ∙ held))
     where
-      one : (c : Lodge) × Has (bare.0).cells c × (c.way ≡ w) × (OfCell c.cell ≡ l) → (view_here s after).word (part l (q ++ p)) ≡ Held k
-          → (view_here s before).word (part l (q ++ p)) ≡ Held k
-      one (c, has, way, is) held =
-          subst (λ z. (view_here s before).word (part z (q ++ p)) ≡ Held k) is
-          (cell_word s before c.cell (q ++ p) ∙ sym (same c.cell (q ++ p)) ∙ sym (cell_word s after c.cell (q ++ p))
-          ∙ subst (λ z. (view_here s after).word (part z (q ++ p)) ≡ Held k) (sym is) held)
+      one : IsBareOf s g w l p → word_in s.table (content s after.memory [] l) (q ++ p) ≡ Held k → word_in s.table (content s before.memory [] l) (q ++ p) ≡ Held k
+      one (taken, inl (c, there, way, is)) held =
+          subst (λ z. word_in s.table (content s before.memory [] z) (q ++ p) ≡ Held k) is
+          (cells c.cell (q ++ p) k (subst (λ z. word_in s.table (content s after.memory [] z) (q ++ p) ≡ Held k) (sym is) held))
+      one (taken, inr (y, shared, way, is)) held =
+          subst (λ z. word_in s.table (content s before.memory [] z) (q ++ p) ≡ Held k) is
+          (roots y p q k (g, has, (subst (λ z. Has g.stage.returns (along z p)) (sym way) taken, inr (y, shared, refl, refl))) shared
+          (subst (λ z. word_in s.table (content s after.memory [] z) (q ++ p) ≡ Held k) (sym is) held))
 
   -- the frame of the package objects has none
   no_cells : (g : ViewStage) (w : Way) (n : ℕ) → IsFirst g → IsWayOf g w n → ⊥
@@ -380,7 +389,12 @@ module _ (table : Table) (typed : TypedProgram) (effects : Effects)
     pub apart_elsewhere : (x : ℕ) (w : Way) → ((n : ℕ) × KeptElsewhere older w n) ⊎ ((l : Loc) × (p : List Step) × BareElsewhere older w l p)
         → base_of w ≡ OfRoot (OfVariable depth x) → ⊥
     apart_elsewhere x w (inl (n, kept)) base = kept_apart x w n kept base
-    apart_elsewhere x w (inr (l, p, (g, has, (taken, (c, there, is, cell))))) base = kept_apart x w c.cell (g, has, inr (c, there, is, refl)) base
+    apart_elsewhere x w (inr (l, p, (g, has, (taken, inl (c, there, is, cell))))) base = kept_apart x w c.cell (g, has, inr (c, there, is, refl)) base
+    apart_elsewhere x w (inr (l, p, (g, has, (taken, inr (y, shared, is, at))))) base = elim (between g has) [
+      | inl first ↦ subst (λ z. Has z (along w p)) (first.1).2 taken
+      | inr (some, less, callee, backs, waits) ↦ (
+          let frames = same_frame 0 y depth x (ap base_of is ∙ base) in omega (arith, frames, some, less))
+    ]
 
     -- the ways of their views begin below
     pub kept_low : (w : Way) (n : ℕ) → KeptElsewhere older w n → (f : ℕ) × (x : ℕ) × (base_of w ≡ OfRoot (OfVariable f x)) × (f < depth)
@@ -402,9 +416,9 @@ module _ (table : Table) (typed : TypedProgram) (effects : Effects)
     gone_low w (g, has, inr taken) = elim (between g has) [
       | inl first ↦ absurd (subst (λ z. TakenBy z w) (first.1).2 taken).1
       | inr (some, less, callee, backs, waits) ↦ (
-          let base = taken_base g.stage.returns g.stage.depth
+          let base = taken_base s g.stage.returns g.stage.depth
           (words_taken s g.cells state.memory g.stage.depth (facts_of program effects g.stage) (lasting_of s waits.point.scope) backs g.stage.returns waits.taken) w taken in
-          (g.stage.depth, base.0, base.1, less))
+          (base.0, base.1, base.2, (let at_home = base.3 in let low = home_low s g.stage.depth base.1 in omega (arith, at_home, low, less))))
     ]
     gone_low w (g, has, inl (u, moved, leads)) = elim (between g has) [
       | inl first ↦ absurd (unmoved g.stage first.0 (name_of u) moved.1)
@@ -423,15 +437,14 @@ module _ (table : Table) (typed : TypedProgram) (effects : Effects)
 
     -- what is near and gone elsewhere is a part of a package object, and goes on from a place that is kept
     pub near_lent : (w : Way) → IsNear depth w → GoneElsewhere program effects older w → IsLentFor Borrowed w
-    near_lent w near (g, has, inr taken) = elim (between g has) [
-      | inl first ↦ absurd (subst (λ z. TakenBy z w) (first.1).2 taken).1
-      | inr (some, less, callee, backs, waits) ↦ absurd (
-          let base = taken_base g.stage.returns g.stage.depth
-          (words_taken s g.cells state.memory g.stage.depth (facts_of program effects g.stage) (lasting_of s waits.point.scope) backs g.stage.returns waits.taken) w taken in
-          elim (near_base depth w g.stage.depth base.0 near base.1) [
-            | inl none ↦ omega (arith, some, none)
-            | inr same ↦ omega (arith, less, same)
-          ])
+    near_lent w near (g, has, inr (to, taken, p, is)) = elim (between g has) [
+      | inl first ↦ absurd (subst (λ z. Has z to) (first.1).2 taken)
+      | inr (some, less, callee, backs, waits) ↦ (
+          let begin = words_taken s g.cells state.memory g.stage.depth (facts_of program effects g.stage) (lasting_of s waits.point.scope) backs g.stage.returns waits.taken to taken in
+          let at : base_of to ≡ OfRoot (OfVariable (home s g.stage.depth begin.1) begin.1) = begin.2 ∙ ap (λ f. OfRoot (OfVariable f begin.1)) begin.3 in
+          let there : Named (home s g.stage.depth) w = base_named (home s g.stage.depth) w begin.1 (ap base_of is ∙ along_base to p ∙ at) in
+          lent_for g has some (Moved (name_of to)) to w (kept_place g to taken) refl (base_named (home s g.stage.depth) to begin.1 at)
+          (subst (Under to) (sym is) (under_along to to p (under_itself to))) (near_package s g.stage.depth depth some less w there near))
     ]
     near_lent w near (g, has, inl (u, moved, leads)) = elim (between g has) [
       | inl first ↦ absurd (unmoved g.stage first.0 (name_of u) moved.1)
@@ -514,11 +527,12 @@ module _ (table : Table) (typed : TypedProgram) (effects : Effects)
 
     pub bare_rests : (w : Way) (l : Loc) (p : List Step) → BareElsewhere older w l p
         → ((n : ℕ) × KeptElsewhere older w n × (l ≡ OfCell n)) ⊎ ((r : Root) × (w ≡ Object r) × (l ≡ OfRoot r))
-    bare_rests w l p (g, has, (taken, (c, there, is, cell))) = inl (c.cell, (g, has, inr (c, there, is, refl)), sym cell)
+    bare_rests w l p (g, has, (taken, inl (c, there, is, cell))) = inl (c.cell, (g, has, inr (c, there, is, refl)), sym cell)
+    bare_rests w l p (g, has, (taken, inr (y, shared, is, at))) = inr (OfVariable 0 y, sym is, sym at)
 
     pub bare_begins : (w : Way) (l : Loc) (p : List Step) → BareElsewhere older w l p
         → (f : ℕ) × (x : ℕ) × (base_of w ≡ OfRoot (OfVariable f x)) × ((f ≡ home s depth x → ⊥) ⊎ ((k : Loan) × IsLentFor k (along w p)))
-    bare_begins w l p (g, has, (taken, (c, there, is, cell))) =
+    bare_begins w l p (g, has, (taken, inl (c, there, is, cell))) =
         let b = begins_elsewhere w c.cell (g, has, inr (c, there, is, refl)) in (
           b.0,
           b.1,
@@ -528,6 +542,23 @@ module _ (table : Table) (typed : TypedProgram) (effects : Effects)
             | inr (k, m) ↦ inr (k, (m.0, m.1, under_along m.0 w p m.2, m.3))
           ],
         )
+    bare_begins w l p (g, has, (taken, inr (y, shared, is, at))) = (
+      0,
+      y,
+      ap base_of (sym is),
+      elim (between g has) [
+        | inl first ↦ absurd (subst (λ z. Has z (along w p)) (first.1).2 taken)
+        | inr (some, less, callee, backs, waits) ↦ inr (
+          Borrowed,
+          (
+              let base : base_of (along w p) ≡ OfRoot (OfVariable (home s g.stage.depth y) y) =
+              along_base w p ∙ ap base_of (sym is) ∙ (λ j. OfRoot (OfVariable (if sym shared j then 0 else g.stage.depth) y)) in
+              let named : Named (home s g.stage.depth) (along w p) = base_named (home s g.stage.depth) (along w p) y base in
+              lent_for g has some (Moved (name_of (along w p))) (along w p) (along w p) (kept_place g (along w p) taken) refl named (under_itself (along w p))
+              (ap (is_package_object s) (number_based (home s g.stage.depth) (along w p) y named base) ∙ shared)),
+        )
+      ],
+    )
 
     -- what was taken is gone for them
     pub emptied_there : (w : Way) (l : Loc) (p : List Step) → BareElsewhere older w l p → (q : List Step)
@@ -724,7 +755,7 @@ module _ (table : Table) (typed : TypedProgram) (effects : Effects)
       → (get_or (variable_slots s f x next.memory.variables) 0 no_slot).word ≡ (get_or (variable_slots s f x state.memory.variables) 0 no_slot).word) where
     waits_on : (callee : ℕ) (backs : List Return) (g : ViewStage) → 0 < g.stage.depth → g.stage.depth < depth
         → ((w : Way) (n : ℕ) → IsWayOf g w n → Reaches (view_here s next) w (OfCell n))
-        → ((w : Way) (l : Loc) (p : List Step) → IsBareOf g w l p → (q : List Step) (k : ℕ) → (view_here s next).word (part l (q ++ p)) ≡ Held k → ⊥)
+        → ((w : Way) (l : Loc) (p : List Step) → IsBareOf s g w l p → (q : List Step) (k : ℕ) → (view_here s next).word (part l (q ++ p)) ≡ Held k → ⊥)
         → IsWaiting table typed effects state callee backs g → IsWaiting table typed effects next callee backs g
     waits_on callee backs g some less reach bare waits = record {
       runs = waits.runs;
@@ -762,10 +793,24 @@ module _ (table : Table) (typed : TypedProgram) (effects : Effects)
         reaches = reach c.way c.cell (inr (c, has, refl, refl));
         aside = kept.aside;
       });
-      taken = still_taken s g.cells state.memory next.memory g.stage.depth (facts_of program effects g.stage) (lasting_of s waits.point.scope)
-          (λ y p c held. still g.stage.depth y p c some less held) backs g.stage.returns waits.taken;
+      taken = still_taken s g.cells state.memory next.memory g.stage.depth (facts_of program effects g.stage) (lasting_of s waits.point.scope) backs g.stage.returns
+          (λ k to has inside none p c held. place_on k to has inside (is_package_object s inside.object) refl none p c held) waits.taken;
     }
       where
+        -- no number comes to what was taken
+        place_on : (k : Place) (to : Way) → Has g.stage.returns to → (inside : IsInside s g.stage.depth k to) → (b : Bool) → is_package_object s inside.object ≡ b
+            → IsBare s g.stage.depth k to state.memory inside → IsBare s g.stage.depth k to next.memory inside
+        place_on k to has inside true shared none p c held =
+            let first : inside.frame ≡ 0 = inside.at_home ∙ ap (λ z. if z then 0 else g.stage.depth) shared in
+            let taken : IsBareOf s g (Object (OfVariable 0 inside.object)) (OfRoot (OfVariable 0 inside.object)) inside.steps =
+            (subst (Has g.stage.returns) (inside.way ∙ ap (λ f. along (Object (OfVariable f inside.object)) inside.steps) first) has, inr (inside.object, shared, refl, refl)) in
+            bare (Object (OfVariable 0 inside.object)) (OfRoot (OfVariable 0 inside.object)) inside.steps taken p c
+            (bare_word s next g (Object (OfVariable 0 inside.object)) (OfRoot (OfVariable 0 inside.object)) inside.steps (p ++ inside.steps) taken
+            ∙ ap (λ f. word_in s.table (content s next.memory [] (OfRoot (OfVariable f inside.object))) (p ++ inside.steps)) (sym first) ∙ held)
+        place_on k to has inside false local_one none p c held =
+            let own : inside.frame ≡ g.stage.depth = inside.at_home ∙ ap (λ z. if z then 0 else g.stage.depth) local_one in
+            none p c (still inside.frame inside.object (p ++ inside.steps) c (omega (arith, own, some)) (omega (arith, own, less)) held)
+
         word_before : (x n : ℕ) → is_view s x ≡ true
             → (get_or (variable_slots s (home s g.stage.depth x) x next.memory.variables) 0 no_slot).word ≡ machine.Cell n
             → (get_or (variable_slots s (home s g.stage.depth x) x state.memory.variables) 0 no_slot).word ≡ machine.Cell n

@@ -74,9 +74,9 @@ pub record AreValued (table : Table) (typed : TypedProgram) : Type 0 where
       → FillsTyped (flow_program table typed) p.instr (drop (taken p.instr) p.scope)
 
 -- What is passed stays within what it names. One that is copied back to is a name of a place of the type of
--- the formal: of a scalar type, or in an object that belongs to no package and is no formal of mode `in`.
+-- the formal: of a scalar type, or in an object that is no formal of mode `in`.
 abbrev pub IsOwnPlace : Typing → TypedTree → Type 0
-IsOwnPlace s e = (y : ℕ) → Has (root_of e) y → (is_package_object s y ≡ false) × (is_view_formal s y ≡ false)
+IsOwnPlace s e = (y : ℕ) → Has (root_of e) y → is_view_formal s y ≡ false
 
 -- What a formal is shown that owns nothing: null, or what a name of its type designates that is rooted in an
 -- own variable of the frame, or in such a formal.

@@ -30,7 +30,7 @@ use Rattle.machine.specs.Memory.{Memory, variable_slots, no_slot}
 use Rattle.machine.specs.States.{Return, Waiting, Frame, State, Outcome, Goes, Ends, sub_of}
 use Rattle.machine.specs.Owners.{is_in, WellOwned, waiting_in}
 use Rattle.machine.specs.Run.{step}
-use Rattle.owned_ways.specs.Ways.{Loc, Step, OfVariable, OfRoot, Held, Way, Named, Under, Past, along, name_of, number_of, OfCell, Reaches, View}
+use Rattle.owned_ways.specs.Ways.{Object, Step, OfVariable, OfRoot, Held, Way, Named, Under, Past, name_of, number_of, OfCell, Reaches, Loc, along, View}
 use Rattle.soundness.specs.Seen.{content, word_in, home, is_view_formal}
 use Rattle.soundness.specs.Typed.{Kept}
 use Rattle.soundness.specs.Sound.{goes_through_none, is_temporary_object, IsNamedSub, IsAtPoint, IsRunnable, Stage, facts_of, AreStages, Uses, IsPlain, InScope, IsTrap, has_returned}
@@ -195,9 +195,13 @@ pub record IsKept (s : Typing) (state : State) (g : ViewStage) (c : Lodge) : Typ
   pub reaches : Reaches (owners.view_of s state) c.way (OfCell c.cell)
   pub aside : (to : Way) → Has g.stage.returns to → Past to c.way → ⊥
 
--- A part of such a cell that was taken: its way, its location, and the steps from there.
-abbrev pub IsBareOf : ViewStage → Way → Loc → List Step → Type 0
-IsBareOf g w l p = Has g.stage.returns (along w p) × ((c : Lodge) × Has g.cells c × (c.way ≡ w) × (OfCell c.cell ≡ l))
+-- A package object: its way and its location.
+abbrev pub IsPackageAt : Typing → Way → Loc → Type 0
+IsPackageAt s w l = (y : ℕ) × (is_package_object s y ≡ true) × (Object (OfVariable 0 y) ≡ w) × (OfRoot (OfVariable 0 y) ≡ l)
+
+-- A part of such a cell, or of a package object, that was taken: its way, its location, and the steps from there.
+abbrev pub IsBareOf : Typing → ViewStage → Way → Loc → List Step → Type 0
+IsBareOf s g w l p = Has g.stage.returns (along w p) × (((c : Lodge) × Has g.cells c × (c.way ≡ w) × (OfCell c.cell ≡ l)) ⊎ IsPackageAt s w l)
 
 -- A frame that waits for a call to end. The points that it has executed form a control path to its
 -- next point. What it owns is in scope there, and so are its views, which have their ways still. The
@@ -231,7 +235,7 @@ pub record IsWaiting (table : Table) (typed : TypedProgram) (effects : Effects) 
   pub placed : ArePlaced (flow_program table typed) g.stage.depth (facts_of (flow_program table typed) effects g.stage) g.views point.scope
   pub kept : (c : Lodge) → Has g.cells c → IsKept (flow_typing (flow_program table typed)) state g c
   -- no number stands in what was taken
-  pub bare : (w : Way) (l : Loc) (p : List Step) → IsBareOf g w l p → (q : List Step) (n : ℕ)
+  pub bare : (w : Way) (l : Loc) (p : List Step) → IsBareOf (flow_typing (flow_program table typed)) g w l p → (q : List Step) (n : ℕ)
       → word_in (flow_typing (flow_program table typed)).table (content (flow_typing (flow_program table typed)) state.memory [] l) (q ++ p) ≡ Held n → ⊥
   pub taken : AreTaken (flow_typing (flow_program table typed)) g.cells state.memory g.stage.depth (facts_of (flow_program table typed) effects g.stage)
       (lasting_of (flow_typing (flow_program table typed)) point.scope) backs g.stage.returns

@@ -15,7 +15,7 @@ use Rattle.machine.specs.Memory as memory
 use Rattle.machine.specs.States.{Return}
 use Rattle.owned_ways.specs.Ways.{Step, OfVariable, OfRoot, OfCell, Way, Object, Lost, Into, All, Held, Gone, Under, along, name_of, object_of}
 use Rattle.part_offsets.specs.Parts.{type_in, offset_in, has_part}
-use Rattle.soundness.specs.Seen.{content, word_in, is_view_formal}
+use Rattle.soundness.specs.Seen.{content, word_in, home, is_view_formal}
 use Rattle.soundness.specs.Typed.{Matches, IsFixed}
 use Rattle.viewed_soundness.specs.Holds.{IsNamed}
 
@@ -32,13 +32,14 @@ pub record AreCarried (s : Typing) (these : ℕ → Type 0) (ways : List Way) (m
       → word_in s.table (content s m [] (OfRoot (OfVariable f x))) p ≡ Gone → word_in s.table (content s n [] (OfRoot (OfVariable f x))) p ≡ Gone
   pub cells : (c : ℕ) (p : List Step) → word_in s.table (content s n [] (OfCell c)) p ≡ word_in s.table (content s m [] (OfCell c)) p
 
--- A place in a variable of a frame: its way. Where it stands doesn't go by what is in memory.
+-- A place in a variable of a frame, or in a package object: its way. Where it stands doesn't go by what is in memory.
 pub record IsInside (s : Typing) (depth : ℕ) (k : Place) (to : Way) : Type 0 where
   pub object : ℕ
   pub steps : List Step
-  pub way : to ≡ along (Object (OfVariable depth object)) steps
-  pub base : k.base ≡ memory.OfVariable depth object
-  pub own : is_package_object s object ≡ false
+  pub frame : ℕ
+  pub at_home : frame ≡ home s depth object
+  pub way : to ≡ along (Object (OfVariable frame object)) steps
+  pub base : k.base ≡ memory.OfVariable frame object
   pub owner : is_view_formal s object ≡ false
   pub there : has_part s.table (object_at s object).of steps ≡ true
   pub at : k.at ≡ offset_in s.table (object_at s object).of steps
@@ -91,14 +92,14 @@ pub record IsPassedOn (s : Typing) (depth : ℕ) (facts : List Fact) (scope : Li
   pub formal : is_package_object s x ≡ false
   pub owner : is_view_formal s x ≡ false
   pub many : is_scalar (full s.table (object_at s x).of) ≡ false
-  pub within : is_owning s.table (object_at s inside.object).of ≡ true → is_within inside.object scope ≡ true
+  pub within : is_package_object s inside.object ≡ false → is_owning s.table (object_at s inside.object).of ≡ true → is_within inside.object scope ≡ true
   pub unlent : (l : Loan) (h : ℕ) (n : PlaceName) → Has facts (Lent l h n) → overlaps n (name_of to) ≡ true → ⊥
   pub cleared : (n : PlaceName) → Has facts (Moved n) → covers (name_of to) n ≡ true → ⊥
 
 -- No number stands in the place.
 abbrev pub IsBare : (s : Typing) (depth : ℕ) (k : Place) (to : Way) → Memory → IsInside s depth k to → Type 0
 IsBare s depth k to m inside =
-    (p : List Step) (c : ℕ) → word_in s.table (content s m [] (OfRoot (OfVariable depth inside.object))) (p ++ inside.steps) ≡ Held c → ⊥
+    (p : List Step) (c : ℕ) → word_in s.table (content s m [] (OfRoot (OfVariable inside.frame inside.object))) (p ++ inside.steps) ≡ Held c → ⊥
 
 abbrev pub IsTaken : Typing → Memory → ℕ → List Fact → List ℕ → Return → Way → Type 0
 IsTaken s m depth facts scope r to =
