@@ -58,7 +58,9 @@ use Rattle.exact_facts.proofs.Frames.{after_more, after_keeps}
 use Rattle.exact_facts.proofs.Spots.{excused_knows}
 use Rattle.exact_facts.proofs.Spots.{leaks_same, object_same}
 use Rattle.viewed_facts.specs.Exact.{IsDefiniteBy, IsDefiniteOf, IsExact}
-use Rattle.viewed_facts.proofs.Frames.{elsewhere as moved_elsewhere, IsDefiniteHere, beside_told, apart_told}
+use Rattle.viewed_facts.proofs.Frames.{elsewhere as moved_elsewhere, IsDefiniteHere, beside_told, apart_told, definite_gone}
+use Rattle.viewed_steps.proofs.Views.{AreAccess}
+use Rattle.viewed_facts.proofs.Steps.{IsAway}
 
 module _ (table : Table) (typed : TypedProgram) (effects : Effects) (input : List ℕ) (ready : IsReady table typed effects) where
   abbrev program : FlowProgram
@@ -70,8 +72,8 @@ module _ (table : Table) (typed : TypedProgram) (effects : Effects) (input : Lis
   abbrev own : Typing
   own = typing_of table typed
 
-  abbrev no_formals : (x : ℕ) → is_view_formal s x ≡ false
-  no_formals = standing.no_in_formals table typed effects input ready
+  abbrev in_formals : AreAccess s
+  in_formals = standing.in_formals table typed effects input ready
 
   abbrev local : (x : ℕ) → is_view s x ≡ true → is_package_object s x ≡ false
   local = standing.local table typed effects input ready
