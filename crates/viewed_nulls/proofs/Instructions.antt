@@ -58,8 +58,8 @@ module _ (table : Table) (typed : TypedProgram) (effects : Effects) (input : Lis
   abbrev own : Typing
   own = typing_of table typed
 
-  abbrev pub no_formals : (x : ℕ) → is_view_formal (flow_typing (flow_program table typed)) x ≡ false
-  no_formals = standing.no_in_formals table typed effects input ready
+  abbrev pub in_formals : (x : ℕ) → is_view_formal (flow_typing (flow_program table typed)) x ≡ false
+  in_formals = standing.in_formals table typed effects input ready
 
   module _ (state : State) (frame : Frame) (outer : List Frame) (named : NamedSub) (p : NamedPoint)
       (other : Around (home s (length outer))) (alone : (w : Way) → IsNear (length outer) w → other.gone w → ⊥) (v : Views) (facts : List Fact)
@@ -69,13 +69,13 @@ module _ (table : Table) (typed : TypedProgram) (effects : Effects) (input : Lis
 
     abbrev pub Ready : Memory → List Waiting → List Fact → Type 0
     Ready m hands known =
-        IsReadyIn (steps.here t) ready.accepted.settled state.leaks other alone no_formals index_law ready.owns v ready.class.parts_named m hands known
+        IsReadyIn (steps.here t) ready.accepted.settled state.leaks other alone in_formals index_law ready.owns v ready.class.parts_named m hands known
 
     abbrev pub asks : Premises (steps.here t)
     asks = viewed_premises (steps.here t) ready.class.parts_named
 
     pub laws : Values (steps.here t) asks Ready
-    laws = viewed_values (steps.here t) ready.accepted.settled state.leaks other alone no_formals index_law ready.owns v ready.class.parts_named
+    laws = viewed_values (steps.here t) ready.accepted.settled state.leaks other alone in_formals index_law ready.owns v ready.class.parts_named
 
     abbrev acts_by : Instruction → List Act
     acts_by i =
@@ -106,7 +106,7 @@ module _ (table : Table) (typed : TypedProgram) (effects : Effects) (input : Lis
       view_declares : (x : ℕ) (q : Pos) (y u : ℕ) (path : TypedTree) → is_anonymous (view_of s x) ≡ true → DeclaresSame x (More (Name q y path u) NoMore)
       unfolding Compares has_call waits_in
       view_declares x q y u path view text plainly takes compares allowed keep =
-          view_declared_same t ready.accepted.settled ready.owns other alone no_formals v ready.class.parts_named facts so only n agrees on q x y u path view
+          view_declared_same t ready.accepted.settled ready.owns other alone in_formals v ready.class.parts_named facts so only n agrees on q x y u path view
           (ready.orderly.local x view).0 text.1
           (takes_as (waits_in path + 0) (waits_in path) (start t).waits on (nothing_more (waits_in path)) takes) compares.0 allowed
 
@@ -138,7 +138,7 @@ module _ (table : Table) (typed : TypedProgram) (effects : Effects) (input : Lis
           → Source s (object_at s x).of (Name r y path w) → AssignsSame (Name q x NoMore (object_at s x).of) (Name r y path w)
       unfolding Compares has_call waits_in
       view_assigns q x r y w path view itself source plainly takes compares allowed keep =
-          view_assigned_same t ready.accepted.settled ready.owns other alone no_formals v ready.class.parts_named facts so only n agrees on p.pos q r x y w path view
+          view_assigned_same t ready.accepted.settled ready.owns other alone in_formals v ready.class.parts_named facts so only n agrees on p.pos q r x y w path view
           (ready.orderly.local x view).0 source
           (takes_as (waits_in path + 0) (waits_in path) (start t).waits on (nothing_more (waits_in path)) takes) itself compares.1 allowed
 
