@@ -78,7 +78,7 @@ module _ (p : Program) where
   abbrev all_temporaries : List Temporary
   all_temporaries = flat_map temporaries_of (flow_named table (typed_of p))
 
-  mode_same : (x : ℕ) → (object_at (flow_typing flow) x).mode ≡ (object_at own x).mode
+  pub mode_same : (x : ℕ) → (object_at (flow_typing flow) x).mode ≡ (object_at own x).mode
   unfolding flow_program
   mode_same x = elim (object_there (typed_of p).objects all_temporaries x) [
     | inl same ↦ ap (λ (o : Object). o.mode) same

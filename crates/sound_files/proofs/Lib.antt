@@ -16,4 +16,5 @@ pub mod Classes
 pub mod Results
 pub mod Mains
 pub mod Functions
+pub mod Weaker
 pub mod Owners

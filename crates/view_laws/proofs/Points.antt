@@ -43,6 +43,7 @@ use Rattle.layered_scopes.specs.Layered.{is_older}
 use Rattle.layered_scopes.specs.Points.{GoesOn, AreFading}
 use Rattle.ready_laws.proofs.Ready.{seen_has}
 use Rattle.ready_laws.proofs.Subs.{setting_from}
+use Rattle.viewed_steps.specs.Traversals.{IsSourceName}
 use Rattle.view_laws.specs.InOrder.{is_name_of, is_list_end, is_one_name_of, is_any, is_call, gives_view, NamesSource, fits}
 use Rattle.view_laws.specs.Program.{IsViewProgram}
 use Rattle.view_laws.proofs.Acts.{source_lasts}
@@ -392,7 +393,8 @@ module _ (table : Table) (typed : TypedProgram) (effects : Effects) (given : IsV
 
       -- where a view is declared
       pub declared_there : (x : ℕ) (e : TypedTree) → p.instr ≡ Declare x e → is_anonymous (view_of s x) ≡ true
-          → (q : Pos) × (y : ℕ) × (path : TypedTree) × (u : ℕ) × (e ≡ More (Name q y path u) NoMore) × Outlives p.scope y x
+          → (q : Pos) × (y : ℕ) × (path : TypedTree) × (u : ℕ) × (v : TypedTree) × (e ≡ More v NoMore)
+          × IsSourceName s (object_at s x).of v q y path u × Outlives p.scope y x
           × (is_observer s x ≡ false → (sees_only s y ≡ false) × (y < x))
       declared_there x e is anonymous =
           let test : ℕ → Bool = λ y. is_observer own x || nat_lt y x in
@@ -407,7 +409,9 @@ module _ (table : Table) (typed : TypedProgram) (effects : Effects) (given : IsV
             found.1,
             found.2,
             found.3,
+            Name found.0 found.1 found.2 found.3,
             found.4,
+            inl refl,
             outlives found.1 x (subst (λ i. Has (named_in i) found.1) (sym whole_is) (first_root found.0 found.1 found.2 found.3 NoMore))
                 (source_lasts s given.owns given.parts_named (object_at s x).of found.0 found.1 found.2 found.3 anonymous fine.1) (around_declared x e is found.1),
             older_there x found.0 found.1 found.2 found.3 anonymous found.5 whole_is,
@@ -415,7 +419,7 @@ module _ (table : Table) (typed : TypedProgram) (effects : Effects) (given : IsV
 
       -- where a view is assigned
       pub assigned_there : (q : Pos) (x w : ℕ) (e : TypedTree) → p.instr ≡ Assign (Name q x NoMore w) e → is_anonymous (view_of s x) ≡ true
-          → (r : Pos) × (y : ℕ) × (path : TypedTree) × (u : ℕ) × (e ≡ Name r y path u) × (is_observer s x ≡ true → Outlives p.scope y x)
+          → (r : Pos) × (y : ℕ) × (path : TypedTree) × (u : ℕ) × IsSourceName s (object_at s x).of e r y path u × (is_observer s x ≡ true → Outlives p.scope y x)
           × (is_observer s x ≡ false → y ≡ x)
       unfolding Leads
       assigned_there q x w e is anonymous =
@@ -435,7 +439,7 @@ module _ (table : Table) (typed : TypedProgram) (effects : Effects) (given : IsV
             y,
             found.2,
             found.3,
-            found.4,
+            inl found.4,
             λ sees. outlives y x (subst (λ i. Has (named_in i) y) (sym whole_is) (name_root found.0 y found.2 found.3 (roots target))) lasts
                 (λ within. observed_encloses program effects given.accepted.no_reports (flow_sub own named) (in_program named has p there) here (in_sub named has p there)
                 found.0 x (name_of y found.2) (is_observer s y)

@@ -125,6 +125,7 @@ module _ (table : Table) (typed : TypedProgram) (effects : Effects) (given : IsV
     called = passing.called_to table typed effects given.accepted given.owns given.order given.answered given.passed given.still given.passes;
     returning = scoped.are_returning table typed effects given;
     valued = valued.are_valued table typed effects given;
+    traversing = scoped.are_traversing table typed effects given;
     packages = scoped.packages table typed effects given;
     stands = scoped.packages_stand table typed effects given;
     main = suc given.order.number;

@@ -408,9 +408,6 @@ module _ (table : Table) (typed : TypedProgram) (effects : Effects) (given : IsV
     fills_there : FillsTyped program p.instr (drop (taken p.instr) p.scope)
     fills_there = elim (where_is named has) [ inl e ↦ package_fills named e p there | inr inside ↦ body_fills named has inside p there ]
 
-  pub are_valued : AreValued table typed
-  are_valued = record { lasting = stored_unheld; passed = passed_unheld; takes = takes_there; fills = fills_there }
-
   -- ---- results and temporaries
 
   pub named_results : AreNamedResults program
@@ -470,3 +467,12 @@ module _ (table : Table) (typed : TypedProgram) (effects : Effects) (given : IsV
             let fills = filled_by own (sub_points (unnumbered own) body.0) found.0 (subst (λ (z : NamedSub). Has z.temporaries found.0) (sym body.4) sub.2) in
             filled_named body.0 body.1 fills.0 fills.1 found.0 fills.2)
       ]
+
+  pub are_valued : AreValued table typed
+  are_valued = record {
+    lasting = stored_unheld;
+    passed = passed_unheld;
+    takes = takes_there;
+    seen = λ named has p there. inl (λ x within is. temporaries_named x is);
+    fills = fills_there;
+  }

@@ -143,11 +143,3 @@ module _ (s : Typing) (settled : IsSettled s.table) (depth : ℕ) (facts : List 
             ∙ owner_sees s (passed.inside).object (inside_plain s settled depth r.to to passed.inside) (passed.inside).owner,
       ) (λ h n has over. passed.unlent Borrowed h n has over) moved (λ below. passed.cleared (name_of m) moved.1 (under_covers to m below plain))
       (subst (λ z. Under z (expand v m)) (sym (inside_itself s settled depth r.to to passed.inside v)) (subst (Under to) (sym same) under))
-
--- nor what another frame named
-pub other_clean : (s : Typing) (cells : List Lodge) (m : Memory) (depth : ℕ) (facts : List Fact) (scope : List ℕ) (returns : List Return) (ways : List Way)
-    → AreTaken s cells m depth facts scope returns ways → (to : Way) → Has ways to → (w : Way) → (f : ℕ) × (x : ℕ) × (base_of w ≡ OfRoot (OfVariable f x)) × (f < depth) → Under to w → ⊥
-other_clean s cells m depth facts scope returns ways taken to has w (f, x, based, low) under =
-    let base = taken_from s cells m depth facts scope returns ways taken to has in
-    let same = (same_variable f x depth base.0 (sym based ∙ base_under to w under ∙ base.1)).0 in
-    omega (arith, low, same)

@@ -1,6 +1,6 @@
 -- Each step of a sound state whose facts are exact leads to such a state, in a program that is ready.
 use Rattle.viewed_soundness.specs.Holds.{is_view, sees_only}
-use Rattle.std.proofs.Common.{◌<◌, ◌≡◌, refl, sym, ◌∙◌, subst, ◌⊎◌, inl, inr, ℕ, suc, true, false, List, [], ◌∷◌, length, arith, Some, None}
+use Rattle.std.proofs.Common.{◌<◌, ◌≡◌, refl, sym, ◌∙◌, subst, ◌⊎◌, inl, inr, ℕ, suc, true, false, List, [], ◌∷◌, length, arith, Some, None, ap}
 use Rattle.spark_base.specs.Lists.{Has}
 use Rattle.place_names.specs.declared.fact.Fact.{Fact}
 use Rattle.place_names.specs.declared.fact.Fact.TheVariants.{Moved}
@@ -13,9 +13,9 @@ use Rattle.flow_paths.specs.Objects.{Typing, is_package_object}
 use Rattle.flow_paths.specs.Points.{NamedPoint}
 use Rattle.flow_paths.specs.Laid.{FlowSub, FlowProgram, NamedSub, flow_typing, flow_program, flow_named}
 use Rattle.flow_paths.specs.Paths.{ControlPath, facts_before}
-use Rattle.flow_paths.specs.Effects.{path_points}
+use Rattle.flow_paths.specs.Effects.{path_points, written_by}
 use Rattle.machine.specs.Memory.{Memory}
-use Rattle.machine.specs.States.{Waiting, Frame, State, Outcome, Goes, Ends, sub_of}
+use Rattle.machine.specs.States.{Waiting, Frame, State, Outcome, Goes, Ends, sub_of, Return}
 use Rattle.machine.specs.Owners.{waiting_in}
 use Rattle.machine.specs.Run.{step}
 use Rattle.owned_ways.specs.Ways.{OfVariable, OfRoot, Under, base_of, number_of, Way, Loc, Gone, Reaches, Told, Named, name_of}
@@ -24,22 +24,26 @@ use Rattle.soundness.specs.Typed.{Kept}
 use Rattle.soundness.specs.Sound.{Stage, facts_of, AreStages, IsRunnable, InScope, IsNamedSub, IsAtPoint, IsNoCall, IsOnward, view_of as view_here}
 use Rattle.soundness.proofs.Points.{sub_there}
 use Rattle.owned_loans.specs.Views.{known_gone, Views, Viewed, expand}
-use Rattle.viewed_steps.specs.Sound.{ArePast, IsResting, HoldsAt, ArePlaced, NoneAbove, ViewStage, stages_of, GoneElsewhere, AreWaiting, IsRunning, AreTurned, AreLeft, Follows, steps_on, leaves_scope, begins_main, returns_one, calls_one, ends_one, LeadsAlong, IsSound}
+use Rattle.viewed_steps.specs.Sound.{ArePast, IsResting, HoldsAt, ArePlaced, NoneAbove, ViewStage, stages_of, GoneElsewhere, AreWaiting, IsRunning, AreTurned, AreLeft, Follows, steps_on, leaves_scope, begins_main, returns_one, calls_one, ends_one, LeadsAlong, IsSound, HasTraversals, loan_by, IsWaiting}
 use Rattle.viewed_steps.specs.Awaited.{AreAwaited, lasting_of}
 use Rattle.viewed_steps.specs.Ready.{IsReady}
-use Rattle.viewed_steps.proofs.Waiting.{StandsBetween, all_between, gone_low}
+use Rattle.viewed_steps.proofs.Waiting.{StandsBetween, all_between, gone_low, unused_there}
 use Rattle.viewed_steps.proofs.Standing as standing
 use Rattle.viewed_steps.proofs.Packages as packages
 use Rattle.viewed_steps.proofs.Stepping.{sound_along}
 use Rattle.viewed_facts.specs.Exact.{IsDefiniteBy, IsDefiniteOf, LeadsExactly, StepsLeadExactly}
 use Rattle.owned_ways.proofs.Named.{longer}
 use Rattle.owned_loans.proofs.Meeting.{stands}
-use Rattle.viewed_steps.proofs.Views.{same_lies}
-use Rattle.viewed_facts.proofs.Calls.{carried_told, lies_low, lower, passed_of, passed_clean, other_clean}
+use Rattle.viewed_steps.proofs.Views.{same_lies, base_named}
+use Rattle.viewed_facts.proofs.Calls.{carried_told, lies_low, lower, passed_of, passed_clean}
 use Rattle.viewed_steps.specs.Taken.{AreCarried, Lodge}
 use Rattle.viewed_facts.proofs.Frames.{IsDefiniteHere}
 use Rattle.viewed_facts.proofs.Told.{told_next}
 use Rattle.viewed_facts.proofs.ScopeEnds.{told_left}
+use Rattle.place_names.specs.Facts.{place}
+use Rattle.viewed_steps.proofs.Between.{base_under, taken_from, IsHomed, number_based}
+use Rattle.viewed_steps.proofs.Apart.{kept_there, written_disturbs}
+use Rattle.viewed_steps.proofs.Outside.{IsSpared, gone_clear}
 
 module _ (table : Table) (typed : TypedProgram) (effects : Effects) (input : List ℕ) (ready : IsReady table typed effects) where
   abbrev program : FlowProgram
@@ -126,7 +130,8 @@ module _ (table : Table) (typed : TypedProgram) (effects : Effects) (input : Lis
       (between : (g : ViewStage) → Has older g → StandsBetween table typed effects unmoved_stage local state top.stage.depth g)
       (top_low : (w : Way) → IsDefiniteBy (home (flow_typing (flow_program table typed)) top.stage.depth) top.views (facts_of (flow_program table typed) effects top.stage) w
       → (f : ℕ) × (x : ℕ) × (base_of w ≡ OfRoot (OfVariable f x)) × (f < suc top.stage.depth))
-      (lower_there : (next : ViewStage) (around : List ViewStage) → older ≡ next ∷ around → (g : ViewStage) → Has around g → g.stage.depth < next.stage.depth)
+      (around_clear : (next : ViewStage) (around : List ViewStage) → older ≡ next ∷ around → (to : Way) → Has next.stage.returns to
+      → (w : Way) → GoneElsewhere (flow_program table typed) effects around w → Under to w → ⊥)
       (told : Told (seen (flow_typing (flow_program table typed)) state.memory [] []) (IsDefiniteOf (flow_program table typed) effects (top ∷ older)))
       (next : ViewStage) (around : List ViewStage)
       (told_step : IsOnward top.stage next.stage → Stays top.stage.depth i top.views next.views
@@ -142,13 +147,6 @@ module _ (table : Table) (typed : TypedProgram) (effects : Effects) (input : Lis
     abbrev with_cells : List Lodge → ViewStage
     with_cells cells = record { stage = next.stage; views = next.views; cells = cells }
 
-    below_next : (cells : List Lodge) → older ≡ record { stage = next.stage; views = next.views; cells = cells } ∷ around → (g : ViewStage) → Has around g
-        → Between state next.stage.depth g
-    below_next cells same g has = elim (between g (subst (λ gs. Has gs g) (sym same) (inr has))) [
-      | inl first ↦ inl first
-      | inr (some, less, callee, backs, waits) ↦ inr (some, lower_there (with_cells cells) around same g has, callee, backs, waits)
-    ]
-
     -- what the frames moved is in no place that the call took
     off_places : (cells : List Lodge) → older ≡ record { stage = next.stage; views = next.views; cells = cells } ∷ around → (g : ViewStage) → Has older g
         → (w : Way) → Definite g w → (to : Way) → Has next.stage.returns to → Under to w → ⊥
@@ -161,8 +159,7 @@ module _ (table : Table) (typed : TypedProgram) (effects : Effects) (input : Lis
             passed_clean s ready.accepted.settled next.stage.depth (facts_of program effects next.stage) (lasting_of s waits.point.scope) passed.0 to passed.1 next.views (view_here s state)
             waits.views waits.clear w own under)
         | inr other ↦
-            other_clean s cells state.memory next.stage.depth (facts_of program effects next.stage) (lasting_of s waits.point.scope) backs next.stage.returns waits.taken
-            to there w (gone_low table typed effects unmoved_stage local state next.stage.depth around (below_next cells same) w (gone_by g around other w definite)) under
+            around_clear (with_cells cells) around same to there w (gone_by g around other w definite) under
       ]
     ]
 
@@ -250,6 +247,55 @@ module _ (table : Table) (typed : TypedProgram) (effects : Effects) (input : Lis
       below [] stages = absurd stages
       below (h ∷ rest) (frame, deep, others) = (let less = lower around rest others g has in omega (arith, less, deep))
 
+  -- what is gone for the frames around the one that waits is in no place that was taken from it
+  clear_around : (state : State) (top : Stage) (views : Views) (older : List ViewStage) (fs : List Frame) → AreStages (top ∷ stages_of older) fs
+      → IsRunning table typed effects state (record { stage = top; views = views; cells = [] }) older → (next : ViewStage) (around : List ViewStage) → older ≡ next ∷ around
+      → (to : Way) → Has next.stage.returns to → (w : Way) → GoneElsewhere program effects around w → Under to w → ⊥
+  clear_around state top views [] fs stages running next around same to has w gone under = cc
+  clear_around state top views (below ∷ more) fs stages running next [] same to has w (g, none, gone) under = none
+  clear_around state top views (below ∷ more) fs stages running next (h ∷ others) same to has w gone under =
+      elim (between next (inl (sym head))) [
+        | inl first ↦ subst (λ z. Has z to) (first.1).2 has
+        | inr (some, less, callee, backs, waits) ↦ whole backs (callee, waits)
+      ]
+    where
+      between : (g : ViewStage) → Has (below ∷ more) g → Between state top.depth g
+      between = between_of state top views (below ∷ more) fs stages running
+
+      head : next ≡ below
+      head = cc
+
+      rest_is : more ≡ h ∷ others
+      rest_is = cc
+
+      waiting : AreWaiting table typed effects state top.frame.sub top.frame.returns (next ∷ (h ∷ others))
+      waiting = subst (AreWaiting table typed effects state top.frame.sub top.frame.returns) same running.2
+
+      between_low : (g : ViewStage) → Has (h ∷ others) g → Between state next.stage.depth g
+      between_low g there = elim (between g (inr (subst (λ gs. Has gs g) (sym rest_is) there))) [
+        | inl first ↦ inl first
+        | inr (some, less, callee, backs, waits) ↦ inr (some, lower_of top (below ∷ more) fs stages next (h ∷ others) same g there, callee, backs, waits)
+      ]
+
+      whole : (backs : List Return) → (callee : ℕ) × IsWaiting table typed effects state callee backs next → ⊥
+      whole backs (callee, waits) =
+          gone_clear table typed effects unmoved_stage local state next.stage.depth (h ∷ others) between_low to homed spared_to w gone (base_under to w under)
+        where
+          homed : IsHomed s next.stage.depth to
+          homed = taken_from s next.cells state.memory next.stage.depth (facts_of program effects next.stage) (lasting_of s waits.point.scope) backs next.stage.returns waits.taken to has
+
+          spared_to : IsSpared table typed effects unmoved_stage local state next.stage.depth (h ∷ others) between_low homed.1
+          spared_to l name lent root =
+              let at : base_of to ≡ OfRoot (OfVariable (home s next.stage.depth homed.1) homed.1) =
+              homed.2 ∙ ap (λ f. OfRoot (OfVariable f homed.1)) homed.3 in
+              let number : number_of to ≡ homed.1 = number_based (home s next.stage.depth) to homed.1 (base_named (home s next.stage.depth) to homed.1 at) at in
+              let (g, there, some_there, f, keeps, shared, kind, name_is) = lent in
+              let written = waits.written to has (ap (is_package_object s) (number ∙ sym root) ∙ shared) in
+              kept_there table typed effects ready.accepted.effects_are (unused_there table typed effects unmoved_stage local) state next.stage.frame.sub next.stage.frame.returns
+              (h ∷ others) waiting.1 g there some_there f keeps (ap (λ (z : PlaceName). is_package_object s z.root) name_is ∙ shared)
+              (written_disturbs table typed effects ready.accepted.effects_are (loan_by f) next.stage.frame.sub (place f).root
+              (subst (Has (written_by effects next.stage.frame.sub)) (number ∙ sym root ∙ ap (λ (z : PlaceName). z.root) (sym name_is)) written))
+
   none_then : (top : Stage) → top.frame.sub ≡ 0 → (v : Views) (w : Way) → Here top.depth v (facts_then top) [] w → ⊥
   none_then top first v w (inr (g, has, definite)) = has
   none_then top first v w (inl definite) =
@@ -271,7 +317,8 @@ module _ (table : Table) (typed : TypedProgram) (effects : Effects) (input : Lis
       (viewed_before : Viewed (home s (suc (length rest))) (sees_only s) (known_gone (home s (suc (length rest))) (GoneElsewhere program effects (below ∷ more_frames))) views
       (view_here s state) (facts_of program effects top))
       (kept : Kept s state.memory (waiting_in state)) (scope : InScope s state.memory (suc (length rest)) (lasting_of s p.scope)) (holds : HoldsAt s (suc (length rest)) views state.memory p)
-      (placed_before : ArePlaced program (suc (length rest)) (facts_of program effects top) views p.scope × ArePast s (suc (length rest)) views (below ∷ more_frames)) (above : NoneAbove s (suc (length rest)) state.memory)
+      (placed_before : ArePlaced program (suc (length rest)) (facts_of program effects top) views p.scope × ArePast s (suc (length rest)) views (below ∷ more_frames)) (above : NoneAbove s (suc (length rest)) state.memory
+      × HasTraversals table typed (view_here s state) (record { stage = top; views = views; cells = [] } ∷ (below ∷ more_frames)))
       (exact_before : Told (seen s state.memory [] []) (IsDefiniteOf program effects (record { stage = top; views = views; cells = [] } ∷ (below ∷ more_frames)))) where
     main_told : (next : State) → step program input state ≡ Goes next → (later : Views) → AreClearThen top later → Stays (suc (length rest)) p.instr views later
         → Told (seen s next.memory [] []) (Here (suc (length rest)) later (facts_then top) (below ∷ more_frames))
@@ -292,7 +339,8 @@ module _ (table : Table) (typed : TypedProgram) (effects : Effects) (input : Lis
       → Kept s state.memory (waiting_in state)
       → (named : NamedSub) → IsNamedSub (flow_named table typed) top.frame.sub named → (p : NamedPoint) → IsAtPoint named.points top.frame.next p
       → InScope s state.memory top.depth (lasting_of s p.scope) → HoldsAt s top.depth views state.memory p → ArePlaced program top.depth (facts_of program effects top) views p.scope × ArePast s top.depth views older
-      → NoneAbove s top.depth state.memory → Told (seen s state.memory [] []) (IsDefiniteOf program effects (record { stage = top; views = views; cells = [] } ∷ older))
+      → NoneAbove s top.depth state.memory × HasTraversals table typed (view_here s state) (record { stage = top; views = views; cells = [] } ∷ older)
+      → Told (seen s state.memory [] []) (IsDefiniteOf program effects (record { stage = top; views = views; cells = [] } ∷ older))
       → (next : State) → step program input state ≡ Goes next → (later : Views) → AreClearThen top later → Stays top.depth p.instr views later
       → Told (seen s next.memory [] []) (Here top.depth later (facts_then top) older)
   step_told state top views [] fs is stages running awaiting path well kept named of_sub p at_point scope holds there above exact next goes later clear stays =
@@ -304,7 +352,7 @@ module _ (table : Table) (typed : TypedProgram) (effects : Effects) (input : Lis
       (subst (λ d. Viewed (home s d) (sees_only s) (known_gone (home s d) (GoneElsewhere program effects (below ∷ more))) views (view_here s state) (facts_of program effects top)) deep well) kept
       (subst (λ d. InScope s state.memory d (lasting_of s p.scope)) deep scope) (subst (λ d. HoldsAt s d views state.memory p) deep holds)
       (subst (λ d. ArePlaced program d (facts_of program effects top) views p.scope × ArePast s d views (below ∷ more)) deep there)
-      (subst (λ d. NoneAbove s d state.memory) deep above) exact next goes later clear (subst (λ d. Stays d p.instr views later) deep stays))
+      (subst (λ d. NoneAbove s d state.memory) deep above.0, above.1) exact next goes later clear (subst (λ d. Stays d p.instr views later) deep stays))
   step_told state top views (below ∷ more) [] is stages running awaiting path well kept named of_sub p at_point scope holds there above exact next goes later clear stays = absurd stages
   step_told state top views (below ∷ more) (f ∷ []) is stages running awaiting path well kept named of_sub p at_point scope holds there above exact next goes later clear stays = absurd stages.2
 
@@ -333,9 +381,9 @@ module _ (table : Table) (typed : TypedProgram) (effects : Effects) (input : Lis
         follows_told sound.point.instr state after_step (record { stage = sound.top; views = sound.views; cells = [] }) sound.older (packages_of state sound.top sound.views sound.older sound.running)
             (between_of state sound.top sound.views sound.older state.frames sound.stages sound.running)
             (own_low state sound)
-            (lower_of sound.top sound.older state.frames sound.stages) exact (record { stage = (leads.0).top; views = (leads.0).views; cells = [] }) (leads.0).older
+            (clear_around state sound.top sound.views sound.older state.frames sound.stages sound.running) exact (record { stage = (leads.0).top; views = (leads.0).views; cells = [] }) (leads.0).older
             (λ on stays. step_told state sound.top sound.views sound.older state.frames refl sound.stages sound.running sound.awaited sound.path sound.viewed sound.kept sound.named sound.of_sub sound.point
-            sound.at_point sound.scope sound.holds (sound.placed, sound.past) sound.none_above exact after_step is (leads.0).views (
+            sound.at_point sound.scope sound.holds (sound.placed, sound.past) (sound.none_above, sound.traversals) exact after_step is (leads.0).views (
               (leads.0).holds.only,
               λ n has. (leads.0).viewed.clear.owned n (subst (λ z. Has z (Moved n)) (sym (facts_onward sound.top (leads.0).top on)) has),
             ) stays)

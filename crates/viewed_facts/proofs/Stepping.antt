@@ -26,7 +26,7 @@ use Rattle.typed_tree.specs.Programs.{TypedProgram}
 use Rattle.flow_paths.specs.declared.report.Effects.{Effects}
 use Rattle.flow_paths.specs.declared.point.LeakSpot.{LeakSpot}
 use Rattle.flow_paths.specs.Instructions.{Instruction, Skip, Declare, Assign, Call, Output, Input, Release, Test, Choose, Start, Next, Evaluate, LeaveLoop, Hold, EndScope, Finish, Fall}
-use Rattle.flow_paths.specs.Objects.{Typing, object_at, is_anonymous, is_package_object, is_observer, view_of, designated}
+use Rattle.flow_paths.specs.Objects.{Typing, object_at, is_anonymous, is_package_object, is_observer, view_of, designated, is_variable}
 use Rattle.flow_paths.specs.Names.{has_call, name_of, waiting as waits_in}
 use Rattle.flow_paths.specs.Acts as flow
 use Rattle.flow_paths.specs.Acts.{acts_in, leaks_of, spot, stored_acts, assigned_to}
@@ -65,7 +65,7 @@ use Rattle.viewed_soundness.specs.Holds.{is_fixed, is_view, IsNamed, AllKeep, se
 use Rattle.viewed_soundness.proofs.Names.{plain_named, true_false}
 use Rattle.viewed_soundness.proofs.Evaluated.{keep_both}
 use Rattle.viewed_soundness.proofs.Outcomes.{named_plain, IsGood, Leads_on, assigned_acts}
-use Rattle.viewed_steps.specs.Sound.{ArePast, IsResting, HoldsAt, ArePlaced, NoneAbove, ViewStage, stages_of, GoneElsewhere, AreWaiting}
+use Rattle.viewed_steps.specs.Sound.{ArePast, IsResting, HoldsAt, ArePlaced, NoneAbove, ViewStage, stages_of, GoneElsewhere, AreWaiting, HasTraversals, IsStoredAt}
 use Rattle.viewed_steps.specs.Awaited.{AreAwaited, lasting_of, AreScalar, temporaries_of, TakesScalars, TakesAlone}
 use Rattle.viewed_steps.specs.Ready.{AreOrderly, IsReady}
 use Rattle.viewed_steps.proofs.Sources.{leads_or}
@@ -73,6 +73,7 @@ use Rattle.viewed_steps.proofs.Waiting.{StandsBetween, beside_them, handed}
 use Rattle.viewed_steps.proofs.Standing as standing
 use Rattle.viewed_steps.proofs.Packages as packages
 use Rattle.viewed_steps.proofs.Innermost as innermost
+use Rattle.viewed_steps.proofs.Taking as taking
 use Rattle.viewed_steps.proofs.Alone as alone_value
 use Rattle.viewed_steps.proofs.EachInstruction as each
 use Rattle.viewed_steps.proofs.Released.{Releases, released_on as sound_released_on}
@@ -90,6 +91,9 @@ use Rattle.viewed_facts.proofs.Frames.{elsewhere as moved_elsewhere}
 use Rattle.viewed_facts.proofs.Here as here
 use Rattle.viewed_steps.proofs.Views.{AreAccess, all_held}
 use Rattle.viewed_facts.proofs.Steps.{IsAway}
+use Rattle.viewed_facts.proofs.Given.{call_tree, given_declared, given_put, gives_no_call, first_plain}
+use Rattle.viewed_steps.specs.Traversals.{AreGiven, GivesView}
+use Rattle.viewed_soundness.proofs.Lends.{Sees}
 
 module _ (table : Table) (typed : TypedProgram) (effects : Effects) (input : List ℕ) (ready : IsReady table typed effects) where
   abbrev program : FlowProgram
@@ -121,7 +125,8 @@ module _ (table : Table) (typed : TypedProgram) (effects : Effects) (input : Lis
       (viewed_before : Viewed (home s (suc (length rest))) (sees_only s) (known_gone (home s (suc (length rest))) (GoneElsewhere program effects (below ∷ more_frames))) views
       (view_here s state) (facts_of program effects top))
       (kept : Kept s state.memory (waiting_in state)) (scope : InScope s state.memory (suc (length rest)) (lasting_of s p.scope)) (holds : HoldsAt s (suc (length rest)) views state.memory p)
-      (placed_before : ArePlaced program (suc (length rest)) (facts_of program effects top) views p.scope × ArePast s (suc (length rest)) views (below ∷ more_frames)) (above : NoneAbove s (suc (length rest)) state.memory)
+      (placed_before : ArePlaced program (suc (length rest)) (facts_of program effects top) views p.scope × ArePast s (suc (length rest)) views (below ∷ more_frames)) (above : NoneAbove s (suc (length rest)) state.memory
+      × HasTraversals table typed (view_here s state) (record { stage = top; views = views; cells = [] } ∷ (below ∷ more_frames)))
       (exact_before : Told (seen s state.memory [] []) (IsDefiniteOf program effects (record { stage = top; views = views; cells = [] } ∷ (below ∷ more_frames)))) where
     abbrev outer : List Frame
     outer = below.stage.frame ∷ rest
@@ -352,29 +357,120 @@ module _ (table : Table) (typed : TypedProgram) (effects : Effects) (input : Lis
             (subst (λ ws. ExactTo (steps.here at) ready.accepted.settled state.leaks [] other alone (keeps s ready.accepted.settled ready.owns) index_law ready.owns views
             ready.class.parts_named elsewhere away facts_now (value (steps.here at) call (now ws))) (sym (alone_value.first_value table typed effects input ready state top below more_frames rest named p frames deep stages running awaiting of_sub at_point path views viewed_before kept scope holds placed_before above going taken_alone).1.3) exact))
 
-        declares_alone : (y : ℕ) → p.instr ≡ Declare y (More call NoMore) → Exacts (Declare y (More call NoMore))
+        given_here : AreGiven s (view_here s state) depth p.instr views top.frame.waits
+        given_here = subst (λ d. AreGiven s (view_here s state) d p.instr views top.frame.waits) deep ((above.1).0.0 named of_sub p at_point)
+
+        -- the call goes through a name, and its value is that of a view
+        module _ (x n : ℕ) (q r : Pos) (path_of : TypedTree) (u : ℕ) (others : TypedTree) (y : ℕ) (call_is : call ≡ call_tree r n q y path_of u others)
+            (gives : GivesView s n (object_at s x).of) (view : is_anonymous (view_of s x) ≡ true) (variable : is_variable (object_at s x).kind ≡ true) (stored_there : IsStoredAt p.instr x) where
+          abbrev word_now : machine.Word
+          word_now = taking.word_there table typed effects input ready state top below more_frames rest named p frames deep stages running awaiting of_sub at_point path views viewed_before kept scope holds placed_before above going no_calls taken_alone given_here x n q r path_of u others y call_is gives view variable stored_there
+
+          words_now : given_words ≡ (word_now ∷ []) ∷ []
+          words_now = taking.words_there table typed effects input ready state top below more_frames rest named p frames deep stages running awaiting of_sub at_point path views viewed_before kept scope holds placed_before above going no_calls taken_alone given_here x n q r path_of u others y call_is gives view variable stored_there
+
+          good_now : IsGood easy ready.accepted.settled ready.owns other alone views ready.class.parts_named none_taken refl refl views facts_now easy.state
+          good_now =
+              let good_there = taking.good_there table typed effects input ready state top below more_frames rest named p frames deep stages running awaiting of_sub at_point path views viewed_before kept scope holds placed_before above going no_calls taken_alone given_here x n q r path_of u others y call_is gives view variable stored_there in
+              record { viewed = good_there.viewed; kept = good_there.kept; holds = good_there.holds }
+
+          looks_now : Sees easy ready.accepted.settled ready.owns other alone views ready.class.parts_named none_taken refl refl x gives.d
+          looks_now = record {
+            k = gives.k;
+            e = gives.e;
+            o = gives.o;
+            view = gives.want;
+            fits = gives.fits;
+            anonymous = view;
+            mine = home_frame x (ready.orderly.local x view);
+          }
+
+          abbrev tree_now : TypedTree
+          tree_now = call_tree r n q y path_of u others
+
+          declared_so : ExactAt (after (acts_by (Declare x (More call NoMore))) facts_now) []
+              (steps.evaluated easy (steps.taken_by at (object_at s x).of call (start at)) (λ vs m. steps.goes easy (declared depth x vs m) 0))
+          declared_so =
+              subst (λ c. ExactAt (after (acts_by (Declare x (More c NoMore))) facts_now) []
+              (steps.evaluated easy (steps.taken_by at (object_at s x).of c (start at)) (λ vs m. steps.goes easy (declared depth x vs m) 0))) (sym call_is)
+              (subst (λ ws. ExactAt (after (acts_by (Declare x (More tree_now NoMore))) facts_now) []
+              (steps.evaluated easy (steps.taken_by at (object_at s x).of tree_now (record { memory = state.memory; waits = ws })) (λ vs m. steps.goes easy (declared depth x vs m) 0))) (sym words_now)
+              (given_declared easy ready.accepted.settled ready.owns other alone in_formals views ready.class.parts_named none_taken refl refl elsewhere away Excused r n q y path_of u others x gives.d word_now facts_now looks_now good_now exact variable))
+
+          abbrev Puts_now : Pos → TypedTree → Now → Outcome
+          Puts_now k c before =
+              steps.evaluated easy (followed_by (steps.taken_by at (object_at s x).of c before)
+              (λ ws now. followed_by (place_of (steps.here at) (Name k x NoMore (object_at s x).of) now) (λ b now. Done (record { words = ws; place = b }) now)))
+              (λ (st : steps.Stored) m. steps.leaking_goes (checks_at s (steps.target_pos at (Name k x NoMore (object_at s x).of)) m st.place) (steps.goes easy (stored s st.place st.words m) 0))
+
+          put_so : (k : Pos) → ExactAt (after (acts_by (Assign (Name k x NoMore (object_at s x).of) call)) facts_now) [] (Puts_now k call (start at))
+          put_so k =
+              subst (λ c. ExactAt (after (acts_by (Assign (Name k x NoMore (object_at s x).of) c)) facts_now) [] (Puts_now k c (start at))) (sym call_is)
+              (subst (λ ws. ExactAt (after (acts_by (Assign (Name k x NoMore (object_at s x).of) tree_now)) facts_now) [] (Puts_now k tree_now (record { memory = state.memory; waits = ws }))) (sym words_now)
+              (given_put easy ready.accepted.settled ready.owns other alone in_formals views ready.class.parts_named none_taken refl refl elsewhere away Excused r n q y path_of u others x gives.d word_now facts_now looks_now good_now exact variable p.pos (steps.target_pos at (Name k x NoMore (object_at s x).of)) k))
+
+        no_name : (r : Pos) (b : ℕ) (w : TypedTree) (o : ℕ) → call ≡ Name r b w o → ⊥
+        no_name r b w o e = cc
+
+        same_first : (a b : TypedTree) → ◌≡◌ {A = TypedTree} (More a NoMore) (More b NoMore) → a ≡ b
+        same_first a b e = cc
+
+        declares_view : (y : ℕ) → p.instr ≡ Declare y (More call NoMore) → is_anonymous (view_of s y) ≡ true → Exacts (Declare y (More call NoMore))
+        unfolding initial
+        declares_view y is view =
+            let found = orderly.declared y (More call NoMore) is view in
+            let tree_is : call ≡ found.4 = same_first call found.4 found.5 in
+            elim found.6 [
+              | inl name ↦ absurd (no_name found.0 found.1 found.2 found.3 (tree_is ∙ name))
+              | inr (r, n, others, call_is, gives) ↦ declared_main (after (acts_by (Declare y (More call NoMore))) facts_now) y (More call NoMore)
+                  (declared_so y n found.0 r found.2 found.3 others found.1 (tree_is ∙ call_is) gives view (orderly.variables y (inl (inl (More call NoMore, is))) view) (inl (More call NoMore, is)))
+            ]
+
+        assigns_view : (k : Pos) (y : ℕ) → p.instr ≡ Assign (Name k y NoMore (object_at s y).of) call → is_anonymous (view_of s y) ≡ true
+            → Exacts (Assign (Name k y NoMore (object_at s y).of) call)
+        assigns_view k y is view =
+            let found = orderly.assigned k y (object_at s y).of call is view in
+            let target : TypedTree = Name k y NoMore (object_at s y).of in
+            let stored_there : IsStoredAt p.instr y = inr (k, (object_at s y).of, call, is) in
+            elim found.4 [
+              | inl name ↦ absurd (no_name found.0 found.1 found.2 found.3 name)
+              | inr (r, n, others, call_is, gives) ↦
+                  subst (λ z. ExactAt (after (acts_by (Assign target call)) facts_now) (map (spot k (name_of y NoMore) (length (acts_in s call ++ acts_in s NoMore))) z) (turn at (Assign target call)))
+                  (sym (view_parts easy ready.accepted.settled ready.owns other alone in_formals views ready.class.parts_named none_taken refl refl elsewhere away Excused y view))
+                  (assigned_main (after (acts_by (Assign target call)) facts_now) [] target (object_at s y).of call
+                  (put_so y n found.0 r found.2 found.3 others found.1 call_is gives view (orderly.variables y (inl stored_there) view) stored_there k))
+            ]
+
+        declares_owner : (y : ℕ) → p.instr ≡ Declare y (More call NoMore) → is_anonymous (view_of s y) ≡ false → Exacts (Declare y (More call NoMore))
         unfolding acts_in initial
-        declares_alone y is =
-            let type_there = alone_value.named_object table typed effects input ready state top below more_frames rest named p frames deep stages running awaiting of_sub at_point path views viewed_before kept scope holds placed_before above going no_calls taken_alone y is in
-            let same = alone_value.acts_same table typed effects input ready state top below more_frames rest named p frames deep stages running awaiting of_sub at_point path views viewed_before kept scope holds placed_before above going no_calls taken_alone y is in
+        declares_owner y is owner =
+            let type_there = alone_value.named_object table typed effects input ready state top below more_frames rest named p frames deep stages running awaiting of_sub at_point path views viewed_before kept scope holds placed_before above going no_calls taken_alone y is owner in
+            let same = alone_value.acts_same table typed effects input ready state top below more_frames rest named p frames deep stages running awaiting of_sub at_point path views viewed_before kept scope holds placed_before above going no_calls taken_alone y is owner in
             declared_main (after (acts_by (Declare y (More call NoMore))) facts_now) y (More call NoMore)
             (subst (λ z. ExactAt (after z facts_now) [] (steps.evaluated easy (steps.first_value at (object_at s y).of (More call NoMore) (start at))
             (λ vs m. steps.goes easy (declared depth y vs m) 0))) (sym same)
             (then_declared easy ready.accepted.settled ready.owns other alone in_formals views ready.class.parts_named none_taken refl refl elsewhere away Excused y (orderly.begun y (More call NoMore) is) facts_now (steps.first_value at (object_at s y).of (More call NoMore) (start at))
-            (alone_value.source_alone table typed effects input ready state top below more_frames rest named p frames deep stages running awaiting of_sub at_point path views viewed_before kept scope holds placed_before above going taken_alone (object_at s y).of type_there (alone_value.source_here table typed effects input ready state top below more_frames rest named p frames deep stages running awaiting of_sub at_point path views viewed_before kept scope holds placed_before above going no_calls taken_alone y is))
+            (alone_value.source_alone table typed effects input ready state top below more_frames rest named p frames deep stages running awaiting of_sub at_point path views viewed_before kept scope holds placed_before above going taken_alone (object_at s y).of type_there (alone_value.source_here table typed effects input ready state top below more_frames rest named p frames deep stages running awaiting of_sub at_point path views viewed_before kept scope holds placed_before above going no_calls taken_alone y is owner))
             (call_exact (object_at s y).of type_there)
             (each.unmoved_now table typed effects input ready state top below more_frames rest named p frames deep stages running awaiting of_sub at_point path views viewed_before kept scope holds placed_before above going no_calls y (More call NoMore) is, each.free table typed effects input ready state top below more_frames rest named p frames deep stages running awaiting of_sub at_point path views viewed_before kept scope holds placed_before above going no_calls y (More call NoMore) is)))
 
-        assigns_alone : (r : Pos) (y : ℕ) (steps_there : TypedTree) (u : ℕ) → p.instr ≡ Assign (Name r y steps_there u) call → has_call steps_there ≡ false → (p.instr ≡ Finish → ⊥)
-            → Exacts (Assign (Name r y steps_there u) call)
+        declares_alone : (y : ℕ) → p.instr ≡ Declare y (More call NoMore) → Exacts (Declare y (More call NoMore))
+        declares_alone y is = by_kind (is_anonymous (view_of s y)) refl
+          where
+            by_kind : (b : Bool) → is_anonymous (view_of s y) ≡ b → Exacts (Declare y (More call NoMore))
+            by_kind true view = declares_view y is view
+            by_kind false owner = declares_owner y is owner
+
+        assigns_place : (r : Pos) (y : ℕ) (steps_there : TypedTree) (u : ℕ) → p.instr ≡ Assign (Name r y steps_there u) call → has_call steps_there ≡ false → (p.instr ≡ Finish → ⊥)
+            → is_anonymous (full s.table u) ≡ false → Exacts (Assign (Name r y steps_there u) call)
         unfolding acts_in
-        assigns_alone r y steps_there u is calls end =
+        assigns_place r y steps_there u is calls end place =
             let target : TypedTree = Name r y steps_there u in
-            let type_there = alone_value.named_target table typed effects input ready state top below more_frames rest named p frames deep stages running awaiting of_sub at_point path views viewed_before kept scope holds placed_before above going no_calls taken_alone r y steps_there u is calls end in
-            let leads = alone_value.leads_there table typed effects input ready state top below more_frames rest named p frames deep stages running awaiting of_sub at_point path views viewed_before kept scope holds placed_before above going no_calls taken_alone r y steps_there u is calls end in
+            let type_there = alone_value.named_target table typed effects input ready state top below more_frames rest named p frames deep stages running awaiting of_sub at_point path views viewed_before kept scope holds placed_before above going no_calls taken_alone r y steps_there u is calls end place in
+            let leads = alone_value.leads_there table typed effects input ready state top below more_frames rest named p frames deep stages running awaiting of_sub at_point path views viewed_before kept scope holds placed_before above going no_calls taken_alone r y steps_there u is calls end place in
             let a : List Act = acts (acts_in s steps_there) in
             let whole : after (acts_by (Assign target call)) facts_now ≡ effect (act.Write (name_of y steps_there)) (after a facts_now) =
-            ap (λ z. after z facts_now) (alone_value.acts_there table typed effects input ready state top below more_frames rest named p frames deep stages running awaiting of_sub at_point path views viewed_before kept scope holds placed_before above going no_calls taken_alone r y steps_there u is calls end)
+            ap (λ z. after z facts_now) (alone_value.acts_there table typed effects input ready state top below more_frames rest named p frames deep stages running awaiting of_sub at_point path views viewed_before kept scope holds placed_before above going no_calls taken_alone r y steps_there u is calls end place)
             ∙ after_append a (act.Write (name_of y steps_there) ∷ []) facts_now in
             assigned_main (after (acts_by (Assign target call)) facts_now) (spots_by (Assign target call)) target u call
             (subst (λ z. ExactAt z (spots_by (Assign target call)) (steps.evaluated easy (followed_by (steps.taken_by at u call (start at))
@@ -388,10 +484,27 @@ module _ (table : Table) (typed : TypedProgram) (effects : Effects) (input : Lis
             (λ ws now. followed_by (place_of (steps.here at) target now) (λ k now. Done (record { words = ws; place = k }) now)))
             (then_placed (steps.here at) ready.accepted.settled state.leaks [] other alone (keeps s ready.accepted.settled ready.owns) index_law ready.owns views
             ready.class.parts_named elsewhere away Excused [] [] r y u steps_there (waiting_in easy.state) facts_now
-            (alone_value.plain_root table typed effects input ready state top below more_frames rest named p frames deep stages running awaiting of_sub at_point path views viewed_before kept scope holds placed_before above going no_calls taken_alone r y steps_there u is calls end) leads (no_takes steps_there calls [])
-            (alone_value.allowed_steps table typed effects input ready state top below more_frames rest named p frames deep stages running awaiting of_sub at_point path views viewed_before kept scope holds placed_before above going no_calls taken_alone r y steps_there u is calls end) (steps.taken_by at u call (start at))
-            (alone_value.source_alone table typed effects input ready state top below more_frames rest named p frames deep stages running awaiting of_sub at_point path views viewed_before kept scope holds placed_before above going taken_alone u type_there (alone_value.source_there table typed effects input ready state top below more_frames rest named p frames deep stages running awaiting of_sub at_point path views viewed_before kept scope holds placed_before above going no_calls taken_alone r y steps_there u is calls end))
+            (alone_value.plain_root table typed effects input ready state top below more_frames rest named p frames deep stages running awaiting of_sub at_point path views viewed_before kept scope holds placed_before above going no_calls taken_alone r y steps_there u is calls end place) leads (no_takes steps_there calls [])
+            (alone_value.allowed_steps table typed effects input ready state top below more_frames rest named p frames deep stages running awaiting of_sub at_point path views viewed_before kept scope holds placed_before above going no_calls taken_alone r y steps_there u is calls end place) (steps.taken_by at u call (start at))
+            (alone_value.source_alone table typed effects input ready state top below more_frames rest named p frames deep stages running awaiting of_sub at_point path views viewed_before kept scope holds placed_before above going taken_alone u type_there (alone_value.source_there table typed effects input ready state top below more_frames rest named p frames deep stages running awaiting of_sub at_point path views viewed_before kept scope holds placed_before above going no_calls taken_alone r y steps_there u is calls end place))
             (call_exact u type_there))))
+
+        assigns_alone : (r : Pos) (y : ℕ) (steps_there : TypedTree) (u : ℕ) → p.instr ≡ Assign (Name r y steps_there u) call → has_call steps_there ≡ false → (p.instr ≡ Finish → ⊥)
+            → Exacts (Assign (Name r y steps_there u) call)
+        assigns_alone r y steps_there u is calls end = by_kind (is_anonymous (full s.table u)) refl
+          where
+            text_there : IsFine s named.sub.result (Assign (Name r y steps_there u) call)
+            text_there = subst (IsFine s named.sub.result) is fine_here
+
+            by_kind : (b : Bool) → is_anonymous (full s.table u) ≡ b → Exacts (Assign (Name r y steps_there u) call)
+            by_kind false place = assigns_place r y steps_there u is calls end place
+            by_kind true view = elim (leads_or s ready.class.parts_named steps_there (object_at s y).of u text_there.1.0) [
+              | inr own_type ↦ absurd (true_false (is_anonymous (full s.table u)) view (named_plain s.table u own_type))
+              | inl whole ↦ (
+                  let target_is : Name r y steps_there u ≡ Name r y NoMore (object_at s y).of = (λ j. Name r y (whole.0 j) (sym whole.1 j)) in
+                  subst (λ z. Exacts (Assign z call)) (sym target_is)
+                  (assigns_view r y (is ∙ ap (λ z. Assign z call) target_is) (ap (λ z. is_anonymous (full s.table z)) whole.1 ∙ view)))
+            ]
 
         returns_alone : (of : ℕ) → p.instr ≡ Hold (More call NoMore) → named.sub.result ≡ Some of
             → AllowsAll facts_now (acts_by (Hold (More call NoMore))) → AllKeep (is_fixed s) (acts_by (Hold (More call NoMore))) → Exacts (Hold (More call NoMore))
@@ -450,7 +563,14 @@ module _ (table : Table) (typed : TypedProgram) (effects : Effects) (input : Lis
                 (subst (λ z. AllowsAll facts_now (acts_by (Declare x z))) here_is allowed_there) exact))
 
             by_view : (b : Bool) → is_anonymous (view_of s x) ≡ b → Exacts (Declare x v)
-            by_view true view = (let source = orderly.declared x v e view in from_source source.0 source.1 source.3 source.2 source.4 view)
+            by_view true view =
+                let source = orderly.declared x v e view in
+                elim source.6 [
+                  | inl is ↦ from_source source.0 source.1 source.3 source.2 (source.5 ∙ ap (λ z. More z NoMore) is) view
+                  | inr (r, n, more, is, gives) ↦ absurd (gives_no_call s r n (object_at s x).of (More (Name source.0 source.1 source.2 source.3) more) gives
+                      (first_plain s (CallIn r n (More (Name source.0 source.1 source.2 source.3) more))
+                      (subst (GivesPlainly s) (source.5 ∙ ap (λ z. More z NoMore) is) (subst (TakesScalars s) e plain.1))))
+                ]
             by_view false owner =
                 declared_main (after (acts_by (Declare x v)) facts_now) x v
                 (declare_on easy ready.accepted.settled ready.owns other alone in_formals views ready.class.parts_named none_taken refl refl elsewhere away Excused given_words x v (plain_named s.table (object_at s x).of owner) (orderly.begun x v e) text
@@ -472,7 +592,11 @@ module _ (table : Table) (typed : TypedProgram) (effects : Effects) (input : Lis
                 → AllowsAll facts_now (acts_by (Assign (Name q x NoMore (object_at s x).of) e)) → Exacts (Assign (Name q x NoMore (object_at s x).of) e)
             to_view source view instr_is allowed_here =
                 let found = orderly.assigned q x (object_at s x).of e instr_is view in
-                from_name found.0 found.1 found.3 found.2 found.4 found.6
+                elim found.4 [
+                  | inl named_so ↦ from_name found.0 found.1 found.3 found.2 named_so found.6
+                  | inr (r, n, more, call_is, gives) ↦ absurd (gives_no_call s r n (object_at s x).of (More (Name found.0 found.1 found.2 found.3) more) gives
+                      (subst (GivesPlainly s) call_is (subst (TakesScalars s) instr_is plain.1)))
+                ]
               where
                 from_name : (r : Pos) (y w : ℕ) (path_of : TypedTree) → e ≡ Name r y path_of w → (is_observer s x ≡ false → y ≡ x)
                     → Exacts (Assign (Name q x NoMore (object_at s x).of) e)

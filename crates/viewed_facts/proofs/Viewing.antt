@@ -53,7 +53,7 @@ use Rattle.viewed_steps.proofs.Views.{AreAccess}
 use Rattle.viewed_facts.proofs.Steps.{IsAway}
 
 -- an act that moves nothing
-moves_nothing : (a : Act) (facts : List Fact) → ((n : PlaceName) → Has (adds a) (Moved n) → ⊥) → (n : PlaceName) → Has (effect a facts) (Moved n) → Has facts (Moved n)
+pub moves_nothing : (a : Act) (facts : List Fact) → ((n : PlaceName) → Has (adds a) (Moved n) → ⊥) → (n : PlaceName) → Has (effect a facts) (Moved n) → Has facts (Moved n)
 moves_nothing a facts none n has = elim (fact_before a facts (Moved n) has) [ inl old ↦ old.0 | inr new ↦ absurd (none n new) ]
 
 module _ (t : Turn) (settled : IsSettled (typing t).table) (own_law : OwnsByShape (typing t).table) (other : Around (home (typing t) (length t.outer)))

@@ -516,7 +516,7 @@ module _ (t : Turn) (settled : IsSettled (typing t).table) (own_law : OwnsByShap
       ∙ no_parts observes.k observes.e observes.o (sym (ap (λ z. is_anonymous (view_of_shape z)) observes.view) ∙ observes.anonymous) (parts s.table) in
       ap (λ z. checked_at pos 0 (slots_at s m (run.variable_place (here t) x).base) (flat_map (machine.offsets s.table (object_at s x).of) z)) empty
 
-  stored_as : (x d : ℕ) (facts : List Fact) → Sees x d → Good v facts t.state → (z : machine.Word)
+  pub stored_as : (x d : ℕ) (facts : List Fact) → Sees x d → Good v facts t.state → (z : machine.Word)
       → stored s (run.variable_place (here t) x) (z ∷ []) m ≡ declared depth x (z ∷ []) m
   stored_as x d facts observes good z =
       ap (λ q. memory.put (memory.OfVariable (home s depth x) x) q m)

@@ -50,7 +50,8 @@ use Rattle.viewed_steps.specs.Awaited.{AreFor, AreValues, temporaries_of, lastin
 use Rattle.viewed_steps.proofs.Waited.{others_only, lasting_within}
 use Rattle.viewed_steps.specs.Sound.{loan_by, ArePast, HoldsAt, ArePlaced, NoneAbove, ViewStage, stages_of, GoneElsewhere, IsWaiting, AreWaiting, ends_one, LeadsAlong, IsResting, HasTraversals, NoneGiven, AreTraversals}
 use Rattle.viewed_steps.specs.Ready.{IsReady}
-use Rattle.viewed_steps.proofs.Waiting.{StandsBetween, all_between, handed, all_on, gone_low, kept_low, far, theirs, bare_still, some_frames, unused_there}
+use Rattle.viewed_steps.proofs.Waiting.{StandsBetween, all_between, handed, gone_low, kept_low, far, theirs, bare_still, some_frames, unused_there}
+use Rattle.viewed_steps.proofs.Onward.{all_on}
 use Rattle.viewed_steps.proofs.Left.{owned_left, covered_left, reach_left, reach_before, gone_before, other_word, no_word, whole_there}
 use Rattle.viewed_steps.proofs.Standing.{or_right}
 use Rattle.viewed_steps.proofs.Standing as standing

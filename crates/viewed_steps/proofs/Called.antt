@@ -2,7 +2,7 @@
 -- variable, or another place in a variable of the caller.
 use Rattle.std.proofs.Common.{◌≡◌, refl, ◌&&◌, ◌||◌, not, is_some, sym, ap, ◌∙◌, subst, ◌⊎◌, inl, inr, ℕ, append-nil, Bool, true, false, List, [], ◌∷◌, ◌++◌, map, Option, Some, None, if◌then◌else◌, arith, ◌<◌}
 use Rattle.spark_base.specs.Lists.{Has}
-use Rattle.spark_base.proofs.Lists.{Has-append_cases, Has-append_left, Has-append_right}
+use Rattle.spark_base.proofs.Lists.{Has-append_cases}
 use Rattle.spark_base.specs.declared.position.Pos.{Pos}
 use Rattle.place_names.specs.declared.act.Act.{Act}
 use Rattle.place_names.specs.declared.act.Act.TheVariants as act
@@ -11,7 +11,7 @@ use Rattle.place_names.specs.declared.act.Mode.TheVariants as mode
 use Rattle.place_names.specs.declared.act.Placed.{Placed}
 use Rattle.place_names.specs.declared.fact.Fact.{Fact}
 use Rattle.place_names.specs.Names.{Name as PlaceName}
-use Rattle.place_names.specs.Facts.{adds, effect}
+use Rattle.place_names.specs.Facts.{adds}
 use Rattle.type_definitions.specs.Types.{shape_of, full, is_scalar, is_owning, parts, owns_of, words}
 use Rattle.typed_tree.specs.Trees.{TypedTree, Number, Literal, Text, Name, Component as IntoComponent, Designated, Element, Call, EndOfFile, Parens, Image, Unary, Binary, Short, IsNull, Aggregate, Alike, New, NoMore, More}
 use Rattle.typed_tree.specs.Trees as typed
@@ -32,15 +32,15 @@ use Rattle.owned_ways.specs.Ways.{Step, Root, Component, OfVariable, Loc, OfRoot
 use Rattle.owned_ways.specs.Ways as ways
 use Rattle.owned_ways.proofs.Locations.{under_along, under_itself}
 use Rattle.part_offsets.specs.Parts.{type_in, offset_in, has_part, IsSettled}
-use Rattle.soundness.specs.Seen.{IsNear, Content, content, trunk, steps_in, seen, home, is_view_formal, in_hand}
+use Rattle.soundness.specs.Seen.{IsNear, content, trunk, steps_in, seen, home, is_view_formal, in_hand}
 use Rattle.soundness.specs.Typed.{Matches, OwnsByShape, Kept, Spot, IsFixed, loc_of, Points}
 use Rattle.soundness.specs.Sound.{goes_through_none}
 use Rattle.typed_laws.specs.Needed.{Stays, Leads, IndexLaw, IsPlace as IsPlaceOf}
-use Rattle.soundness.proofs.Contents.{bool_cases, word_no, word_part}
-use Rattle.soundness.proofs.Joined.{leaf_join, steps_part}
-use Rattle.soundness.proofs.Steps.{no_leaf, matches_words, taken_slots, room}
+use Rattle.soundness.proofs.Contents.{bool_cases}
+use Rattle.soundness.proofs.Joined.{steps_part}
+use Rattle.soundness.proofs.Steps.{matches_words, taken_slots, room}
 use Rattle.soundness.proofs.Fixed.{matches_scalar, plain_word}
-use Rattle.soundness.proofs.Scalars.{acts, acts_append, after_append, allows_both, read_effect, number_along, named_along}
+use Rattle.soundness.proofs.Scalars.{acts, acts_append, allows_both, number_along, named_along}
 use Rattle.soundness.proofs.Stays.{One, Quiet, quiet_then, quiet_from}
 use Rattle.soundness.proofs.Taking.{Takes}
 use Rattle.soundness.proofs.Walks.{way_along, Walked}
@@ -49,8 +49,7 @@ use Rattle.soundness.proofs.Passing.{IsRead, AreReads, AddNone, IsValue, TakesAl
 use Rattle.owned_loans.specs.Views.{Around, Views, expand, ExcusedBy, Viewed, IsForeign}
 use Rattle.owned_loans.proofs.Moves.{IsPlace, expand_along, reached}
 use Rattle.owned_loans.proofs.Meeting.{stands_base}
-use Rattle.owned_loans.proofs.Ended.{stands_itself}
-use Rattle.viewed_soundness.specs.Holds.{IsNamed, PartsAreNamed, Holds, sees_only, is_view, IsOwners}
+use Rattle.viewed_soundness.specs.Holds.{IsNamed, PartsAreNamed, Holds, sees_only, IsOwners}
 use Rattle.viewed_soundness.proofs.Names.{Starts, true_false, no_parts_in, plain_named, is_place}
 use Rattle.viewed_soundness.proofs.Stays.{Goes as GoesAlong, taking, steps_taking, name_quiet}
 use Rattle.viewed_soundness.proofs.Evaluated.{matches_named}
@@ -60,15 +59,12 @@ use Rattle.viewed_steps.specs.Ready.{IsOwnPlace, IsSeen, IsActualTo, AreActualsT
 use Rattle.viewed_steps.proofs.Views.{AreAccess, formal_view, scalar_no_view}
 use Rattle.viewed_steps.proofs.Seeing.{IsSeenAs, IsClear, AreClear, seen_given}
 use Rattle.viewed_steps.proofs.Read.{scalar_named}
-use Rattle.viewed_steps.proofs.Between.{gone_also, number_under, base_along}
+use Rattle.viewed_steps.proofs.Between.{base_along}
 use Rattle.viewed_steps.proofs.Lodged.{spot_lodged}
 use Rattle.viewed_steps.proofs.Aside.{cell_name}
-use Rattle.viewed_steps.proofs.Emptied.{out_left, taken_back}
-use Rattle.viewed_steps.proofs.Outs.{Out, IsUnderOne}
 use Rattle.viewed_steps.proofs.Direct.{IsDirect, steps_direct, past_none, direct_leads, direct_itself, IsIn, walked_in, both_quiet, direct_part, part_reached}
-use Rattle.viewed_steps.proofs.LaidOut.{IsValueLaid, IsOwnPut, IsPlainAt, IsPlaceLaid, IsLaidOne, AreLaidOut, own_out, place_out, out_of, outs_of, IsOpenActual, AreOpenActuals}
-use Rattle.viewed_steps.proofs.Entered.{inside_plain, inside_named, inside_number, IsFit}
-use Rattle.viewed_steps.proofs.Released.{nothing_written}
+use Rattle.viewed_steps.proofs.LaidOut.{IsOwnPut, IsPlainAt, IsOpenActual, AreOpenActuals}
+use Rattle.viewed_steps.proofs.Entered.{IsFit}
 use Rattle.viewed_steps.proofs.Lent.{ends, Spare, spare_both, spare_naming}
 use Rattle.soundness.proofs.Keeping.{top_points, retyped_points, scalar}
 use Rattle.soundness.proofs.Lasting.{keeps}
@@ -273,7 +269,7 @@ spare_reads s (p ∷ ps) reads = (one p (reads p (inl refl)), spare_reads s ps (
     one p (m, inl e) = ap (ends s) e
     one p (m, inr e) = ap (ends s) e
 
-neither : (a b : Bool) → a ≡ false → b ≡ false → a || b ≡ false
+pub neither : (a b : Bool) → a ≡ false → b ≡ false → a || b ≡ false
 neither a b e f = ap (λ z. z || b) e ∙ f
 
 -- ---- the actuals
@@ -294,7 +290,7 @@ module _ (h : Here) (settled : IsSettled h.typing.table) (hands : List Waiting) 
   abbrev at : List (List machine.Word) → Now
   at ws = record { memory = m; waits = ws }
 
-  abbrev ways_of : List ℕ → List Passing
+  abbrev pub ways_of : List ℕ → List Passing
   ways_of formals = map (way_to h.typing own_law procedure) formals
 
   abbrev IsKind : ℕ → Type 0
@@ -407,7 +403,7 @@ module _ (h : Here) (settled : IsSettled h.typing.table) (hands : List Waiting) 
   abbrev IsPut : TypedTree → Place → Type 0
   IsPut e k = IsPlainAt h.typing h.frame v (seen h.typing m hands leaks) e k × Reached e k
 
-  plain_type_at : (e : TypedTree) (k : Place) → IsPlainAt h.typing h.frame v (seen h.typing m hands leaks) e k → is_scalar (full h.typing.table k.of) ≡ true
+  pub plain_type_at : (e : TypedTree) (k : Place) → IsPlainAt h.typing h.frame v (seen h.typing m hands leaks) e k → is_scalar (full h.typing.table k.of) ≡ true
   plain_type_at (Name p y path u) k (inl fixed) = fixed.scalar
   plain_type_at (Name p y path u) k (inr (c, there, plain)) = plain
   plain_type_at e k never = absurd never
@@ -777,119 +773,3 @@ module _ (h : Here) (settled : IsSettled h.typing.table) (hands : List Waiting) 
       (subst (λ z. AllowsAll z (acts (actual_values h.typing (ways_of formals) rest))) same each.1))
       (λ more are. (refl, (is, are))))
   all_given before on (x ∷ formals) actuals kinds stay clears copied takes allowed = ((ap at takes), refl)
-
-  abbrev pub value_laid : (x : ℕ) (e : TypedTree) (ws : List machine.Word) → IsValueGiven x e ws → IsValueLaid h.typing m x ws
-  value_laid x e ws given = (given.0, λ own. (let seen_as = given.1 own in (seen_as.0, seen_as.1, seen_as.2)))
-
-  abbrev pub place_laid : (x : ℕ) (e : TypedTree) (k : Place) → IsPlaceGiven x e k → IsPlaceLaid h.typing h.frame v (seen h.typing m hands leaks) x e k
-  place_laid x e k (inl (plain, put)) = inl (plain, put.0)
-  place_laid x e k (inr own) = inr own
-
-  abbrev pub laid_one : (x : ℕ) (mode_of : Mode) (e : TypedTree) (a : Passed) → IsGiven x mode_of e a → IsLaidOne h.typing m h.frame v (seen h.typing m hands leaks) x mode_of e a
-  laid_one x mode.In e (Value ws) is = value_laid x e ws is
-  laid_one x mode.In e (From k) is = absurd is
-  laid_one x mode.In e (To k) is = absurd is
-  laid_one x mode.Out e (Value ws) is = absurd is
-  laid_one x mode.Out e (From k) is = absurd is
-  laid_one x mode.Out e (To k) is = place_laid x e k is
-  laid_one x mode.InOut e (Value ws) is = absurd is
-  laid_one x mode.InOut e (From k) is = place_laid x e k is
-  laid_one x mode.InOut e (To k) is = absurd is
-
-  abbrev pub all_laid_out : (formals : List ℕ) (actuals : TypedTree) (passed : List Passed) → AreGiven formals actuals passed → AreLaidOut h.typing m h.frame v (seen h.typing m hands leaks) formals actuals passed
-  all_laid_out (x ∷ formals) (More e rest) (a ∷ passed) are = (laid_one x (object_at h.typing x).mode e a are.0, all_laid_out formals rest passed are.1)
-  all_laid_out (x ∷ formals) (More e rest) [] are = absurd are
-  all_laid_out [] actuals passed are = are
-  all_laid_out (x ∷ formals) actuals passed are = are
-
-  -- ---- what the facts say then
-
-  plain_there : (k : Place) (l : Loc) → Spot h.typing m hands k l → is_scalar (full h.typing.table k.of) ≡ true → (p : List Step)
-      → (seen h.typing m hands leaks).word (part l p) ≡ Empty
-  plain_there k l spot plain p =
-      let c : Content = content h.typing m hands (trunk l) in
-      word_part h.typing.table (content h.typing m hands) l p
-      ∙ word_no h.typing.table c (p ++ steps_in l)
-      (leaf_join h.typing.table c.of (steps_in l) p spot.there
-      ∙ no_leaf h.typing.table settled (type_in h.typing.table c.of (steps_in l)) (matches_scalar h.typing k.of (type_in h.typing.table c.of (steps_in l)) spot.of plain) p)
-
-  naming_sees : (w : Option Written) (owning access : Bool) (known : List Fact) → after (acts (naming w (λ k. act.Actual k mode.In owning access))) known ≡ known
-  naming_sees None owning access known = refl
-  naming_sees (Some w) owning access known = read_effect w.name known
-
-  naming_keeps : (w : Option Written) (owning access : Bool) (known : List Fact) → after (acts (naming w (λ k. act.Actual k mode.InOut owning access))) known ≡ known
-  naming_keeps None owning access known = refl
-  naming_keeps (Some w) owning access known = read_effect w.name known
-
-  -- Of a place that is emptied, what is under it is gone elsewhere, since the facts say no more that it was moved.
-  module _ (around : Around (home h.typing h.frame)) (gone : Way → Type 0)
-      (apart : (y : ℕ) (w z : Way) → v.way y ≡ Some w → IsForeign (home h.typing h.frame) w → gone z → Under z w ⊎ Under w z → ⊥) where
-    abbrev ViewedWith : List Fact → Type 0
-    ViewedWith known =
-        Viewed (home h.typing h.frame) (sees_only h.typing) (gone_also (home h.typing h.frame) around gone) v (seen h.typing m hands leaks) known
-
-    -- what is under them is gone
-    abbrev pub AreGone : List Out → Type 0
-    AreGone outs = (w : Way) → IsUnderOne outs w → gone w
-
-    own_acted : (owning access : Bool) (x : ℕ) (p : Pos) (y u : ℕ) (path : TypedTree) (k : Place) (known : List Fact)
-        → (own : IsOwnPut h.typing h.frame x (Name p y path u) k) → AreGone (own_out h.typing h.frame x (Name p y path u) k own) → ViewedWith known
-        → ViewedWith (effect (act.Actual (name_of y path) mode.Out owning access) known)
-    own_acted owning access x p y u path k known (to, inside, called, is, fits) adds there =
-        subst (λ z. ViewedWith (effect (act.Actual z mode.Out owning access) known)) called
-        (taken_back (home h.typing h.frame) (sees_only h.typing) v (gone_also (home h.typing h.frame) around gone) gone apart (seen h.typing m hands leaks) to known
-        (effect (act.Actual (ways.name_of to) mode.Out owning access) known) there
-        (out_left (home h.typing h.frame) v known to owning access (inside_named h.typing settled h.frame k to inside)
-        (λ w named under. stands_itself (home h.typing h.frame) (sees_only h.typing) around v w named
-        (ap v.way (sym (number_under (home h.typing h.frame) to w (inside_named h.typing settled h.frame k to inside) named under) ∙ inside_number h.typing settled h.frame k to inside)
-        ∙ no_view)))
-        (λ w o. o) (λ w under. adds w (record { way = to; place = k; pos = p }, inl refl, under)))
-      where
-        no_view : v.way inside.object ≡ None
-        no_view = by_way (v.way inside.object) refl
-          where
-            by_way : (o : Option Way) → v.way inside.object ≡ o → o ≡ None
-            by_way None e = refl
-            by_way (Some w) e =
-                absurd (true_false (is_view h.typing inside.object) (holds.only inside.object w e)
-                (neither (is_anonymous (view_of h.typing inside.object)) (is_view_formal h.typing inside.object) (inside_plain h.typing settled h.frame k to inside)
-                inside.owner))
-
-    place_acted : (owning access : Bool) (x : ℕ) (e : TypedTree) (k : Place) (known : List Fact) → (given : IsPlaceGiven x e k)
-        → AreGone (place_out h.typing h.frame v (seen h.typing m hands leaks) x e k (place_laid x e k given)) → ViewedWith known
-        → ViewedWith (after (acts (actual_act (passing_by mode.Out owning access) e)) known)
-    place_acted owning access x (Name p y path u) k known (inl (plain, (at_place, (w, l, named, called, place, reaches, spot)))) adds there =
-        subst (λ z. ViewedWith (effect (act.Write z) known)) called
-        (nothing_written (home h.typing h.frame) (sees_only h.typing) (gone_also (home h.typing h.frame) around gone) v (seen h.typing m hands leaks) known there w l named place reaches
-        (plain_there k l spot (plain_type_at (Name p y path u) k at_place)))
-    place_acted owning access x (Name p y path u) k known (inr (many, own)) adds there = own_acted owning access x p y u path k known own adds there
-    place_acted owning access x e k known (inl (plain, (fixed, never))) adds there = absurd never
-    place_acted owning access x e k known (inr (many, never)) adds there = absurd never
-
-    pub head_acted : (mode_of : Mode) (owning access : Bool) (x : ℕ) (e : TypedTree) (a : Passed) (known : List Fact)
-        → (given : IsGiven x mode_of e a) → AreGone (out_of h.typing m h.frame v (seen h.typing m hands leaks) x mode_of e a (laid_one x mode_of e a given)) → ViewedWith known
-        → ViewedWith (after (acts (actual_act (passing_by mode_of owning access) e)) known)
-    head_acted mode.In false access x e a known is adds there = there
-    head_acted mode.In true access x e a known is adds there = subst ViewedWith (sym (naming_sees (written e) true access known)) there
-    head_acted mode.InOut owning access x e a known is adds there = subst ViewedWith (sym (naming_keeps (written e) owning access known)) there
-    head_acted mode.Out owning access x e (To k) known is adds there = place_acted owning access x e k known is adds there
-    head_acted mode.Out owning access x e (Value ws) known is adds there = absurd is
-    head_acted mode.Out owning access x e (From k) known is adds there = absurd is
-
-    pub all_acted : (formals : List ℕ) (actuals : TypedTree) (passed : List Passed) (known : List Fact)
-        → (given : AreGiven formals actuals passed) → AreGone (outs_of h.typing m h.frame v (seen h.typing m hands leaks) formals actuals passed (all_laid_out formals actuals passed given)) → ViewedWith known
-        → ViewedWith (after (acts (actual_acts (ways_of formals) actuals)) known)
-    all_acted (x ∷ formals) (More e rest) (a ∷ passed) known are adds there =
-        let first : List Placed = actual_act (way_to h.typing own_law procedure x) e in
-        let others : List Placed = actual_acts (ways_of formals) rest in
-        let out : List Out = out_of h.typing m h.frame v (seen h.typing m hands leaks) x (object_at h.typing x).mode e a (laid_one x (object_at h.typing x).mode e a are.0) in
-        let outs : List Out = outs_of h.typing m h.frame v (seen h.typing m hands leaks) formals rest passed (all_laid_out formals rest passed are.1) in
-        subst ViewedWith (sym (ap (λ z. after z known) (acts_append first others) ∙ after_append (acts first) (acts others) known))
-        (all_acted formals rest passed (after (acts first) known) are.1
-        (λ w under. adds w (under.0, Has-append_right out outs under.0 under.1, under.2))
-        (head_acted (object_at h.typing x).mode (is_owning h.typing.table (object_at h.typing x).of) (procedure && is_named_access (view_of h.typing x)) x e a known
-        are.0
-        (λ w under. adds w (under.0, Has-append_left out outs under.0 under.1, under.2)) there))
-    all_acted (x ∷ formals) (More e rest) [] known are adds there = absurd are
-    all_acted [] actuals passed known are adds there = there
-    all_acted (x ∷ formals) actuals passed known are adds there = there

@@ -1,7 +1,6 @@
 -- Each instruction leads on, but calls and their ends, operands that wait, returns with a value, and
 -- ends of scopes.
-use Rattle.viewed_steps.proofs.Rooted.{rooted_on}
-use Rattle.viewed_steps.proofs.Traversed.{declared_source, assigned_source, given_on, none_given, named_given}
+use Rattle.viewed_steps.proofs.Traversed.{declared_source, assigned_source}
 use Rattle.flow_paths.specs.Views.{sub_acts}
 use Rattle.soundness.proofs.Passing.{plain_type}
 use Rattle.std.proofs.Common.{◌≡◌, refl, sym, ap, ◌∙◌, subst, ◌⊎◌, inl, inr, ℕ, suc, ◌+◌, ◌<◌, Bool, true, false, not, ◌||◌, List, [], ◌∷◌, ◌++◌, map, drop, length, arith, append-nil, Option, Some, None, nat_lt, int_le, ◌&&◌, if◌then◌else◌, take}
@@ -11,9 +10,8 @@ use Rattle.place_names.specs.declared.act.Act.{Act}
 use Rattle.place_names.specs.declared.act.Act.TheVariants as act
 use Rattle.place_names.specs.declared.act.Placed.{Placed}
 use Rattle.place_names.specs.declared.fact.Fact.{Fact}
-use Rattle.place_names.specs.declared.fact.Fact.TheVariants.{Moved, Lent}
+use Rattle.place_names.specs.declared.fact.Fact.TheVariants.{Moved}
 use Rattle.place_names.specs.declared.rule.Loan.{Loan}
-use Rattle.place_names.specs.declared.rule.Loan.TheVariants.{Observed}
 use Rattle.place_names.specs.Names.{Name as PlaceName}
 use Rattle.type_definitions.specs.Types.{Table, is_scalar, full, shape_of}
 use Rattle.type_definitions.specs.declared.table.Shape.TheVariants as shape
@@ -37,7 +35,7 @@ use Rattle.machine.specs.Memory.{Memory, given_up, declared, stored, words_of}
 use Rattle.machine.specs.Evaluate.{Exception, ConstraintError, ProgramError, Evaluated, Done, followed_by, value, place_of, text_of}
 use Rattle.machine.specs.Evaluate as run
 use Rattle.machine.specs.Calls.{checks_at}
-use Rattle.machine.specs.States.{Waiting, Loop, Frame, State, Outcome, Goes, Ends, sub_of}
+use Rattle.machine.specs.States.{Waiting, Frame, State, Outcome, Goes, Ends, sub_of}
 use Rattle.machine.specs.Step.{Turn, turn, start, successor}
 use Rattle.machine.specs.Step as steps
 use Rattle.machine.specs.Typed.{successors}
@@ -62,27 +60,27 @@ use Rattle.soundness.proofs.Taking.{Takes, takes_as, takes_both, nothing_more}
 use Rattle.soundness.proofs.Waited.{FillsNone}
 use Rattle.soundness.proofs.Eased.{eased, waits_same, goes_same, from_eased}
 use Rattle.soundness.proofs.Continued.{got_with, released_with, started_with, input_eased, release_eased, start_eased}
-use Rattle.soundness.proofs.Successors.{not_true, below_one, below_two, successor_there}
+use Rattle.soundness.proofs.Successors.{not_true, below_one, below_two}
 use Rattle.owned_loans.specs.Views.{Around, known_gone, Views, Viewed, Unused, IsForeign}
-use Rattle.viewed_soundness.specs.Holds.{AllKeep, is_view, sees_only, is_fixed, is_given}
-use Rattle.viewed_soundness.proofs.Names.{plain_named, true_false, given_view}
+use Rattle.viewed_soundness.specs.Holds.{AllKeep, is_view, sees_only, is_fixed}
+use Rattle.viewed_soundness.proofs.Names.{plain_named, true_false}
 use Rattle.viewed_soundness.proofs.Evaluated.{keep_both}
-use Rattle.viewed_soundness.proofs.Outcomes.{named_plain, IsGood, Leads_on, decides_on, choose_on, assign_on, Turned}
+use Rattle.viewed_soundness.proofs.Outcomes.{named_plain, IsGood, Leads_on, decides_on, choose_on, assign_on}
 use Rattle.viewed_steps.specs.Awaited.{AreValues, temporaries_of, is_held, lasting_of, awaited, AreAwaited, AreScalar, TakesScalars}
 use Rattle.viewed_steps.proofs.Waited.{lasting_within, within_lasting}
-use Rattle.viewed_steps.specs.Sound.{ArePast, Lasts, HoldsAt, ArePlaced, NoneAbove, ViewStage, stages_of, GoneElsewhere, AreWaiting, IsStoredAt, AreTurned, steps_on, LeadsAlong, IsResting, HasTraversals}
+use Rattle.viewed_steps.specs.Sound.{ArePast, Lasts, HoldsAt, ArePlaced, NoneAbove, ViewStage, stages_of, GoneElsewhere, AreWaiting, IsStoredAt, LeadsAlong, IsResting, HasTraversals}
 use Rattle.viewed_steps.specs.Ready.{AreOrderly, IsReady}
 use Rattle.viewed_steps.proofs.Declared.{IsElsewhere, not_gone, declare_on}
 use Rattle.viewed_steps.proofs.Released.{released_on}
 use Rattle.viewed_steps.proofs.Read.{got_on, scalar_named}
 use Rattle.viewed_steps.proofs.Rounds.{skip_leads, line_leads, next_leads, output_on, started_on}
-use Rattle.viewed_steps.proofs.Lent.{Spare, loans_stay, spare_acts}
-use Rattle.viewed_steps.proofs.Placed.{brought_more, lasts_more, scope_on, placed_on, MayBe, turned_placed, turned_lies}
+use Rattle.viewed_steps.proofs.Lent.{Spare, spare_acts}
+use Rattle.viewed_steps.proofs.Placed.{brought_more, lasts_more, MayBe}
 use Rattle.owned_loans.proofs.Meeting.{named_view}
 use Rattle.viewed_soundness.specs.Taken.{GivesPlainly}
 use Rattle.viewed_steps.specs.Traversals.{GivesView, IsSourceIn}
-use Rattle.viewed_steps.proofs.Sources.{leads_or, view_scalar, own_there, view_declared, view_assigned}
-use Rattle.viewed_steps.proofs.Beside.{IsOther, OthersKept, others_keep}
+use Rattle.viewed_steps.proofs.Sources.{leads_or, view_scalar, view_declared, view_assigned}
+use Rattle.viewed_steps.proofs.Beside.{IsOther, OthersKept}
 use Rattle.viewed_steps.proofs.Waiting.{StandsBetween, AreTheirs, beside_them, handed, apart_elsewhere}
 use Rattle.viewed_steps.proofs.Standing.{or_right}
 use Rattle.viewed_steps.proofs.Standing as standing
@@ -292,7 +290,7 @@ module _ (table : Table) (typed : TypedProgram) (effects : Effects) (input : Lis
       abbrev pub GoesFrom : Left (steps.waiting main_turn) → Instruction → Outcome → Type 0
       GoesFrom left i outcome = Each (GoesOn main_turn Left left IsOld (lasting_of s left_scope) (lasting_of s (brought i left_scope)) inside_left) outcome
 
-      abbrev Both : Left (steps.waiting main_turn) → Instruction → Type 0
+      abbrev pub Both : Left (steps.waiting main_turn) → Instruction → Type 0
       Both left i = LeadsFrom i (turn main_turn i) × GoesFrom left i (turn main_turn i)
 
       pub good : Plain → Good facts_now easy.state
@@ -731,7 +729,7 @@ module _ (table : Table) (typed : TypedProgram) (effects : Effects) (input : Lis
       )
       holds_nothing left v is other_one (Some of) result (value_of, same, source) = absurd (subst (λ z. IsOther (Hold z)) same other_one)
 
-      each_instruction : Plainly → (left : Left (steps.waiting main_turn)) (i : Instruction) → p.instr ≡ i → IsOther i → IsFine s named.sub.result i → AllowsAll facts_now (acts_of_main i)
+      pub each_instruction : Plainly → (left : Left (steps.waiting main_turn)) (i : Instruction) → p.instr ≡ i → IsOther i → IsFine s named.sub.result i → AllowsAll facts_now (acts_of_main i)
           → AllKeep (is_fixed s) (acts_of_main i) → Both left i
       each_instruction plain left Skip is other_one text allowed_there keep = (
         skips_so (none_takes Skip is refl),
@@ -765,120 +763,9 @@ module _ (table : Table) (typed : TypedProgram) (effects : Effects) (input : Lis
 
       -- ---- the next point
 
-      abbrev sparing : Type 0
+      abbrev pub sparing : Type 0
       sparing = Spare s (standing.acts_by table typed effects input ready state top older outer named p frames of_sub at_point s p.instr)
 
       pub spares : (p.instr ≡ Finish → ⊥) → sparing
       spares end =
           spare_acts (record { typing = s; result = named.sub.result; roots = standing.roots table typed effects input ready state top older outer named p frames of_sub at_point }) p.pos p.instr (innermost.plain_traversal table typed effects input ready state top below more_frames rest named p frames deep stages running awaiting of_sub at_point path views viewed_before kept scope holds placed_before above) no_calls going end
-
-      lent_on : sparing → (h : ℕ) (n : PlaceName) → Has facts_now (Lent Observed h n) → Has (after (acts_of_main p.instr) facts_now) (Lent Observed h n)
-      lent_on spare h n has = loans_stay s (standing.acts_by table typed effects input ready state top older outer named p frames of_sub at_point s p.instr) spare facts_now Observed h n has
-
-      -- which views turned
-      turned_so : (turned_views : Views) → {facts : List Fact}
-          → Turned easy ready.accepted.settled ready.owns other alone views ready.class.parts_named may refl refl turned_views facts
-          → AreTurned p.instr views turned_views
-      turned_so turned_views turned x w has = elim (turned x w has) [
-        | inl old ↦ inl (sym old.way ∙ has)
-        | inr (y, from, comes) ↦ inr from.1
-      ]
-
-      only_may : (turned_views : Views) (facts : List Fact)
-          → Turned easy ready.accepted.settled ready.owns other alone views ready.class.parts_named may refl refl turned_views facts
-          → Turned easy ready.accepted.settled ready.owns other alone views ready.class.parts_named (λ x y. MayBe program (scope_behind p) x y) refl refl
-          turned_views facts
-      only_may turned_views facts turned x w has = elim (turned x w has) [
-        | inl old ↦ inl (record { way = old.way; loan = old.loan; up = old.up })
-        | inr (y, from, comes) ↦ inr (y, from.0, record { up = comes.up; root = comes.root; loan = comes.loan; under = comes.under })
-      ]
-
-      -- formals have what they had
-      passed_then : (turned_views : Views) (facts : List Fact)
-          → Turned easy ready.accepted.settled ready.owns other alone views ready.class.parts_named may refl refl turned_views facts
-          → (x : ℕ) (w : Way) → turned_views.way x ≡ Some w → is_given s x ≡ true → ways.Named (home s depth) (turned_views.up x) → ⊥
-      passed_then turned_views facts turned x w has formal taken_up = elim (turned x w has) [
-        | inl old ↦ holds.passed x w (sym old.way ∙ has) formal (subst (ways.Named (home s depth)) old.up taken_up)
-        | inr (y, from, comes) ↦ true_false (is_given s x) formal (own_there s x (orderly.variables x (inl from.1) (from.0).view))
-      ]
-
-      -- no result waits that isn't taken, and what the first formal sees stays
-      traversals_on : (after_step : State) (waits : List Waiting) (loops : List Loop) (n : ℕ) → returns_value p.instr ≡ false → (p.instr ≡ Finish → ⊥) → Left waits
-          → (turned_views : Views) (facts : List Fact)
-          → Turned easy ready.accepted.settled ready.owns other alone views ready.class.parts_named may refl refl turned_views facts
-          → HasTraversals table typed (view_here s after_step)
-          (record { stage = standing.at_next table typed effects input ready state top older outer named p frames of_sub at_point path waits loops n; views = turned_views; cells = [] } ∷ older)
-      traversals_on after_step waits loops n none end are turned_views facts turned = (
-        given_on table typed (view_here s state) (view_here s after_step) (record { stage = top; views = views; cells = [] })
-            (record { stage = standing.at_next table typed effects input ready state top older outer named p frames of_sub at_point path waits loops n; views = turned_views; cells = [] }) older
-            (none_given table typed (view_here s after_step) (record { stage = standing.at_next table typed effects input ready state top older outer named p frames of_sub at_point path waits loops n; views = turned_views; cells = [] })
-            (named_given table typed (record { stage = standing.at_next table typed effects input ready state top older outer named p frames of_sub at_point path waits loops n; views = turned_views; cells = [] }) (scope_behind p) are (innermost.named_behind table typed effects input ready state top below more_frames rest named p frames deep stages running awaiting of_sub at_point path views viewed_before kept scope holds placed_before above no_calls)))
-            (λ g given. elim given [
-              | inl nothing ↦ inl nothing
-              | inr (some, returned, none_back, was) ↦ absurd (elim (ready.traversing.ending top.frame.sub (running.0).entered some top.before top.frame.next path returned) [
-                | inl (y, ends) ↦ going y (sym (innermost.instr_there table typed effects input ready state top below more_frames rest named p frames deep stages running awaiting of_sub at_point path views viewed_before kept scope holds placed_before above) ∙ ends)
-                | inr finishes ↦ end (sym (innermost.instr_there table typed effects input ready state top below more_frames rest named p frames deep stages running awaiting of_sub at_point path views viewed_before kept scope holds placed_before above) ∙ finishes)
-              ])
-            ]) (above.1).0,
-        (
-          (λ f traversed. (
-              let old = (above.1).1.0 f traversed in
-              let view = given_view s f (ready.traversing.first top.frame.sub f traversed).1 in (
-                old.0,
-                rooted_on s (sub_acts (sub_of program top.frame.sub)) f old.0 view views turned_views
-                    (λ x w has. elim (turned x w has) [ inl same ↦ inl (sym same.way ∙ has) | inr (y, from, comes) ↦ inr (y, from.2, comes.under) ]) old.1,
-                old.2,
-                old.3,
-              ))),
-          (above.1).1.1,
-        ),
-      )
-
-      pub goes_there : sparing → (p.instr ≡ Finish → ⊥) → returns_value p.instr ≡ false → (after_step : State) (waits : List Waiting) (loops : List Loop) (k : ℕ)
-          → k < successors p.instr → ((n : ℕ) → successor main_turn k ≡ Some n → after_step.frames ≡ record top.frame { waits = waits; loops = loops; next = n } ∷ outer)
-          → Left waits → Inside s IsOld after_step.memory depth (lasting_of s (scope_behind p)) → LeadsFrom p.instr (Goes after_step) → OthersKept s depth state.memory after_step.memory
-          → Along (Goes after_step)
-      goes_there spare end none after_step waits loops k less frames_then are inside_then (turned_views, turned, well) stay =
-          let next = successor_there main_turn k (subst (λ z. k < z) (sym successors_there) less) in
-          let q = standing.next_at table typed effects input ready state top older outer named p frames of_sub at_point path next.0 next.2 in
-          let there = turned_placed easy ready.accepted.settled ready.owns other alone views ready.class.parts_named left_scope (scope_behind p) refl refl
-          ready.orderly.transitive ready.orderly.itself local holds.only holds.lies more turned_views facts_now (after (acts_of_main p.instr) facts_now) (lent_on spare)
-          (placed_left facts_now placed) (only_may turned_views (after (acts_of_main p.instr) facts_now) turned) in
-          let only_then : (x : ℕ) (w : Way) → turned_views.way x ≡ Some w → is_view s x ≡ true = well.holds.only in
-          let lies_then = turned_lies easy ready.accepted.settled ready.owns other alone views ready.class.parts_named left_scope (scope_behind p) refl refl
-          ready.orderly.transitive ready.orderly.itself local holds.only holds.lies more turned_views (after (acts_of_main p.instr) facts_now)
-          (only_may turned_views (after (acts_of_main p.instr) facts_now) turned) in
-          let placed_next = placed_on program depth (after (acts_of_main p.instr) facts_now) turned_views (scope_behind p) (q.0).scope only_then q.2 there in
-          standing.goes_to_next table typed effects input ready state top older outer named p frames of_sub at_point path no_calls after_step waits loops next.0 next.2 q.0 q.1 (frames_then next.0 next.1) deep stages turned_views
-          (running.0, running.1, wait_still after_step (lasting_of s (scope_behind p)) inside_then stay (record { far = well.viewed.far; bare = well.viewed.bare }))
-          (standing.waits_next table typed effects input ready state top older outer named p frames of_sub at_point path waits loops next.0 next.2 are, others_await none)
-          ((innermost.apart_from_them table typed effects input ready state top below more_frames rest named p frames deep stages running awaiting of_sub at_point path views viewed_before kept scope holds placed_before above) (acts_of_main p.instr) turned_views (view_here s after_step) only_then well.viewed) well.kept
-          (scope_on s ready.owns after_step.memory depth (scope_behind p) (q.0).scope (in_scope after_step.memory (lasting_of s (scope_behind p)) inside_then) q.2)
-          (record {
-            held = λ x n lasts view e. well.holds.held x n view e;
-            within = λ x n view e. (let own_way = well.holds.held x n view e in (placed_next x own_way.0 own_way.1).within);
-            only = only_then;
-            lies = lies_then;
-            owners = well.holds.owners;
-            passed = passed_then turned_views (after (acts_of_main p.instr) facts_now) turned;
-            own = well.holds.own;
-          })
-          (((innermost.placed_by table typed effects input ready state top below more_frames rest named p frames deep stages running awaiting of_sub at_point path views viewed_before kept scope holds placed_before above) (after (acts_of_main p.instr) facts_now) (after (acts_of_main p.instr) own_facts) turned_views (q.0).scope ((innermost.own_loans table typed effects input ready state top below more_frames rest named p frames deep stages running awaiting of_sub at_point path views viewed_before kept scope holds placed_before above) (acts_of_main p.instr)) placed_next), well.viewed.past)
-          (still_above after_step.memory stay, traversals_on after_step waits loops next.0 none end are turned_views (after (acts_of_main p.instr) facts_now) turned) views
-          (steps_on no_calls end going (refl, refl, refl) (turned_so turned_views turned) refl)
-
-      pub then_on : (left : Left (steps.waiting main_turn)) → sparing → (p.instr ≡ Finish → ⊥) → returns_value p.instr ≡ false → (outcome : Outcome)
-          → LeadsFrom p.instr outcome → GoesFrom left p.instr outcome
-          → Each (λ (next : State). OthersKept s depth state.memory next.memory) outcome → Along outcome
-      then_on left spare end none (Ends how after_step) leads on stay = leads
-      then_on left spare end none (Goes after_step) leads on stay =
-          goes_there spare end none after_step on.waits on.loops on.k on.less on.frames on.are on.inside leads stay
-
-      pub goes_plainly : Plainly → IsOther p.instr → FillsNone s p.instr → (p.instr ≡ Finish → ⊥) → returns_value p.instr ≡ false → Along (turn main_turn p.instr)
-      goes_plainly plain other_one fills end none =
-          let left = left_after fills in
-          let text = standing.fine table typed effects input ready state top older outer named p frames of_sub at_point in
-          let both = each_instruction plain left p.instr refl other_one text
-          ((innermost.allowed_now table typed effects input ready state top below more_frames rest named p frames deep stages running awaiting of_sub at_point path views viewed_before kept scope holds placed_before above) (spares end) (standing.allowed table typed effects input ready state top older outer named p frames of_sub at_point path no_calls))
-          (standing.keeps_there table typed effects input ready state top older outer named p frames of_sub at_point) in
-          then_on left (spares end) end none (turn main_turn p.instr) both.0 both.1 (others_keep main_turn named.sub.result p.instr text other_one)

@@ -1,10 +1,11 @@
 -- What a formal sees that a procedure changes through it: no view sees past it, and neither what another
 -- such formal sees nor a place that the call takes meets it.
-use Rattle.std.proofs.Common.{◌≡◌, refl, sym, ap, ◌∙◌, subst, ◌⊎◌, inl, inr, ℕ, Bool, true, false, not, ◌&&◌, List, [], ◌∷◌, ◌++◌, Some}
+use Rattle.std.proofs.Common.{◌≡◌, refl, sym, ap, ◌∙◌, subst, ◌⊎◌, inl, inr, ℕ, Bool, true, false, not, ◌&&◌, ◌||◌, List, [], ◌∷◌, ◌++◌, Some}
 use Rattle.spark_base.specs.Lists.{Has}
 use Rattle.place_names.specs.declared.fact.Fact.{Fact}
 use Rattle.place_names.specs.declared.fact.Fact.TheVariants.{Moved, Lent}
 use Rattle.place_names.specs.declared.rule.Loan.TheVariants.{Borrowed}
+use Rattle.place_names.specs.declared.act.Mode.{Mode}
 use Rattle.place_names.specs.declared.act.Mode.TheVariants as mode
 use Rattle.type_definitions.specs.declared.judgement.View.{View as TypeView}
 use Rattle.type_definitions.specs.declared.judgement.View.TheVariants as view
@@ -14,6 +15,7 @@ use Rattle.place_names.specs.Reports.{Report}
 use Rattle.place_names.specs.Rules.{moved_or_lent}
 use Rattle.typed_tree.specs.Trees.{TypedTree, Name, More}
 use Rattle.flow_paths.specs.Objects.{Typing, object_at, is_named_access, is_variable_access, view_of}
+use Rattle.machine.specs.Owners.{is_in}
 use Rattle.flow_paths.specs.Names.{Written, written, name_of}
 use Rattle.flow_paths.specs.Aliases.{overlap_reports}
 use Rattle.flow_paths.specs.Aliases as alias
@@ -30,6 +32,24 @@ use Rattle.viewed_steps.specs.Ready.{AreDifferent}
 use Rattle.viewed_steps.proofs.Seeing.{IsClear, AreClear}
 use Rattle.viewed_steps.specs.Sound.{IsCopiedBack}
 use Rattle.viewed_steps.proofs.Lending.{IsNameOf, IsChanged, IsLentTo, lent_clear, lent_free, apart_listed, copies_of}
+
+pub first_true : (a b : Bool) → a && b ≡ true → a ≡ true
+first_true true b is = refl
+first_true false b is = cc
+
+pub second_true : (a b : Bool) → a && b ≡ true → b ≡ true
+second_true true b is = is
+second_true false b is = cc
+
+pub mode_in : (how : Mode) → is_in how ≡ true → how ≡ mode.In
+mode_in mode.In is = refl
+mode_in how is = cc
+
+pub sees_shown : (a b c d : Bool) → b ≡ true → d ≡ false → a || ((b || c) && not d) ≡ true
+sees_shown true b c d e f = refl
+sees_shown false true c false e f = refl
+sees_shown false true c true e f = cc
+sees_shown false false c d e f = cc
 
 -- What is lent to a formal: it isn't seen only, nothing of it is moved or lent, and it doesn't overlap what is
 -- passed for others that may change.

@@ -64,7 +64,8 @@ use Rattle.viewed_steps.specs.Ready.{AreOrderly, IsReady, AreNamedIn}
 use Rattle.viewed_steps.proofs.Lent.{ends, Spare, spare_has}
 use Rattle.viewed_steps.proofs.Inherited.{after_more, lending_uses, apart_borrowed, apart_seen}
 use Rattle.viewed_steps.proofs.Beside.{OthersKept, faint_held}
-use Rattle.viewed_steps.proofs.Waiting.{StandsBetween, all_between, AreTheirs, LentElsewhere, unused_there, beside_them, handed, handed_lent, none_moved, lent_handed, AreApart, with_them, without_them, theirs, all_on}
+use Rattle.viewed_steps.proofs.Waiting.{StandsBetween, all_between, AreTheirs, LentElsewhere, unused_there, beside_them, handed, handed_lent, none_moved, lent_handed, AreApart, with_them, without_them, theirs}
+use Rattle.viewed_steps.proofs.Onward.{all_on}
 use Rattle.viewed_steps.proofs.Uses.{writes_there, borrowing_writes, moving_writes}
 use Rattle.viewed_steps.proofs.Apart.{kept_there, held_apart, written_disturbs}
 use Rattle.viewed_steps.proofs.Eased.{eased_viewed}

@@ -18,6 +18,7 @@ pub mod Uses
 pub mod Rooted
 pub mod Roots
 pub mod Waiting
+pub mod Onward
 pub mod Apart
 pub mod Left
 pub mod Between
@@ -41,6 +42,7 @@ pub mod LaidOut
 pub mod Seeing
 pub mod Clear
 pub mod Called
+pub mod Acted
 -- the views of what is called
 pub mod Exclusive
 pub mod Opening
@@ -57,6 +59,7 @@ pub mod Standing
 pub mod Packages
 pub mod Innermost
 pub mod EachInstruction
+pub mod Turned
 pub mod Operands
 pub mod Alone
 pub mod Taking
@@ -64,5 +67,6 @@ pub mod Results
 pub mod ScopeEnds
 pub mod CallEnds
 pub mod Calling
+pub mod CallBegins
 pub mod Stepping
 pub mod Main

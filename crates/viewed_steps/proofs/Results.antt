@@ -96,6 +96,7 @@ use Rattle.viewed_steps.proofs.Declared.{source_given}
 use Rattle.viewed_steps.proofs.Beside.{value_stays, source_stays}
 use Rattle.viewed_steps.proofs.Operands.{left_operand_on, right_operand_on}
 use Rattle.viewed_steps.proofs.EachInstruction as each
+use Rattle.viewed_steps.proofs.Turned as turned
 use Rattle.viewed_steps.proofs.Views.{AreAccess}
 
 none_some : (n : ℕ) → None ≡ Some n → ⊥
@@ -324,7 +325,7 @@ module _ (table : Table) (typed : TypedProgram) (effects : Effects) (input : Lis
           → LeadsFrom p.instr (steps.evaluated main_turn y (λ ws m. Goes (steps.behind main_turn (waits ws) m (k ws))))
           → Along (steps.evaluated main_turn y (λ ws m. Goes (steps.behind main_turn (waits ws) m (k ws))))
       operand_on waits k less are (Done ws n) (same, one) inside_then stay leads =
-          each.goes_there table typed effects input ready state top below more_frames rest named p frames deep stages running awaiting of_sub at_point path views viewed_before kept scope holds placed_before above going_here no_call_here
+          turned.goes_there table typed effects input ready state top below more_frames rest named p frames deep stages running awaiting of_sub at_point path views viewed_before kept scope holds placed_before above going_here no_call_here
           (each.spares table typed effects input ready state top below more_frames rest named p frames deep stages running awaiting of_sub at_point path views viewed_before kept scope holds placed_before above going_here no_call_here no_finish) no_finish (ap returns_value is)
           (steps.behind main_turn (waits ws) n.memory (k ws)) (waits ws) top.frame.loops (k ws) (less ws)
           (λ m next. ap (led main_turn (record top.frame { waits = waits ws })) next) (are ws one) inside_then leads stay

@@ -318,7 +318,7 @@ module _ (table : Table) (typed : TypedProgram) (effects : Effects) (input : Lis
             (
               λ f traversed. (
                   let old = (above.1).1.0 f traversed in
-                  let view = given_view s f (ready.traversing.first top.frame.sub f traversed).1 in (
+                  let view = given_view s f (ready.traversing.first top.frame.sub f (running.0).entered traversed).1 in (
                     old.0,
                     rooted_on s (sub_acts (sub_of program top.frame.sub)) f old.0 view views left_views (λ x w has. inl (were_left x w has).0) old.1,
                     old.2,

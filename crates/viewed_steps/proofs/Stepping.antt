@@ -28,12 +28,12 @@ use Rattle.viewed_steps.proofs.Beside.{IsOther}
 use Rattle.viewed_steps.proofs.Standing as standing
 use Rattle.viewed_steps.proofs.Packages as packages
 use Rattle.viewed_steps.proofs.Innermost as innermost
-use Rattle.viewed_steps.proofs.EachInstruction as each
+use Rattle.viewed_steps.proofs.Turned as turned
 use Rattle.viewed_steps.proofs.Taking as taking
 use Rattle.viewed_steps.proofs.Results as results
 use Rattle.viewed_steps.proofs.ScopeEnds as scopes
 use Rattle.viewed_steps.proofs.CallEnds as ends
-use Rattle.viewed_steps.proofs.Calling as calling
+use Rattle.viewed_steps.proofs.CallBegins as call_begins
 
 module _ (table : Table) (typed : TypedProgram) (effects : Effects) (input : List ℕ) (ready : IsReady table typed effects) where
   abbrev program : FlowProgram
@@ -69,12 +69,12 @@ module _ (table : Table) (typed : TypedProgram) (effects : Effects) (input : Lis
 
     by_instruction : (i : Instruction) → p.instr ≡ i → Along (turn main_turn i)
     by_instruction Finish is = ends.ends_call table typed effects input ready state top below more_frames rest named p frames deep stages running awaiting of_sub at_point path views viewed_before kept scope holds placed_before above is
-    by_instruction (Call n actuals result) is = calling.calls_it table typed effects input ready state top below more_frames rest named p frames deep stages running awaiting of_sub at_point path views viewed_before kept scope holds placed_before above n actuals result is
+    by_instruction (Call n actuals result) is = call_begins.calls_it table typed effects input ready state top below more_frames rest named p frames deep stages running awaiting of_sub at_point path views viewed_before kept scope holds placed_before above n actuals result is
     by_instruction (Evaluate temporary e op) is = results.operand_step table typed effects input ready state top below more_frames rest named p frames deep stages running awaiting of_sub at_point path views viewed_before kept scope holds placed_before above temporary e op is
     by_instruction (Hold (More e last)) is = results.return_step table typed effects input ready state top below more_frames rest named p frames deep stages running awaiting of_sub at_point path views viewed_before kept scope holds placed_before above e last is
     by_instruction (EndScope y) is = scopes.ends_scope table typed effects input ready state top below more_frames rest named p frames deep stages running awaiting of_sub at_point path views viewed_before kept scope holds placed_before above y is
     by_instruction i is = subst (λ z. Along (turn main_turn z)) is (elim taken_there [
-      | inl plain ↦ each.goes_plainly table typed effects input ready state top below more_frames rest named p frames deep stages running awaiting of_sub at_point path views viewed_before kept scope holds placed_before above
+      | inl plain ↦ turned.goes_plainly table typed effects input ready state top below more_frames rest named p frames deep stages running awaiting of_sub at_point path views viewed_before kept scope holds placed_before above
           going_here no_calls plain (subst IsOther (sym is) tt) (subst (FillsNone s) (sym is) tt) no_finish (ap returns_value is)
       | inr alone_taken ↦ taking.goes_alone table typed effects input ready state top below more_frames rest named p frames deep stages running awaiting of_sub at_point path views viewed_before kept scope holds placed_before above
           going_here no_calls alone_taken (subst (λ d. AreGiven s (view_here s state) d p.instr views top.frame.waits) deep ((above.1).0.0 named of_sub p at_point)) (subst IsOther (sym is) tt) (subst (FillsNone s) (sym is) tt) no_finish (ap returns_value is)

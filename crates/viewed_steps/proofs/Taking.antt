@@ -63,6 +63,7 @@ use Rattle.soundness.specs.Seen.{seen}
 use Rattle.soundness.specs.Ready.{IsSupplied, Fills}
 use Rattle.soundness.proofs.Onward.{GoesOn, declare_follows, assign_follows}
 use Rattle.viewed_steps.proofs.EachInstruction as each
+use Rattle.viewed_steps.proofs.Turned as turned
 use Rattle.flow_paths.specs.Instructions.{Hold}
 use Rattle.flow_paths.specs.Scopes.{is_within}
 use Rattle.type_definitions.specs.Types.{shape_of}
@@ -231,13 +232,13 @@ module _ (table : Table) (typed : TypedProgram) (effects : Effects) (input : Lis
             some_is : (a b : ℕ) → Some a ≡ Some b → a ≡ b
             some_is a b e = cc
 
-        value_anonymous : is_anonymous (full s.table value_there.of) ≡ true
+        pub value_anonymous : is_anonymous (full s.table value_there.of) ≡ true
         value_anonymous = ap (λ z. is_anonymous (full s.table z)) value_of_view ∙ gives.anonymous
 
-        given_there : IsGivenTo s (view_here s state) depth p.instr views value_there
+        pub given_there : IsGivenTo s (view_here s state) depth p.instr views value_there
         given_there = given value_there first_there.4 first_there.5 value_anonymous
 
-        abbrev word_there : machine.Word
+        abbrev pub word_there : machine.Word
         word_there = given_there.word
 
         abbrev call_there : TraversalCall
@@ -269,10 +270,10 @@ module _ (table : Table) (typed : TypedProgram) (effects : Effects) (input : Lis
         hands_there : waiting_in state ≡ value_there ∷ others_in_hand
         hands_there = first_there.2
 
-        words_there : given_words ≡ (word_there ∷ []) ∷ []
+        pub words_there : given_words ≡ (word_there ∷ []) ∷ []
         words_there = first_there.3 ∙ ap (λ z. z ∷ []) given_there.is
 
-        good_there : IsGood easy ready.accepted.settled ready.owns other alone views ready.class.parts_named may refl refl views facts_now easy.state
+        pub good_there : IsGood easy ready.accepted.settled ready.owns other alone views ready.class.parts_named may refl refl views facts_now easy.state
         good_there = record {
           viewed = without_view s ready.accepted.settled state.memory value_there others_in_hand value_anonymous (home s depth) (sees_only s) other views state.leaks facts_now
               (subst (λ z. Viewed (home s depth) (sees_only s) other views (seen s state.memory z state.leaks) facts_now) hands_there viewed);
@@ -508,7 +509,7 @@ module _ (table : Table) (typed : TypedProgram) (effects : Effects) (input : Lis
           finish : (i : Instruction) → p.instr ≡ i → LeadsFrom i (turn main_turn i)
               → Each (GoesOn main_turn Left left IsOld (lasting_of s left_scope) (lasting_of s (brought i left_scope)) inside_left) (turn main_turn i) → Along (turn main_turn p.instr)
           finish i is leads on =
-              each.then_on table typed effects input ready state top below more_frames rest named p frames deep stages running awaiting of_sub at_point path views viewed_before kept scope holds placed_before above going no_calls left
+              turned.then_on table typed effects input ready state top below more_frames rest named p frames deep stages running awaiting of_sub at_point path views viewed_before kept scope holds placed_before above going no_calls left
               (each.spares table typed effects input ready state top below more_frames rest named p frames deep stages running awaiting of_sub at_point path views viewed_before kept scope holds placed_before above going no_calls end) end none
               (turn main_turn p.instr) (subst (λ z. LeadsFrom z (turn main_turn z)) (sym is) leads)
               (subst (λ z. Each (GoesOn main_turn Left left IsOld (lasting_of s left_scope) (lasting_of s (brought z left_scope)) inside_left) (turn main_turn z)) (sym is) on)

@@ -199,7 +199,8 @@ pub record ViewsAreOrderly (table : Table) (typed : TypedProgram) : Type 0 where
 -- designates; its first formal sees; what one returns by a name has no other root than that, or none that isn't
 -- refuted; and after a return only ends of scopes and the end of the call follow.
 pub record AreTraversing (table : Table) (typed : TypedProgram) (effects : Effects) : Type 0 where
-  pub first : (n f : ℕ) → traversed_formal (flow_typing (flow_program table typed)) (sub_of (flow_program table typed) n) ≡ Some f
+  pub first : (n f : ℕ) → IsEntered (flow_program table typed) n
+      → traversed_formal (flow_typing (flow_program table typed)) (sub_of (flow_program table typed) n) ≡ Some f
       → (is_formal (flow_typing (flow_program table typed)) f ≡ true) × (is_given (flow_typing (flow_program table typed)) f ≡ true)
   pub given : (n f : ℕ) (sub : FlowSub) → sub_of (flow_program table typed) n ≡ sub → traversed_formal (flow_typing (flow_program table typed)) sub ≡ Some f
       → (p : FlowPoint) → Has sub.points p → (m : PlaceName) (b : Bool) → Has (map (λ (a : Placed). a.act) p.acts) (Give m b)
