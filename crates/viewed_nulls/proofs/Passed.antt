@@ -1,6 +1,6 @@
 -- Of what a call passes nothing is gone, nor of the formals that it copies back.
 use Rattle.viewed_soundness.specs.Holds.{sees_only}
-use Rattle.std.proofs.Common.{◌≡◌, refl, sym, ◌∙◌, subst, ◌⊎◌, inl, inr, ℕ, suc, false, List, [], ◌∷◌, ◌++◌, length, Some}
+use Rattle.std.proofs.Common.{◌≡◌, refl, sym, ◌∙◌, subst, ◌⊎◌, inl, inr, ℕ, suc, false, List, [], ◌∷◌, ◌++◌, length, Some, true}
 use Rattle.place_names.specs.declared.fact.Fact.{Fact}
 use Rattle.spark_base.specs.Lists.{Has}
 use Rattle.flow_paths.specs.Objects.{Typing, object_at}
@@ -11,7 +11,7 @@ use Rattle.machine.specs.Evaluate.{variable_place}
 use Rattle.machine.specs.Calls.{Passed, Value, From, To, with_formal}
 use Rattle.machine.specs.States.{Waiting, Leak, Return}
 use Rattle.machine.specs.Step.{Turn, typing, here}
-use Rattle.owned_ways.specs.Ways.{Step, OfVariable, OfHand, Loc, OfRoot, Way, Object, Under, along, base_of}
+use Rattle.owned_ways.specs.Ways.{Step, OfVariable, OfHand, Loc, OfRoot, Way, Object, Under, along, base_of, OfCell, Reaches, Past, Owned}
 use Rattle.owned_ways.proofs.Locations.{under_along, under_itself}
 use Rattle.part_offsets.specs.Parts.{IsSettled}
 use Rattle.soundness.specs.Seen.{seen, home, is_view_formal}
@@ -23,20 +23,24 @@ use Rattle.soundness.proofs.Fixed.{fixed_one}
 use Rattle.soundness.proofs.Returning.{formal_fixed}
 use Rattle.owned_loans.specs.Views.{Around, Views, ExcusedBy, IsForeign, Viewed}
 use Rattle.owned_loans.proofs.Moves.{same_viewed}
-use Rattle.viewed_steps.specs.Taken.{IsInside, AreTaken}
-use Rattle.viewed_steps.proofs.Between.{more_gone}
-use Rattle.viewed_steps.proofs.Carried.{inside_at, inside_spot, inside_reached, inside_rooted, inside_owns, inside_base}
+use Rattle.viewed_steps.specs.Taken.{IsInside, AreTaken, Lodge, IsPlainPlace, IsCopiedTo}
+use Rattle.viewed_steps.proofs.Between.{more_gone, same_reaches, IsHomed}
+use Rattle.viewed_steps.proofs.Carried.{inside_at, inside_spot, inside_reached, inside_rooted, inside_owns, inside_base, inside_homed}
 use Rattle.viewed_steps.proofs.Alike.{IsPlainSpot, IsLaidIn, fixed_plain, plain_place, one_there, Enters, with_one, moved_there, stored_there, one_then}
 use Rattle.viewed_steps.proofs.Entered as entered
-use Rattle.viewed_steps.proofs.Entered.{ArePassedOn, IsOpen, AreBlank, passed_base, outs_taken}
+use Rattle.viewed_steps.proofs.Entered.{ArePassedOn, IsOpen, AreBlank, passed_base, outs_taken, IsPlainPassed, IsPlainOne}
 use Rattle.viewed_steps.proofs.Entering as entering
 use Rattle.viewed_steps.proofs.Emptying as emptying
 use Rattle.viewed_steps.proofs.Outs.{Out, HaveStill, still_then}
 use Rattle.viewed_steps.proofs.Backed as backed
 use Rattle.viewed_steps.proofs.Backed.{AwayBy, ViewedAway}
-use Rattle.null_places.proofs.Places.{spot_whole, unmoved_whole, moved_only}
-use Rattle.null_places.proofs.Calls.{IsWholly, IsWhollyPassed, AreWhollyPassed, fixed_wholly, AreWhollyBack}
+use Rattle.null_places.proofs.Places.{spot_whole, unmoved_whole, moved_only, plain_whole}
+use Rattle.null_places.proofs.Calls.{IsWholly, IsWhollyPassed, AreWhollyPassed, fixed_wholly, AreWhollyBack, IsStanding}
 use Rattle.viewed_steps.proofs.Views.{AreAccess, AreFar}
+use Rattle.machine.specs.Memory as memory
+use Rattle.viewed_steps.proofs.Shown.{HasCells, then_cells, taken_cells, one_stands}
+use Rattle.viewed_steps.proofs.Lodged.{cell_live}
+use Rattle.soundness.proofs.Steps.{no_leaf}
 
 -- A place in a variable isn't in a formal that owns nothing.
 in_owner : (s : Typing) (f : ℕ) (k : Place) (to : Way) (inside : IsInside s f k to) → (g x : ℕ) → k.base ≡ memory.OfVariable g x → is_view_formal s x ≡ false
@@ -71,7 +75,7 @@ module _ (s : Typing) (settled : IsSettled s.table) (own_law : OwnsByShape s.tab
     moved_only s settled m hands only typed k plain.loc plain.spot (λ p leaf f x is. (let no : true ≡ false = sym leaf ∙ no_leaf s.table settled k.of plain.scalar p in cc)),
   )
 
-  Reached : List Leak → Memory → Type 0
+  abbrev Reached : List Leak → Memory → Type 0
   Reached leaks m = (c : Lodge) → Has cells c → Reaches (seen s m hands leaks) c.way (OfCell c.cell)
 
   laid_there : (leaks : List Leak) (m : Memory) (a : Passed) → IsPlainPassed s cells a → Kept s m hands → Reached leaks m → IsLaidIn s settled own_law in_formals hands leaks m a
