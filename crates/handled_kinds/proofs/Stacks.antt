@@ -204,14 +204,13 @@ module _ (program : FlowProgram) (p : Program) (rows : HasRows program p) where
   s = flow_typing program
 
   -- The package objects stand first.
-  packages_first : (ns : List ℕ) → EndsWithPackages ns → (x at : ℕ) → offset_from s 0 (objects_of (sub_of program 0)) x ≡ Some at
-      → IsFront (kinds s.table (object_at s x).of) (drop at (stack_kinds s.table p ns))
-  packages_first [] ends x at e = absurd ends
-  packages_first (n ∷ []) ends x at e =
+  packages_first : (n : ℕ) (rest : List ℕ) → EndsWithPackages (n ∷ rest) → (x at : ℕ) → offset_from s 0 (objects_of (sub_of program 0)) x ≡ Some at
+      → IsFront (kinds s.table (object_at s x).of) (drop at (stack_kinds s.table p (n ∷ rest)))
+  packages_first n [] ends x at e =
       subst (λ k. IsFront (kinds s.table (object_at s x).of) (drop at (frame_kinds s.table (sub_at p k)))) (sym ends)
       (subst (λ ks. IsFront (kinds s.table (object_at s x).of) (drop at ks)) (sym (frame_is program p rows 0)) (frame_offset s (objects_of (sub_of program 0)) x at e))
-  packages_first (n ∷ k ∷ rest) ends x at e =
-      drop_within (stack_kinds s.table p (k ∷ rest)) (frame_kinds s.table (sub_at p n)) (kinds s.table (object_at s x).of) at (packages_first (k ∷ rest) ends x at e)
+  packages_first n (k ∷ rest) ends x at e =
+      drop_within (stack_kinds s.table p (k ∷ rest)) (frame_kinds s.table (sub_at p n)) (kinds s.table (object_at s x).of) at (packages_first k rest ends x at e)
 
   -- The law: the words of the stack have the kinds of their objects, where the frame that runs begins after the others.
   pub stack_has : (n : ℕ) (rest takes : List ℕ) (taken : List Kind) → EndsWithPackages (n ∷ rest)
@@ -230,7 +229,7 @@ module _ (program : FlowProgram) (p : Program) (rows : HasRows program p) where
         let o : ℕ = at + words s.table (object_at s x).of in
         let same = drop_after (stack_kinds s.table p rest) (frame_kinds s.table (sub_at p n)) o (length (stack_kinds s.table p rest) + o) refl in
         subst (IsFront counter) (sym same) (subst (λ ks. IsFront counter (drop o ks)) (sym (frame_is program p rows n)) (frame_loop s (objects_of (sub_of program n)) x at loops there));
-    packages = λ x at there declared. packages_first (n ∷ rest) ends x at there;
+    packages = λ x at there declared. packages_first n rest ends x at there;
     waits = waits;
   }
 

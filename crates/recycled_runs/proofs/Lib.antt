@@ -1,0 +1,14 @@
+-- points that are neither a call nor its end
+pub mod Plain
+-- the frames of the machine after a step
+pub mod Machine
+-- those of lowered programs
+pub mod Frames
+-- those of both after a step
+pub mod Subs
+-- nothing is gone as a step begins
+pub mod Clear
+-- before the first step
+pub mod Starts
+-- whole runs
+pub mod Runs
