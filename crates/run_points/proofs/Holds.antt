@@ -57,6 +57,7 @@ given_stands program laid made stack v h stands f g (x ∷ fs) (y ∷ gs) is = (
       few = is.1.0.few;
       waits = (stands, is.1.0.waits);
       sited = is.1.0.sited;
+      lying = is.1.0.lying;
       first = is.1.0.first;
       turning = is.1.0.turning;
       loops = is.1.0.loops;

@@ -12,7 +12,7 @@ use Rattle.machine.specs.States.{Waiting, Loop, stack_words, sub_of}
 use Rattle.machine.specs.States as machine
 use Rattle.machine.specs.Step.{no_loop, loop_of, main_frame}
 use Rattle.run_codes.specs.Flat.{kinds, are_words, truth, Flat, Spot, InStack, InCell}
-use Rattle.run_codes.specs.Lowered.{Site, offset_of, one_type}
+use Rattle.run_codes.specs.Lowered.{Site, Kept, kept_words, offset_of, one_type}
 use Rattle.run_codes.specs.Programs.{Program, objects_of, is_loop}
 use Rattle.run_codes.specs.Points.{Held, Return, Frame, State, with_frame, frame_of, sub_at}
 use Rattle.run_codes.specs.Related.{types, IsValue, IsSplit, Lying, lying_sorts, Related, AreApart, IsSited}
@@ -117,6 +117,11 @@ ReturnsStand c all d made (r ∷ rs) [] = ⊥
 
 -- ---- frames
 
+-- Where the objects of a frame lie, from an index of the stack on.
+abbrev pub lyings : Typing → ℕ → ℕ → List Kept → List Lying
+lyings s d at [] = []
+lyings s d at (k ∷ all) = record { frame = d; object = k.object; at = at } ∷ lyings s d (at + kept_words s k) all
+
 -- Where the objects of a program's frames and their loops lie.
 pub record Laid : Type 0 where
   pub objects : List Lying
@@ -139,6 +144,7 @@ pub record FrameStands (program : FlowProgram) (laid : Laid) (made : List ℕ) (
   pub few : nat_lt stack_words (sub_of program f.sub).words ≡ false
   pub waits : WaitsStand (flow_typing program).table made f.waits g.waits
   pub sited : IsSited (site_of program f.sub []) d g.base laid.objects
+  pub lying : (l : Lying) → Has laid.objects l → l.frame ≡ d → Has (lyings (flow_typing program) d g.base (objects_of (sub_of program f.sub))) l
   -- the package objects are declared in the first frame alone
   pub first : f.sub ≡ 0 → (d ≡ 0) × (g.base ≡ 0)
   pub turning : (x at : ℕ) → loop_offset (site_of program f.sub []) x ≡ Some at → Has laid.loops (record { frame = d; parameter = x; at = g.base + (at + 1) })
