@@ -17,10 +17,10 @@ use Rattle.run_codes.specs.Programs.{Program, objects_of, is_loop, sub_rows}
 use Rattle.run_codes.specs.Points.{Frame, State, with_frame, frame_of, no_memory, state_at_start, is_declaring, sub_at, no_sub}
 use Rattle.run_codes.specs.Related.{types}
 use Rattle.run_codes.proofs.Places.{if_some, some_same}
-use Rattle.run_points.specs.States.{first_point, Laid, site_of, FrameStands, MemoryStands, StateStands, main_begun, MainBegins, lyings}
+use Rattle.run_points.specs.States.{first_point, Laid, site_of, FrameStands, MemoryStands, StateStands, main_begun, MainBegins, lyings, loops_from}
 use Rattle.run_points.specs.Turns.{IsLowered, HasTypes}
 use Rattle.run_points.specs.Frames.{IsCallable, HasFrames, IsSmall}
-use Rattle.run_points.proofs.Rooms.{loops_from, offset_there, loop_there}
+use Rattle.run_points.proofs.Rooms.{offset_there, loop_there}
 use Rattle.run_points.proofs.Templates.{room_template, room_loops, are_rooms, are_one_word, template_is, words_are}
 use Rattle.run_points.proofs.Entered.{in_left, in_either, with_room, memory_entered, frames_entered, frame_entered}
 
@@ -126,6 +126,10 @@ first_frame program p has lowers few = record {
         (subst (λ n. Has (lyings s 0 0 all) (record { frame = 0; object = x; at = n })) (none at) (offset_there s 0 0 0 0 all x at refl there));
   };
   lying = λ l has of. elim (in_either (lyings s 0 0 all) [] l has) [
+    | inl new ↦ new
+    | inr old ↦ absurd old
+  ];
+  looping = λ c has of. elim (in_either (loops_from s 0 0 all) [] c has) [
     | inl new ↦ new
     | inr old ↦ absurd old
   ];

@@ -172,6 +172,7 @@ caller_stands b laid is m f later d i within =
       waits = waits_on b laid is d;
       sited = is.frame.sited;
       lying = is.frame.lying;
+      looping = is.frame.looping;
       first = is.frame.first;
       turning = is.frame.turning;
       loops = λ c has of. loops_later b laid is m f later c has ∙ is.frame.loops c has of;

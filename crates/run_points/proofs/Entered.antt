@@ -15,10 +15,10 @@ use Rattle.run_codes.specs.Programs.{Program, objects_of, is_loop}
 use Rattle.run_codes.specs.Points.{Return, Frame, frame_of, sub_at}
 use Rattle.run_codes.specs.Related.{AllStand, types, Lying, lying_sorts, IsSited}
 use Rattle.run_codes.proofs.Places.{if_some}
-use Rattle.run_points.specs.States.{LoopAt, LoopsApart, PlaceStands, ReturnsStand, Laid, site_of, FrameStands, FramesStand, MemoryStands, lyings}
+use Rattle.run_points.specs.States.{LoopAt, LoopsApart, PlaceStands, ReturnsStand, Laid, site_of, FrameStands, FramesStand, MemoryStands, lyings, loops_from}
 use Rattle.run_points.specs.Turns.{IsLowered, HasTypes}
 use Rattle.run_points.specs.Frames.{IsCallable}
-use Rattle.run_points.proofs.Rooms.{loops_from, room_total, AreRooms, offset_there, loop_there, lies_within, loop_within, lyings_apart, loop_object, loops_apart}
+use Rattle.run_points.proofs.Rooms.{room_total, AreRooms, offset_there, loop_there, lies_within, loop_within, lyings_apart, loop_object, loops_apart}
 use Rattle.run_points.proofs.Templates.{room_template, template_long, room_stands, room_loops, are_one_word, first_is, words_are}
 
 -- ---- lists
@@ -230,6 +230,10 @@ frames_entered program laid made stack more d all (f ∷ fs) (g ∷ gs) low apar
       | inl new ↦ not_high (length fs) d l.frame (lies_within s d base all l new).frame low of
       | inr old ↦ is.0.lying l old of
     ];
+    looping = λ c has of. elim (in_either (loops_from s d base all) laid.loops c has) [
+      | inl new ↦ not_high (length fs) d c.frame (loop_within s d base all c new).frame low of
+      | inr old ↦ is.0.looping c old of
+    ];
     first = is.0.first;
     turning = λ x at there. in_right (loops_from s d base all) laid.loops (record { frame = length fs; parameter = x; at = g.base + (at + 1) }) (is.0.turning x at there);
     loops = λ c has of. elim (in_either (loops_from s d base all) laid.loops c has) [
@@ -285,6 +289,10 @@ frame_entered program p laid made f d n rs qs has lowers callable few low inside
   lying = λ l has of. elim (in_either (lyings s d base all) laid.objects l has) [
     | inl new ↦ new
     | inr old ↦ not_same l.frame d (low l old) of
+  ];
+  looping = λ c has of. elim (in_either (loops_from s d base all) laid.loops c has) [
+    | inl new ↦ new
+    | inr old ↦ not_same c.frame d (loops_inside c old).0 of
   ];
   first = λ zero. absurd (never n zero callable.other);
   turning = λ x at there. (

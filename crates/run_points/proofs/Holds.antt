@@ -58,6 +58,7 @@ given_stands program laid made stack v h stands f g (x ∷ fs) (y ∷ gs) is = (
       waits = (stands, is.1.0.waits);
       sited = is.1.0.sited;
       lying = is.1.0.lying;
+      looping = is.1.0.looping;
       first = is.1.0.first;
       turning = is.1.0.turning;
       loops = is.1.0.loops;

@@ -62,6 +62,7 @@ frames_more program laid made more stack (f ∷ fs) (g ∷ gs) is = (
     waits = waits_more (flow_typing program).table made more f.waits g.waits is.0.waits;
     sited = is.0.sited;
     lying = is.0.lying;
+    looping = is.0.looping;
     first = is.0.first;
     turning = is.0.turning;
     loops = is.0.loops;
