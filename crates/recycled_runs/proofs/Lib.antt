@@ -8,6 +8,8 @@ pub mod Frames
 pub mod Subs
 -- nothing is gone as a step begins
 pub mod Clear
+-- null where something was moved
+pub mod Nulls
 -- before the first step
 pub mod Starts
 -- whole runs

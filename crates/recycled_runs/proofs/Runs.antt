@@ -9,6 +9,7 @@ use Rattle.machine.specs.States.{Ending, Normal, Raised, Spent, Trapped, sub_of,
 use Rattle.machine.specs.States as machine
 use Rattle.machine.specs.Run.{Run, ended, run_with, then_on, within, empty_memory}
 use Rattle.machine.specs.Run as machine_run
+use Rattle.part_offsets.specs.Parts.{IsSettled}
 use Rattle.null_places.specs.Cleared.{cleared_state}
 use Rattle.null_places.specs.Agrees.{Agrees, SameState}
 use Rattle.null_places.proofs.Memories.{itself, agrees_right, count_agree, freed_count}
@@ -44,6 +45,7 @@ use Rattle.handled_kinds.specs.Stacks.{subs_of, IsStacked}
 use Rattle.handled_kinds.specs.Turns.{LeaksThere}
 use Rattle.handled_kinds.proofs.Runs.{state_looks}
 use Rattle.recycled_runs.proofs.Subs.{step_stacked}
+use Rattle.recycled_runs.proofs.Nulls.{clears}
 use Rattle.recycled_runs.proofs.Clear.{NoneGone, cleared_kept, clear_start}
 use Rattle.recycled_runs.proofs.Starts.{start_only, start_words, start_seen, start_none, starts_stacked}
 
@@ -72,23 +74,17 @@ GivesSame x r = (given r ≡ Some (ran_of x)) ⊎ (r ≡ handled.Wants)
 
 -- ---- runs of states of which steps keep what is known
 
--- Null may stand where something was moved.
-abbrev pub ClearsStand : FlowProgram → Program → Type 0
-ClearsStand program p =
-    (s t : machine.State) (g : State) (here : List Kind) → OnlyOwners (flow_typing program) s.memory → SameState s t → StateStands program t g
-    → IsStacked (flow_typing program).table p (subs_of t) g.frames here → length here ≡ length g.memory.stack → StateStands program (cleared_state t) (cleared here g)
-
 -- What leak checks of steps from sound states tell of is there.
 abbrev pub LeaksLive : FlowProgram → Program → List ℕ → (machine.State → Type 0) → Type 0
 LeaksLive program p input sound =
     (s t : machine.State) (g : State) → sound s → OnlyOwners (flow_typing program) s.memory → SameState s t → StateStands program t g → (f : Frame) (outer : List Frame) (q : Point) → g.frames ≡ f ∷ outer
     → slice_get p.points f.next ≡ Some q → LeaksThere (turn_of (flow_typing program).table p input g f outer q) q.does
 
-module _ (program : FlowProgram) (p : Program) (input : List ℕ) (has : HasTypes program) (lowered : IsLowered program p) (frames : HasFrames program) (small : MainBegins program p)
+module _ (program : FlowProgram) (p : Program) (input : List ℕ) (has : HasTypes program) (settled : IsSettled (flow_typing program).table) (lowered : IsLowered program p) (frames : HasFrames program) (small : MainBegins program p)
     (sound : machine.State → Type 0) (steps : (s : machine.State) → sound s → GoesOn sound (machine_run.step program input s))
     (same : (s : machine.State) → sound s → OnlyOwners (flow_typing program) s.memory → (n : Memory) → Agrees s.memory n
     → SameStepBy (flow_typing program) (machine_run.step program input s) (machine_run.step program input (record s { memory = n })))
-    (clears : ClearsStand program p) (live : LeaksLive program p input sound) where
+    (live : LeaksLive program p input sound) where
   abbrev table : Table
   table = (flow_typing program).table
 
@@ -137,7 +133,7 @@ module _ (program : FlowProgram) (p : Program) (input : List ℕ) (has : HasType
           good = good;
           only = same_by.1;
           agrees = ((ap cleared_state same_by.0.0), agrees_right s1.memory t1.memory same_by.0.1);
-          stands = clears s1 t1 g1 now same_by.1 same_by.0 stands stacked alike.memory.known;
+          stands = clears program p lowered.subs has.laws settled s1 t1 g1 now same_by.1 same_by.0 stands stacked alike.memory.known;
           stacked = stacked;
           none = cleared_kept now g1.memory;
           alike = cleared_alike table handles now g1 b1 alike;
@@ -199,11 +195,11 @@ module _ (program : FlowProgram) (p : Program) (input : List ℕ) (has : HasType
 
 -- ---- whole runs
 
-module _ (program : FlowProgram) (p : Program) (input : List ℕ) (has : HasTypes program) (lowered : IsLowered program p) (frames : HasFrames program)
+module _ (program : FlowProgram) (p : Program) (input : List ℕ) (has : HasTypes program) (settled : IsSettled (flow_typing program).table) (lowered : IsLowered program p) (frames : HasFrames program)
     (sound : machine.State → Type 0) (begins : sound (machine_run.state_at_start program)) (steps : (s : machine.State) → sound s → GoesOn sound (machine_run.step program input s))
     (same : (s : machine.State) → sound s → OnlyOwners (flow_typing program) s.memory → (n : Memory) → Agrees s.memory n
     → SameStepBy (flow_typing program) (machine_run.step program input s) (machine_run.step program input (record s { memory = n })))
-    (clears : ClearsStand program p) (live : LeaksLive program p input sound) where
+    (live : LeaksLive program p input sound) where
   abbrev all : Table
   all = (flow_typing program).table
 
@@ -232,7 +228,7 @@ module _ (program : FlowProgram) (p : Program) (input : List ℕ) (has : HasType
           → NeverTraps (ended (if b then within n program input first else machine.Ends (Raised StorageError (sub_of program main).pos) first)).ending
           → GivesSame (ended (if b then within n program input first else machine.Ends (Raised StorageError (sub_of program main).pos) first)) r
       by true fits so never =
-          many_give program p input has lowered frames (main_begins program p has lowered frames (small_main program main is fits)) sound steps same clears live n [] (first_kinds all p declares) first first
+          many_give program p input has settled lowered frames (main_begins program p has lowered frames (small_main program main is fits)) sound steps same live n [] (first_kinds all p declares) first first
           (points.state_at_start all p declares) (state_at_start all p declares)
           (record {
             good = begins;
