@@ -14,3 +14,5 @@ pub mod Nulls
 pub mod Starts
 -- whole runs
 pub mod Runs
+-- those of programs that are ready
+pub mod Ready
