@@ -19,7 +19,7 @@ use Rattle.handled_runs.specs.Marks.{Stands, During}
 use Rattle.handled_runs.proofs.Cells.{words_on, names_on}
 use Rattle.handled_runs.proofs.There.{AreRenamed}
 use Rattle.handled_runs.proofs.Unmarked.{spot_same}
-use Rattle.handled_runs.proofs.Bases.{filled_base}
+use Rattle.handled_runs.proofs.Bases.{filled_base, filled_long}
 use Rattle.handled_runs.proofs.Copies.{spots_alike, helds_alike}
 use Rattle.handled_runs.proofs.Filled.{fill_alike}
 use Rattle.handled_steps.specs.Steps.{Passing, Passes, Stopping, Failing, on_read, passed_value, from_spot, PassesOne, with_first, Following, PassesAll}
@@ -214,34 +214,40 @@ module _ (table : Table) (handles : List ℕ) (here taken : List Kind) (m : Flat
       there_passed formal (ToSpot q of at) (ToSpot w of at)
       ((same, spot_known p q (there p (kinds table of) looks.0) found), refl, refl, stands q (kinds table of) ((looks.0 m refl).1 q found), looks.1, looks.2)))
 
--- ---- they leave the frame where it is
+-- ---- they leave the frame where it is, and the stack as long as it is
 
-passed_base : (table : Table) (a : Actual) (m : Flat) (p : Passed) (n : Flat) → points.passed table a m ≡ Done p n → n.base ≡ m.base
+abbrev AsLong : Flat → Flat → Type 0
+AsLong m n = (n.base ≡ m.base) × (length n.stack ≡ length m.stack)
+
+as_long : (m n : Flat) → m ≡ n → AsLong m n
+as_long m n same = (ap (λ (y : Flat). y.base) (sym same), ap (λ (y : Flat). length y.stack) (sym same))
+
+passed_base : (table : Table) (a : Actual) (m : Flat) (p : Passed) (n : Flat) → points.passed table a m ≡ Done p n → AsLong m n
 passed_base table (ByValue v) m p n e = by (filled table v m) refl e
   where
-    by : (x : Made (List ℤ)) → filled table v m ≡ x → made_then x (λ zs. Done (Value zs)) ≡ Done p n → n.base ≡ m.base
-    by (Done zs i) found f = ap (λ (y : Flat). y.base) (sym (let same : i ≡ n = cc in same)) ∙ filled_base table v m zs i found
+    by : (x : Made (List ℤ)) → filled table v m ≡ x → made_then x (λ zs. Done (Value zs)) ≡ Done p n → AsLong m n
+    by (Done zs i) found f = subst (AsLong m) (let same : i ≡ n = cc in same) (filled_base table v m zs i found, filled_long table v m zs i found)
     by (Halted x i) found f = cc
     by Failed found f = cc
 passed_base table (From q of within) m p n e = by (flat.spot m q) e
   where
-    fitting : (b : Bool) (s : Spot) → (if b then Done (FromSpot s of) m else Halted constraint m) ≡ Done p n → n.base ≡ m.base
-    fitting true s f = ap (λ (y : Flat). y.base) (sym (let same : m ≡ n = cc in same))
+    fitting : (b : Bool) (s : Spot) → (if b then Done (FromSpot s of) m else Halted constraint m) ≡ Done p n → AsLong m n
+    fitting true s f = as_long m n (let same : m ≡ n = cc in same)
     fitting false s f = cc
 
-    held_by : (s : Spot) (g : Got (List ℤ)) → flat.reads m g (λ zs. if fits table within zs then Done (FromSpot s of) m else Halted constraint m) ≡ Done p n → n.base ≡ m.base
+    held_by : (s : Spot) (g : Got (List ℤ)) → flat.reads m g (λ zs. if fits table within zs then Done (FromSpot s of) m else Halted constraint m) ≡ Done p n → AsLong m n
     held_by s (Given zs) f = fitting (fits table within zs) s f
     held_by s (Stops x) f = cc
     held_by s Broken f = cc
 
-    by : (g : Got Spot) → flat.reads m g (λ s. flat.reads m (flat.held m s (kinds table of)) (λ zs. if fits table within zs then Done (FromSpot s of) m else Halted constraint m)) ≡ Done p n → n.base ≡ m.base
+    by : (g : Got Spot) → flat.reads m g (λ s. flat.reads m (flat.held m s (kinds table of)) (λ zs. if fits table within zs then Done (FromSpot s of) m else Halted constraint m)) ≡ Done p n → AsLong m n
     by (Given s) f = held_by s (flat.held m s (kinds table of)) f
     by (Stops x) f = cc
     by Broken f = cc
 passed_base table (To q of at) m p n e = by (flat.spot m q) e
   where
-    by : (g : Got Spot) → flat.reads m g (λ s. Done (ToSpot s of at) m) ≡ Done p n → n.base ≡ m.base
-    by (Given s) f = ap (λ (y : Flat). y.base) (sym (let same : m ≡ n = cc in same))
+    by : (g : Got Spot) → flat.reads m g (λ s. Done (ToSpot s of at) m) ≡ Done p n → AsLong m n
+    by (Given s) f = as_long m n (let same : m ≡ n = cc in same)
     by (Stops x) f = cc
     by Broken f = cc
 
@@ -275,7 +281,7 @@ module _ (table : Table) (here taken : List Kind) where
   all_alike (a ∷ rest) [] handles m s r during looks so = absurd looks
   all_alike (a ∷ rest) (f ∷ formals) handles m s r during looks (g, one, so) =
       by (points.passed table a m) g refl (one_alike table handles here taken m s during f a g looks.0 one) so
-      (λ p n hs t q e near passes. all_alike rest formals hs n t q near (subst (λ b. LooksActuals table b here taken formals rest) (sym (passed_base table a m p n e)) looks.1) passes)
+      (λ p n hs t q e near passes. all_alike rest formals hs n t q near (subst (λ b. LooksActuals table b here taken formals rest) (sym (passed_base table a m p n e).0) looks.1) passes)
     where
       by : (x : Made Passed) (g : Passing) → points.passed table a m ≡ x → PassingAlike table handles here taken (f ∷ []) (ones x) g → Following g (PassesAll table rest) r
           → ((p : Passed) (n : Flat) (hs : List ℕ) (t : Slots) (q : Passing) → points.passed table a m ≡ Done p n → During hs here taken n t → PassesAll table rest t q
@@ -292,3 +298,20 @@ module _ (table : Table) (here taken : List Kind) where
       by (Done p n) Failing e is so on = absurd is
       by (Halted x n) g e is so on = stops_following table handles here taken x n g r (PassesAll table rest) so is
       by Failed g e is so on = tt
+
+pub all_passed_long : (table : Table) (actuals : List Actual) (m : Flat) (ps : List Passed) (n : Flat) → points.all_passed table actuals m ≡ Done ps n → length n.stack ≡ length m.stack
+all_passed_long table [] m ps n e = (as_long m n (let same : m ≡ n = cc in same)).1
+all_passed_long table (a ∷ rest) m ps n e = by (points.passed table a m) refl e (λ k us f. all_passed_long table rest k us n f)
+  where
+    then_all : (p : Passed) (x : Made (List Passed)) → made_then x (λ more. Done (p ∷ more)) ≡ Done ps n → (us : List Passed) × (x ≡ Done us n)
+    then_all p (Done us k) f = (us, ap (Done us) (let same : k ≡ n = cc in same))
+    then_all p (Halted x k) f = cc
+    then_all p Failed f = cc
+
+    by : (x : Made Passed) → points.passed table a m ≡ x → then_rest table rest x ≡ Done ps n → ((k : Flat) (us : List Passed) → points.all_passed table rest k ≡ Done us n → length n.stack ≡ length k.stack)
+        → length n.stack ≡ length m.stack
+    by (Done p k) found f on =
+        let more = then_all p (points.all_passed table rest k) f in
+        on k more.0 more.1 ∙ (passed_base table a m p k found).1
+    by (Halted x k) found f on = cc
+    by Failed found f on = cc
