@@ -14,9 +14,9 @@ use Rattle.run_ready.specs.Tests.{IsReady}
 use Rattle.tested_files.proofs.Main.{parsed_ready}
 use Rattle.command_words.specs.Words.{Command, Check, Run, Leaks, Make, Selftest}
 use Rattle.run_command.specs.Answers.{Answer}
-use Rattle.spark_tool.specs.Commands.{command_of}
-use Rattle.spark_tool.specs.Reading.{Sources, sources}
-use Rattle.spark_tool.specs.Product.{Finding, Passes as Found, judged, Checks, missing, too_large, lexical, syntactic, unresolved, mistyped, beyond, checked, Answers, Product, usage, check, run, leaks, make, selftest}
+use Rattle.tool_answers.specs.Commands.{command_of}
+use Rattle.tool_answers.specs.Reading.{Sources, sources}
+use Rattle.tool_answers.specs.Product.{Finding, Passes as Found, judged, Checks, missing, too_large, lexical, syntactic, unresolved, mistyped, beyond, checked, Answers, Product, usage, check, run, leaks, make, selftest}
 use Rattle.accepted_runs.specs.Passed.{Passes}
 use Rattle.accepted_runs.proofs.Passing.{Passed}
 use Rattle.accepted_runs.proofs.Parsed.{are_parsed}

@@ -8,9 +8,9 @@ use Rattle.flow_paths.specs.Reports.{AreReports}
 use Rattle.program_check.specs.Sources.{flow_of}
 use Rattle.command_words.specs.Words.{Command, Check, Run, Leaks, Make, Selftest}
 use Rattle.run_command.specs.Answers.{Answer}
-use Rattle.spark_tool.specs.Commands.{command_of}
-use Rattle.spark_tool.specs.Reading.{Sources, Texts, sources}
-use Rattle.spark_tool.specs.Product.{Finding, check_answer, judged, Checks, missing, too_large, lexical, syntactic, unresolved, mistyped, beyond, checked, Answers, Product, usage, check, run, leaks, make, selftest}
+use Rattle.tool_answers.specs.Commands.{command_of}
+use Rattle.tool_answers.specs.Reading.{Sources, Texts, sources}
+use Rattle.tool_answers.specs.Product.{Finding, check_answer, judged, Checks, missing, too_large, lexical, syntactic, unresolved, mistyped, beyond, checked, Answers, Product, usage, check, run, leaks, make, selftest}
 use Rattle.accepted_runs.specs.Passed.{Passes}
 
 -- Such texts, with what their program is.

@@ -13,9 +13,9 @@ use Rattle.null_places.proofs.Typed.{typed_compared}
 use Rattle.viewed_nulls.proofs.Runs.{viewed_runs}
 use Rattle.command_words.specs.Words.{Check}
 use Rattle.run_command.specs.Answers.{Answer}
-use Rattle.spark_tool.specs.Commands.{command_of}
-use Rattle.spark_tool.specs.Reading.{sources}
-use Rattle.spark_tool.specs.Product.{Product}
+use Rattle.tool_answers.specs.Commands.{command_of}
+use Rattle.tool_answers.specs.Reading.{sources}
+use Rattle.tool_answers.specs.Product.{Product}
 use Rattle.accepted_runs.specs.Passed.{Passes}
 use Rattle.accepted_runs.proofs.Passing.{Passed, product_passed}
 use Rattle.accepted_runs.proofs.Parsed.{are_parsed}

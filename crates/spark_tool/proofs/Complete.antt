@@ -5,7 +5,7 @@ use Rattle.std.specs.Io.KnownBytes.{Appends, Keeps}
 use Rattle.std.proofs.KnownBytes.{Appends-nil, Appends-kept}
 use Rattle.spark_base.specs.Outside.{AppendsPrefix}
 use Rattle.run_command.specs.Answers.{Answer, Tells, TellsFront}
-use Rattle.spark_tool.specs.Product.{Product, unread}
+use Rattle.tool_answers.specs.Product.{Product, unread}
 use Rattle.spark_tool.specs.Promises.{Delivers, DeliversFront, DeliversNoMore, HasInput}
 use Rattle.spark_tool.specs.Stops.{stop_status}
 use Rattle.spark_tool.specs.declared.stop.Stop.{Stop}

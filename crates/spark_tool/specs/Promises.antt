@@ -2,7 +2,7 @@
 use Rattle.std.specs.Prelude.{◌≡◌, ℕ, List, Bool, true, false, Option, Some, [], ◌∷◌}
 use Rattle.spark_base.specs.Lists.{Has}
 use Rattle.run_command.specs.Answers.{Answer, Tells, TellsFront}
-use Rattle.spark_tool.specs.Product.{Product}
+use Rattle.tool_answers.specs.Product.{Product}
 
 -- The statuses of an answer: done; rejected; refused; the ends of a run by an exception, by its
 -- budget and after a leak; misused; an input that is too large; the end of a run by a trap.
