@@ -105,11 +105,6 @@ abbrev is_back : Mode → Bool
 is_back mode.InOut = true
 is_back m = false
 
-back_is : (m : Mode) → is_back m ≡ true → m ≡ mode.InOut
-back_is mode.InOut e = refl
-back_is mode.In e = absurd (true≢false (sym e))
-back_is mode.Out e = absurd (true≢false (sym e))
-
 abbrev kind_if_formal : Object → Bool
 kind_if_formal o = not (is_formal_kind o.kind) || (is_back o.mode && not (is_anonymous (full own.table o.of)))
 
@@ -122,9 +117,12 @@ formals x is =
     by (is_formal own x) (object_at own x).mode (is_anonymous (full own.table (object_at own x).of)) is
     (at_any (λ (o : Object). kind_if_formal o ≡ true) own.objects text_io refl (each kind_if_formal own.objects kinds) x)
   where
-    by : (f : Bool) (m : Mode) (a : Bool) → f ≡ true → not f || (is_back m && not a) ≡ true → IsScalarAt own x ⊎ ((m ≡ mode.InOut) × (a ≡ false))
+    no_in : mode.InOut ≡ mode.In → ⊥
+    no_in e = cc
+
+    by : (f : Bool) (m : Mode) (a : Bool) → f ≡ true → not f || (is_back m && not a) ≡ true → IsScalarAt own x ⊎ ((m ≡ mode.In → ⊥) × (a ≡ false))
     by false m a f e = absurd (true≢false (sym f))
-    by true mode.InOut false f e = inr (refl, refl)
+    by true mode.InOut false f e = inr (no_in, refl)
     by true mode.InOut true f e = absurd (true≢false (sym e))
     by true mode.In a f e = absurd (true≢false (sym e))
     by true mode.Out a f e = absurd (true≢false (sym e))

@@ -18,9 +18,9 @@ use Rattle.typed_tree.specs.Trees.{TypedTree, Name, More}
 use Rattle.typed_tree.specs.Programs.{TypedProgram, text_io}
 use Rattle.flow_paths.specs.declared.point.LeakSpot.{LeakSpot}
 use Rattle.flow_paths.specs.Instructions.{Instruction, Assign, Call, Release, Test, EndScope}
-use Rattle.flow_paths.specs.Objects.{Typing, object_at, sub_at, designated, is_formal, Passing, Place, passings}
+use Rattle.flow_paths.specs.Objects.{Typing, object_at, sub_at, designated, is_formal, Passing, ByValue, Traversed, Place, passings}
 use Rattle.flow_paths.specs.Names.{Written, written, name_of}
-use Rattle.flow_paths.specs.Acts.{spot, acts_in, actual_act, spots_at, actual_spots, call_spots, leaks_of}
+use Rattle.flow_paths.specs.Acts.{spot, acts_in, index_acts, actual_values, actual_act, spots_at, actual_spots, call_spots, leaks_of}
 use Rattle.flow_paths.specs.Laid.{Temporary, temporary_object, NamedSub, typing_of, flow_typing, flow_program, flow_named}
 use Rattle.flow_paths.specs.Paths.{PathPoint, path_point, ControlPath, acts_along, facts_before, facts_within}
 use Rattle.flow_paths.specs.LeakPlan.{IsExcused}
@@ -40,6 +40,17 @@ module _ (a b : Typing) (agree : Agree a b) where
   acts_same : (pos : Pos) (e : TypedTree) → acts_in a e ≡ acts_in b e
   acts_same pos e =
       instruction_same a b agree None [] pos (Test e) (λ n actuals t never x has. (let no : Test e ≡ Call n actuals t = never in cc))
+
+  index_same : (pos : Pos) (e : TypedTree) → index_acts a e ≡ index_acts b e
+  index_same pos (Name p x path t) = acts_same pos path
+  index_same pos e = refl
+
+  -- what is read of the actuals of a call
+  pub values_same : (pos : Pos) (ways : List Passing) (actuals : TypedTree) → actual_values a ways actuals ≡ actual_values b ways actuals
+  values_same pos (ByValue ∷ ways) (More e rest) = (λ j. acts_same pos e j ++ values_same pos ways rest j)
+  values_same pos (Traversed ∷ ways) (More e rest) = (λ j. index_same pos e j ++ values_same pos ways rest j)
+  values_same pos (Place m owning access ∷ ways) (More e rest) = (λ j. index_same pos e j ++ values_same pos ways rest j)
+  values_same pos _ _ = refl
 
   written_same : (w : Option Written) (before : ℕ) → spots_at a w before ≡ spots_at b w before
   written_same None before = refl

@@ -1,5 +1,5 @@
 -- The words of frames have the kinds of their objects.
-use Rattle.std.proofs.Common.{◌≡◌, refl, sym, ap, ◌∙◌, subst, ℕ, zero, suc, ◌+◌, arith, Bool, true, false, ◌&&◌, ◌==◌, List, [], ◌∷◌, ◌++◌, map, take, drop, length, length-append, get_or, slice_get, append_assoc, Some, if◌then◌else◌}
+use Rattle.std.proofs.Common.{◌≡◌, ◌≤◌, refl, sym, ap, ◌∙◌, subst, ℕ, zero, suc, ◌+◌, arith, Bool, true, false, ◌&&◌, ◌==◌, List, [], ◌∷◌, ◌++◌, map, take, drop, length, length-append, get_or, slice_get, append_assoc, Some, if◌then◌else◌}
 use Rattle.std.specs.Prelude.{flat_map, sum}
 use Rattle.std.specs.Cmp.Lexicographic.{pointwise}
 use Rattle.std.proofs.lemmas.Bool.Decides.{nat_tests}
@@ -61,7 +61,7 @@ module _ (s : Typing) where
   abbrev loop_kinds : Bool → List Kind
   loop_kinds b = flat_map (room_kinds s.table) (if b then Counter ∷ [] else [])
 
-  abbrev kept_kinds : List Kept → List Kind
+  abbrev pub kept_kinds : List Kept → List Kind
   kept_kinds all = flat_map (room_kinds s.table) (rooms s all)
 
   abbrev one_kept : Kept → List Kind
@@ -120,6 +120,24 @@ module _ (s : Typing) where
       let same : at ≡ on.0 = omega (arith, place) in
       subst (λ i. IsFront (kinds s.table (object_at s x).of) (drop i (kept_kinds all))) (sym same) on.2
 
+  -- So it lies within.
+  offset_within : (all : List Kept) (start x at : ℕ) → offset_from s start all x ≡ Some at → at ≤ start + length (kept_kinds all)
+  offset_within [] start x at e = impossible at e
+  offset_within (k ∷ all) start x at e = by (k.object == x) e (λ f. offset_within all (start + kept_words s k) x at f)
+    where
+      by : (b : Bool) → (if b then Some start else offset_from s (start + kept_words s k) all x) ≡ Some at
+          → (offset_from s (start + kept_words s k) all x ≡ Some at → at ≤ start + kept_words s k + length (kept_kinds all)) → at ≤ start + length (kept_kinds (k ∷ all))
+      by true f rest = let here = some_same start at f in omega (arith, here)
+      by false f rest =
+          let less = rest f in
+          let count = kept_count k in
+          let first = ap length (first_kept k all) in
+          let sum = length-append (one_kept k) (kept_kinds all) in
+          omega (arith, less, count, first, sum)
+
+  pub frame_within : (all : List Kept) (x at : ℕ) → offset_from s 0 all x ≡ Some at → at ≤ length (kept_kinds all)
+  frame_within all x at e = let less = offset_within all 0 x at e in omega (arith, less)
+
 -- ---- loops
 
 abbrev counter : List Kind
@@ -174,7 +192,7 @@ rooms_row s [] k n = refl
 rooms_row s (sub ∷ rest) k zero = refl
 rooms_row s (sub ∷ rest) k (suc n) = rooms_row s rest (k + length sub.points) n
 
-frame_is : (program : FlowProgram) (p : Program) → HasRows program p → (n : ℕ) → frame_kinds (flow_typing program).table (sub_at p n) ≡ kept_kinds (flow_typing program) (objects_of (sub_of program n))
+pub frame_is : (program : FlowProgram) (p : Program) → HasRows program p → (n : ℕ) → frame_kinds (flow_typing program).table (sub_at p n) ≡ kept_kinds (flow_typing program) (objects_of (sub_of program n))
 frame_is program p rows n =
     ap (λ all. flat_map (room_kinds (flow_typing program).table) (get_or all n no_sub).rooms) rows
     ∙ ap (flat_map (room_kinds (flow_typing program).table)) (rooms_row (flow_typing program) program.subs 0 n)
@@ -204,6 +222,10 @@ module _ (program : FlowProgram) (p : Program) (rows : HasRows program p) where
         let same = drop_after (stack_kinds s.table p rest) (frame_kinds s.table (sub_at p n)) at (length (stack_kinds s.table p rest) + at) refl in
         subst (IsFront (kinds s.table (object_at s x).of)) (sym same)
         (subst (λ ks. IsFront (kinds s.table (object_at s x).of) (drop at ks)) (sym (frame_is program p rows n)) (frame_offset s (objects_of (sub_of program n)) x at there));
+    within = λ x at there.
+        let less = subst (λ ks. at ≤ length ks) (sym (frame_is program p rows n)) (frame_within s (objects_of (sub_of program n)) x at there) in
+        let sum = length-append (stack_kinds s.table p rest) (frame_kinds s.table (sub_at p n)) in
+        omega (arith, less, sum);
     loops = λ x at loops there.
         let o : ℕ = at + words s.table (object_at s x).of in
         let same = drop_after (stack_kinds s.table p rest) (frame_kinds s.table (sub_at p n)) o (length (stack_kinds s.table p rest) + o) refl in

@@ -48,11 +48,11 @@ AgreeBy s m n = Agrees m n × OnlyOwners s m
 abbrev pub IsWholly : Typing → Place → Memory → Type 0
 IsWholly s k m = OnlyOwners s m → NoneGone (slots_of s m k) × OnlyOwners s (moved_out s k m)
 
--- So it is with what is passed, one after the other.
+-- So it is with what is passed, one after the other; of a place that is emptied something may be gone.
 abbrev pub IsWhollyPassed : Typing → Passed → Memory → Type 0
 IsWhollyPassed s (Value ws) m = Unit {0}
 IsWhollyPassed s (From k) m = IsWholly s k m
-IsWhollyPassed s (To k) m = IsWholly s k m
+IsWhollyPassed s (To k) m = OnlyOwners s m → OnlyOwners s (moved_out s k m)
 
 abbrev pub AreWhollyPassed : Typing → ℕ → List ℕ → List Passed → Memory → Type 0
 AreWhollyPassed s f (x ∷ formals) (a ∷ passed) m = IsWhollyPassed s a m × AreWhollyPassed s f formals passed (with_formal s f x a m)
@@ -74,7 +74,7 @@ module _ (s : Typing) (f : ℕ) where
       (words_agree s m n same.0 k both.0)
       (declared_same x (words_of s m k) (moved_out s k m) (moved_out s k n) (taken_same k m n both.1 same.0))
   one_formal x (To k) m n whole same =
-      declared_same x (machine.default s.table (object_at s x).of) (moved_out s k m) (moved_out s k n) (taken_same k m n (whole same.1).1 same.0)
+      declared_same x (machine.default s.table (object_at s x).of) (moved_out s k m) (moved_out s k n) (taken_same k m n (whole same.1) same.0)
 
   pub formals_same : (formals : List ℕ) (passed : List Passed) (m n : Memory) → AreWhollyPassed s f formals passed m → AgreeBy s m n
       → AgreeBy s (with_formals s f formals passed m) (with_formals s f formals passed n)

@@ -162,11 +162,11 @@ module _ (home : ℕ → ℕ) (observer : ℕ → Bool) (v : Views) (s : View) (
   pub seen_way : (u w : Way) (l : Lifted v u) → Named home u → observer l.object ≡ true → Past w (expand v u) → IsMovedBy home v facts w → ⊥
   seen_way u w l named is past moved = seen_above u w l named is (past_under w (expand v u) past) moved
 
-  -- nothing that was moved is, or lies in, a name that overlaps nothing moved or borrowed
-  pub clean_below : (u w : Way) → IsName u → Unborrowed facts u → Unmoved facts u → Under (expand v u) w → IsMovedBy home v facts w → ⊥
-  clean_below u w plain unborrowed unmoved under (m, moved, same) =
-      elim (meeting home observer v s facts views u m plain (moved_plain m moved) (subst (Under (expand v u)) (sym same) under)) [
-        | inl below ↦ unmoved (name_of m) moved.1 (meet_overlaps m u (inr below))
+  -- what a moved name stands for lies in what a name that overlaps nothing borrowed does only if the one begins the other
+  pub clean_name : (u m : Way) → IsName u → Unborrowed facts u → IsMoved home facts m → (Under u m → ⊥) → Under (expand v u) (expand v m) → ⊥
+  clean_name u m plain unborrowed moved off under =
+      elim (meeting home observer v s facts views u m plain (moved_plain m moved) under) [
+        | inl below ↦ off below
         | inr more ↦ elim more [
           | inl a ↦ unmoved_loan m Borrowed a.object (v.loan a.object) moved (loan_of a.object a.lends)
               (inr (under_on (v.loan a.object) a.name m a.loan a.begins))
@@ -179,6 +179,11 @@ module _ (home : ℕ → ℕ) (observer : ℕ → Bool) (v : Views) (s : View) (
     where
       flipped : (a b : Way) → Meet a b → Meet b a
       flipped a b m = elim m [ inl u ↦ inr u | inr u ↦ inl u ]
+
+  -- nothing that was moved is, or lies in, a name that overlaps nothing moved or borrowed
+  pub clean_below : (u w : Way) → IsName u → Unborrowed facts u → Unmoved facts u → Under (expand v u) w → IsMovedBy home v facts w → ⊥
+  clean_below u w plain unborrowed unmoved under (m, moved, same) =
+      clean_name u m plain unborrowed moved (λ below. unmoved (name_of m) moved.1 (meet_overlaps m u (inr below))) (subst (Under (expand v u)) (sym same) under)
 
   seen_below_own : (u w : Way) (l : Lifted v u) → IsView home observer v s facts l.object l.way → Named home u → observer l.object ≡ true → Under (expand v u) w
       → IsMovedBy home v facts w → ⊥

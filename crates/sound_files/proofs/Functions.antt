@@ -160,5 +160,5 @@ module _ (p : Program) (none : (u : Code) → Has p.units u → code_faults (out
   pub functions_scalar : FormalsAreKinds p → FunctionsTakeScalars p
   functions_scalar kinds sub among t is x has formal = elim (kinds x formal) [
     | inl plain ↦ plain
-    | inr (back, named) ↦ absurd (let no : mode.In ≡ mode.InOut = sym (functions_in sub among t is x has) ∙ back in cc)
+    | inr (back, named) ↦ absurd (back (functions_in sub among t is x has))
   ]

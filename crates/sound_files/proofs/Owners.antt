@@ -68,11 +68,11 @@ module _ (p : Program) where
   -- ---- formals
 
   pub kinds_there : FormalsAreKinds p → (x : ℕ) → is_formal wide x ≡ true
-      → IsScalarAt wide x ⊎ (((object_at wide x).mode ≡ mode.InOut) × (is_anonymous (view_of wide x) ≡ false))
+      → IsScalarAt wide x ⊎ (((object_at wide x).mode ≡ mode.In → ⊥) × (is_anonymous (view_of wide x) ≡ false))
   kinds_there all x is = elim (all x (formal_own x is)) [
     | inl plain ↦ inl (scalar_wide x is plain)
     | inr (back, named) ↦ inr (
-      ap (λ (o : Object). o.mode) (formal_there x is) ∙ back,
+      (λ in_mode. back (sym (ap (λ (o : Object). o.mode) (formal_there x is)) ∙ in_mode)),
       ap (λ (rows : Table). is_anonymous (full rows (object_at wide x).of)) alike.table ∙ ap (λ (o : Object). is_anonymous (full own.table o.of)) (formal_there x is) ∙ named,
     )
   ]

@@ -83,11 +83,11 @@ pub record CallsFunctions (p : Program) : Type 0 where
 abbrev pub IsScalarAt : Typing → ℕ → Type 0
 IsScalarAt s x = is_scalar (full s.table (object_at s x).of) ≡ true
 
--- A formal is of a scalar type, or of mode `in out` and of no anonymous access type.
+-- A formal is of a scalar type, or of mode `out` or `in out` and of no anonymous access type.
 abbrev pub FormalsAreKinds : Program → Type 0
 FormalsAreKinds p =
     (x : ℕ) → is_formal (typing_in p) x ≡ true
-    → IsScalarAt (typing_in p) x ⊎ (((object_at (typing_in p) x).mode ≡ mode.InOut) × (is_anonymous (view_of (typing_in p) x) ≡ false))
+    → IsScalarAt (typing_in p) x ⊎ (((object_at (typing_in p) x).mode ≡ mode.In → ⊥) × (is_anonymous (view_of (typing_in p) x) ≡ false))
 
 -- An actual for a formal that isn't of a scalar type is rooted in an object that belongs to no package.
 abbrev pub AreOwnActuals : Typing → List ℕ → TypedTree → Type 0

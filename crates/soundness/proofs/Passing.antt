@@ -104,7 +104,7 @@ module _ (t : Turn) (settled : IsSettled (typing t).table) (n : ℕ) (actuals : 
   abbrev pub entered : List Passed → State
   entered passed = entered_with passed t.state.memory
 
-  abbrev frames_with : List Passed → Memory → ℕ
+  abbrev pub frames_with : List Passed → Memory → ℕ
   frames_with passed m = frame_words t.program (frame_at_start n (returns_of formals_there passed) ∷ (behind t (waiting t) m 0).frames)
 
   -- what a call does with what is passed

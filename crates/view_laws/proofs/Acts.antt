@@ -668,17 +668,10 @@ module _ (s : Typing) (own_law : OwnsByShape s.table) (parts_named : PartsAreNam
         (λ n e empty. changed_whole x steps t n there.0 (ap (λ z. is_anonymous (full s.table z)) there.1 ∙ plain) (same (name_of x steps) n e) empty),
       )
 
-  -- by the mode
-  copied_good : (x : ℕ) (m : Mode) (owning access : Bool) (e : TypedTree) (xs : List ℕ) → (m ≡ mode.In → owning ≡ false) → IsKindOfFormal s x → IsActualTo s x m e
-      → AreGood (actual_act (passing_by m owning access) e) xs
-  copied_good x mode.In owning access e xs fits kind actual =
-      subst (λ b. AreGood (actual_act (if b then objects.Place mode.In b access else ByValue) e) xs) (sym (fits refl)) (λ a has. absurd has)
-  copied_good x mode.Out owning access (Name p y steps t) xs fits kind (u, there, plain) =
-      place_acted mode.Out owning access p y u t steps xs (λ k. refl) (λ k n e. (let same : k ≡ n = cc in same)) there (scalar_plain u plain)
-  copied_good x mode.Out owning access e xs fits kind (u, never, plain) = absurd never
-  copied_good x mode.InOut owning access (Name p y steps t) xs fits kind (u, there, matches, which) =
-      place_acted mode.InOut owning access p y u t steps xs (λ k. refl) (λ k n e. (let same : k ≡ n = cc in same)) there
-      (named_plain s.table u (matches_named s.table (object_at s x).of u (flipped u (object_at s x).of matches) (named_kind kind)))
+  -- a place of the type of a formal is of no anonymous type
+  place_plain : (x u : ℕ) → Matches s.table u (object_at s x).of → IsKindOfFormal s x → is_anonymous (full s.table u) ≡ false
+  place_plain x u matches kind =
+      named_plain s.table u (matches_named s.table (object_at s x).of u (flipped u (object_at s x).of matches) (named_kind kind))
     where
       flipped : (a b : ℕ) → Matches s.table a b → Matches s.table b a
       flipped a b (inl e) = inl (sym e)
@@ -686,7 +679,18 @@ module _ (s : Typing) (own_law : OwnsByShape s.table) (parts_named : PartsAreNam
 
       named_kind : IsKindOfFormal s x → IsNamed s.table (object_at s x).of
       named_kind (inl scalar) = scalar_named s.table (object_at s x).of scalar
-      named_kind (inr (in_out, own)) = own
+      named_kind (inr (back, own)) = own
+
+  -- by the mode
+  copied_good : (x : ℕ) (m : Mode) (owning access : Bool) (e : TypedTree) (xs : List ℕ) → (m ≡ mode.In → owning ≡ false) → IsKindOfFormal s x → IsActualTo s x m e
+      → AreGood (actual_act (passing_by m owning access) e) xs
+  copied_good x mode.In owning access e xs fits kind actual =
+      subst (λ b. AreGood (actual_act (if b then objects.Place mode.In b access else ByValue) e) xs) (sym (fits refl)) (λ a has. absurd has)
+  copied_good x mode.Out owning access (Name p y steps t) xs fits kind (u, there, matches, which) =
+      place_acted mode.Out owning access p y u t steps xs (λ k. refl) (λ k n e. (let same : k ≡ n = cc in same)) there (place_plain x u matches kind)
+  copied_good x mode.Out owning access e xs fits kind (u, never, matches, which) = absurd never
+  copied_good x mode.InOut owning access (Name p y steps t) xs fits kind (u, there, matches, which) =
+      place_acted mode.InOut owning access p y u t steps xs (λ k. refl) (λ k n e. (let same : k ≡ n = cc in same)) there (place_plain x u matches kind)
   copied_good x mode.InOut owning access e xs fits kind (u, never, matches, which) = absurd never
 
   pub copies_good : (procedure : Bool) (formals : List ℕ) (actuals : TypedTree) (xs : List ℕ) → ((x : ℕ) → Has formals x → IsKindOfFormal s x) → AreActualsTo s formals actuals

@@ -40,14 +40,17 @@ use Rattle.view_laws.proofs.Formals.{first_scope, has_within, has_reversed, once
 -- ---- actuals of scalar types
 
 module _ (s : Typing) where
-  plain_actual : (x : ℕ) (m : Mode) (e : TypedTree) → IsScalarObject s x → IsActualTo s x m e → IsActualBy s m e
-  plain_actual x mode.In e plain actual = actual
-  plain_actual x mode.Out e plain actual = actual
-  plain_actual x mode.InOut e plain (t, place, fits, which) = (t, place, scalar_type t (object_at s x).of fits plain)
+  plain_place : (x : ℕ) (e : TypedTree) → IsScalarObject s x → IsActualTo s x mode.InOut e → IsActualBy s mode.InOut e
+  plain_place x e plain (t, place, fits, which) = (t, place, scalar_type t (object_at s x).of fits plain)
     where
       scalar_type : (t u : ℕ) → Matches s.table t u → is_scalar (full s.table u) ≡ true → is_scalar (full s.table t) ≡ true
       scalar_type t u (inl e) plain = matches_scalar s u t (inl (sym e)) plain
       scalar_type t u (inr both) plain = both.0
+
+  plain_actual : (x : ℕ) (m : Mode) (e : TypedTree) → IsScalarObject s x → IsActualTo s x m e → IsActualBy s m e
+  plain_actual x mode.In e plain actual = actual
+  plain_actual x mode.Out e plain actual = plain_place x e plain actual
+  plain_actual x mode.InOut e plain actual = plain_place x e plain actual
 
   pub plain_actuals : (formals : List ℕ) (actuals : TypedTree) → ((x : ℕ) → Has formals x → IsScalarObject s x) → AreActualsTo s formals actuals
       → AreActuals s formals actuals

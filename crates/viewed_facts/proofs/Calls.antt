@@ -7,20 +7,22 @@ use Rattle.place_names.specs.declared.rule.Loan.TheVariants.{Borrowed}
 use Rattle.flow_paths.specs.Objects.{Typing, is_package_object}
 use Rattle.machine.specs.Memory.{Memory}
 use Rattle.machine.specs.States.{Return, Frame}
-use Rattle.owned_ways.specs.Ways.{Step, Root, OfVariable, Loc, OfRoot, OfCell, Inside, Way, Object, Lost, Into, All, Gone, Held, View, part, along, Reaches, Under, Told, Named, base_of, number_of}
+use Rattle.owned_ways.specs.Ways.{Step, Root, OfVariable, Loc, OfRoot, OfCell, Inside, Way, Object, Lost, Into, All, Gone, Held, View, part, along, Reaches, Under, Told, Named, base_of, number_of, name_of}
 use Rattle.owned_ways.proofs.Locations.{under_along, under_itself}
 use Rattle.owned_ways.proofs.Dropped.{named_base}
 use Rattle.part_offsets.specs.Parts.{IsSettled}
 use Rattle.soundness.specs.Seen.{word_in, content, seen, home, is_view_formal}
 use Rattle.soundness.proofs.Contents.{word_part, word_root}
 use Rattle.soundness.specs.Sound.{AreStages}
-use Rattle.owned_loans.specs.Views.{Views, AreClear, AreViews, IsMovedBy}
-use Rattle.owned_loans.proofs.Safe.{clean_below}
+use Rattle.owned_loans.specs.Views.{Views, AreClear, AreViews, expand}
+use Rattle.owned_loans.proofs.Safe.{clean_name}
+use Rattle.exact_facts.proofs.Steps.{under_covers}
 use Rattle.viewed_steps.specs.Sound.{ViewStage, stages_of}
 use Rattle.viewed_steps.specs.Taken.{TakenBy, AreCarried, IsPassedOn, AreTaken}
 use Rattle.viewed_steps.proofs.Between.{base_under, same_variable, taken_from}
 use Rattle.viewed_steps.proofs.Entered.{not_observing, inside_plain, inside_named, inside_number, inside_itself}
 use Rattle.viewed_steps.proofs.Views.{observes_not}
+use Rattle.viewed_facts.specs.Exact.{IsDefiniteBy}
 
 -- ---- ways from variables, where words are carried
 
@@ -125,16 +127,16 @@ passed_of s m depth facts scope (r ∷ rest) (k ∷ ways) (inr (one, apart, anot
 
 module _ (s : Typing) (settled : IsSettled s.table) (depth : ℕ) (facts : List Fact) (scope : List ℕ) (r : Return) (to : Way)
     (passed : IsPassedOn s depth facts scope r.formal r.to to) (no_formals : (x : ℕ) → is_view_formal s x ≡ false) where
-  -- nothing that the frame moved is there
+  -- nothing is there that the frame moved, by a name without an element
   pub passed_clean : (v : Views) (view : View) → AreViews (home s depth) (sees_only s) v view facts → AreClear (sees_only s) facts
-      → (w : Way) → IsMovedBy (home s depth) v facts w → Under to w → ⊥
-  passed_clean v view views clear w moved under =
-      clean_below (home s depth) (sees_only s) v view facts views clear to w (
+      → (w : Way) → IsDefiniteBy (home s depth) v facts w → Under to w → ⊥
+  passed_clean v view views clear w (m, moved, plain, same) under =
+      clean_name (home s depth) (sees_only s) v view facts views clear to m (
         inside_named s settled depth r.to to passed.inside,
         ap (sees_only s) (inside_number s settled depth r.to to passed.inside)
             ∙ observes_not s no_formals (passed.inside).object (not_observing s (passed.inside).object (inside_plain s settled depth r.to to passed.inside)),
-      ) (λ h n has over. passed.unlent Borrowed h n has over) passed.whole
-      (subst (λ z. Under z w) (sym (inside_itself s settled depth r.to to passed.inside v)) under) moved
+      ) (λ h n has over. passed.unlent Borrowed h n has over) moved (λ below. passed.cleared (name_of m) moved.1 (under_covers to m below plain))
+      (subst (λ z. Under z (expand v m)) (sym (inside_itself s settled depth r.to to passed.inside v)) (subst (Under to) (sym same) under))
 
 -- nor what another frame named
 pub other_clean : (s : Typing) (m : Memory) (a depth : ℕ) (facts : List Fact) (scope : List ℕ) (returns : List Return) (ways : List Way)

@@ -165,7 +165,7 @@ module _ (table : Table) (typed : TypedProgram) (effects : Effects) (input : Lis
             let passed = passed_of s state.memory next.stage.depth (facts_of program effects next.stage) (lasting_of s waits.point.scope) backs next.stage.returns waits.taken to there in
             let own : Definite next w = same_stage next g is w definite in
             passed_clean s ready.accepted.settled next.stage.depth (facts_of program effects next.stage) (lasting_of s waits.point.scope) passed.0 to passed.1 (standing.no_in_formals table typed effects input ready) next.views (view_here s state)
-            waits.views waits.clear w (own.0, own.1, own.3) under)
+            waits.views waits.clear w own under)
         | inr other ↦
             other_clean s state.memory g.stage.depth next.stage.depth (facts_of program effects next.stage) (lasting_of s waits.point.scope) backs next.stage.returns waits.taken
             (lower_there next around same g other) to there w named under

@@ -12,7 +12,7 @@ pub mod Here
 pub mod Stepping
 pub mod Told
 pub mod ScopeEnds
-pub mod Spots
+pub mod Outs
 pub mod Calls
 pub mod Main
 pub mod Going

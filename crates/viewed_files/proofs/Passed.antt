@@ -1,6 +1,6 @@
 -- The actuals of typed calls are as they are asked for: those for formals that own are names of objects that belong to
 -- no package.
-use Rattle.std.proofs.Common.{◌≡◌, refl, sym, ap, ◌∙◌, subst, ◌⊎◌, inl, inr, ℕ, Bool, true, false, List, [], ◌∷◌, Option}
+use Rattle.std.proofs.Common.{◌≡◌, refl, ap, subst, ◌⊎◌, inl, inr, ℕ, Bool, true, false, List, [], ◌∷◌, Option}
 use Rattle.spark_base.specs.Lists.{Has as Holds}
 use Rattle.place_names.specs.declared.act.Mode.{Mode}
 use Rattle.place_names.specs.declared.act.Mode.TheVariants as mode
@@ -28,12 +28,6 @@ true_or : (b : Bool) → (b ≡ true) ⊎ (b ≡ false)
 true_or true = inl refl
 true_or false = inr refl
 
-out_and_in : mode.Out ≡ mode.InOut → ⊥
-out_and_in e = cc
-
-in_and_out : mode.In ≡ mode.InOut → ⊥
-in_and_out e = cc
-
 module _ (y : Typing) (whole : counts (shape_of y.table integer) ≡ true) (listed : lists (shape_of y.table boolean) ≡ true)
     (word_law : (t : ℕ) → words y.table t ≡ words_of (words y.table) (shape_of y.table t)) where
   -- an actual that is copied back to is a name of what the formal may hold
@@ -48,21 +42,15 @@ module _ (y : Typing) (whole : counts (shape_of y.table integer) ≡ true) (list
   actual_to : (x : ℕ) (e : TypedTree) → is_formal y x ≡ true → IsKindOfFormal y x → IsOwnRoot x e → IsActual y x e → IsActualTo y x (object_at y x).mode e
   actual_to x e formal kind own actual = by_mode (object_at y x).mode refl actual
     where
-      scalar_of : (m : Mode) → (object_at y x).mode ≡ m → (m ≡ mode.InOut → ⊥) → IsScalarObject y x
-      scalar_of m is other = elim kind [
+      scalar_of : (object_at y x).mode ≡ mode.In → IsScalarObject y x
+      scalar_of is = elim kind [
         | inl plain ↦ plain
-        | inr (back, named) ↦ absurd (other (sym is ∙ back))
+        | inr (back, named) ↦ absurd (back is)
       ]
 
-      by_mode : (m : Mode) → (object_at y x).mode ≡ m → IsActual y x e → IsActualTo y x m e
-      by_mode mode.In is g = taken_stays y whole listed word_law (object_at y x).of e (scalar_of mode.In is in_and_out) (rw is at g)
-      by_mode mode.Out is g =
-          let place = rw is at g in
-          let found = named_place x place.0 e place.1 place.2 in
-          (found.0, found.1, scalar_back y whole listed word_law found.0 (object_at y x).of found.2 (scalar_of mode.Out is out_and_in))
-      by_mode mode.InOut is g =
-          let place = rw is at g in
-          let found = named_place x place.0 e place.1 place.2 in (
+      copied : (t : ℕ) → IsPlaceOf y t e → Agree y.table t (object_at y x).of → IsActualTo y x mode.InOut e
+      copied t place agree =
+          let found = named_place x t e place agree in (
             found.0,
             found.1,
             found.2,
@@ -71,6 +59,11 @@ module _ (y : Typing) (whole : counts (shape_of y.table integer) ≡ true) (list
               | inr owns ↦ inr (own formal owns)
             ],
           )
+
+      by_mode : (m : Mode) → (object_at y x).mode ≡ m → IsActual y x e → IsActualTo y x m e
+      by_mode mode.In is g = taken_stays y whole listed word_law (object_at y x).of e (scalar_of is) (rw is at g)
+      by_mode mode.Out is g = (let place = rw is at g in copied place.0 place.1 place.2)
+      by_mode mode.InOut is g = (let place = rw is at g in copied place.0 place.1 place.2)
 
   actuals_to : (formals : List ℕ) (actuals : TypedTree) → ((x : ℕ) → Holds formals x → is_formal y x ≡ true) → ((x : ℕ) → is_formal y x ≡ true → IsKindOfFormal y x)
       → AreOwnActuals y formals actuals → ActualsTaken y formals actuals → AreActualsTo y formals actuals

@@ -1,18 +1,19 @@
 -- The actuals of a call lead to the same in memories that agree: values, scalar places in variables, and
 -- other places in variables, of which nothing is moved.
-use Rattle.std.proofs.Common.{◌≡◌, refl, sym, ap, ◌∙◌, subst, inl, inr, ℕ, Bool, true, false, ◌&&◌, List, [], ◌∷◌, map, arith, length, if◌then◌else◌}
+use Rattle.std.proofs.Common.{◌≡◌, refl, sym, ap, ◌∙◌, subst, ◌⊎◌, inl, inr, ℕ, Bool, true, false, ◌&&◌, List, [], ◌∷◌, map, arith, length, if◌then◌else◌}
 use Rattle.spark_base.specs.Lists.{Has}
 use Rattle.place_names.specs.declared.act.Act.TheVariants as act
 use Rattle.place_names.specs.declared.act.Mode.{Mode}
 use Rattle.place_names.specs.declared.act.Mode.TheVariants as mode
 use Rattle.place_names.specs.declared.act.Placed.{Placed}
 use Rattle.place_names.specs.declared.fact.Fact.{Fact}
+use Rattle.place_names.specs.Names.{Name as PlaceName}
 use Rattle.place_names.specs.declared.rule.Loan.TheVariants.{Borrowed}
 use Rattle.type_definitions.specs.Types.{Table, shape_of, full, is_scalar, is_owning}
 use Rattle.typed_tree.specs.Trees.{TypedTree, Name, More}
 use Rattle.flow_paths.specs.Objects.{object_at, is_anonymous, is_observer, is_named_access, view_of, Passing, ByValue, passing_by}
 use Rattle.flow_paths.specs.Objects as objects
-use Rattle.flow_paths.specs.Names.{has_call, waiting, name_of}
+use Rattle.flow_paths.specs.Names.{has_call, waiting, written, name_of}
 use Rattle.flow_paths.specs.Acts.{actual_act, actual_acts, actual_values}
 use Rattle.machine.specs.Words as machine
 use Rattle.machine.specs.Memory.{Memory, Place}
@@ -45,8 +46,9 @@ use Rattle.viewed_soundness.proofs.Stays.{Goes}
 use Rattle.viewed_soundness.proofs.Evaluated.{matches_named, live_trunk}
 use Rattle.viewed_steps.specs.Sound.{IsKindOfFormal}
 use Rattle.viewed_steps.specs.Ready.{IsActualTo, AreActualsTo}
-use Rattle.viewed_steps.proofs.Called.{way_to, in_plain, head_of, head_values_are, head_of_reads, IsGiven, one_given, head_acted}
-use Rattle.viewed_steps.proofs.Passed.{passed_unlent, passed_unmoved}
+use Rattle.viewed_steps.proofs.Called.{way_to, in_plain, head_of, head_values_are, head_of_reads, IsGiven, one_given}
+use Rattle.viewed_nulls.proofs.Spared.{Spares, done_on, spares_on, spared_whole}
+use Rattle.owned_loans.proofs.Safe.{Unlent, Unmoved}
 use Rattle.null_places.specs.Compares.{Compares}
 use Rattle.null_places.proofs.Only.{OnlyOwners}
 use Rattle.null_places.proofs.Direct.{has_deref, past_deref, selectors_direct}
@@ -91,9 +93,6 @@ module _ (h : Here) (settled : IsSettled h.typing.table) (leaks : List Leak) (ot
   abbrev Kind : ℕ → Type 0
   Kind x = IsKindOfFormal h.typing x
 
-  abbrev ViewedWith : List Fact → Type 0
-  ViewedWith known = Viewed (home h.typing h.frame) (sees_only h.typing) other v (seen h.typing m hands leaks) known
-
   abbrev way_for : ℕ → Passing
   way_for x = way_to h.typing own_law procedure x
 
@@ -105,21 +104,19 @@ module _ (h : Here) (settled : IsSettled h.typing.table) (leaks : List Leak) (ot
 
   -- ---- a place in a variable that isn't scalar
 
-  own_finds : (known : List Fact) → ViewedWith known → (on : List (List machine.Word)) (y u : ℕ) (path : TypedTree) (way : List run.Step)
-      → Goes h.typing.table (object_at h.typing y).of u path way → goes_through_none path ≡ true → IsNamed h.typing.table u → (owning access : Bool)
-      → Allows known (act.Actual (name_of y path) mode.InOut owning access) → Finds h asks m hands facts on y way (WholeAt u)
-  own_finds known viewed on y u path way goes direct own owning access allowed =
+  own_finds : (on : List (List machine.Word)) (y u : ℕ) (path : TypedTree) (way : List run.Step)
+      → Goes h.typing.table (object_at h.typing y).of u path way → goes_through_none path ≡ true → IsNamed h.typing.table u
+      → ((w : Way) → ways.name_of w ≡ name_of y path → Unlent facts w × Unmoved facts w) → Finds h asks m hands facts on y way (WholeAt u)
+  own_finds on y u path way goes direct own spared =
       let w : Way = way_along way (Object (OfVariable (home h.typing h.frame y) y)) in
       let called : ways.name_of w ≡ name_of y path =
       (λ j. record { root = number_along way (Object (OfVariable (home h.typing h.frame y) y)) j; sels = goes.sels (Object (OfVariable (home h.typing h.frame y) y)) j }) in
-      let mine : Allows known (act.Actual (ways.name_of w) mode.InOut owning access) =
-      subst (λ z. Allows known (act.Actual z mode.InOut owning access)) (sym called) allowed in
-      let unlent = passed_unlent known w owning access mine in
-      let unmoved = passed_unmoved known w owning access mine in
+      let unlent = (spared w called).0 in
+      let unmoved = (spared w called).1 in
       let plain : sees_only h.typing y ≡ false =
       observes_not h.typing no_formals y (plain_observer h.typing y (own_variable h.typing.table (object_at h.typing y).of u way (Object (OfVariable (home h.typing h.frame y) y)) nothing_past goes.lead own)) in (
-        owner_found h settled hands leaks m on other known v ready.kept viewed ready.holds alone live only no_formals index_law own_law parts_named y u way goes.lead plain
-            (λ e. cleared_open known w ((λ b n has over. unlent Borrowed b n has over), unmoved)) (λ b n has over. unlent Borrowed b n has over) unmoved,
+        owner_found h settled hands leaks m on other facts v ready.kept ready.viewed ready.holds alone live only no_formals index_law own_law parts_named y u way goes.lead plain
+            (λ e. cleared_open facts w ((λ b n has over. unlent Borrowed b n has over), unmoved)) (λ b n has over. unlent Borrowed b n has over) unmoved,
         (law.direct on y u path way goes direct).1,
       )
     where
@@ -139,19 +136,25 @@ module _ (h : Here) (settled : IsSettled h.typing.table) (leaks : List Leak) (ot
   matches_back t u (inl e) = inl (sym e)
   matches_back t u (inr (a, b)) = inr (b, a)
 
-  one_same : (known : List Fact) → ViewedWith known → (mode_of : Mode) (owning access : Bool) (x : ℕ) (e : TypedTree) → (mode_of ≡ mode.In → owning ≡ false) → Kind x
+  -- what is passed for a formal of mode `in out` that isn't scalar wasn't lent or moved
+  abbrev IsSpared : ℕ → Mode → TypedTree → Type 0
+  IsSpared x mode.InOut (Name p y path u) =
+      is_scalar (full h.typing.table (object_at h.typing x).of) ≡ false → (w : Way) → ways.name_of w ≡ name_of y path → Unlent facts w × Unmoved facts w
+  IsSpared x mode_of e = Unit {0}
+
+  one_same : (mode_of : Mode) (owning access : Bool) (x : ℕ) (e : TypedTree) → (mode_of ≡ mode.In → owning ≡ false) → Kind x
       → IsActualTo h.typing x mode_of e → (is_in mode_of ≡ false → goes_through_none e ≡ true) → (before on : List (List machine.Word)) → Takes (waiting e) before on
       → Compares h.typing e → AllowsAll facts (acts (head_of h.typing own_law procedure mode_of e))
-      → AllowsAll known (acts (actual_act (passing_by mode_of owning access) e)) → SameFor before on (passing_by mode_of owning access) x e
+      → IsSpared x mode_of e → SameFor before on (passing_by mode_of owning access) x e
   unfolding Compares goes_through_none has_call waiting
-  one_same known viewed mode.In owning access x e fits kind stays direct before on takes compares allowed copy =
+  one_same mode.In owning access x e fits kind stays direct before on takes compares allowed spared =
       subst (λ b. SameFor before on (if b then objects.Place mode.In b access else ByValue) x e) (sym (fits refl))
       (value_passed_same h settled own_law asks m hands facts law before on x e stays takes tt compares allowed)
-  one_same known viewed mode.Out owning access x (Name p y path u) fits kind (t, (lead, type), plain) direct before on takes compares allowed copy =
+  one_same mode.Out owning access x (Name p y path u) fits kind (t, (lead, type), match, which) direct before on takes compares allowed spared =
       to_passed_same h settled own_law asks m hands facts law before on owning access x p y u path lead takes tt compares allowed (IsAt h asks m hands facts u)
       (λ way goes. law.direct on y u path way goes (direct refl))
-  one_same known viewed mode.Out owning access x e fits kind (t, never, plain) direct before on takes compares allowed copy = absurd never
-  one_same known viewed mode.InOut owning access x (Name p y path u) fits kind (t, (lead, type), match, which) direct before on takes compares allowed copy =
+  one_same mode.Out owning access x e fits kind (t, never, match, which) direct before on takes compares allowed spared = absurd never
+  one_same mode.InOut owning access x (Name p y path u) fits kind (t, (lead, type), match, which) direct before on takes compares allowed spared =
       elim (bool_cases (is_scalar (full h.typing.table (object_at h.typing x).of))) [
         | inl plain ↦ from_passed_same h settled own_law asks m hands facts law before on owning access x p y u path lead takes tt compares allowed (IsAt h asks m hands facts u)
             (λ k there. scalar_none h settled own_law asks m hands facts law k there.0 u there.1 there.2
@@ -159,32 +162,54 @@ module _ (h : Here) (settled : IsSettled h.typing.table) (leaks : List Leak) (ot
             (λ way goes. law.direct on y u path way goes (direct refl))
         | inr many ↦ from_passed_same h settled own_law asks m hands facts law before on owning access x p y u path lead takes tt compares allowed (WholeAt u)
             (λ k there. there.3)
-            (λ way goes. own_finds known viewed on y u path way goes (direct refl)
+            (λ way goes. own_finds on y u path way goes (direct refl)
             (subst (IsNamed h.typing.table) (sym type) (matches_named h.typing.table (object_at h.typing x).of t (matches_back t (object_at h.typing x).of match) (own_type kind many)))
-            owning access copy.0)
+            (spared many))
       ]
     where
       own_type : Kind x → is_scalar (full h.typing.table (object_at h.typing x).of) ≡ false → IsNamed h.typing.table (object_at h.typing x).of
       own_type (inl plain) many = absurd (true_false (is_scalar (full h.typing.table (object_at h.typing x).of)) plain many)
       own_type (inr (in_out, own)) many = own
-  one_same known viewed mode.InOut owning access x e fits kind (t, never, match, which) direct before on takes compares allowed copy = absurd never
+  one_same mode.InOut owning access x e fits kind (t, never, match, which) direct before on takes compares allowed spared = absurd never
 
   -- ---- all of them
 
+  -- What is known after the acts of those before, as `Spares` says; or no formal is of another type than a scalar one.
+  abbrev IsKnown : List Fact → List PlaceName → List ℕ → TypedTree → Type 0
+  IsKnown known done formals actuals = Spares h.typing facts known done formals actuals ⊎ ((x : ℕ) → Has formals x → is_scalar (full h.typing.table (object_at h.typing x).of) ≡ true)
+
+  abbrev access_for : ℕ → Bool
+  access_for x = procedure && is_named_access (view_of h.typing x)
+
+  is_spared : (mode_of : Mode) (owning access : Bool) (x : ℕ) (e : TypedTree) (formals : List ℕ) (rest : TypedTree) (known : List Fact) (done : List PlaceName)
+      → (object_at h.typing x).mode ≡ mode_of → IsKnown known done (x ∷ formals) (More e rest) → AllowsAll known (acts (actual_act (passing_by mode_of owning access) e)) → IsSpared x mode_of e
+  is_spared mode.InOut owning access x (Name p y path u) formals rest known done is (inl spares) allowed =
+      (λ many. spared_whole h.typing facts x y u p path formals rest known done owning access (λ never. (let no : mode.InOut ≡ mode.In = sym is ∙ never in cc)) spares allowed.0)
+  is_spared mode.InOut owning access x (Name p y path u) formals rest known done is (inr plain) allowed =
+      (λ many. absurd (true_false (is_scalar (full h.typing.table (object_at h.typing x).of)) (plain x (inl refl)) many))
+  is_spared mode_of owning access x e formals rest known done is spares allowed = tt
+
+  is_known_on : (x : ℕ) (e : TypedTree) (formals : List ℕ) (rest : TypedTree) (known : List Fact) (done : List PlaceName) → IsKnown known done (x ∷ formals) (More e rest)
+      → IsKnown (after (acts (actual_act (way_for x) e)) known) (done_on (object_at h.typing x).mode (written e) done) formals rest
+  is_known_on x e formals rest known done (inl spares) =
+      inl (spares_on h.typing facts (object_at h.typing x).mode (is_owning h.typing.table (object_at h.typing x).of) (access_for x) x e formals rest known done
+      (λ is never. (let no : mode.Out ≡ mode.In = sym is ∙ never in cc)) spares)
+  is_known_on x e formals rest known done (inr plain) = inr (λ y has. plain y (inr has))
+
   -- They are read under the facts before the call; the acts of those that are copied back come after them.
-  pub all_same : (before on : List (List machine.Word)) (known : List Fact) → ViewedWith known → (formals : List ℕ) (actuals : TypedTree) → ((x : ℕ) → Has formals x → Kind x)
-      → AreActualsTo h.typing formals actuals → AreCopied h.typing formals actuals → Takes (waiting actuals) before on
+  pub all_same : (before on : List (List machine.Word)) (known : List Fact) (done : List PlaceName) (formals : List ℕ) (actuals : TypedTree) → IsKnown known done formals actuals
+      → ((x : ℕ) → Has formals x → Kind x) → AreActualsTo h.typing formals actuals → AreCopied h.typing formals actuals → Takes (waiting actuals) before on
       → Compares h.typing actuals → AllowsAll facts (acts (actual_values h.typing (map (way_to h.typing own_law procedure) formals) actuals))
       → AllowsAll known (acts (actual_acts (map (way_to h.typing own_law procedure) formals) actuals))
       → (n' : Now) → SameNow h.typing (record { memory = m; waits = before }) n'
       → SameTo h.typing (all_passed h (map (way_to h.typing own_law procedure) formals) formals actuals (record { memory = m; waits = before }))
       (all_passed h (map (way_to h.typing own_law procedure) formals) formals actuals n')
   unfolding Compares has_call waiting
-  all_same before on known viewed [] actuals kinds stay copied takes compares allowed copies n' same = (refl, same)
-  all_same before on known viewed (x ∷ formals) (More e rest) kinds stay copied takes compares allowed copies n' same =
+  all_same before on known done [] actuals spares kinds stay copied takes compares allowed copies n' same = (refl, same)
+  all_same before on known done (x ∷ formals) (More e rest) spares kinds stay copied takes compares allowed copies n' same =
       let mode_of : Mode = (object_at h.typing x).mode in
       let owning : Bool = is_owning h.typing.table (object_at h.typing x).of in
-      let access : Bool = procedure && is_named_access (view_of h.typing x) in
+      let access : Bool = access_for x in
       let kind = kinds x (inl refl) in
       let fits = in_plain h.typing own_law procedure x kind in
       let head : List Placed = head_of h.typing own_law procedure mode_of e in
@@ -196,7 +221,8 @@ module _ (h : Here) (settled : IsSettled h.typing.table) (leaks : List Leak) (ot
       (subst (AllowsAll facts) (acts_append head others) (subst (λ z. AllowsAll facts (acts z)) (head_values_are h.typing own_law procedure x kind e (map (way_to h.typing own_law procedure) formals) rest) allowed)) in
       let still : after (acts head) facts ≡ facts = reads_keep head (head_of_reads h.typing own_law procedure x mode_of e stay.0) facts in
       let each_copy = allows_both known (acts copy) (acts copies_left) (subst (AllowsAll known) (acts_append copy copies_left) copies) in
-      let first = one_same known viewed mode_of owning access x e fits kind stay.0 copied.0 before two.0 two.1 compares.0 each.0 each_copy.0 in
+      let first = one_same mode_of owning access x e fits kind stay.0 copied.0 before two.0 two.1 compares.0 each.0
+      (is_spared mode_of owning access x e formals rest known done refl spares each_copy.0) in
       let given = one_given h settled hands leaks m [] other facts v ready.kept ready.viewed ready.holds alone live no_formals index_law own_law parts_named procedure before two.0 mode_of owning access x e
       fits kind stay.0 copied.0 two.1 each.0 in
       let next : Passed → Now → Evaluated (List Passed) =
@@ -207,10 +233,9 @@ module _ (h : Here) (settled : IsSettled h.typing.table) (leaks : List Leak) (ot
       (λ a n n'' q now. subst (λ z. SameTo h.typing (next a z) (next a n'')) (sym q.0)
       (simply h.typing (all_passed h (map (way_to h.typing own_law procedure) formals) formals rest (at two.0)) (all_passed h (map (way_to h.typing own_law procedure) formals) formals rest n'')
       (λ more now. Done (a ∷ more) now) (λ more now. Done (a ∷ more) now)
-      (all_same two.0 on (after (acts copy) known)
-      (head_acted h settled hands leaks m [] other facts v ready.kept ready.viewed ready.holds alone live no_formals index_law own_law parts_named procedure mode_of owning access x e a known fits q.1 viewed)
-      formals rest (λ y has. kinds y (inr has)) stay.1 copied.1 two.2 compares.1
+      (all_same two.0 on (after (acts copy) known) (done_on mode_of (written e) done) formals rest (is_known_on x e formals rest known done spares)
+      (λ y has. kinds y (inr has)) stay.1 copied.1 two.2 compares.1
       (subst (λ z. AllowsAll z (acts others)) still each.1) each_copy.1 n''
       (subst (λ z. SameNow h.typing z n'') q.0 now))
       (λ more k k' last. (refl, last))))
-  all_same before on known viewed (x ∷ formals) actuals kinds stay copied takes compares allowed copies n' same = (refl, same)
+  all_same before on known done (x ∷ formals) actuals spares kinds stay copied takes compares allowed copies n' same = (refl, same)

@@ -1,9 +1,11 @@
 -- Of what a call passes nothing is gone, nor of the formals that it copies back.
 use Rattle.viewed_soundness.specs.Holds.{sees_only}
-use Rattle.std.proofs.Common.{◌≡◌, refl, sym, ◌∙◌, subst, ◌⊎◌, inl, inr, ℕ, suc, false, List, [], ◌∷◌, ◌++◌, length}
+use Rattle.std.proofs.Common.{◌≡◌, refl, sym, ◌∙◌, subst, ◌⊎◌, inl, inr, ℕ, suc, false, List, [], ◌∷◌, ◌++◌, length, Some}
 use Rattle.place_names.specs.declared.fact.Fact.{Fact}
-use Rattle.flow_paths.specs.Objects.{Typing}
+use Rattle.spark_base.specs.Lists.{Has}
+use Rattle.flow_paths.specs.Objects.{Typing, object_at}
 use Rattle.machine.specs.Words as machine
+use Rattle.machine.specs.Words.{default}
 use Rattle.machine.specs.Memory.{Memory, Place, words_of, moved_out, stored, declared}
 use Rattle.machine.specs.Evaluate.{variable_place}
 use Rattle.machine.specs.Calls.{Passed, Value, From, To, with_formal}
@@ -13,19 +15,23 @@ use Rattle.owned_ways.specs.Ways.{Step, OfVariable, OfHand, Loc, OfRoot, Way, Ob
 use Rattle.owned_ways.proofs.Locations.{under_along, under_itself}
 use Rattle.part_offsets.specs.Parts.{IsSettled}
 use Rattle.soundness.specs.Seen.{seen, home, is_view_formal}
+use Rattle.soundness.specs.Changes.{leaks_at}
 use Rattle.soundness.specs.Typed.{OwnsByShape, Kept, Spot, IsFixed}
 use Rattle.soundness.specs.Sound.{IsCopied}
 use Rattle.soundness.proofs.Passing.{IsLaid}
 use Rattle.soundness.proofs.Fixed.{fixed_one}
 use Rattle.soundness.proofs.Returning.{formal_fixed}
-use Rattle.owned_loans.specs.Views.{Around, Views, ExcusedBy, Viewed}
+use Rattle.owned_loans.specs.Views.{Around, Views, ExcusedBy, IsForeign, Viewed}
 use Rattle.owned_loans.proofs.Moves.{same_viewed}
 use Rattle.viewed_steps.specs.Taken.{IsInside, AreTaken}
-use Rattle.viewed_steps.proofs.Between.{gone_also, more_gone}
-use Rattle.viewed_steps.proofs.Carried.{inside_at, inside_spot, inside_reached, inside_rooted, inside_owns}
+use Rattle.viewed_steps.proofs.Between.{more_gone}
+use Rattle.viewed_steps.proofs.Carried.{inside_at, inside_spot, inside_reached, inside_rooted, inside_owns, inside_base}
 use Rattle.viewed_steps.proofs.Alike.{Enters, with_one, moved_there, stored_there, one_then}
 use Rattle.viewed_steps.proofs.Entered as entered
-use Rattle.viewed_steps.proofs.Entered.{ArePassedOn, IsOpen, AreBlank}
+use Rattle.viewed_steps.proofs.Entered.{ArePassedOn, IsOpen, AreBlank, passed_base, outs_taken}
+use Rattle.viewed_steps.proofs.Entering as entering
+use Rattle.viewed_steps.proofs.Emptying as emptying
+use Rattle.viewed_steps.proofs.Outs.{Out, HaveStill, still_then}
 use Rattle.viewed_steps.proofs.Backed as backed
 use Rattle.viewed_steps.proofs.Backed.{AwayBy, ViewedAway}
 use Rattle.null_places.proofs.Places.{spot_whole, unmoved_whole, moved_only}
@@ -49,49 +55,104 @@ inside_wholly s settled no_formals hands leaks f depth v facts other k to inside
 -- ---- what is passed
 
 module _ (s : Typing) (settled : IsSettled s.table) (own_law : OwnsByShape s.table) (no_formals : (x : ℕ) → is_view_formal s x ≡ false)
-    (hands : List Waiting) (leaks : List Leak) (depth : ℕ) (v : Views)
-    (far : AreFar (home s depth) v depth) (facts : List Fact) (scope : List ℕ) where
+    (hands : List Waiting) (depth : ℕ) (v : Views) (far : AreFar (home s depth) v depth) (facts : List Fact) (scope : List ℕ) where
   plain_wholly : (a : Passed) → IsLaid s a → (m : Memory) → Kept s m hands → IsWhollyPassed s a m
   plain_wholly (Value ws) laid m typed = tt
   plain_wholly (From k) laid m typed = fixed_wholly s settled own_law hands k laid m typed
-  plain_wholly (To k) laid m typed = fixed_wholly s settled own_law hands k laid m typed
+  plain_wholly (To k) laid m typed = (λ only. (fixed_wholly s settled own_law hands k laid m typed only).1)
 
-  -- one after the other, with the places that are taken gone
-  pub passed_wholly : (other : Around (home s depth)) (formals : List ℕ) (passed : List Passed) (ways : List Way) (m : Memory)
-      → ArePassedOn s depth facts scope formals passed ways → IsOpen s settled own_law no_formals hands leaks depth v far facts scope other ways → Kept s m hands
-      → Viewed (home s depth) (sees_only s) other v (seen s m hands leaks) facts → AreBlank s settled own_law no_formals hands leaks depth v far facts scope m formals
-      → AreWhollyPassed s (suc depth) formals passed m
-  passed_wholly other [] passed ways m are open_there typed viewed blank = tt
-  passed_wholly other (x ∷ formals) [] ways m are open_there typed viewed blank = tt
-  passed_wholly other (x ∷ formals) (a ∷ passed) [] m are open_there typed viewed blank =
+  abbrev ViewedIn : Around (home s depth) → List Leak → Memory → Type 0
+  ViewedIn other leaks m = Viewed (home s depth) (sees_only s) other v (seen s m hands leaks) facts
+
+  abbrev outs_also : Around (home s depth) → List Out → Around (home s depth)
+  outs_also = entering.outs_also s settled own_law no_formals hands depth v far facts scope
+
+  abbrev away : Around (home s depth) → Way → Around (home s depth)
+  away = entering.away s settled own_law no_formals hands depth v far facts scope
+
+  -- one after the other, with the places that are taken gone, and those that are to be emptied
+  pub passed_wholly : (other : Around (home s depth)) (leaks : List Leak) (formals : List ℕ) (passed : List Passed) (ways : List Way) (outs : List Out) (before m : Memory)
+      → ArePassedOn s depth facts scope formals passed ways outs → IsOpen (home s depth) other ways → Kept s before hands → Kept s m hands
+      → ViewedIn (outs_also other outs) leaks m → AreBlank s depth m formals → HaveStill s depth before m outs → AreWhollyPassed s (suc depth) formals passed m
+  passed_wholly other leaks [] passed ways outs before m are open_there at_first typed viewed blank still = tt
+  passed_wholly other leaks (x ∷ formals) [] ways outs before m are open_there at_first typed viewed blank still = tt
+  passed_wholly other leaks (x ∷ formals) (a ∷ passed) [] outs before m are open_there at_first typed viewed blank still =
       let on = with_one s settled own_law hands leaks (suc depth) x a m are.0.0 are.0.1 typed in
       let mid : Memory = with_formal s (suc depth) x a m in (
         plain_wholly a are.0.1 m typed,
-        passed_wholly other formals passed [] mid are.1 open_there on.typed
-            (same_viewed (home s depth) (sees_only s) other v (seen s m hands leaks) (seen s mid hands leaks) facts on.same viewed)
-            (λ y has p. on.hold (suc depth) y p ∙ blank y (inr has) p),
+        passed_wholly other leaks formals passed [] outs before mid are.1 open_there at_first on.typed
+            (same_viewed (home s depth) (sees_only s) (outs_also other outs) v (seen s m hands leaks) (seen s mid hands leaks) facts on.same viewed)
+            (λ y has p. on.hold (suc depth) y p ∙ blank y (inr has) p)
+            (λ o has. still_then s depth before m mid o.way (still o has) (λ y q p is. on.hold depth y (p ++ q))),
       )
-  passed_wholly other (x ∷ formals) (a ∷ passed) (to ∷ ways) m (inl are) open_there typed viewed blank =
+  passed_wholly other leaks (x ∷ formals) (a ∷ passed) (to ∷ ways) outs before m (inl are) open_there at_first typed viewed blank still =
       let on = with_one s settled own_law hands leaks (suc depth) x a m are.0.0 are.0.1 typed in
       let mid : Memory = with_formal s (suc depth) x a m in (
         plain_wholly a are.0.1 m typed,
-        passed_wholly other formals passed (to ∷ ways) mid are.1 open_there on.typed
-            (same_viewed (home s depth) (sees_only s) other v (seen s m hands leaks) (seen s mid hands leaks) facts on.same viewed)
-            (λ y has p. on.hold (suc depth) y p ∙ blank y (inr has) p),
+        passed_wholly other leaks formals passed (to ∷ ways) outs before mid are.1 open_there at_first on.typed
+            (same_viewed (home s depth) (sees_only s) (outs_also other outs) v (seen s m hands leaks) (seen s mid hands leaks) facts on.same viewed)
+            (λ y has p. on.hold (suc depth) y p ∙ blank y (inr has) p)
+            (λ o has. still_then s depth before m mid o.way (still o has) (λ y q p is. on.hold depth y (p ++ q))),
       )
-  passed_wholly other (x ∷ formals) (a ∷ passed) (to ∷ ways) m (inr (k, is, one, whole, apart, differ, more)) open_there typed viewed blank =
+  passed_wholly other leaks (x ∷ formals) (a ∷ passed) (to ∷ ways) outs before m (inr (k, later, inl (is, whole, same), one, apart, differ, more)) open_there at_first typed viewed blank still =
       let new = blank x (inl refl) in
       let next : Memory = declared (suc depth) x (words_of s m k) (moved_out s k m) in
-      let away : Around (home s depth) = gone_also (home s depth) other (λ w. other.gone w ⊎ ((p : List Step) × (w ≡ along to p))) in
+      let among = outs_taken s depth facts scope formals passed ways later more in
+      let from = passed_base s depth facts scope formals passed ways later more in
+      let root : (y : ℕ) × (base_of to ≡ OfRoot (OfVariable depth y)) = ((one.inside).object, inside_base s depth k to one.inside) in
+      let mine = entering.taken_open s settled own_law no_formals hands depth v far facts scope other to ways later among from apart open_there in
+      let here : ViewedIn (outs_also other later) leaks m = subst (λ z. ViewedIn (outs_also other z) leaks m) same viewed in
       subst (λ z. AreWhollyPassed s (suc depth) (x ∷ formals) (z ∷ passed) m) (sym is) (
-        inside_wholly s settled no_formals hands leaks depth depth v facts other k to one.inside m typed viewed
-            (entered.clean s settled own_law no_formals hands leaks depth v far facts scope other x k to ways one whole apart open_there m typed viewed new),
-        passed_wholly away formals passed ways next more
-            (entered.one_open s settled own_law no_formals hands leaks depth v far facts scope other x k to ways one whole apart open_there m typed viewed new)
-            (entered.kept_next s settled own_law no_formals hands leaks depth v far facts scope other x k to ways one whole apart open_there m typed viewed new)
-            (entered.viewed_next s settled own_law no_formals hands leaks depth v far facts scope other x k to ways one whole apart open_there m typed viewed new)
-            (λ y has p. entered.one_blank s settled own_law no_formals hands leaks depth v far facts scope other x k to ways one whole apart open_there m typed viewed new y (differ y has) p
-            (blank y (inr has) p)),
+        inside_wholly s settled no_formals hands leaks depth depth v facts (outs_also other later) k to one.inside m typed here
+            (entered.clean s settled own_law no_formals hands leaks depth v far facts scope (outs_also other later) x k to one whole mine m typed here new),
+        passed_wholly (away other to) leaks formals passed ways later before next more
+            (entering.others_open s settled own_law no_formals hands depth v far facts scope other to ways root apart open_there) at_first
+            (entered.kept_next s settled own_law no_formals hands leaks depth v far facts scope (outs_also other later) x k to one whole mine m typed here new)
+            (entering.beside_outs s settled own_law no_formals hands depth v far facts scope other to later leaks next
+            (entered.viewed_next s settled own_law no_formals hands leaks depth v far facts scope (outs_also other later) x k to one whole mine m typed here new))
+            (λ y has p. entered.one_blank s settled own_law no_formals hands leaks depth v far facts scope (outs_also other later) x k to one whole mine m typed here new y (differ y has) p
+            (blank y (inr has) p))
+            (λ o has. still_then s depth before m next o.way (still o (subst (λ z. Has z o) (sym same) has))
+            (entered.one_still s settled own_law no_formals hands leaks depth v far facts scope (outs_also other later) x k to one whole mine m typed here new o.way (apart o.way (among o has)))),
+      )
+  passed_wholly other leaks (x ∷ formals) (a ∷ passed) (to ∷ ways) outs before m (inr (k, later, inr (pos, is, same), one, apart, differ, more)) open_there at_first typed viewed blank still =
+      let new = blank x (inl refl) in
+      let next : Memory = declared (suc depth) x (default s.table (object_at s x).of) (moved_out s k m) in
+      let among = outs_taken s depth facts scope formals passed ways later more in
+      let root : (y : ℕ) × (base_of to ≡ OfRoot (OfVariable depth y)) = ((one.inside).object, inside_base s depth k to one.inside) in
+      let out : Out = record { way = to; place = k; pos = pos } in
+      let here : ViewedIn (outs_also other (out ∷ later)) leaks m = subst (λ z. ViewedIn (outs_also other z) leaks m) same viewed in
+      let found : List Leak = leaks ++ leaks_at s pos before k in
+      let mine = entering.still_checks s settled own_law no_formals hands depth v far facts scope x k to one pos leaks before m at_first
+      (still out (subst (λ z. Has z out) (sym same) (inl refl))) in
+      let gone_then : Way → Type 0 = (outs_also (away other to) later).gone in
+      let gone_apart : (y : ℕ) (w z : Way) → v.way y ≡ Some w → IsForeign (home s depth) w → (outs_also (away other to) later).gone z → Under z w ⊎ Under w z → ⊥ =
+      λ y w z has foreign o meets. elim o [
+        | inr (other_one, has_one, under) ↦ viewed.whole y w z has foreign (inr (other_one, subst (λ z. Has z other_one) (sym same) (inr has_one), under)) meets
+        | inl at_first ↦ elim at_first [
+          | inl gone ↦ viewed.whole y w z has foreign (inl gone) meets
+          | inr at ↦ entering.below_apart s settled own_law no_formals hands depth v far facts scope to root y w z has foreign
+              (entering.along_under s settled own_law no_formals hands depth v far facts scope to z at) meets
+        ]
+      ] in
+      subst (λ z. AreWhollyPassed s (suc depth) (x ∷ formals) (z ∷ passed) m) (sym is) (
+        (λ only. moved_only s settled m hands only typed k (inside_at s depth k to one.inside) (inside_spot s depth k to one.inside m hands)),
+        passed_wholly (away other to) found formals passed ways later before next more
+            (entering.others_open s settled own_law no_formals hands depth v far facts scope other to ways root apart open_there) at_first
+            (emptying.out_kept s settled own_law no_formals hands leaks depth v facts scope (outs_also other (out ∷ later)) gone_then gone_apart x k to one open_there.none m typed here new found)
+            (emptying.out_viewed s settled own_law no_formals hands leaks depth v facts scope (outs_also other (out ∷ later)) gone_then gone_apart x k to one open_there.none m typed here new found mine
+            (λ w o off. elim o [
+              | inl gone ↦ inl (inl gone)
+              | inr (other_one, has_one, under) ↦ elim has_one [
+                | inl first ↦ absurd (off (subst (λ (z : Out). Under z.way w) (sym first) under))
+                | inr rest ↦ inr (other_one, rest, under)
+              ]
+            ]) (λ p. inl (inr (p, refl))))
+            (λ y has p. emptying.out_blank s settled own_law no_formals hands leaks depth v facts scope (outs_also other (out ∷ later)) gone_then gone_apart x k to one open_there.none m typed here new found
+            y (differ y has) p (blank y (inr has) p))
+            (λ o has. still_then s depth before m next o.way (still o (subst (λ z. Has z o) (sym same) (inr has)))
+            (emptying.out_still s settled own_law no_formals hands leaks depth v facts scope (outs_also other (out ∷ later)) gone_then gone_apart x k to one open_there.none m typed here new found mine
+            o.way (apart o.way (among o has)))),
       )
 
 -- ---- what is copied back

@@ -15,7 +15,7 @@ use Rattle.typed_tree.specs.Trees.{TypedTree, Name, NoMore, More, Call as CallIn
 use Rattle.typed_tree.specs.Programs.{TypedProgram}
 use Rattle.flow_paths.specs.declared.report.Effects.{Effects}
 use Rattle.flow_paths.specs.Instructions.{Instruction, Declare, Assign, Call, Hold, EndScope, Finish}
-use Rattle.flow_paths.specs.Objects.{Typing, sub_at, passings, is_anonymous, object_at}
+use Rattle.flow_paths.specs.Objects.{Signature, Typing, sub_at, passings, is_anonymous, object_at}
 use Rattle.flow_paths.specs.Names.{has_call, waiting as waits_in, name_of}
 use Rattle.flow_paths.specs.Acts as flow
 use Rattle.flow_paths.specs.Acts.{acts_in}
@@ -49,12 +49,17 @@ use Rattle.soundness.proofs.Taking.{Takes, takes_as, no_takes, nothing_more}
 use Rattle.owned_loans.specs.Views.{Around, known_gone, Views, Viewed}
 use Rattle.viewed_soundness.specs.Holds.{IsNamed, AllKeep, sees_only}
 use Rattle.viewed_soundness.proofs.Outcomes.{named_plain}
-use Rattle.viewed_steps.specs.Sound.{IsResting, HoldsAt, ArePlaced, NoneAbove, ViewStage, stages_of, GoneElsewhere, AreWaiting, IsRunning, IsSound}
+use Rattle.viewed_steps.specs.Sound.{IsScalarObject, IsResting, HoldsAt, ArePlaced, NoneAbove, ViewStage, stages_of, GoneElsewhere, AreWaiting, IsRunning, IsSound}
 use Rattle.viewed_steps.specs.Ready.{IsReady}
 use Rattle.viewed_steps.proofs.Standing as standing
 use Rattle.viewed_steps.proofs.Innermost as innermost
 use Rattle.viewed_steps.proofs.EachInstruction as each
 use Rattle.viewed_steps.proofs.Calling as calling
+use Rattle.viewed_steps.proofs.Passed.{apart_or_plain}
+use Rattle.place_names.specs.Reports.{Report}
+use Rattle.flow_paths.specs.Aliases as alias
+use Rattle.flow_paths.specs.Aliases.{overlap_reports}
+use Rattle.soundness.proofs.Passing.{signature_is}
 use Rattle.viewed_steps.proofs.CallEnds as ends
 use Rattle.null_places.specs.Agrees.{Agrees}
 use Rattle.null_places.specs.Compares.{Compares, ComparesIn, AreCompared}
@@ -65,6 +70,7 @@ use Rattle.null_places.proofs.Evaluated.{checked_same}
 use Rattle.null_places.proofs.Instructions.{SameStepBy, SameStep, twin, both_are, goes_same, step_simply, source_same, declared_by, stored_same, end_scope_same}
 use Rattle.null_places.proofs.Walks.{SameNow, SameTo, then_same, simply}
 use Rattle.null_places.proofs.Calls.{AreWhollyPassed, AreWhollyBack, call_same, finish_same}
+use Rattle.viewed_nulls.proofs.Spared.{spares_first}
 use Rattle.viewed_nulls.proofs.Actuals.{all_same}
 use Rattle.viewed_nulls.proofs.Passed.{passed_wholly, back_wholly}
 use Rattle.viewed_nulls.proofs.Viewed.{viewed_premises, gives_both, IsReadyIn, viewed_values}
@@ -426,13 +432,24 @@ module _ (table : Table) (typed : TypedProgram) (effects : Effects) (input : Lis
             (sym (calling.ways_are table typed effects input ready state top below more_frames rest named p frames deep stages running awaiting of_sub at_point path views viewed_before kept scope holds placed_before above k actuals result e))
             (calling.passed_quiet table typed effects input ready state top below more_frames rest named p frames deep stages running awaiting of_sub at_point path views viewed_before kept scope holds placed_before above k actuals result e)
 
+        no_overlap : ((r : Report) → Has (overlap_reports s (alias.passed formals actuals)) r → ⊥) ⊎ ((x : ℕ) → Has formals x → IsScalarObject s x)
+        no_overlap =
+            apart_or_plain program effects ready.accepted.no_reports (flow_sub own named)
+            (standing.in_program table typed effects input ready state top older outer named p frames of_sub at_point) main_turn.point
+            (standing.in_sub table typed effects input ready state top older outer named p frames of_sub at_point) k actuals result e
+            (calling.called table typed effects input ready state top below more_frames rest named p frames deep stages running awaiting of_sub at_point path views viewed_before kept scope holds placed_before above k actuals result e).answers
+            (λ of answers x has. ready.class.functions k of answers x has
+            ((calling.called table typed effects input ready state top below more_frames rest named p frames deep stages running awaiting of_sub at_point path views viewed_before kept scope holds placed_before above k actuals result e).formals x
+            (subst (λ z. Has z x) (ap (λ (z : Signature). z.formals) (signature_is program k)) has)))
+
         same_there : SameTo s (all_passed (steps.here main_turn) (passings s (sub_at s k)) formals actuals (start main_turn))
             (all_passed (steps.here main_turn) (passings s (sub_at s k)) formals actuals (start (twin main_turn n)))
         same_there =
             subst (λ z. SameTo s (all_passed (steps.here main_turn) z formals actuals (start main_turn)) (all_passed (steps.here main_turn) z formals actuals (start (twin main_turn n))))
             (sym (calling.ways_are table typed effects input ready state top below more_frames rest named p frames deep stages running awaiting of_sub at_point path views viewed_before kept scope holds placed_before above k actuals result e))
             (all_same (steps.here main_turn) ready.accepted.settled state.leaks other alone no_formals index_law ready.owns views ready.class.parts_named state.memory (waiting_in easy)
-            facts_now so_easy only (not (is_some (sub_of program k).result)) (start main_turn).waits [] facts_now so_easy.viewed formals actuals
+            facts_now so_easy only (not (is_some (sub_of program k).result)) (start main_turn).waits [] facts_now [] formals actuals
+            (elim no_overlap [ inl none ↦ inl (spares_first s facts_now formals actuals none) | inr plain ↦ inr plain ])
             (calling.kinds table typed effects input ready state top below more_frames rest named p frames deep stages running awaiting of_sub at_point path views viewed_before kept scope holds placed_before above k actuals result e)
             (calling.called table typed effects input ready state top below more_frames rest named p frames deep stages running awaiting of_sub at_point path views viewed_before kept scope holds placed_before above k actuals result e).actuals_stay
             (calling.copied_there table typed effects input ready state top below more_frames rest named p frames deep stages running awaiting of_sub at_point path views viewed_before kept scope holds placed_before above k actuals result e)
@@ -443,19 +460,20 @@ module _ (table : Table) (typed : TypedProgram) (effects : Effects) (input : Lis
 
         whole_there : (passed : List Passed) → Given passed → AreWhollyPassed s (suc (suc (length rest))) formals passed state.memory
         whole_there passed given =
-            passed_wholly s ready.accepted.settled ready.owns no_formals (waiting_in easy) state.leaks (suc (length rest)) views
+            passed_wholly s ready.accepted.settled ready.owns no_formals (waiting_in easy) (suc (length rest)) views
             (calling.far_views table typed effects input ready state top below more_frames rest named p frames deep stages running awaiting of_sub at_point path views viewed_before kept scope holds placed_before above k actuals result e passed given)
             (calling.facts_called table typed effects input ready state top below more_frames rest named p frames deep stages running awaiting of_sub at_point path views viewed_before kept scope holds placed_before above k actuals result e)
             (calling.next_there table typed effects input ready state top below more_frames rest named p frames deep stages running awaiting of_sub at_point path views viewed_before kept scope holds placed_before above k actuals result e)
-            (calling.other_all table typed effects input ready state top below more_frames rest named p frames deep stages running awaiting of_sub at_point path views viewed_before kept scope holds placed_before above k actuals result e passed given)
+            (calling.other_all table typed effects input ready state top below more_frames rest named p frames deep stages running awaiting of_sub at_point path views viewed_before kept scope holds placed_before above k actuals result e passed given) state.leaks
             formals passed
             (calling.ways_taken table typed effects input ready state top below more_frames rest named p frames deep stages running awaiting of_sub at_point path views viewed_before kept scope holds placed_before above k actuals result e passed given)
-            state.memory
+            (calling.outs table typed effects input ready state top below more_frames rest named p frames deep stages running awaiting of_sub at_point path views viewed_before kept scope holds placed_before above k actuals result e passed given)
+            state.memory state.memory
             (calling.all_passed_ways table typed effects input ready state top below more_frames rest named p frames deep stages running awaiting of_sub at_point path views viewed_before kept scope holds placed_before above k actuals result e passed given).1
             (calling.open_there table typed effects input ready state top below more_frames rest named p frames deep stages running awaiting of_sub at_point path views viewed_before kept scope holds placed_before above k actuals result e passed given)
-            so_easy.kept
+            so_easy.kept so_easy.kept
             (calling.well_all table typed effects input ready state top below more_frames rest named p frames deep stages running awaiting of_sub at_point path views viewed_before kept scope holds placed_before above k actuals result e passed given)
-            (calling.blank_formals table typed effects input ready state top below more_frames rest named p frames deep stages running awaiting of_sub at_point path views viewed_before kept scope holds placed_before above k actuals result e passed given)
+            (calling.blank_formals table typed effects input ready state top below more_frames rest named p frames deep stages running awaiting of_sub at_point path views viewed_before kept scope holds placed_before above k actuals result e passed given) (λ o has y q p' is. refl)
 
         calls_it : Goal (Call k actuals result)
         calls_it =

@@ -131,6 +131,12 @@ base_under t w under = (longer t w under).base
 pub same_variable : (f x g y : ℕ) → OfRoot (OfVariable f x) ≡ OfRoot (OfVariable g y) → (f ≡ g) × (x ≡ y)
 same_variable f x g y e = (cc, cc)
 
+-- so does its name
+pub number_under : (home : ℕ → ℕ) (t w : Way) → Named home t → Named home w → Under t w → number_of t ≡ number_of w
+number_under home t w named_t named_w under =
+    (same_variable (home (number_of t)) (number_of t) (home (number_of w)) (number_of w)
+    (sym (named_base home t named_t) ∙ sym (base_under t w under) ∙ named_base home w named_w)).1
+
 -- a name of a frame isn't rooted in another one
 pub not_named : (home : ℕ → ℕ) (e x : ℕ) → ((y : ℕ) → home y ≡ e → ⊥) → (w : Way) → Named home w → base_of w ≡ OfRoot (OfVariable e x) → ⊥
 not_named home e x other w named base =

@@ -1,8 +1,8 @@
 -- Calls: what the actuals are, and how they are passed. Each is a value of one word, a scalar place in a
 -- variable, or another place in a variable of the caller.
-use Rattle.std.proofs.Common.{◌≡◌, refl, ◌&&◌, not, is_some, sym, ap, ◌∙◌, subst, ◌⊎◌, inl, inr, ℕ, append-nil, Bool, true, false, List, [], ◌∷◌, ◌++◌, map, Option, Some, None, if◌then◌else◌}
+use Rattle.std.proofs.Common.{◌≡◌, refl, ◌&&◌, ◌||◌, not, is_some, sym, ap, ◌∙◌, subst, ◌⊎◌, inl, inr, ℕ, append-nil, Bool, true, false, List, [], ◌∷◌, ◌++◌, map, Option, Some, None, if◌then◌else◌}
 use Rattle.spark_base.specs.Lists.{Has}
-use Rattle.spark_base.proofs.Lists.{Has-append_cases}
+use Rattle.spark_base.proofs.Lists.{Has-append_cases, Has-append_left, Has-append_right}
 use Rattle.spark_base.specs.declared.position.Pos.{Pos}
 use Rattle.place_names.specs.declared.act.Act.{Act}
 use Rattle.place_names.specs.declared.act.Act.TheVariants as act
@@ -29,7 +29,7 @@ use Rattle.machine.specs.Evaluate as run
 use Rattle.machine.specs.Calls.{Passed, Value, From, To, type_of, value_passed, passed, all_passed}
 use Rattle.machine.specs.States.{Waiting, Leak, sub_of}
 use Rattle.machine.specs.Owners.{is_in}
-use Rattle.owned_ways.specs.Ways.{Step, Root, Component, OfVariable, Loc, OfRoot, Way, Object, Into, Empty, Named, Past, IsRooted, Reaches, IsSame, AllowsAll, after, part, along}
+use Rattle.owned_ways.specs.Ways.{Step, Root, Component, OfVariable, Loc, OfRoot, Way, Object, Into, Empty, Named, Past, Under, IsRooted, Reaches, IsSame, AllowsAll, after, part, along}
 use Rattle.owned_ways.specs.Ways as ways
 use Rattle.part_offsets.specs.Parts.{type_in, offset_in, has_part, IsSettled}
 use Rattle.soundness.specs.Seen.{IsNear, Content, content, trunk, steps_in, seen, home, is_view_formal}
@@ -46,9 +46,10 @@ use Rattle.soundness.proofs.Taking.{Takes}
 use Rattle.soundness.proofs.Walks.{Lead, way_along, Walked}
 use Rattle.viewed_soundness.proofs.Walks.{walk}
 use Rattle.soundness.proofs.Passing.{IsRead, AreReads, AddNone, IsValue, TakesAll, plain_type, reads_keep, read_adds_none, signature_is}
-use Rattle.owned_loans.specs.Views.{Around, Views, expand, ExcusedBy, Viewed}
+use Rattle.owned_loans.specs.Views.{Around, Views, expand, ExcusedBy, Viewed, IsForeign}
 use Rattle.owned_loans.proofs.Moves.{IsPlace}
-use Rattle.viewed_soundness.specs.Holds.{IsNamed, PartsAreNamed, Holds, sees_only, IsOwners}
+use Rattle.owned_loans.proofs.Ended.{stands_itself}
+use Rattle.viewed_soundness.specs.Holds.{IsNamed, PartsAreNamed, Holds, sees_only, is_view, IsOwners}
 use Rattle.viewed_soundness.proofs.Names.{Starts, true_false, is_place}
 use Rattle.viewed_soundness.proofs.Stays.{Goes as GoesAlong, taking, steps_taking}
 use Rattle.viewed_soundness.proofs.Evaluated.{matches_named}
@@ -56,6 +57,10 @@ use Rattle.viewed_steps.specs.Taken.{IsInside}
 use Rattle.viewed_steps.specs.Sound.{IsScalarObject, IsKindOfFormal}
 use Rattle.viewed_steps.specs.Ready.{IsOwnPlace, IsActualTo, AreActualsTo}
 use Rattle.viewed_steps.proofs.Read.{scalar_named}
+use Rattle.viewed_steps.proofs.Between.{gone_also, number_under}
+use Rattle.viewed_steps.proofs.Emptied.{out_left, taken_back}
+use Rattle.viewed_steps.proofs.Outs.{Out, IsUnderOne}
+use Rattle.viewed_steps.proofs.Entered.{inside_plain, inside_named, inside_number}
 use Rattle.viewed_steps.proofs.Released.{nothing_written}
 use Rattle.viewed_steps.proofs.Lent.{ends, Spare, spare_both, spare_naming}
 
@@ -226,7 +231,7 @@ module _ (s : Typing) (own_law : OwnsByShape s.table) (procedure : Bool) where
   -- a formal of mode `in` is of a scalar type
   pub in_plain : (x : ℕ) → IsKindOfFormal s x → ByModeFor (object_at s x).mode (is_owning s.table (object_at s x).of)
   in_plain x (inl plain) is = plain_type s own_law (object_at s x).of plain
-  in_plain x (inr (in_out, own)) is = (let no : mode.InOut ≡ mode.In = sym in_out ∙ is in cc)
+  in_plain x (inr (back, own)) is = absurd (back is)
 
   abbrev pub head_of : Mode → TypedTree → List Placed
   head_of mode.In e = acts_in s e
@@ -329,6 +334,9 @@ spare_reads s (p ∷ ps) reads = (one p (reads p (inl refl)), spare_reads s ps (
     one p (m, inl e) = ap (ends s) e
     one p (m, inr e) = ap (ends s) e
 
+neither : (a b : Bool) → a ≡ false → b ≡ false → a || b ≡ false
+neither a b e f = ap (λ z. z || b) e ∙ f
+
 -- ---- what is passed
 
 -- A place in a variable of a frame: the way of the name.
@@ -337,18 +345,40 @@ IsOwnPut s depth x (Name p y path u) k =
     (to : Way) × (inside : IsInside s depth k to) × (ways.name_of to ≡ name_of y path) × (inside.object ≡ y) × Matches s.table k.of (object_at s x).of
 IsOwnPut s depth x e k = ⊥
 
--- By the mode: a scalar value, a scalar place in a variable, or another place in a variable of the frame.
+-- A scalar place in a variable, or another place in a variable of the frame.
+abbrev pub IsPlaceLaid : Typing → ℕ → ℕ → TypedTree → Place → Type 0
+IsPlaceLaid s depth x e k =
+    (IsScalarObject s x × IsFixed s k) ⊎ ((is_scalar (full s.table (object_at s x).of) ≡ false) × IsOwnPut s depth x e k)
+
+-- By the mode: a scalar value, or a place.
 abbrev pub IsLaidOne : Typing → ℕ → ℕ → Mode → TypedTree → Passed → Type 0
 IsLaidOne s depth x mode.In e (Value ws) = One ws
-IsLaidOne s depth x mode.Out e (To k) = IsFixed s k
-IsLaidOne s depth x mode.InOut e (From k) =
-    (IsScalarObject s x × IsFixed s k) ⊎ ((is_scalar (full s.table (object_at s x).of) ≡ false) × IsOwnPut s depth x e k)
+IsLaidOne s depth x mode.Out e (To k) = IsPlaceLaid s depth x e k
+IsLaidOne s depth x mode.InOut e (From k) = IsPlaceLaid s depth x e k
 IsLaidOne s depth x m e a = ⊥
 
 abbrev pub AreLaidOut : Typing → ℕ → List ℕ → TypedTree → List Passed → Type 0
 AreLaidOut s depth (x ∷ formals) (More e rest) (a ∷ passed) = IsLaidOne s depth x (object_at s x).mode e a × AreLaidOut s depth formals rest passed
 AreLaidOut s depth (x ∷ formals) (More e rest) [] = ⊥
 AreLaidOut s depth formals actuals passed = passed ≡ []
+
+-- Those that are emptied.
+abbrev pub own_out : (s : Typing) (depth x : ℕ) (e : TypedTree) (k : Place) → IsOwnPut s depth x e k → List Out
+own_out s depth x (Name p y path u) k own = record { way = own.0; place = k; pos = p } ∷ []
+own_out s depth x e k own = []
+
+abbrev pub place_out : (s : Typing) (depth x : ℕ) (e : TypedTree) (k : Place) → IsPlaceLaid s depth x e k → List Out
+place_out s depth x e k (inl plain) = []
+place_out s depth x e k (inr own) = own_out s depth x e k own.1
+
+abbrev pub out_of : (s : Typing) (depth x : ℕ) (m : Mode) (e : TypedTree) (a : Passed) → IsLaidOne s depth x m e a → List Out
+out_of s depth x mode.Out e (To k) laid = place_out s depth x e k laid
+out_of s depth x m e a laid = []
+
+abbrev pub outs_of : (s : Typing) (depth : ℕ) (formals : List ℕ) (actuals : TypedTree) (passed : List Passed) → AreLaidOut s depth formals actuals passed → List Out
+outs_of s depth (x ∷ formals) (More e rest) (a ∷ passed) laid =
+    out_of s depth x (object_at s x).mode e a laid.0 ++ outs_of s depth formals rest passed laid.1
+outs_of s depth formals actuals passed laid = []
 
 -- ---- the actuals
 
@@ -523,11 +553,14 @@ module _ (h : Here) (settled : IsSettled h.typing.table) (hands : List Waiting) 
 
   -- What is passed for an actual, by the mode: a scalar value, a scalar place in a variable, or another
   -- place in a variable of the frame.
+  abbrev pub IsPlaceGiven : ℕ → TypedTree → Place → Type 0
+  IsPlaceGiven x e k =
+      (IsScalarObject h.typing x × IsPut e k) ⊎ ((is_scalar (full h.typing.table (object_at h.typing x).of) ≡ false) × IsOwnPut h.typing h.frame x e k)
+
   abbrev pub IsGiven : ℕ → Mode → TypedTree → Passed → Type 0
   IsGiven x mode.In e (Value ws) = One ws
-  IsGiven x mode.Out e (To k) = IsPut e k
-  IsGiven x mode.InOut e (From k) =
-      (IsScalarObject h.typing x × IsPut e k) ⊎ ((is_scalar (full h.typing.table (object_at h.typing x).of) ≡ false) × IsOwnPut h.typing h.frame x e k)
+  IsGiven x mode.Out e (To k) = IsPlaceGiven x e k
+  IsGiven x mode.InOut e (From k) = IsPlaceGiven x e k
   IsGiven x m' e a = ⊥
 
   abbrev pub AreGiven : List ℕ → TypedTree → List Passed → Type 0
@@ -548,24 +581,29 @@ module _ (h : Here) (settled : IsSettled h.typing.table) (hands : List Waiting) 
   abbrev from_place : ℕ → Place → Now → Evaluated Passed
   from_place x k now = followed_by (checked h (type_of h x) (words_of h.typing now.memory k) now) (λ ws now. Done (From k) now)
 
-  from_given : (before on : List (List machine.Word)) (x : ℕ) (e : TypedTree) (P : Place → Type 0) → ((k : Place) → P k → IsGiven x mode.InOut e (From k)) → Quiet (at on) P (place_of h e (at before))
+  from_given : (before on : List (List machine.Word)) (x : ℕ) (e : TypedTree) → Quiet (at on) (λ k. IsPlaceGiven x e k) (place_of h e (at before))
       → Quiet (at on) (λ a. IsGiven x mode.InOut e a) (followed_by (place_of h e (at before)) (from_place x))
-  from_given before on x e P gives there =
-      quiet_then (at on) P (λ a. IsGiven x mode.InOut e a) (place_of h e (at before)) (from_place x) there
+  from_given before on x e there =
+      quiet_then (at on) (λ k. IsPlaceGiven x e k) (λ a. IsGiven x mode.InOut e a) (place_of h e (at before)) (from_place x) there
       (λ k put. quiet_then (at on) (λ (ws : List machine.Word). Unit {0}) (λ a. IsGiven x mode.InOut e a) (checked h (type_of h x) (words_of h.typing m k) (at on))
-      (λ ws now. Done (From k) now) (checked_quiet on (λ ws. Unit {0}) (type_of h x) (words_of h.typing m k) tt) (λ ws any. (refl, gives k put)))
+      (λ ws now. Done (From k) now) (checked_quiet on (λ ws. Unit {0}) (type_of h x) (words_of h.typing m k) tt) (λ ws any. (refl, put)))
+
+  quiet_on : (on : List (List machine.Word)) (P Q : Place → Type 0) → ((k : Place) → P k → Q k) → (y : Evaluated Place) → Quiet (at on) P y → Quiet (at on) Q y
+  quiet_on on P Q each (Done k n) is = (is.0, each k is.1)
+  quiet_on on P Q each (Raises e n) is = is
+  quiet_on on P Q each (Traps e n) is = is
 
   scalar_type : (t u : ℕ) → Matches h.typing.table t u → is_scalar (full h.typing.table u) ≡ true → is_scalar (full h.typing.table t) ≡ true
   scalar_type t u (inl e) plain = matches_scalar h.typing u t (inl (sym e)) plain
   scalar_type t u (inr both) plain = both.0
 
-  in_out_given : (before on : List (List machine.Word)) (x : ℕ) (e : TypedTree) → IsKind x → IsActualTo h.typing x mode.InOut e → goes_through_none e ≡ true
+  copied_given : (before on : List (List machine.Word)) (x : ℕ) (e : TypedTree) → IsKind x → IsActualTo h.typing x mode.InOut e → goes_through_none e ≡ true
       → Takes (waits_in e) before on
-      → AllowsAll facts (acts (index_acts h.typing e)) → Quiet (at on) (λ a. IsGiven x mode.InOut e a) (followed_by (place_of h e (at before)) (from_place x))
-  in_out_given before on x e kind (t, place, fits, which) direct takes allowed = elim (bool_cases (is_scalar (full h.typing.table (object_at h.typing x).of))) [
-    | inl plain ↦ from_given before on x e (λ k. IsPut e k) (λ k put. inl (plain, put))
+      → AllowsAll facts (acts (index_acts h.typing e)) → Quiet (at on) (λ k. IsPlaceGiven x e k) (place_of h e (at before))
+  copied_given before on x e kind (t, place, fits, which) direct takes allowed = elim (bool_cases (is_scalar (full h.typing.table (object_at h.typing x).of))) [
+    | inl plain ↦ quiet_on on (λ k. IsPut e k) (λ k. IsPlaceGiven x e k) (λ k put. inl (plain, put)) (place_of h e (at before))
         (place_given before on e t place (scalar_type t (object_at h.typing x).of fits plain) takes direct allowed)
-    | inr other_type ↦ from_given before on x e (λ k. IsOwnPut h.typing h.frame x e k) (λ k put. inr (other_type, put))
+    | inr other_type ↦ quiet_on on (λ k. IsOwnPut h.typing h.frame x e k) (λ k. IsPlaceGiven x e k) (λ k put. inr (other_type, put)) (place_of h e (at before))
         (own_place_given before on x e t place
         (matches_named h.typing.table (object_at h.typing x).of t (matches_flip t (object_at h.typing x).of fits) (named_there kind other_type)) fits (own_there which other_type) takes direct allowed)
   ]
@@ -576,7 +614,7 @@ module _ (h : Here) (settled : IsSettled h.typing.table) (hands : List Waiting) 
 
       named_there : IsKind x → is_scalar (full h.typing.table (object_at h.typing x).of) ≡ false → IsNamed h.typing.table (object_at h.typing x).of
       named_there (inl plain) other_type = absurd (true_false (is_scalar (full h.typing.table (object_at h.typing x).of)) plain other_type)
-      named_there (inr (in_out, own)) other_type = own
+      named_there (inr (back, own)) other_type = own
 
       own_there : (is_scalar (full h.typing.table t) ≡ true) ⊎ IsOwnPlace h.typing e → is_scalar (full h.typing.table (object_at h.typing x).of) ≡ false → IsOwnPlace h.typing e
       own_there (inl plain) other_type = absurd (true_false (is_scalar (full h.typing.table (object_at h.typing x).of))
@@ -590,9 +628,10 @@ module _ (h : Here) (settled : IsSettled h.typing.table) (hands : List Waiting) 
       subst (λ b. Quiet (at on) (λ a. IsGiven x mode.In e a) (passed h (if b then objects.Place mode.In b access else ByValue) x e (at before))) (sym (fits refl))
       (value_is on x e (passed h ByValue x e (at before)) (value_given before on x e actual takes allowed))
   one_given before on mode.Out owning access x e fits kind actual copied takes allowed =
-      quiet_then (at on) (λ k. IsPut e k) (λ a. IsGiven x mode.Out e a) (place_of h e (at before)) (λ k now. Done (To k) now)
-      (place_given before on e actual.0 actual.1 actual.2 takes (copied refl) allowed) (λ k put. (refl, put))
-  one_given before on mode.InOut owning access x e fits kind actual copied takes allowed = in_out_given before on x e kind actual (copied refl) takes allowed
+      quiet_then (at on) (λ k. IsPlaceGiven x e k) (λ a. IsGiven x mode.Out e a) (place_of h e (at before)) (λ k now. Done (To k) now)
+      (copied_given before on x e kind actual (copied refl) takes allowed) (λ k put. (refl, put))
+  one_given before on mode.InOut owning access x e fits kind actual copied takes allowed =
+      from_given before on x e (copied_given before on x e kind actual (copied refl) takes allowed)
 
   pub all_given : (before on : List (List machine.Word)) (formals : List ℕ) (actuals : TypedTree) → ((x : ℕ) → Has formals x → IsKind x) → AreActualsTo h.typing formals actuals
       → AreCopied h.typing formals actuals → TakesAll formals actuals before on
@@ -619,28 +658,28 @@ module _ (h : Here) (settled : IsSettled h.typing.table) (hands : List Waiting) 
       (λ more are. (refl, (is, are))))
   all_given before on (x ∷ formals) actuals kinds stay copied takes allowed = ((ap at takes), refl)
 
-  pub laid_one : (x : ℕ) (mode_of : Mode) (e : TypedTree) (a : Passed) → IsGiven x mode_of e a → IsLaidOne h.typing h.frame x mode_of e a
+  abbrev pub place_laid : (x : ℕ) (e : TypedTree) (k : Place) → IsPlaceGiven x e k → IsPlaceLaid h.typing h.frame x e k
+  place_laid x e k (inl (plain, put)) = inl (plain, put.0)
+  place_laid x e k (inr own) = inr own
+
+  abbrev pub laid_one : (x : ℕ) (mode_of : Mode) (e : TypedTree) (a : Passed) → IsGiven x mode_of e a → IsLaidOne h.typing h.frame x mode_of e a
   laid_one x mode.In e (Value ws) is = is
   laid_one x mode.In e (From k) is = absurd is
   laid_one x mode.In e (To k) is = absurd is
   laid_one x mode.Out e (Value ws) is = absurd is
   laid_one x mode.Out e (From k) is = absurd is
-  laid_one x mode.Out e (To k) is = is.0
+  laid_one x mode.Out e (To k) is = place_laid x e k is
   laid_one x mode.InOut e (Value ws) is = absurd is
-  laid_one x mode.InOut e (From k) (inl (plain, put)) = inl (plain, put.0)
-  laid_one x mode.InOut e (From k) (inr own) = inr own
+  laid_one x mode.InOut e (From k) is = place_laid x e k is
   laid_one x mode.InOut e (To k) is = absurd is
 
-  pub all_laid_out : (formals : List ℕ) (actuals : TypedTree) (passed : List Passed) → AreGiven formals actuals passed → AreLaidOut h.typing h.frame formals actuals passed
+  abbrev pub all_laid_out : (formals : List ℕ) (actuals : TypedTree) (passed : List Passed) → AreGiven formals actuals passed → AreLaidOut h.typing h.frame formals actuals passed
   all_laid_out (x ∷ formals) (More e rest) (a ∷ passed) are = (laid_one x (object_at h.typing x).mode e a are.0, all_laid_out formals rest passed are.1)
   all_laid_out (x ∷ formals) (More e rest) [] are = absurd are
   all_laid_out [] actuals passed are = are
   all_laid_out (x ∷ formals) actuals passed are = are
 
   -- ---- what the facts say then
-
-  abbrev ViewedWith : List Fact → Type 0
-  ViewedWith known = Viewed (home h.typing h.frame) (sees_only h.typing) other v (seen h.typing m hands leaks) known
 
   plain_there : (k : Place) (l : Loc) → Spot h.typing m hands k l → is_scalar (full h.typing.table k.of) ≡ true → (p : List Step)
       → (seen h.typing m hands leaks).word (part l p) ≡ Empty
@@ -655,29 +694,75 @@ module _ (h : Here) (settled : IsSettled h.typing.table) (hands : List Waiting) 
   naming_keeps None owning access known = refl
   naming_keeps (Some w) owning access known = read_effect w.name known
 
-  pub head_acted : (mode_of : Mode) (owning access : Bool) (x : ℕ) (e : TypedTree) (a : Passed) (known : List Fact) → ByModeFor mode_of owning → IsGiven x mode_of e a → ViewedWith known
-      → ViewedWith (after (acts (actual_act (passing_by mode_of owning access) e)) known)
-  head_acted mode.In owning access x e a known fits is there =
-      subst (λ b. ViewedWith (after (acts (actual_act (if b then objects.Place mode.In b access else ByValue) e)) known)) (sym (fits refl)) there
-  head_acted mode.InOut owning access x e a known fits is there = subst ViewedWith (sym (naming_keeps (written e) owning access known)) there
-  head_acted mode.Out owning access x (Name p y path u) (To k) known fits (fixed, (w, l, named, called, place, reaches, spot)) there =
-      subst (λ z. ViewedWith (effect (act.Write z) known)) called
-      (nothing_written (home h.typing h.frame) (sees_only h.typing) other v (seen h.typing m hands leaks) known there w l named place reaches
-      (plain_there k l spot fixed.scalar))
-  head_acted mode.Out owning access x e (To k) known fits is there = absurd is.1
-  head_acted mode.Out owning access x e (Value ws) known fits is there = absurd is
-  head_acted mode.Out owning access x e (From k) known fits is there = absurd is
+  -- Of a place that is emptied, what is under it is gone elsewhere, since the facts say no more that it was moved.
+  module _ (around : Around (home h.typing h.frame)) (gone : Way → Type 0)
+      (apart : (y : ℕ) (w z : Way) → v.way y ≡ Some w → IsForeign (home h.typing h.frame) w → gone z → Under z w ⊎ Under w z → ⊥) where
+    abbrev ViewedWith : List Fact → Type 0
+    ViewedWith known =
+        Viewed (home h.typing h.frame) (sees_only h.typing) (gone_also (home h.typing h.frame) around gone) v (seen h.typing m hands leaks) known
 
-  pub all_acted : (formals : List ℕ) (actuals : TypedTree) (passed : List Passed) (known : List Fact) → ((x : ℕ) → Has formals x → IsKind x)
-      → AreGiven formals actuals passed → ViewedWith known
-      → ViewedWith (after (acts (actual_acts (ways_of formals) actuals)) known)
-  all_acted (x ∷ formals) (More e rest) (a ∷ passed) known kinds are there =
-      let first : List Placed = actual_act (way_to h.typing own_law procedure x) e in
-      let others : List Placed = actual_acts (ways_of formals) rest in
-      subst ViewedWith (sym (ap (λ z. after z known) (acts_append first others) ∙ after_append (acts first) (acts others) known))
-      (all_acted formals rest passed (after (acts first) known) (λ y has. kinds y (inr has)) are.1
-      (head_acted (object_at h.typing x).mode (is_owning h.typing.table (object_at h.typing x).of) (procedure && is_named_access (view_of h.typing x)) x e a known
-      (in_plain h.typing own_law procedure x (kinds x (inl refl))) are.0 there))
-  all_acted (x ∷ formals) (More e rest) [] known kinds are there = absurd are
-  all_acted [] actuals passed known kinds are there = there
-  all_acted (x ∷ formals) actuals passed known kinds are there = there
+    -- what is under them is gone
+    abbrev pub AreGone : List Out → Type 0
+    AreGone outs = (w : Way) → IsUnderOne outs w → gone w
+
+    own_acted : (owning access : Bool) (x : ℕ) (p : Pos) (y u : ℕ) (path : TypedTree) (k : Place) (known : List Fact)
+        → (own : IsOwnPut h.typing h.frame x (Name p y path u) k) → AreGone (own_out h.typing h.frame x (Name p y path u) k own) → ViewedWith known
+        → ViewedWith (effect (act.Actual (name_of y path) mode.Out owning access) known)
+    own_acted owning access x p y u path k known (to, inside, called, is, fits) adds there =
+        subst (λ z. ViewedWith (effect (act.Actual z mode.Out owning access) known)) called
+        (taken_back (home h.typing h.frame) (sees_only h.typing) v (gone_also (home h.typing h.frame) around gone) gone apart (seen h.typing m hands leaks) to known
+        (effect (act.Actual (ways.name_of to) mode.Out owning access) known) there
+        (out_left (home h.typing h.frame) v known to owning access (inside_named h.typing settled h.frame k to inside)
+        (λ w named under. stands_itself (home h.typing h.frame) (sees_only h.typing) around v w named
+        (ap v.way (sym (number_under (home h.typing h.frame) to w (inside_named h.typing settled h.frame k to inside) named under) ∙ inside_number h.typing settled h.frame k to inside)
+        ∙ no_view)))
+        (λ w o. o) (λ w under. adds w (record { way = to; place = k; pos = p }, inl refl, under)))
+      where
+        no_view : v.way inside.object ≡ None
+        no_view = by_way (v.way inside.object) refl
+          where
+            by_way : (o : Option Way) → v.way inside.object ≡ o → o ≡ None
+            by_way None e = refl
+            by_way (Some w) e =
+                absurd (true_false (is_view h.typing inside.object) (holds.only inside.object w e)
+                (neither (is_anonymous (view_of h.typing inside.object)) (is_view_formal h.typing inside.object) (inside_plain h.typing settled h.frame k to inside)
+                (no_formals inside.object)))
+
+    place_acted : (owning access : Bool) (x : ℕ) (e : TypedTree) (k : Place) (known : List Fact) → (given : IsPlaceGiven x e k)
+        → AreGone (place_out h.typing h.frame x e k (place_laid x e k given)) → ViewedWith known
+        → ViewedWith (after (acts (actual_act (passing_by mode.Out owning access) e)) known)
+    place_acted owning access x (Name p y path u) k known (inl (plain, (fixed, (w, l, named, called, place, reaches, spot)))) adds there =
+        subst (λ z. ViewedWith (effect (act.Write z) known)) called
+        (nothing_written (home h.typing h.frame) (sees_only h.typing) (gone_also (home h.typing h.frame) around gone) v (seen h.typing m hands leaks) known there w l named place reaches
+        (plain_there k l spot fixed.scalar))
+    place_acted owning access x (Name p y path u) k known (inr (many, own)) adds there = own_acted owning access x p y u path k known own adds there
+    place_acted owning access x e k known (inl (plain, (fixed, never))) adds there = absurd never
+    place_acted owning access x e k known (inr (many, never)) adds there = absurd never
+
+    pub head_acted : (mode_of : Mode) (owning access : Bool) (x : ℕ) (e : TypedTree) (a : Passed) (known : List Fact) → ByModeFor mode_of owning
+        → (given : IsGiven x mode_of e a) → AreGone (out_of h.typing h.frame x mode_of e a (laid_one x mode_of e a given)) → ViewedWith known
+        → ViewedWith (after (acts (actual_act (passing_by mode_of owning access) e)) known)
+    head_acted mode.In owning access x e a known fits is adds there =
+        subst (λ b. ViewedWith (after (acts (actual_act (if b then objects.Place mode.In b access else ByValue) e)) known)) (sym (fits refl)) there
+    head_acted mode.InOut owning access x e a known fits is adds there = subst ViewedWith (sym (naming_keeps (written e) owning access known)) there
+    head_acted mode.Out owning access x e (To k) known fits is adds there = place_acted owning access x e k known is adds there
+    head_acted mode.Out owning access x e (Value ws) known fits is adds there = absurd is
+    head_acted mode.Out owning access x e (From k) known fits is adds there = absurd is
+
+    pub all_acted : (formals : List ℕ) (actuals : TypedTree) (passed : List Passed) (known : List Fact) → ((x : ℕ) → Has formals x → IsKind x)
+        → (given : AreGiven formals actuals passed) → AreGone (outs_of h.typing h.frame formals actuals passed (all_laid_out formals actuals passed given)) → ViewedWith known
+        → ViewedWith (after (acts (actual_acts (ways_of formals) actuals)) known)
+    all_acted (x ∷ formals) (More e rest) (a ∷ passed) known kinds are adds there =
+        let first : List Placed = actual_act (way_to h.typing own_law procedure x) e in
+        let others : List Placed = actual_acts (ways_of formals) rest in
+        let out : List Out = out_of h.typing h.frame x (object_at h.typing x).mode e a (laid_one x (object_at h.typing x).mode e a are.0) in
+        let outs : List Out = outs_of h.typing h.frame formals rest passed (all_laid_out formals rest passed are.1) in
+        subst ViewedWith (sym (ap (λ z. after z known) (acts_append first others) ∙ after_append (acts first) (acts others) known))
+        (all_acted formals rest passed (after (acts first) known) (λ y has. kinds y (inr has)) are.1
+        (λ w under. adds w (under.0, Has-append_right out outs under.0 under.1, under.2))
+        (head_acted (object_at h.typing x).mode (is_owning h.typing.table (object_at h.typing x).of) (procedure && is_named_access (view_of h.typing x)) x e a known
+        (in_plain h.typing own_law procedure x (kinds x (inl refl))) are.0
+        (λ w under. adds w (under.0, Has-append_left out outs under.0 under.1, under.2)) there))
+    all_acted (x ∷ formals) (More e rest) [] known kinds are adds there = absurd are
+    all_acted [] actuals passed known kinds are adds there = there
+    all_acted (x ∷ formals) actuals passed known kinds are adds there = there

@@ -3,10 +3,10 @@ use Rattle.typed_tree.specs.declared.object.ObjectKind.{ObjectKind}
 use Rattle.typed_tree.specs.declared.object.ObjectKind.TheVariants as object_kind
 use Rattle.place_names.specs.Facts.{adds}
 use Rattle.spark_base.proofs.Lists.{Has-map_from}
-use Rattle.std.proofs.Common.{◌≡◌, refl, sym, ap, ◌∙◌, subst, ◌⊎◌, inl, inr, ℕ, suc, ◌<◌, true, false, ◌==◌, List, [], ◌∷◌, ◌++◌, map, take, drop, length, get_or, arith, append-nil, Option, Some, None, if◌then◌else◌, is_some, Bool, not, ◌||◌, flat_map}
+use Rattle.std.proofs.Common.{◌≡◌, refl, sym, ap, ◌∙◌, subst, ◌⊎◌, inl, inr, ℕ, suc, ◌<◌, true, false, ◌==◌, List, [], ◌∷◌, ◌++◌, map, take, drop, length, get_or, arith, Option, Some, None, if◌then◌else◌, is_some, Bool, not, ◌||◌, flat_map}
 use Rattle.std.specs.Prelude.{is_some}
 use Rattle.spark_base.specs.Lists.{Has}
-use Rattle.spark_base.proofs.Lists.{Has-append_left, Has-map_from}
+use Rattle.spark_base.proofs.Lists.{Has-map_from}
 use Rattle.place_names.specs.declared.act.Act.{Act}
 use Rattle.place_names.specs.declared.act.Act.TheVariants as act
 use Rattle.place_names.specs.declared.act.Placed.{Placed}
@@ -34,17 +34,17 @@ use Rattle.flow_paths.specs.Scopes.{taken, brought, scope_behind, is_within, Lea
 use Rattle.machine.specs.Words as machine
 use Rattle.machine.specs.Memory.{Memory, no_slot, variable_slots}
 use Rattle.machine.specs.Evaluate.{Now, Exception}
-use Rattle.machine.specs.States.{Frame, State, sub_of, frame_at_start, Outcome, Goes}
+use Rattle.machine.specs.States.{Frame, State, Leak, sub_of, frame_at_start, Outcome, Goes}
 use Rattle.machine.specs.Step.{Turn, turn, start, led, successor}
 use Rattle.machine.specs.Step as steps
 use Rattle.machine.specs.Typed.{successors}
-use Rattle.machine.specs.Calls.{Passed, all_passed, with_formals, returns_of}
+use Rattle.machine.specs.Calls.{Passed, all_passed, with_formals, returns_of, out_checks}
 use Rattle.machine.specs.Owners.{waiting_in}
 use Rattle.owned_ways.specs.Ways.{Step, Way, after, AllowsAll}
 use Rattle.owned_ways.specs.Ways as ways
 use Rattle.owned_ways.proofs.Locations.{reaches_along, named_along as rooted_along}
 use Rattle.soundness.specs.Seen.{IsNear, is_view_formal, content, seen, home, trunk, word_in}
-use Rattle.soundness.proofs.Contents.{word_root, word_no}
+use Rattle.soundness.proofs.Contents.{word_root}
 use Rattle.soundness.specs.Typed.{Kept}
 use Rattle.soundness.specs.Sound.{Stage, facts_of, AreStages, AreCopied, Uses, IsRunnable, returns_value, InScope, IsNamedSub, IsAtPoint, view_of as view_here}
 use Rattle.soundness.proofs.Stays.{Quiet}
@@ -61,14 +61,14 @@ use Rattle.soundness.proofs.Taking.{Takes}
 use Rattle.soundness.proofs.Eased.{eased}
 use Rattle.soundness.proofs.Scoped.{Inside}
 use Rattle.soundness.proofs.Successors.{below_one, successor_there}
-use Rattle.owned_loans.specs.Views.{Around, known_gone, Views, IsMovedBy, AreClear, AreViews, Viewed}
+use Rattle.owned_loans.specs.Views.{Around, known_gone, Views, IsMovedBy, AreClear, AreViews, Viewed, IsForeign}
 use Rattle.owned_loans.proofs.Moves.{named_way}
 use Rattle.viewed_soundness.proofs.Names.{true_false}
 use Rattle.viewed_soundness.specs.Holds.{Holds, sees_only, IsOwners}
 use Rattle.viewed_soundness.proofs.Evaluated.{live_trunk}
 use Rattle.soundness.specs.Ready.{IsSupplied, Fills}
-use Rattle.viewed_steps.specs.Awaited.{AreFor, AreValuesBut, temporaries_of, lasting_of, awaited, WaitsAt, AreAwaited, AreScalar, FillsTyped, TakesScalars, IsTakenBy}
-use Rattle.viewed_steps.proofs.Waited.{temporary_first, leads_temporaries, within_lasting, lasting_more, Shares, plain_unheld}
+use Rattle.viewed_steps.specs.Awaited.{AreValuesBut, temporaries_of, lasting_of, awaited, WaitsAt, AreAwaited, AreScalar, FillsTyped, TakesScalars, IsTakenBy}
+use Rattle.viewed_steps.proofs.Waited.{late_scope, within_lasting, lasting_more, Shares, plain_unheld}
 use Rattle.viewed_steps.specs.Sound.{HoldsAt, ArePlaced, NoneAbove, ViewStage, stages_of, GoneElsewhere, Disturbs, IsWaiting, AreWaiting, calls_one, LeadsAlong, IsResting, IsKindOfFormal, IsScalarObject, AreReturned}
 use Rattle.viewed_steps.specs.Ready.{IsReady, roots_passed, IsCalled}
 use Rattle.viewed_steps.specs.Taken.{TakenBy, AreTaken, AreCarried}
@@ -76,16 +76,18 @@ use Rattle.viewed_steps.proofs.Lent.{Spare, spare_both, loans_stay}
 use Rattle.viewed_steps.proofs.Placed.{within_on, lasts_more, scope_on, placed_on}
 use Rattle.viewed_steps.proofs.Ended.{none_some}
 use Rattle.viewed_steps.proofs.Waiting.{StandsBetween, gone_low, kept_low, beside_them, handed, all_on}
-use Rattle.viewed_steps.proofs.Between.{gone_also, base_along, base_under, same_variable, not_named}
-use Rattle.viewed_steps.proofs.Called.{AreGiven, AreLaidOut, all_laid_out, all_given, all_acted, values_are_read, call_adds_none, passes_to, spare_reads, spare_copies}
-use Rattle.viewed_steps.proofs.Entered.{ArePassedOn, IsOpen, AreBlank, AreDeclared, Enter, not_above, passed_base, formals_of_returns, all_declared}
-use Rattle.viewed_steps.proofs.Passed.{IsNamedBy, no_call_reports, all_passed_on, no_out_checks, all_returned, call_goes}
+use Rattle.viewed_steps.proofs.Between.{gone_also, more_gone, base_along, base_under, same_variable, not_named}
+use Rattle.viewed_steps.proofs.Called.{AreGiven, AreLaidOut, outs_of, all_laid_out, all_given, all_acted, values_are_read, call_adds_none, passes_to, spare_reads, spare_copies}
+use Rattle.viewed_steps.proofs.Outs.{Out, IsUnderOne, found_in}
+use Rattle.viewed_steps.proofs.Entered.{ArePassedOn, IsOpen, AreBlank, not_above, passed_base, outs_taken}
+use Rattle.viewed_steps.proofs.Entering.{owns_there, AreDeclared, Enter, formals_of_returns, all_declared}
+use Rattle.viewed_steps.proofs.Passed.{IsNamedBy, apart_or_plain, all_passed_on, found_there, all_returned, call_goes}
 use Rattle.viewed_steps.proofs.Standing.{or_right}
 use Rattle.viewed_steps.proofs.Uses.{called_writes, lent_spared}
 use Rattle.viewed_steps.proofs.Standing as standing
 use Rattle.viewed_steps.proofs.Packages as packages
 use Rattle.viewed_steps.proofs.Innermost as innermost
-use Rattle.viewed_steps.proofs.Views.{all_held, anonymous_is_view, AreFar, not_elsewhere}
+use Rattle.viewed_steps.proofs.Views.{all_held, anonymous_is_view, AreFar, apart_by_base, not_elsewhere}
 
 module _ (table : Table) (typed : TypedProgram) (effects : Effects) (input : List ℕ) (ready : IsReady table typed effects) where
   abbrev program : FlowProgram
@@ -360,19 +362,10 @@ module _ (table : Table) (typed : TypedProgram) (effects : Effects) (input : Lis
           all_given (steps.here main_turn) ready.accepted.settled (waiting_in easy.state) state.leaks state.memory [] other facts_now views (viewed_easy plain_there.0).1 (viewed_easy plain_there.0).0 holds_now alone live_now no_in_formals
           index_law ready.owns ready.class.parts_named procedure given_words taken_there.0 formals actuals kinds called.actuals_stay copied_there taken_there.1 values_allowed
 
-      given_laid : (passed : List Passed) → Given passed → AreLaidOut s depth formals actuals passed
+      abbrev pub given_laid : (passed : List Passed) → Given passed → AreLaidOut s depth formals actuals passed
       given_laid passed given =
           all_laid_out (steps.here main_turn) ready.accepted.settled (waiting_in easy.state) state.leaks state.memory [] other facts_now views (viewed_easy plain_there.0).1 (viewed_easy plain_there.0).0 holds_now alone live_now no_in_formals
           index_law ready.owns ready.class.parts_named procedure formals actuals passed given
-
-      -- the state is sound with views under the facts after the acts
-      acted_now : (passed : List Passed) → Given passed → Viewed (home s depth) (sees_only s) other views (view_here s easy.state) called_beside
-      acted_now passed given =
-          subst (Viewed (home s depth) (sees_only s) other views (view_here s easy.state))
-          (sym (ap (λ z. after z facts_now) (acts_append values copies) ∙ after_append (acts values) (acts copies) facts_now
-          ∙ ap (after (acts copies)) (reads_keep values reads_there facts_now)))
-          (all_acted (steps.here main_turn) ready.accepted.settled (waiting_in easy.state) state.leaks state.memory [] other facts_now views (viewed_easy plain_there.0).1 (viewed_easy plain_there.0).0 holds_now alone live_now no_in_formals
-          index_law ready.owns ready.class.parts_named procedure formals actuals passed facts_now kinds given (viewed_easy plain_there.0).0)
 
       -- loans stay
       loans_called : (h : ℕ) (m : PlaceName) → Has own_facts (Lent Observed h m) → Has facts_called (Lent Observed h m)
@@ -457,16 +450,6 @@ module _ (table : Table) (typed : TypedProgram) (effects : Effects) (input : Lis
 
       -- ---- what waits, before the callee has returned
 
-      late_scope : (r : Option ℕ) → Fills s (Call n actuals r) left_scope → FillsTyped program (Call n actuals r) left_scope → (empty : Option ℕ)
-          → (sub_of program n).result ≡ empty → is_some empty ≡ is_some r → (b : List ℕ) → Leads s (brought (Call n actuals r) left_scope) b
-          → AreValuesBut s empty (steps.waiting main_turn) (temporaries_of s b)
-      late_scope None fills fits None is answers b leads = subst (AreFor s (steps.waiting main_turn)) (leads_temporaries s left_scope b leads) shared.left
-      late_scope None fills fits (Some of) is answers b leads = cc
-      late_scope (Some t) fills fits None is answers b leads = cc
-      late_scope (Some t) fills fits (Some of) is answers b leads =
-          subst (AreValuesBut s (Some of) (steps.waiting main_turn)) (sym (temporary_first s t left_scope fills) ∙ leads_temporaries s (t ∷ left_scope) b leads)
-          (fits of is, shared.left)
-
       abbrev late : Option ℕ
       late = awaited (sub_of program n) []
 
@@ -476,7 +459,7 @@ module _ (table : Table) (typed : TypedProgram) (effects : Effects) (input : Lis
           let same_point : at_successor.0 ≡ q =
           one_point named.points call_point.0 (at_successor.0) q at_successor.1 (subst (λ (z : NamedSub). IsAtPoint z.points call_point.0 q) same_sub at_q) in
           subst (λ (z : NamedPoint). AreValuesBut s late (steps.waiting main_turn) (temporaries_of s z.scope)) same_point
-          (late_scope result (subst (λ i. Fills s i left_scope) e supplied_here.1)
+          (late_scope program n actuals (steps.waiting main_turn) left_scope shared.left result (subst (λ i. Fills s i left_scope) e supplied_here.1)
           (subst (λ i. FillsTyped program i left_scope) e (ready.valued.fills named named_there p point_there_now)) late refl called.answers (at_successor.0).scope
           (subst (λ i. Leads s (brought i left_scope) (at_successor.0).scope) e at_successor.2))
 
@@ -493,31 +476,23 @@ module _ (table : Table) (typed : TypedProgram) (effects : Effects) (input : Lis
         pub far_views : AreFar (home s depth) views depth
         far_views x w has foreign = absurd (not_elsewhere (home s depth) w (holds.named x w has) foreign)
 
-        pub well_all : Viewed (home s depth) (sees_only s) other_all views (view_here s easy.state) facts_called
-        well_all = apart_from_them (acts (values ++ copies)) views (view_here s easy.state) holds.only holds.named (acted_now passed given)
+        abbrev laid : AreLaidOut s depth formals actuals passed
+        laid = given_laid passed given
+
+        -- the places that are emptied
+        abbrev pub outs : List Out
+        outs = outs_of s depth formals actuals passed (given_laid passed given)
+
+        well_before : Viewed (home s depth) (sees_only s) other_all views (view_here s easy.state) own_facts
+        well_before = apart_from_them [] views (view_here s easy.state) holds.only holds.named (viewed_easy plain_there.0).0
 
         -- what is taken
         no_overlap : ((r : Report) → Has (overlap_reports s (alias.passed formals actuals)) r → ⊥) ⊎ ((x : ℕ) → Has formals x → IsScalarObject s x)
-        no_overlap = by_result (sub_of program n).result refl
-          where
-            reports_are : (o : Option ℕ) → is_some o ≡ false → call_reports s effects (Call n actuals o)
-                ≡ (if is_some (sub_at s n).result then [] else passed_reports s effects n (alias.passed (sub_at s n).formals actuals))
-            reports_are None none = refl
-            reports_are (Some of) none = cc
-
-            by_result : (o : Option ℕ) → (sub_of program n).result ≡ o
-                → ((r : Report) → Has (overlap_reports s (alias.passed formals actuals)) r → ⊥) ⊎ ((x : ℕ) → Has formals x → IsScalarObject s x)
-            by_result (Some of) answers = inr (λ x has. ready.class.functions n of
-                (ap (λ (z : Signature). z.result) (signature_is program n) ∙ answers) x (subst (λ z. Has z x) (sym (ap (λ (z : Signature). z.formals) (signature_is program n))) has) (called.formals x has))
-            by_result None none = inl (λ r has.
-                no_call_reports program effects ready.accepted.no_reports (flow_sub own named)
-                (standing.in_program table typed effects input ready state top older outer named p frames of_sub at_point) main_turn.point
-                (standing.in_sub table typed effects input ready state top older outer named p frames of_sub at_point) r
-                (subst (λ i. Has (call_reports s effects i) r) (sym e)
-                (subst (λ z. Has z r) (sym (reports_are result (sym called.answers ∙ ap is_some none)))
-                (subst (λ z. Has (if is_some z.result then [] else passed_reports s effects n (alias.passed z.formals actuals)) r) (sym (signature_is program n))
-                (subst (λ z. Has (if is_some z then [] else passed_reports s effects n (alias.passed formals actuals)) r) (sym none)
-                (Has-append_left (overlap_reports s (alias.passed formals actuals)) (flat_map (alias.global_reports s effects n) (alias.passed formals actuals)) r has))))))
+        no_overlap =
+            apart_or_plain program effects ready.accepted.no_reports (flow_sub own named)
+            (standing.in_program table typed effects input ready state top older outer named p frames of_sub at_point) main_turn.point
+            (standing.in_sub table typed effects input ready state top older outer named p frames of_sub at_point) n actuals result e called.answers
+            (λ of answers x has. ready.class.functions n of answers x has (called.formals x (subst (λ z. Has z x) (ap (λ (z : Signature). z.formals) (signature_is program n)) has)))
 
         within_next : (y : ℕ) → Has (roots_passed actuals) y → is_package_object s y ≡ false → is_owning s.table (object_at s y).of ≡ true → is_within y next_there ≡ true
         within_next y has mine owns =
@@ -531,10 +506,10 @@ module _ (table : Table) (typed : TypedProgram) (effects : Effects) (input : Lis
             (ready.valued.passed named (standing.named_in table typed effects input ready state top older outer named p frames of_sub at_point) p
             (standing.point_in_named table typed effects input ready state top older outer named p frames of_sub at_point) n actuals result e y has)
 
-        pub all_passed_ways : (ways_taken : List Way) × ArePassedOn s depth facts_called next_there formals passed ways_taken
+        pub all_passed_ways : (ways_taken : List Way) × ArePassedOn s depth facts_called next_there formals passed ways_taken outs
             × ((k : Way) → Has ways_taken k → IsNamedBy s formals actuals k)
         all_passed_ways =
-            all_passed_on s ready.owns depth facts_called next_there procedure formals actuals passed own_facts (given_laid passed given) kinds
+            all_passed_on s ready.owns depth facts_called next_there procedure formals actuals passed own_facts laid kinds
             called.local called.differ
             within_next no_overlap
             (ap (λ z. after z own_facts) (acts_append values copies) ∙ after_append (acts values) (acts copies) own_facts
@@ -545,13 +520,40 @@ module _ (table : Table) (typed : TypedProgram) (effects : Effects) (input : Lis
         abbrev pub ways_taken : List Way
         ways_taken = all_passed_ways.0
 
-        pub open_there : IsOpen s ready.accepted.settled ready.owns no_in_formals (waiting_in easy.state) state.leaks depth views far_views facts_called next_there other_all ways_taken
+        out_base : (o : Out) → Has outs o → (y : ℕ) × (ways.base_of o.way ≡ ways.OfRoot (ways.OfVariable depth y))
+        out_base o has =
+            passed_base s depth facts_called next_there formals passed ways_taken outs all_passed_ways.1 o.way
+            (outs_taken s depth facts_called next_there formals passed ways_taken outs all_passed_ways.1 o has)
+
+        abbrev outs_gone : Way → Type 0
+        outs_gone w = GoneElsewhere program effects older w ⊎ IsUnderOne outs w
+
+        outs_apart : (y : ℕ) (w z : Way) → views.way y ≡ Some w → IsForeign (home s depth) w → outs_gone z → ways.Under z w ⊎ ways.Under w z → ⊥
+        outs_apart y w z has foreign (inl gone) meets = well_before.whole y w z has foreign gone meets
+        outs_apart y w z has foreign (inr (o, has_o, under)) meets =
+            apart_by_base w z foreign.0 foreign.1 depth (out_base o has_o).0 foreign.2 (base_under o.way z under ∙ (out_base o has_o).1)
+            (λ same. (let low = far_views y w has foreign in omega (arith, low, same))) meets
+
+        -- the state is sound with views under the facts after the acts, where what is to be emptied may be gone
+        abbrev around_outs : Around (home s depth)
+        around_outs = gone_also (home s depth) other_all outs_gone
+
+        pub well_all : Viewed (home s depth) (sees_only s) around_outs views (view_here s easy.state) facts_called
+        well_all =
+            subst (Viewed (home s depth) (sees_only s) around_outs views (view_here s easy.state))
+            (sym (ap (λ z. after z own_facts) (acts_append values copies) ∙ after_append (acts values) (acts copies) own_facts
+            ∙ ap (after (acts copies)) (reads_keep values reads_there own_facts)))
+            (all_acted (steps.here main_turn) ready.accepted.settled (waiting_in easy.state) state.leaks state.memory [] other facts_now views (viewed_easy plain_there.0).1 (viewed_easy plain_there.0).0 holds_now alone live_now no_in_formals
+            index_law ready.owns ready.class.parts_named procedure other_all outs_gone outs_apart formals actuals passed own_facts kinds given (λ w under. inr under)
+            (more_gone (home s depth) (sees_only s) views other_all outs_gone outs_apart (view_here s easy.state) own_facts (λ w gone. inl gone) well_before))
+
+        pub open_there : IsOpen (home s depth) other_all ways_taken
         open_there = record {
           free = λ k w under gone. (let root = gone_low table typed effects unmoved_stage local state depth older between w gone in
               hand_base (sym (base_under (ways.Object (ways.OfHand k)) w under) ∙ root.2));
           whole = λ to has w under gone. (
               let root = gone_low table typed effects unmoved_stage local state depth older between w gone in
-              let base = passed_base s depth facts_called next_there formals passed ways_taken all_passed_ways.1 to has in
+              let base = passed_base s depth facts_called next_there formals passed ways_taken outs all_passed_ways.1 to has in
               let frames_same = (same_variable root.0 root.1 depth base.0 (sym root.2 ∙ base_under to w under ∙ base.1)).0 in
               let less = root.3 in omega (arith, frames_same, less));
           none = λ w k keeps_it. keeps_it;
@@ -561,7 +563,7 @@ module _ (table : Table) (typed : TypedProgram) (effects : Effects) (input : Lis
             hand_base is = cc
 
         -- the formals have nothing yet
-        pub blank_formals : AreBlank s ready.accepted.settled ready.owns no_in_formals (waiting_in easy.state) state.leaks depth views far_views facts_called next_there state.memory formals
+        pub blank_formals : AreBlank s depth state.memory formals
         blank_formals x has q = by_word (word_in s.table (content s state.memory [] (ways.OfRoot (ways.OfVariable (suc depth) x))) q) refl
           where
             by_word : (w : ways.Word) → word_in s.table (content s state.memory [] (ways.OfRoot (ways.OfVariable (suc depth) x))) q ≡ w
@@ -574,7 +576,7 @@ module _ (table : Table) (typed : TypedProgram) (effects : Effects) (input : Lis
             by_word ways.Gone is =
                 let root : ways.Root = ways.OfVariable (suc depth) x in
                 let w : Way = ways.along (ways.Object root) q in
-                absurd (elim (well_all.known w (ways.part (ways.OfRoot root) q) (rooted_along (ways.Object root) q tt)
+                absurd (elim (well_before.known w (ways.part (ways.OfRoot root) q) (rooted_along (ways.Object root) q tt)
                 (reaches_along (view_here s easy.state) (ways.Object root) (ways.OfRoot root) q refl)
                 (word_root s.table (content s state.memory (waiting_in easy.state)) root q ∙ is)) [
                   | inr gone ↦ (
@@ -585,25 +587,34 @@ module _ (table : Table) (typed : TypedProgram) (effects : Effects) (input : Lis
                   | inl (inl (u, moved, leads)) ↦ not_named (home s depth) (suc depth) x
                       (not_above s ready.accepted.settled ready.owns no_in_formals (waiting_in easy.state) state.leaks depth views far_views facts_called next_there) w
                       (subst (ways.Named (home s depth)) leads
-                      (named_way (home s depth) (sees_only s) other_all views (view_here s easy.state) facts_called well_all.views (suc (ways.number_of u)) u (omega arith)
-                      (moved.0, well_all.clear.owned (ways.name_of u) moved.1))) (base_along (ways.Object root) q)
+                      (named_way (home s depth) (sees_only s) other_all views (view_here s easy.state) own_facts well_before.views (suc (ways.number_of u)) u (omega arith)
+                      (moved.0, well_before.clear.owned (ways.name_of u) moved.1))) (base_along (ways.Object root) q)
                 ])
 
         abbrev with_all : Memory
         with_all = with_formals s (suc depth) formals passed state.memory
 
-        enters : Enter s ready.accepted.settled ready.owns no_in_formals (waiting_in easy.state) state.leaks depth views far_views facts_called next_there other_all formals passed ways_taken
+        abbrev checks_there : List (List Leak)
+        checks_there = out_checks s main_turn.point.pos state.memory passed actuals
+
+        abbrev leaks_then : List Leak
+        leaks_then = state.leaks ++ found_in s state.memory outs
+
+        leaks_same : leaks_then ≡ state.leaks ++ flat_map (λ (leaks : List Leak). leaks) checks_there
+        leaks_same = ap (λ z. state.leaks ++ z) (sym (found_there s ready.accepted.settled depth main_turn.point.pos state.memory formals actuals passed laid))
+
+        enters : Enter s ready.accepted.settled ready.owns no_in_formals (waiting_in easy.state) depth views far_views facts_called next_there other_all state.leaks leaks_then formals passed ways_taken
             state.memory with_all
         enters =
-            all_declared s ready.accepted.settled ready.owns no_in_formals (waiting_in easy.state) state.leaks depth views far_views facts_called next_there other_all formals passed ways_taken
-            state.memory all_passed_ways.1 open_there (viewed_easy plain_there.0).1 well_all blank_formals
+            all_declared s ready.accepted.settled ready.owns no_in_formals (waiting_in easy.state) depth views far_views facts_called next_there other_all state.leaks formals passed ways_taken outs
+            state.memory state.memory all_passed_ways.1 open_there (viewed_easy plain_there.0).1 (viewed_easy plain_there.0).1 well_all blank_formals (λ o has y q k is. refl)
 
-        abbrev declared_there : AreDeclared s ready.accepted.settled ready.owns no_in_formals (waiting_in easy.state) state.leaks depth views far_views facts_called next_there formals
+        abbrev declared_there : AreDeclared s ready.accepted.settled ready.owns no_in_formals (waiting_in easy.state) depth views far_views facts_called next_there formals state.leaks leaks_then
             state.memory with_all
         declared_there = enters.0
 
         abbrev after_call : State
-        after_call = steps.leaking [] (entered main_turn ready.accepted.settled n actuals passed)
+        after_call = steps.leaking checks_there (entered main_turn ready.accepted.settled n actuals passed)
 
         abbrev called_stage : Stage
         called_stage = record { frame = frame_at_start n (returns_of formals passed); depth = suc depth; before = []; returns = [] }
@@ -622,10 +633,10 @@ module _ (table : Table) (typed : TypedProgram) (effects : Effects) (input : Lis
         hands_there = led_waits main_turn (record top.frame { waits = steps.waiting main_turn }) (successor main_turn 0)
 
         abbrev called_view : ways.View
-        called_view = seen s with_all (waiting_in easy.state) state.leaks
+        called_view = seen s with_all (waiting_in easy.state) leaks_then
 
         view_called : called_view ≡ view_here s after_call
-        view_called = (λ j. seen s with_all (sym hands_there j) (sym (append-nil state.leaks) j))
+        view_called = (λ j. seen s with_all (sym hands_there j) (leaks_same j))
 
         abbrev around_taken : Around (home s depth)
         around_taken = gone_also (home s depth) other_all (λ w. GoneElsewhere program effects older w ⊎ TakenBy all_passed_ways.0 w)
@@ -701,10 +712,10 @@ module _ (table : Table) (typed : TypedProgram) (effects : Effects) (input : Lis
 
         returned_there : AreReturned s (frame_at_start n (returns_of formals passed))
         returned_there = (
-          λ x has. all_returned s ready.accepted.settled depth formals actuals passed (given_laid passed given) called.actuals_stay kinds x
+          λ x has. all_returned s ready.accepted.settled depth formals actuals passed laid called.actuals_stay kinds x
               (subst (λ z. Has z x) (ap (λ (z : Signature). z.formals) (signature_is program n)) has),
           λ r has. called.formals r.formal
-              (formals_of_returns s ready.accepted.settled ready.owns no_in_formals (waiting_in easy.state) state.leaks depth views far_views facts_called next_there formals passed r has),
+              (formals_of_returns s ready.accepted.settled ready.owns no_in_formals (waiting_in easy.state) depth views far_views facts_called next_there formals passed r has),
         )
 
         entered_sound : Along (Goes after_call)
@@ -748,7 +759,7 @@ module _ (table : Table) (typed : TypedProgram) (effects : Effects) (input : Lis
               ]
               | inr mine ↦ inr (
                 mine.0,
-                within_lasting s x called.runs.point.scope (called.begins x mine.1 (owning_there f x q k held))
+                within_lasting s x called.runs.point.scope (called.begins x mine.1 (owns_there s ready.accepted.settled ready.owns with_all f x q k held))
                     (plain_unheld s x (formal_lasts (object_at s x).kind (called.formals x mine.1))),
               )
             ];
@@ -768,21 +779,6 @@ module _ (table : Table) (typed : TypedProgram) (effects : Effects) (input : Lis
             formal_lasts object_kind.Formal is = refl
             formal_lasts k is = cc
 
-            -- what has a number owns
-            owning_there : (f x : ℕ) (q : List Step) (k : ℕ) → word_in s.table (content s with_all [] (ways.OfRoot (ways.OfVariable f x))) q ≡ ways.Held k
-                → is_owning s.table (object_at s x).of ≡ true
-            owning_there f x q k held = by_type (is_owning s.table (object_at s x).of) refl
-              where
-                by_type : (b : Bool) → is_owning s.table (object_at s x).of ≡ b → b ≡ true
-                by_type true is = refl
-                by_type false is =
-                    let none = word_no s.table (content s with_all [] (ways.OfRoot (ways.OfVariable f x))) q
-                    ((keeps s ready.accepted.settled ready.owns).ownerless (object_at s x).of is q) in
-                    absurd (no_number (sym none ∙ held))
-                  where
-                    no_number : ways.Empty ≡ ways.Held k → ⊥
-                    no_number same_word = cc
-
             no_view : (x k : ℕ) → is_anonymous (view_of s x) ≡ true
                 → (get_or (variable_slots s (home s (suc depth) x) x with_all.variables) 0 no_slot).word ≡ machine.Cell k → ⊥
             no_view x k view at =
@@ -791,7 +787,5 @@ module _ (table : Table) (typed : TypedProgram) (effects : Effects) (input : Lis
 
       pub calls_it : Along (turn main_turn (Call n actuals result))
       calls_it =
-          call_goes main_turn ready.accepted.settled n actuals Along ends_raised Given
-          (λ passed given. no_out_checks s ready.accepted.settled depth main_turn.point.pos state.memory formals actuals passed (given_laid passed given))
-          entered_sound ways_there ways_are
+          call_goes main_turn ready.accepted.settled n actuals Along ends_raised Given entered_sound ways_there ways_are
           (start main_turn) then_now refl refl passed_quiet

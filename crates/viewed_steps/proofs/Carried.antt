@@ -78,7 +78,7 @@ variable_off g y p h (q, is) = other_trunk (sym (trunk_part (OfRoot (OfVariable 
     other_trunk : {h f x : ℕ} → OfRoot (OfVariable f x) ≡ OfRoot (OfHand h) → ⊥
     other_trunk e = cc
 
-cell_off : (c : ℕ) (p : List Step) (l : Loc) (r : Root) → trunk l ≡ OfRoot r → Below l (part (OfCell c) p) → ⊥
+pub cell_off : (c : ℕ) (p : List Step) (l : Loc) (r : Root) → trunk l ≡ OfRoot r → Below l (part (OfCell c) p) → ⊥
 cell_off c p l r base (q, is) = other_trunk (sym (trunk_part (OfCell c) p) ∙ ap trunk is ∙ trunk_part l q ∙ base)
   where
     other_trunk : {c : ℕ} {r : Root} → OfCell c ≡ OfRoot r → ⊥
@@ -176,6 +176,14 @@ module _ (s : Typing) (settled : IsSettled s.table) (home : ℕ → ℕ) (observ
         other_trunk : {h f x : ℕ} → OfRoot (OfVariable f x) ≡ OfRoot (OfHand h) → ⊥
         other_trunk e = cc
 
+    -- beside the place a variable has what it had
+    pub carried_beside : (g y : ℕ) (p : List Step) → (Below l (part (OfRoot (OfVariable g y)) p) → ⊥)
+        → word_in s.table (content s (moved_out s k m) [] (OfRoot (OfVariable g y))) p ≡ word_in s.table (content s m [] (OfRoot (OfVariable g y))) p
+    carried_beside g y p off =
+        sym (word_root s.table b (OfVariable g y) p)
+        ∙ move.off (part (OfRoot (OfVariable g y)) p) (λ there. variable_off g y p (length rest) there) off
+        ∙ word_root s.table a (OfVariable g y) p
+
     -- what is gone in a variable stays so, and cells are as they were
     pub carried_gone : (g y : ℕ) (p : List Step) → word_in s.table (content s m [] (OfRoot (OfVariable g y))) p ≡ Gone
         → word_in s.table (content s (moved_out s k m) [] (OfRoot (OfVariable g y))) p ≡ Gone
@@ -183,10 +191,7 @@ module _ (s : Typing) (settled : IsSettled s.table) (home : ℕ → ℕ) (observ
       | inl (q, is) ↦ absurd (clean (along u q) (under_along u u q (under_itself u))
           (viewed.known (along u q) (part l q) (named_along u q rooted) (reaches_along (seen s m rest leaks) u l q reaches)
           (subst (λ z. (seen s m rest leaks).word z ≡ Gone) is (word_root s.table a (OfVariable g y) p ∙ gone))))
-      | inr off ↦
-          sym (word_root s.table b (OfVariable g y) p)
-          ∙ move.off (part (OfRoot (OfVariable g y)) p) (λ there. variable_off g y p (length rest) there) off
-          ∙ word_root s.table a (OfVariable g y) p ∙ gone
+      | inr off ↦ carried_beside g y p off ∙ gone
     ]
 
     pub carried_cells : (f x : ℕ) → trunk l ≡ OfRoot (OfVariable f x) → (c : ℕ) (p : List Step)

@@ -1,9 +1,11 @@
--- The formals of a call are declared. Those that are copied back have what their actuals had; the
--- places of the actuals are gone meanwhile, and have no number.
+-- What a call takes for formals: a scalar value, a scalar place, or another place in a variable of its
+-- caller. A formal of mode `in out` has what its actual had; the place of the actual is gone meanwhile, and
+-- has no number.
 use Rattle.viewed_soundness.specs.Holds.{sees_only}
 use Rattle.std.proofs.Common.{◌≡◌, refl, sym, ap, ◌∙◌, subst, ◌⊎◌, inl, inr, ℕ, suc, ◌<◌, ◌+◌, Bool, true, false, not, ◌&&◌, ◌||◌, List, [], ◌∷◌, ◌++◌, take, drop, length, get_or, arith, if◌then◌else◌, Some}
 use Rattle.std.proofs.lemmas.List.{length-map}
 use Rattle.spark_base.specs.Lists.{Has}
+use Rattle.spark_base.specs.declared.position.Pos.{Pos}
 use Rattle.place_names.specs.declared.fact.Fact.{Fact}
 use Rattle.place_names.specs.declared.fact.Fact.TheVariants.{Moved}
 use Rattle.place_names.specs.declared.rule.Loan.TheVariants.{Borrowed}
@@ -13,10 +15,10 @@ use Rattle.flow_paths.specs.Objects.{Typing, object_at, is_variable, is_borrowin
 use Rattle.machine.specs.Words.{access_offsets}
 use Rattle.machine.specs.Memory.{Slot, Memory, Base, Place, fresh, no_slot, variable_slots, slots_at, slots_of, words_of, gone_at, moved_out, declared}
 use Rattle.machine.specs.Memory as memory
-use Rattle.machine.specs.Calls.{Passed, Value, From, To, with_formal, with_formals, returns_of}
-use Rattle.machine.specs.States.{Waiting, Leak, Return}
+use Rattle.machine.specs.Calls.{Passed, From, To}
+use Rattle.machine.specs.States.{Waiting, Leak}
 use Rattle.owned_ways.specs.Ways.{Step, OfVariable, OfHand, Loc, OfRoot, OfCell, Reaches, Way, Object, Empty, Held, Under, Past, Named, along, base_of, number_of, name_of}
-use Rattle.owned_ways.proofs.Locations.{same_loc, under_along, under_itself}
+use Rattle.owned_ways.proofs.Locations.{same_loc}
 use Rattle.part_offsets.specs.Parts.{type_in, IsSettled}
 use Rattle.soundness.specs.Seen.{content, word_in, seen, home, is_view_formal}
 use Rattle.soundness.specs.Typed.{Matches, OwnsByShape, Kept, Spot}
@@ -26,17 +28,15 @@ use Rattle.soundness.proofs.Steps.{matches_words, plain_end, alike, taken_slots,
 use Rattle.soundness.proofs.Lasting.{keeps, declared_kept}
 use Rattle.soundness.proofs.Passing.{IsLaid}
 use Rattle.owned_loans.specs.Views.{Around, Views, expand, ExcusedBy, Viewed, IsForeign}
-use Rattle.owned_loans.proofs.Ways.{beginnings}
 use Rattle.owned_loans.proofs.Safe.{off_view}
 use Rattle.owned_loans.proofs.Others.{clean_away}
-use Rattle.owned_loans.proofs.Moves.{expand_along, same_viewed}
+use Rattle.owned_loans.proofs.Moves.{expand_along}
 use Rattle.viewed_soundness.proofs.Names.{true_false, view_access, not_view}
 use Rattle.viewed_soundness.proofs.Evaluated.{matches_named}
-use Rattle.viewed_steps.proofs.Left.{cells_same}
-use Rattle.viewed_steps.specs.Taken.{AreCarried, TakenBy, IsInside, IsPassedOn, IsBare, IsApartFrom, AreTaken}
-use Rattle.viewed_steps.proofs.Between.{carried_same, carried_then, same_reaches, gone_also, more_gone, IsClearOf, base_along, base_under, same_variable, taken_more}
-use Rattle.viewed_steps.proofs.Carried.{trunk_is, carried_gone, carried_cells, inside_at, inside_spot, inside_reached, inside_base, inside_rooted, inside_owns, inside_word, carried_bare, carried_held, carried_off_low, carried_off}
-use Rattle.viewed_steps.proofs.Alike.{Enters, with_one}
+use Rattle.viewed_steps.specs.Taken.{AreCarried, IsInside, IsPassedOn, IsBare, IsApartFrom}
+use Rattle.viewed_steps.proofs.Between.{gone_also, IsClearOf, base_along, base_under, same_variable}
+use Rattle.viewed_steps.proofs.Carried.{trunk_is, carried_gone, carried_cells, inside_at, inside_spot, inside_reached, inside_base, inside_rooted, inside_owns, inside_word, carried_bare, carried_held, carried_beside, carried_off_low, carried_off}
+use Rattle.viewed_steps.proofs.Outs.{Out, HasStill, places_apart}
 use Rattle.viewed_steps.proofs.Beside.{put_beside}
 use Rattle.viewed_steps.proofs.Declared.{declared_viewed, declared_low}
 use Rattle.viewed_steps.proofs.Views.{observes_not, AreFar, apart_by_base}
@@ -99,27 +99,58 @@ IsWhole facts to = (n : PlaceName) → Has facts (Moved n) → overlaps n (name_
 abbrev pub DiffersFrom : ℕ → List ℕ → Type 0
 DiffersFrom x formals = (y : ℕ) → Has formals y → y ≡ x → ⊥
 
--- What is passed, with the ways of the places that are taken.
-abbrev pub ArePassedOn : Typing → ℕ → List Fact → List ℕ → List ℕ → List Passed → List Way → Type 0
-ArePassedOn s depth facts scope [] passed ways = ways ≡ []
-ArePassedOn s depth facts scope (x ∷ formals) [] ways = ways ≡ []
-ArePassedOn s depth facts scope (x ∷ formals) (a ∷ passed) [] = IsPlainOne s x a × ArePassedOn s depth facts scope formals passed []
-ArePassedOn s depth facts scope (x ∷ formals) (a ∷ passed) (to ∷ ways) =
-    (IsPlainOne s x a × ArePassedOn s depth facts scope formals passed (to ∷ ways))
-    ⊎ ((k : Place) × (a ≡ From k) × IsPassedOn s depth facts scope x k to × IsWhole facts to × IsApartFrom to ways × DiffersFrom x formals
-    × ArePassedOn s depth facts scope formals passed ways)
+-- What is taken isn't moved, or is emptied: it is the first of the places that are.
+abbrev pub IsTakenAs : List Fact → Place → Way → Passed → List Out → List Out → Type 0
+IsTakenAs facts k to a outs later =
+    ((a ≡ From k) × IsWhole facts to × (outs ≡ later)) ⊎ ((pos : Pos) × (a ≡ To k) × (outs ≡ record { way = to; place = k; pos = pos } ∷ later))
+
+-- What is passed, with the ways of the places that are taken, and those of them that are emptied.
+abbrev pub ArePassedOn : Typing → ℕ → List Fact → List ℕ → List ℕ → List Passed → List Way → List Out → Type 0
+ArePassedOn s depth facts scope [] passed ways outs = (ways ≡ []) × (outs ≡ [])
+ArePassedOn s depth facts scope (x ∷ formals) [] ways outs = (ways ≡ []) × (outs ≡ [])
+ArePassedOn s depth facts scope (x ∷ formals) (a ∷ passed) [] outs = IsPlainOne s x a × ArePassedOn s depth facts scope formals passed [] outs
+ArePassedOn s depth facts scope (x ∷ formals) (a ∷ passed) (to ∷ ways) outs =
+    (IsPlainOne s x a × ArePassedOn s depth facts scope formals passed (to ∷ ways) outs)
+    ⊎ ((k : Place) × (later : List Out) × IsTakenAs facts k to a outs later × IsPassedOn s depth facts scope x k to × IsApartFrom to ways × DiffersFrom x formals
+    × ArePassedOn s depth facts scope formals passed ways later)
 
 -- the ways of such places begin at variables of the frame
-pub passed_base : (s : Typing) (depth : ℕ) (facts : List Fact) (scope : List ℕ) (formals : List ℕ) (passed : List Passed) (ways : List Way)
-    → ArePassedOn s depth facts scope formals passed ways → (k : Way) → Has ways k → (y : ℕ) × (base_of k ≡ OfRoot (OfVariable depth y))
-passed_base s depth facts scope [] passed ways none k has = absurd (subst (λ z. Has z k) none has)
-passed_base s depth facts scope (x ∷ formals) [] ways none k has = absurd (subst (λ z. Has z k) none has)
-passed_base s depth facts scope (x ∷ formals) (a ∷ passed) [] are k has = absurd has
-passed_base s depth facts scope (x ∷ formals) (a ∷ passed) (to ∷ ways) (inl are) k has = passed_base s depth facts scope formals passed (to ∷ ways) are.1 k has
-passed_base s depth facts scope (x ∷ formals) (a ∷ passed) (to ∷ ways) (inr (place, is, one, whole, apart, differ, more)) k (inl same) =
+pub passed_base : (s : Typing) (depth : ℕ) (facts : List Fact) (scope : List ℕ) (formals : List ℕ) (passed : List Passed) (ways : List Way) (outs : List Out)
+    → ArePassedOn s depth facts scope formals passed ways outs → (k : Way) → Has ways k → (y : ℕ) × (base_of k ≡ OfRoot (OfVariable depth y))
+passed_base s depth facts scope [] passed ways outs none k has = absurd (subst (λ z. Has z k) none.0 has)
+passed_base s depth facts scope (x ∷ formals) [] ways outs none k has = absurd (subst (λ z. Has z k) none.0 has)
+passed_base s depth facts scope (x ∷ formals) (a ∷ passed) [] outs are k has = absurd has
+passed_base s depth facts scope (x ∷ formals) (a ∷ passed) (to ∷ ways) outs (inl are) k has = passed_base s depth facts scope formals passed (to ∷ ways) outs are.1 k has
+passed_base s depth facts scope (x ∷ formals) (a ∷ passed) (to ∷ ways) outs (inr (place, later, how, one, apart, differ, more)) k (inl same) =
     (one.inside.object, ap base_of (sym same) ∙ inside_base s depth place to one.inside)
-passed_base s depth facts scope (x ∷ formals) (a ∷ passed) (to ∷ ways) (inr (place, is, one, whole, apart, differ, more)) k (inr has) =
-    passed_base s depth facts scope formals passed ways more k has
+passed_base s depth facts scope (x ∷ formals) (a ∷ passed) (to ∷ ways) outs (inr (place, later, how, one, apart, differ, more)) k (inr has) =
+    passed_base s depth facts scope formals passed ways later more k has
+
+-- what is emptied is among them
+pub outs_taken : (s : Typing) (depth : ℕ) (facts : List Fact) (scope : List ℕ) (formals : List ℕ) (passed : List Passed) (ways : List Way) (outs : List Out)
+    → ArePassedOn s depth facts scope formals passed ways outs → (o : Out) → Has outs o → Has ways o.way
+outs_taken s depth facts scope [] passed ways outs none o has = absurd (subst (λ z. Has z o) none.1 has)
+outs_taken s depth facts scope (x ∷ formals) [] ways outs none o has = absurd (subst (λ z. Has z o) none.1 has)
+outs_taken s depth facts scope (x ∷ formals) (a ∷ passed) [] outs are o has = outs_taken s depth facts scope formals passed [] outs are.1 o has
+outs_taken s depth facts scope (x ∷ formals) (a ∷ passed) (to ∷ ways) outs (inl are) o has = outs_taken s depth facts scope formals passed (to ∷ ways) outs are.1 o has
+outs_taken s depth facts scope (x ∷ formals) (a ∷ passed) (to ∷ ways) outs (inr (place, later, inl (from, whole, same), one, apart, differ, more)) o has =
+    inr (outs_taken s depth facts scope formals passed ways later more o (subst (λ z. Has z o) same has))
+outs_taken s depth facts scope (x ∷ formals) (a ∷ passed) (to ∷ ways) outs (inr (place, later, inr (pos, goes, same), one, apart, differ, more)) o has =
+    elim (subst (λ z. Has z o) same has) [
+      | inl first ↦ inl (ap (λ (z : Out). z.way) first)
+      | inr others ↦ inr (outs_taken s depth facts scope formals passed ways later more o others)
+    ]
+
+-- Nothing is gone elsewhere in hands, or in the places that are still to be taken; and others keep no way.
+pub record IsOpen (home : ℕ → ℕ) (other : Around home) (ways : List Way) : Type 0 where
+  pub free : (h : ℕ) (w : Way) → Under (Object (OfHand h)) w → other.gone w → ⊥
+  pub whole : (to : Way) → Has ways to → (w : Way) → Under to w → other.gone w → ⊥
+  pub none : (w : Way) (n : ℕ) → other.kept w n → ⊥
+
+-- The formals that are still to be declared have nothing.
+abbrev pub AreBlank : Typing → ℕ → Memory → List ℕ → Type 0
+AreBlank s depth m formals =
+    (x : ℕ) → Has formals x → (p : List Step) → word_in s.table (content s m [] (OfRoot (OfVariable (suc depth) x))) p ≡ Empty
 
 -- ---- what the formals have then
 
@@ -138,44 +169,13 @@ module _ (s : Typing) (settled : IsSettled s.table) (own_law : OwnsByShape s.tab
       by_package true e = omega (arith, e)
       by_package false e = omega (arith, e)
 
-  -- Nothing is gone elsewhere in hands, or in the places that are still to be taken; and others keep no way.
-  pub record IsOpen (other : Around (home s depth)) (ways : List Way) : Type 0 where
-    pub free : (h : ℕ) (w : Way) → Under (Object (OfHand h)) w → other.gone w → ⊥
-    pub whole : (to : Way) → Has ways to → (w : Way) → Under to w → other.gone w → ⊥
-    pub none : (w : Way) (n : ℕ) → other.kept w n → ⊥
-
   abbrev ViewedIn : Around (home s depth) → Memory → Type 0
   ViewedIn other m = Viewed (home s depth) (sees_only s) other v (seen s m hands leaks) facts
 
-  abbrev taken_also : Around (home s depth) → List Way → Around (home s depth)
-  taken_also other ways = gone_also (home s depth) other (λ w. other.gone w ⊎ TakenBy ways w)
-
-  -- The formals that are still to be declared have nothing.
-  abbrev pub AreBlank : Memory → List ℕ → Type 0
-  AreBlank m formals =
-      (x : ℕ) → Has formals x → (p : List Step) → word_in s.table (content s m [] (OfRoot (OfVariable (suc depth) x))) p ≡ Empty
-
-  -- Words are typed; a variable that has a number had it before, or is a formal; views keep their words; and
-  -- what was gone stays so.
-  pub record AreDeclared (formals : List ℕ) (m n : Memory) : Type 0 where
-    pub typed : Kept s n hands
-    pub held : (g y : ℕ) (p : List Step) (c : ℕ) → word_in s.table (content s n [] (OfRoot (OfVariable g y))) p ≡ Held c
-        → (word_in s.table (content s m [] (OfRoot (OfVariable g y))) p ≡ Held c) ⊎ ((g ≡ suc depth) × Has formals y)
-    pub views : (g y : ℕ) → is_anonymous (view_of s y) ≡ true
-        → (get_or (variable_slots s g y n.variables) 0 no_slot).word ≡ (get_or (variable_slots s g y m.variables) 0 no_slot).word
-    pub carried : AreCarried s (λ g. g ≡ suc depth → ⊥) [] m n
-    -- ways from the variables of frames around reach what they reached
-    pub low : (w : Way) (g y : ℕ) → base_of w ≡ OfRoot (OfVariable g y) → g < depth → (c : ℕ)
-        → Reaches (seen s m hands leaks) w (OfCell c) → Reaches (seen s n hands leaks) w (OfCell c)
-
-  abbrev pub Enter : Around (home s depth) → List ℕ → List Passed → List Way → Memory → Memory → Type 0
-  Enter other formals passed ways m n =
-      AreDeclared formals m n × ViewedIn (taken_also other ways) n × AreTaken s n depth facts scope (returns_of formals passed) ways
-
   -- ---- one that is taken
 
-  module _ (other : Around (home s depth)) (x : ℕ) (k : Place) (to : Way) (ways : List Way) (passed : IsPassedOn s depth facts scope x k to) (whole : IsWhole facts to)
-      (apart : IsApartFrom to ways) (open_there : IsOpen other (to ∷ ways)) (m : Memory) (typed : Kept s m hands) (viewed : ViewedIn other m)
+  module _ (other : Around (home s depth)) (x : ℕ) (k : Place) (to : Way) (passed : IsPassedOn s depth facts scope x k to) (whole : IsWhole facts to)
+      (open_there : IsOpen (home s depth) other (to ∷ [])) (m : Memory) (typed : Kept s m hands) (viewed : ViewedIn other m)
       (blank : (p : List Step) → word_in s.table (content s m [] (OfRoot (OfVariable (suc depth) x))) p ≡ Empty) where
     abbrev inside : IsInside s depth k to
     inside = passed.inside
@@ -358,154 +358,12 @@ module _ (s : Typing) (settled : IsSettled s.table) (own_law : OwnsByShape s.tab
         ∙ ap (λ z. word_in s.table (record { of = (object_at s y).of; slots = z; owns = not (is_view_formal s y) }) p)
         (other_base (suc depth) y (frames_differ depth (passed.inside).object (suc depth) y (λ e. omega (arith, e)))) ∙ none
 
-    -- the others are open still
-    pub one_open : IsOpen with_it ways
-    one_open = record {
-      free = λ h w under o. elim o [
-        | inl away ↦ open_there.free h w under away
-        | inr (p, is) ↦ hand_base (sym (base_under (Object (OfHand h)) w under) ∙ ap base_of is ∙ base_along to p ∙ inside_base s depth k to passed.inside)
-      ];
-      whole = λ z has w under o. elim o [
-        | inl away ↦ open_there.whole z (inr has) w under away
-        | inr (p, is) ↦ elim (beginnings to z w (subst (Under to) (sym is) (under_along to to p (under_itself to))) under) [
-          | inl a ↦ (apart z has).0 a
-          | inr b ↦ (apart z has).1 b
-        ]
-      ];
-      none = open_there.none;
-    }
-      where
-        hand_base : {h f x : ℕ} → OfRoot (OfHand h) ≡ OfRoot (OfVariable f x) → ⊥
-        hand_base e = cc
-
-  -- ---- all of them
-
-  pub formals_of_returns : (formals : List ℕ) (passed : List Passed) (r : Return) → Has (returns_of formals passed) r → Has formals r.formal
-  formals_of_returns [] passed r has = absurd has
-  formals_of_returns (x ∷ formals) [] r has = absurd has
-  formals_of_returns (x ∷ formals) (Value ws ∷ passed) r has = inr (formals_of_returns formals passed r has)
-  formals_of_returns (x ∷ formals) (From k ∷ passed) r (inl e) = inl (ap (λ (z : Return). z.formal) e)
-  formals_of_returns (x ∷ formals) (From k ∷ passed) r (inr has) = inr (formals_of_returns formals passed r has)
-  formals_of_returns (x ∷ formals) (To k ∷ passed) r (inl e) = inl (ap (λ (z : Return). z.formal) e)
-  formals_of_returns (x ∷ formals) (To k ∷ passed) r (inr has) = inr (formals_of_returns formals passed r has)
-
-  plain_returns : (n : Memory) (x : ℕ) (a : Passed) (formals : List ℕ) (passed : List Passed) (ways : List Way) → IsPlainOne s x a
-      → AreTaken s n depth facts scope (returns_of formals passed) ways → AreTaken s n depth facts scope (returns_of (x ∷ formals) (a ∷ passed)) ways
-  plain_returns n x (Value ws) formals passed ways plain taken = taken
-  plain_returns n x (From k) formals passed [] plain taken = (plain, taken)
-  plain_returns n x (From k) formals passed (to ∷ ways) plain taken = inl (plain, taken)
-  plain_returns n x (To k) formals passed [] plain taken = (plain, taken)
-  plain_returns n x (To k) formals passed (to ∷ ways) plain taken = inl (plain, taken)
-
-  nothing_declared : (formals : List ℕ) (m : Memory) → Kept s m hands → AreDeclared formals m m
-  nothing_declared formals m typed = record { typed = typed; held = λ g y p c held. inl held; views = λ g y view. refl; carried = carried_same s (λ g. g ≡ suc depth → ⊥) [] m m (λ g y p. refl) (λ c p. refl); low = λ w g y base less c reach. reach }
-
-  nothing_entered : (other : Around (home s depth)) (formals : List ℕ) (passed : List Passed) (ways : List Way) (m : Memory)
-      → returns_of formals passed ≡ [] → ways ≡ [] → Kept s m hands → ViewedIn other m → Enter other formals passed ways m m
-  nothing_entered other formals passed ways m none no_ways typed viewed = (
-    nothing_declared formals m typed,
-    more_gone (home s depth) (sees_only s) v other (λ w. other.gone w ⊎ TakenBy ways w)
-        (λ y w z has foreign o meets. elim o [
-          | inl gone ↦ viewed.whole y w z has foreign gone meets
-          | inr taken ↦ absurd (subst (λ ks. Has ks taken.0) no_ways taken.1)
-        ]) (seen s m hands leaks) facts (λ w o. inl o) viewed,
-    subst (λ z. AreTaken s m depth facts scope z ways) (sym none) no_ways,
-  )
-
-  -- scalar ones change nothing that owners see
-  plain_then : (other : Around (home s depth)) (x : ℕ) (a : Passed) (formals : List ℕ) (passed : List Passed) (ways : List Way) (m then_m n : Memory) → IsPlainOne s x a
-      → Enters s settled own_law hands leaks m then_m → Enter other formals passed ways then_m n → Enter other (x ∷ formals) (a ∷ passed) ways m n
-  plain_then other x a formals passed ways m then_m n plain on later = (
-    record {
-      typed = later.0.typed;
-      held = λ g y p c held. elim (later.0.held g y p c held) [
-        | inl h ↦ inl (sym (on.hold g y p) ∙ h)
-        | inr h ↦ inr (h.0, inr h.1)
-      ];
-      views = λ g y view. later.0.views g y view ∙ on.views g y view;
-      carried = carried_then s (λ g. g ≡ suc depth → ⊥) [] [] [] m then_m n (λ w taken. taken) (λ w taken. taken)
-          (carried_same s (λ g. g ≡ suc depth → ⊥) [] m then_m on.hold (λ c p. cells_same s m then_m hands leaks on.same c p)) later.0.carried;
-      low = λ w g y base less c reach. later.0.low w g y base less c (same_reaches (seen s m hands leaks) (seen s then_m hands leaks) on.same w (OfCell c) reach);
-    },
-    later.1,
-    plain_returns n x a formals passed ways plain later.2,
-  )
-
-  taken_then : (other : Around (home s depth)) (x : ℕ) (k : Place) (to : Way) (formals : List ℕ) (passed : List Passed) (ways : List Way) (m next n : Memory)
-      → (one : IsPassedOn s depth facts scope x k to) → IsApartFrom to ways → DiffersFrom x formals
-      → ((g y : ℕ) (p : List Step) (c : ℕ) → word_in s.table (content s next [] (OfRoot (OfVariable g y))) p ≡ Held c
-      → (word_in s.table (content s m [] (OfRoot (OfVariable g y))) p ≡ Held c) ⊎ ((g ≡ suc depth) × (y ≡ x)))
-      → ((g y : ℕ) → is_anonymous (view_of s y) ≡ true
-      → (get_or (variable_slots s g y next.variables) 0 no_slot).word ≡ (get_or (variable_slots s g y m.variables) 0 no_slot).word)
-      → IsBare s depth k to next one.inside → AreCarried s (λ g. g ≡ suc depth → ⊥) [] m next
-      → ((w : Way) (g y : ℕ) → base_of w ≡ OfRoot (OfVariable g y) → g < depth → (c : ℕ)
-      → Reaches (seen s m hands leaks) w (OfCell c) → Reaches (seen s next hands leaks) w (OfCell c))
-      → Enter (gone_also (home s depth) other (λ w. other.gone w ⊎ ((p : List Step) × (w ≡ along to p)))) formals passed ways next n
-      → Enter other (x ∷ formals) (From k ∷ passed) (to ∷ ways) m n
-  taken_then other x k to formals passed ways m next n one apart differ held views bare carried low later = (
-    record {
-      typed = later.0.typed;
-      held = λ g y p c is. elim (later.0.held g y p c is) [
-        | inr h ↦ inr (h.0, inr h.1)
-        | inl h ↦ elim (held g y p c h) [ inl before ↦ inl before | inr mine ↦ inr (mine.0, inl (sym mine.1)) ]
-      ];
-      views = λ g y view. later.0.views g y view ∙ views g y view;
-      carried = carried_then s (λ g. g ≡ suc depth → ⊥) [] [] [] m next n (λ w taken. taken) (λ w taken. taken) carried later.0.carried;
-      low = λ w g y base less c reach. later.0.low w g y base less c (low w g y base less c reach);
-    },
-    more_gone (home s depth) (sees_only s) v
-        (taken_also (gone_also (home s depth) other (λ w. other.gone w ⊎ ((p : List Step) × (w ≡ along to p)))) ways)
-        (λ w. other.gone w ⊎ TakenBy (to ∷ ways) w)
-        (λ y w z has foreign o meets. later.1.whole y w z has foreign (elim o [
-          | inl gone ↦ inl (inl gone)
-          | inr (k, has_k, p, is) ↦ elim has_k [ inl same ↦ inl (inr (p, is ∙ ap (λ q. along q p) (sym same))) | inr rest ↦ inr (k, rest, p, is) ]
-        ]) meets) (seen s n hands leaks) facts
-        (λ w o. elim o [
-          | inr taken ↦ inr (taken_more to ways w taken)
-          | inl before ↦ elim before [ inl away ↦ inl away | inr (p, is) ↦ inr (to, inl refl, p, is) ]
-        ]) later.1,
-    inr (
-      (
-        one,
-        (λ p c is. elim (later.0.held depth (one.inside).object (p ++ (one.inside).steps) c is) [
-          | inl h ↦ bare p c h
-          | inr h ↦ (let same = h.0 in omega (arith, same))
-        ]),
-      ),
-      apart,
-      (λ r has. differ r.formal (formals_of_returns formals passed r has)),
-      later.2,
-    ),
-  )
-
-  pub all_declared : (other : Around (home s depth)) (formals : List ℕ) (passed : List Passed) (ways : List Way) (m : Memory)
-      → ArePassedOn s depth facts scope formals passed ways → IsOpen other ways → Kept s m hands → ViewedIn other m → AreBlank m formals
-      → Enter other formals passed ways m (with_formals s (suc depth) formals passed m)
-  all_declared other [] passed ways m are open_there typed viewed blank = nothing_entered other [] passed ways m refl are typed viewed
-  all_declared other (x ∷ formals) [] ways m are open_there typed viewed blank = nothing_entered other (x ∷ formals) [] ways m refl are typed viewed
-  all_declared other (x ∷ formals) (a ∷ passed) [] m are open_there typed viewed blank =
-      let on = with_one s settled own_law hands leaks (suc depth) x a m are.0.0 are.0.1 typed in
-      let mid : Memory = with_formal s (suc depth) x a m in
-      plain_then other x a formals passed [] m mid (with_formals s (suc depth) formals passed mid) are.0 on
-      (all_declared other formals passed [] mid are.1 open_there on.typed
-      (same_viewed (home s depth) (sees_only s) other v (seen s m hands leaks) (seen s mid hands leaks) facts on.same viewed)
-      (λ y has p. on.hold (suc depth) y p ∙ blank y (inr has) p))
-  all_declared other (x ∷ formals) (a ∷ passed) (to ∷ ways) m (inl are) open_there typed viewed blank =
-      let on = with_one s settled own_law hands leaks (suc depth) x a m are.0.0 are.0.1 typed in
-      let mid : Memory = with_formal s (suc depth) x a m in
-      plain_then other x a formals passed (to ∷ ways) m mid (with_formals s (suc depth) formals passed mid) are.0 on
-      (all_declared other formals passed (to ∷ ways) mid are.1 open_there on.typed
-      (same_viewed (home s depth) (sees_only s) other v (seen s m hands leaks) (seen s mid hands leaks) facts on.same viewed)
-      (λ y has p. on.hold (suc depth) y p ∙ blank y (inr has) p))
-  all_declared other (x ∷ formals) (a ∷ passed) (to ∷ ways) m (inr (k, is, one, whole, apart, differ, more)) open_there typed viewed blank =
-      let new = blank x (inl refl) in
-      let next : Memory = declared (suc depth) x (words_of s m k) (moved_out s k m) in
-      let away : Around (home s depth) = gone_also (home s depth) other (λ w. other.gone w ⊎ ((p : List Step) × (w ≡ along to p))) in
-      subst (λ z. Enter other (x ∷ formals) (z ∷ passed) (to ∷ ways) m (with_formals s (suc depth) (x ∷ formals) (z ∷ passed) m)) (sym is)
-      (taken_then other x k to formals passed ways m next (with_formals s (suc depth) formals passed next) one apart differ
-      (one_held other x k to ways one whole apart open_there m typed viewed new) (one_views other x k to ways one whole apart open_there m typed viewed new)
-      (one_bare other x k to ways one whole apart open_there m typed viewed new) (one_carried other x k to ways one whole apart open_there m typed viewed new)
-      (one_low other x k to ways one whole apart open_there m typed viewed new)
-      (all_declared away formals passed ways next more (one_open other x k to ways one whole apart open_there m typed viewed new)
-      (kept_next other x k to ways one whole apart open_there m typed viewed new) (viewed_next other x k to ways one whole apart open_there m typed viewed new)
-      (λ y has p. one_blank other x k to ways one whole apart open_there m typed viewed new y (differ y has) p (blank y (inr has) p))))
+    -- a place that is apart from it has what it had
+    pub one_still : (z : Way) → (Under to z → ⊥) × (Under z to → ⊥) → HasStill s depth m next z
+    one_still z apart y q p is =
+        new_word depth y (frames_differ (suc depth) x depth y (λ e. omega (arith, e))) (p ++ q)
+        ∙ carried_beside s settled (home s depth) (sees_only s) v other with_it.gone with_apart m hands leaks facts k at to viewed typed spot
+        (inside_rooted s depth k to passed.inside) (inside_reached s depth k to passed.inside (seen s m hands leaks))
+        (inside_owns s depth k to passed.inside m hands (no_formals (passed.inside).object)) clean depth y (p ++ q)
+        (places_apart (seen s m hands leaks) viewed.owned to at (inside_reached s depth k to passed.inside (seen s m hands leaks)) depth y q p
+        (subst (λ w. (Under to w → ⊥) × (Under w to → ⊥)) is apart))

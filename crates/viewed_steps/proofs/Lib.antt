@@ -16,11 +16,16 @@ pub mod Waiting
 pub mod Apart
 pub mod Left
 pub mod Between
+pub mod Emptied
+pub mod Vacated
 pub mod Carried
-pub mod Called
+pub mod Outs
 pub mod Waited
 pub mod Alike
 pub mod Entered
+pub mod Emptying
+pub mod Entering
+pub mod Called
 pub mod Backed
 pub mod Whole
 pub mod Passed

@@ -1,6 +1,8 @@
 -- A frame that stands at a point of a program that is ready: its acts, its facts and its successors.
 use Rattle.std.proofs.Common.{◌≡◌, refl, sym, ap, ◌∙◌, subst, inl, inr, ℕ, Bool, true, false, ◌&&◌, ◌||◌, List, [], ◌∷◌, ◌++◌, length, get_or, append-nil, Option, None}
 use Rattle.spark_base.specs.Lists.{Has}
+use Rattle.place_names.specs.declared.act.Mode.{Mode}
+use Rattle.place_names.specs.declared.act.Mode.TheVariants as mode
 use Rattle.place_names.specs.declared.act.Act.{Act}
 use Rattle.place_names.specs.declared.act.Placed.{Placed}
 use Rattle.place_names.specs.declared.fact.Fact.{Fact}
@@ -52,6 +54,11 @@ no_middle : (a b : Bool) → (a && false) && b ≡ false
 no_middle true b = refl
 no_middle false b = refl
 
+not_in : (m : Mode) → (m ≡ mode.In → ⊥) → is_in m ≡ false
+not_in mode.In back = absurd (back refl)
+not_in mode.Out back = refl
+not_in mode.InOut back = refl
+
 module _ (table : Table) (typed : TypedProgram) (effects : Effects) (input : List ℕ) (ready : IsReady table typed effects) where
   abbrev pub program : FlowProgram
   program = flow_program table typed
@@ -69,7 +76,7 @@ module _ (table : Table) (typed : TypedProgram) (effects : Effects) (input : Lis
   no_in_formals x = elim (bool_cases (is_formal s x)) [
     | inl e ↦ elim (ready.class.formals x e) [
       | inl plain ↦ no_second (is_in_formal s x) (is_owning s.table (object_at s x).of) (plain_type s ready.owns (object_at s x).of plain)
-      | inr (in_out, own_type) ↦ ap (λ m. (is_formal s x && is_in m) && is_owning s.table (object_at s x).of) in_out
+      | inr (back, own_type) ↦ ap (λ b. (is_formal s x && b) && is_owning s.table (object_at s x).of) (not_in (object_at s x).mode back)
           ∙ no_middle (is_formal s x) (is_owning s.table (object_at s x).of)
     ]
     | inr e ↦ ap (λ b. (b && is_in (object_at s x).mode) && is_owning s.table (object_at s x).of) e

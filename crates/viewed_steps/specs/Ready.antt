@@ -56,15 +56,14 @@ pub record AreValued (table : Table) (typed : TypedProgram) : Type 0 where
   pub fills : (sub : NamedSub) → Has (flow_named table typed) sub → (p : NamedPoint) → Has sub.points p
       → FillsTyped (flow_program table typed) p.instr (drop (taken p.instr) p.scope)
 
--- What is passed stays within what it names. One that is copied back to is a name: of a scalar type; or,
--- of mode `in out`, of a place of the type of the formal in an object that belongs to no package.
+-- What is passed stays within what it names. One that is copied back to is a name of a place of the type of
+-- the formal: of a scalar type, or in an object that belongs to no package.
 abbrev pub IsOwnPlace : Typing → TypedTree → Type 0
 IsOwnPlace s e = (y : ℕ) → Has (root_of e) y → is_package_object s y ≡ false
 
 abbrev pub IsActualTo : Typing → ℕ → Mode → TypedTree → Type 0
 IsActualTo s x mode.In e = Stays s e
-IsActualTo s x mode.Out e = (t : ℕ) × IsPlace s e t × (is_scalar (full s.table t) ≡ true)
-IsActualTo s x mode.InOut e =
+IsActualTo s x m e =
     (t : ℕ) × IsPlace s e t × Matches s.table t (object_at s x).of × ((is_scalar (full s.table t) ≡ true) ⊎ IsOwnPlace s e)
 
 -- So is each that there is a formal for; each formal that isn't of a scalar type has an actual.

@@ -40,12 +40,15 @@ use Rattle.viewed_steps.specs.Taken.{TakenBy, AreTaken, AreCarried}
 
 -- ---- the class
 
--- A formal of a scalar type, or of mode `in out` and of no anonymous access type.
+-- A formal of a scalar type, or of mode `out` or `in out` and of no anonymous access type.
 abbrev pub IsScalarObject : Typing → ℕ → Type 0
 IsScalarObject s x = is_scalar (full s.table (object_at s x).of) ≡ true
 
+abbrev pub IsCopiedBack : Typing → ℕ → Type 0
+IsCopiedBack s x = (object_at s x).mode ≡ mode.In → ⊥
+
 abbrev pub IsKindOfFormal : Typing → ℕ → Type 0
-IsKindOfFormal s x = IsScalarObject s x ⊎ (((object_at s x).mode ≡ mode.InOut) × IsNamed s.table (object_at s x).of)
+IsKindOfFormal s x = IsScalarObject s x ⊎ (IsCopiedBack s x × IsNamed s.table (object_at s x).of)
 
 -- Anonymous access types are those of objects alone, and functions that are called have no results of
 -- such types; formals are such, those of functions of scalar types, and actuals that are copied back to

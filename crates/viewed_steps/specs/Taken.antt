@@ -6,7 +6,7 @@ use Rattle.spark_base.specs.Lists.{Has}
 use Rattle.place_names.specs.declared.fact.Fact.{Fact}
 use Rattle.place_names.specs.declared.fact.Fact.TheVariants.{Moved, Lent}
 use Rattle.place_names.specs.declared.rule.Loan.{Loan}
-use Rattle.place_names.specs.Names.{Name as PlaceName, overlaps}
+use Rattle.place_names.specs.Names.{Name as PlaceName, overlaps, covers}
 use Rattle.type_definitions.specs.Types.{full, is_scalar, is_owning}
 use Rattle.flow_paths.specs.Objects.{Typing, object_at, is_package_object}
 use Rattle.flow_paths.specs.Scopes.{is_within}
@@ -46,7 +46,8 @@ pub record IsInside (s : Typing) (depth : ℕ) (k : Place) (to : Way) : Type 0 w
   pub named : IsNamed s.table k.of
 
 -- What is passed for a formal that isn't scalar and is copied back: a place in a variable, which is in
--- scope if it may own, isn't lent and of which nothing was moved, and whose value the formal may have.
+-- scope if it may own and isn't lent, of which no part is known to be moved, and whose value the formal may
+-- have.
 pub record IsPassedOn (s : Typing) (depth : ℕ) (facts : List Fact) (scope : List ℕ) (x : ℕ) (k : Place) (to : Way) : Type 0 where
   pub inside : IsInside s depth k to
   pub fits : Matches s.table k.of (object_at s x).of
@@ -54,7 +55,7 @@ pub record IsPassedOn (s : Typing) (depth : ℕ) (facts : List Fact) (scope : Li
   pub many : is_scalar (full s.table (object_at s x).of) ≡ false
   pub within : is_owning s.table (object_at s inside.object).of ≡ true → is_within inside.object scope ≡ true
   pub unlent : (l : Loan) (h : ℕ) (n : PlaceName) → Has facts (Lent l h n) → overlaps n (name_of to) ≡ true → ⊥
-  pub whole : (n : PlaceName) → Has facts (Moved n) → overlaps n (name_of to) ≡ true → ⊥
+  pub cleared : (n : PlaceName) → Has facts (Moved n) → covers (name_of to) n ≡ true → ⊥
 
 -- No number stands in the place.
 abbrev pub IsBare : (s : Typing) (depth : ℕ) (k : Place) (to : Way) → Memory → IsInside s depth k to → Type 0
