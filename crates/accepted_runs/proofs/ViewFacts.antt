@@ -17,7 +17,8 @@ use Rattle.tool_answers.specs.Product.{Product}
 use Rattle.accepted_runs.specs.Passed.{Passes}
 use Rattle.accepted_runs.proofs.Passing.{Passed, product_passed}
 use Rattle.accepted_runs.proofs.Runs.{RunsHold}
-use Rattle.accepted_runs.proofs.Views.{AreInViewClass, AreInSecondViewClass, passed_called_ready, first_second}
+use Rattle.accepted_runs.specs.Classes.{AreInSecondViewClass}
+use Rattle.accepted_runs.proofs.Views.{AreInViewClass, passed_called_ready, first_second}
 
 -- ---- with calls
 
