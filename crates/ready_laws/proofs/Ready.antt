@@ -28,6 +28,7 @@ use Rattle.soundness.proofs.Points.{IsLaid, flow_at, sub_there, named_has}
 use Rattle.soundness.proofs.Typings.{Agree, flow_agrees, package_same, formal_same}
 use Rattle.scope_laws.specs.Code.{objects_of, roots, are_seen}
 use Rattle.scope_laws.specs.Order.{IsCounted, IsOrdered, named_in, IsSeen}
+use Rattle.scope_laws.specs.Returning.{IsClosing}
 use Rattle.scope_laws.proofs.Lists.{and_first, and_second, all_has, has_reverse, within_has}
 use Rattle.scope_laws.proofs.Successors.{sub_counted, has_first}
 use Rattle.scope_laws.proofs.Ordered.{sub_ordered, package_ordered}
@@ -39,7 +40,7 @@ use Rattle.scope_laws.proofs.Filled.{temporaries_of}
 use Rattle.scope_laws.proofs.Temporaries.{named_supplied, named_goes}
 use Rattle.scope_laws.proofs.Returning.{function_stands, function_zero}
 use Rattle.ready_laws.specs.InOrder.{IsSub, IsInOrder, AreAnswered, AreStill, ArePassed}
-use Rattle.ready_laws.proofs.Returned.{valued, returned_once}
+use Rattle.ready_laws.proofs.Returned.{valued, returned_once, closing_after}
 use Rattle.ready_laws.proofs.Elaborated.{Declares, package_declares}
 use Rattle.ready_laws.proofs.Subs.{setting_from, IsOfBody, named_cases, body_at, one_named}
 use Rattle.soundness.proofs.Successors.{not_true}
@@ -361,6 +362,9 @@ module _ (table : Table) (typed : TypedProgram) (effects : Effects) (accepted : 
         ap (λ m. is_some (sub_of program m).result) found.2 ∙ (ap is_some (result_at found.0 found.1 found.3) ∙ found.4),
       )
 
+  pub main_result : (sub_of program (suc order.number)).result ≡ None
+  main_result = result_at order.number order.main order.stands ∙ order.procedure
+
   pub text_io_there : is_package_object s 0 ≡ false
   text_io_there = package_same s own alike 0 ∙ order.text_io
 
@@ -391,7 +395,26 @@ module _ (table : Table) (typed : TypedProgram) (effects : Effects) (accepted : 
       (accepted.fine (flow_sub own named) (in_program named here) (flow_at own named p) (Has-map (λ (q : NamedPoint). flow_at own named q) named.points p there)))
       before last (subst (λ (z : FlowSub). ControlPath (path_points program effects z) before last) is path))
 
-  entered_body : (k : ℕ) → IsEntered program k → (j : ℕ) × (sub : TypedSub) × (k ≡ suc j) × IsSub order.rest j sub
+  abbrev IsClosed : ℕ → Type 0
+  IsClosed k =
+      is_some (sub_of program k).result ≡ true → (before : List ℕ) (last : ℕ) → ControlPath (path_points program effects (sub_of program k)) before last
+      → has_returned (sub_of program k) before ≡ true → IsClosing (get_or (sub_of program k).points last no_point).instr
+
+  -- and after a return it only ends
+  body_closed : (k : ℕ) (sub : TypedSub) → IsSub order.rest k sub → IsClosed (suc k)
+  body_closed k sub is_sub some before last path =
+      let named : NamedSub = body_named k sub is_sub in
+      let here : Has (flow_named table typed) named = named_has (flow_named table typed) (suc k) named (body_stands k sub is_sub) in
+      let is : sub_of program (suc k) ≡ flow_sub own named = is_there k sub is_sub in
+      let function : is_some sub.result ≡ true = sym (ap is_some (result_at k sub is_sub)) ∙ some in
+      let setting = setting_from own (at_number k sub is_sub).0 sub in
+      subst (λ (z : FlowSub). has_returned z before ≡ true → IsClosing (get_or z.points last no_point).instr) (sym is)
+      (closing_after table typed effects s named (laid named here) (function_stands setting sub function) (function_zero setting sub function)
+      (λ p there. valued s sub.result p.instr function
+      (accepted.fine (flow_sub own named) (in_program named here) (flow_at own named p) (Has-map (λ (q : NamedPoint). flow_at own named q) named.points p there)))
+      before last (subst (λ (z : FlowSub). ControlPath (path_points program effects z) before last) is path))
+
+  pub entered_body : (k : ℕ) → IsEntered program k → (j : ℕ) × (sub : TypedSub) × (k ≡ suc j) × IsSub order.rest j sub
   entered_body k (inl main) =
       let same_number : Some k ≡ Some (suc order.number) = sym main ∙ main_is in
       let number : k ≡ suc order.number = cc in
@@ -403,6 +426,11 @@ module _ (table : Table) (typed : TypedProgram) (effects : Effects) (accepted : 
   are_returning k entered =
       let body = entered_body k entered in
       subst IsReturning (sym body.2) (body_returning body.0 body.1 body.3)
+
+  pub are_closed : (k : ℕ) → IsEntered program k → IsClosed k
+  are_closed k entered =
+      let body = entered_body k entered in
+      subst IsClosed (sym body.2) (body_closed body.0 body.1 body.3)
 
   -- ---- the package objects and the main procedure
 

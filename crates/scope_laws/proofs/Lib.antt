@@ -4,6 +4,8 @@ pub mod Lists
 pub mod Successors
 -- objects and scopes
 pub mod Ordered
+-- what is in scope
+pub mod Within
 pub mod Seen
 -- temporaries in scope, and what is so beside them
 pub mod Supplied
@@ -16,3 +18,5 @@ pub mod Returning
 pub mod Given
 pub mod Results
 pub mod Alone
+pub mod Followed
+pub mod Begun

@@ -6,7 +6,6 @@ use Rattle.spark_base.specs.Lists.{Has}
 use Rattle.place_names.specs.declared.act.Mode.TheVariants as mode
 use Rattle.resolved_tree.specs.Trees.{Code, Program}
 use Rattle.type_definitions.specs.Types.{Table, full, is_scalar}
-use Rattle.type_definitions.specs.Entries.{integer, boolean}
 use Rattle.type_definitions.specs.Whole.{known_of}
 use Rattle.typed_tree.specs.declared.object.Object.{Object}
 use Rattle.typed_tree.specs.declared.object.ObjectKind.TheVariants as object_kind
@@ -17,13 +16,10 @@ use Rattle.flow_paths.specs.Instructions.{Call}
 use Rattle.flow_paths.specs.Objects.{Typing, Signature, object_at, sub_at}
 use Rattle.flow_paths.specs.Points.{FlowPoint}
 use Rattle.flow_paths.specs.Laid.{Temporary, temporary_object, NamedSub, FlowSub, FlowProgram, signature, flow_typing, flow_named, flow_program}
-use Rattle.flow_paths.specs.Scopes.{is_temporary}
 use Rattle.machine.specs.States.{no_sub, sub_of}
 use Rattle.machine.specs.Owners.{is_in}
 use Rattle.machine.specs.Run.{no_point}
-use Rattle.soundness.specs.Sound.{AreCopied, is_temporary_object, ArePlainResults}
-use Rattle.soundness.proofs.Points.{flow_table, typing_same}
-use Rattle.soundness.proofs.Temporaries.{few_temporaries}
+use Rattle.soundness.specs.Sound.{AreCopied}
 use Rattle.soundness.proofs.Passing.{signature_is}
 use Rattle.soundness.proofs.Typings.{flow_agrees}
 use Rattle.called_subs.specs.Called.{PointCalls, CodeCalls, HaveBodies}
@@ -34,8 +30,7 @@ use Rattle.ready_laws.specs.InOrder.{IsSub, AreAnswered}
 use Rattle.scope_laws.proofs.Lists.{all_has}
 use Rattle.meant_files.specs.Formless.{IsFormless}
 use Rattle.order_laws.specs.Orderly.{typed_of, typing_in, bodies_of}
-use Rattle.sound_files.specs.Class.{CallsProcedures, HasNoFunction, CopiesToVariables, FormalsAreScalar, ResultsAreScalar, CopyToVariables}
-use Rattle.sound_files.proofs.Temporaries.{plain_temporaries}
+use Rattle.sound_files.specs.Class.{HasNoFunction, CopiesToVariables, FormalsAreScalar, ResultsAreScalar, CopyToVariables}
 use Rattle.sound_files.proofs.Formless.{subs_none}
 use Rattle.sound_files.proofs.Formals.{no_formals}
 use Rattle.sound_files.proofs.Called.{at_number, called_body}
@@ -83,7 +78,7 @@ module _ (p : Program) where
   abbrev all_temporaries : List Temporary
   all_temporaries = flat_map temporaries_of (flow_named table (typed_of p))
 
-  mode_same : (x : ℕ) → (object_at (flow_typing flow) x).mode ≡ (object_at own x).mode
+  pub mode_same : (x : ℕ) → (object_at (flow_typing flow) x).mode ≡ (object_at own x).mode
   unfolding flow_program
   mode_same x = elim (object_there (typed_of p).objects all_temporaries x) [
     | inl same ↦ ap (λ (o : Object). o.mode) same
@@ -186,31 +181,3 @@ module _ (p : Program) where
     -- and nothing of actuals.
     pub formless_copied : CopyToVariables p
     formless_copied = called_alike (λ n actuals. subst (λ formals. AreCopied own formals actuals) (sym (none_there n)) tt)
-
-  -- ---- results and temporaries
-
-  module _ (results : CallsProcedures (flow_program (known_of p).table (typed_of p)) ⊎ ResultsAreScalar p) (truths : is_scalar (full (known_of p).table boolean) ≡ true) where
-    same_table : table ≡ flow.table
-    same_table = sym (flow_table table (typed_of p))
-
-    -- Functions give values of scalar types, or procedures alone are called.
-    pub plain_results : CallsProcedures flow ⊎ ArePlainResults (flow_typing flow)
-    plain_results = elim results [
-      | inl procedures ↦ inl procedures
-      | inr scalar ↦ inr (
-        λ n t is.
-            subst (λ (rows : Table). is_scalar (full rows t) ≡ true) same_table (scalar_results scalar n t (sym (ap (λ (z : Signature). z.result) (signature_same n)) ∙ is)),
-        subst (λ (rows : Table). is_scalar (full rows boolean) ≡ true) same_table truths,
-      )
-    ]
-
-    -- Temporaries are of scalar types, and there is none where no function is called.
-    pub temporaries_plain : is_scalar (full (known_of p).table integer) ≡ true → ((x : ℕ) → is_temporary (object_at (typing_in p) x).kind ≡ false) → (x : ℕ)
-        → is_temporary_object (flow_typing (flow_program (known_of p).table (typed_of p))) x ≡ true
-        → is_scalar (full (flow_program (known_of p).table (typed_of p)).table (object_at (flow_typing (flow_program (known_of p).table (typed_of p))) x).of) ≡ true
-    temporaries_plain integers lasts x is = elim results [
-      | inl procedures ↦ absurd (
-          let none : false ≡ true =
-          sym (lasts x) ∙ sym (ap (λ (z : Typing). is_temporary_object z x) (typing_same table (typed_of p) (few_temporaries table (typed_of p) procedures))) ∙ is in cc)
-      | inr scalar ↦ plain_temporaries table (typed_of p) integers truths (scalar_results scalar) lasts x is
-    ]

@@ -10,5 +10,7 @@ pub mod Formals
 pub mod Passing
 pub mod Valued
 pub mod Scoped
+pub mod Own
+pub mod Fixed
 pub mod Points
 pub mod Ready

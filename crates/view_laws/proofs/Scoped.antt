@@ -1,12 +1,15 @@
 -- Of an accepted program with borrowers and observers whose subprograms are in order: that no fact speaks of an
 -- object that is declared, beside what `ready_laws` says of any program in order.
-use Rattle.std.proofs.Common.{◌≡◌, refl, sym, ap, ◌∙◌, subst, ◌⊎◌, inl, inr, ℕ, suc, Bool, true, false, not, ◌&&◌, ◌||◌, List, ◌∷◌, map, get_or, Option, None, Some}
+use Rattle.std.proofs.Common.{◌≡◌, refl, sym, ap, ◌∙◌, subst, ◌⊎◌, inl, inr, ℕ, zero, suc, Bool, true, false, not, ◌&&◌, ◌||◌, List, [], ◌∷◌, map, get_or, Option, None, Some}
 use Rattle.std.specs.Prelude.{reverse}
 use Rattle.std.specs.List.{AllByRecursion}
 use Rattle.spark_base.specs.declared.position.Pos.{Pos}
 use Rattle.spark_base.specs.Lists.{Has}
 use Rattle.spark_base.proofs.Lists.{Has-map, Has-map_from, Has-append_left, Has-append_right}
+use Rattle.place_names.specs.declared.act.Act.{Act}
+use Rattle.place_names.specs.declared.act.Act.TheVariants as act
 use Rattle.place_names.specs.declared.act.Placed.{Placed}
+use Rattle.place_names.specs.declared.rule.Rule.TheVariants as rule
 use Rattle.place_names.specs.declared.fact.Fact.TheVariants.{Moved}
 use Rattle.place_names.specs.Facts.{adds}
 use Rattle.place_names.specs.Names.{Name as PlaceName}
@@ -22,11 +25,13 @@ use Rattle.flow_paths.specs.Acts.{acts_of}
 use Rattle.flow_paths.specs.Points.{NamedPoint, FlowPoint}
 use Rattle.flow_paths.specs.Laid.{FlowSub, FlowProgram, NamedSub, temporary_object, declared_within, unnumbered, elaborated, kept_roots, sub_facts, flow_sub, typing_of, flow_typing, flow_program, flow_named}
 use Rattle.flow_paths.specs.Paths.{ControlPath, facts_before}
+use Rattle.flow_paths.specs.Reports.{on_views}
+use Rattle.flow_paths.specs.Views.{text_report, elsewhere, traversed_of, traversed_formal, sub_acts, IsOnlyRoot}
 use Rattle.machine.specs.Run.{no_point}
 use Rattle.flow_paths.specs.Effects.{path_points}
 use Rattle.flow_paths.specs.Scopes.{is_ready}
-use Rattle.machine.specs.States.{sub_of}
-use Rattle.soundness.specs.Sound.{IsNamedSub, IsProcedure, calls_procedures, is_temporary_object}
+use Rattle.machine.specs.States.{no_sub, sub_of}
+use Rattle.soundness.specs.Sound.{IsNamedSub, IsProcedure, IsEntered, calls_procedures, is_temporary_object}
 use Rattle.soundness.specs.Ready.{AreScoped, AreNew, AreElaborated, AreReturning, IsSupplied}
 use Rattle.soundness.proofs.Points.{IsLaid, flow_at}
 use Rattle.soundness.proofs.Typings.{Agree, flow_agrees, instruction_same, package_same}
@@ -47,6 +52,7 @@ use Rattle.ready_laws.proofs.Ready as ordered
 use Rattle.ready_laws.proofs.Ready.{seen_has}
 use Rattle.typed_laws.specs.Needed.{IsFine}
 use Rattle.viewed_steps.specs.Awaited.{is_held}
+use Rattle.viewed_steps.specs.Ready.{AreTraversing}
 use Rattle.view_laws.specs.InOrder.{no_views, stores_name, NamesSource, fits}
 use Rattle.view_laws.specs.Program.{IsViewProgram}
 use Rattle.view_laws.proofs.Same as same
@@ -181,6 +187,47 @@ module _ (table : Table) (typed : TypedProgram) (effects : Effects) (given : IsV
       by_result None answer = refl
       by_result (Some of) answer = valued.named_results table typed effects given sub has p there n actuals result is of answer
 
+  -- ---- traversal functions
+
+  not_traversed : (sub : FlowSub) (f : ℕ) → traverses s.table sub.result ≡ false → traversed_formal s sub ≡ Some f → ⊥
+  not_traversed sub f none traversed = (let never : None ≡ Some f = sym (ap (λ b. traversed_of b sub.formals) none) ∙ traversed in cc)
+
+  -- none is entered
+  none_traverses : (n f : ℕ) → IsEntered program n → traversed_formal s (sub_of program n) ≡ Some f → ⊥
+  none_traverses n f (inl main) = not_traversed (sub_of program n) f
+      (ap (traverses s.table) (subst (λ k. (sub_of program k).result ≡ None)
+      (let same : Some (suc given.order.number) ≡ Some n = sym main_is ∙ main in let number : suc given.order.number ≡ n = cc in number)
+      (ordered.main_result table typed effects given.accepted given.owns given.order given.answered given.passed given.still)))
+  none_traverses n f (inr (sub, has, p, there, actuals, result, is)) = not_traversed (sub_of program n) f (plainly sub has p there n actuals result is).no_traversal
+
+  -- what one gives is named by its first formal, or nothing refutes that (V3)
+  given_through : (n f : ℕ) (sub : FlowSub) → sub_of program n ≡ sub → traversed_formal s sub ≡ Some f → (p : FlowPoint) → Has sub.points p
+      → (m : PlaceName) (b : Bool) → Has (map (λ (a : Placed). a.act) p.acts) (act.Give m b) → (IsOnlyRoot s (sub_acts sub) m.root f → ⊥) → ⊥
+  given_through n f sub is traversed p there m b gives other = elim (sub_or program.subs n) [
+    | inl has ↦ (
+        let at = Has-map_from (λ (a : Placed). a.act) p.acts (act.Give m b) gives in
+        let a : Placed = at.0 in
+        given.accepted.no_reports.complete (text_report a.pos rule.V3 m)
+        (on_views sub (subst (Has program.subs) is has) (elsewhere p a.pos m b (there, subst (Has p.acts) (placed_at a (act.Give m b) at.2) at.1)
+        (λ g also only. other (subst (IsOnlyRoot s (sub_acts sub) m.root) (let same : Some g ≡ Some f = sym also ∙ traversed in let one : g ≡ f = cc in one) only)))))
+    | inr none ↦ (let never : None ≡ Some f = sym (ap (traversed_formal s) none) ∙ ap (traversed_formal s) is ∙ traversed in cc)
+  ]
+    where
+      placed_at : (a : Placed) (b : Act) → a.act ≡ b → a ≡ record { pos = a.pos; act = b }
+      placed_at a b is = (λ i. record { pos = a.pos; act = is i })
+
+      sub_or : (subs : List FlowSub) (k : ℕ) → Has subs (get_or subs k no_sub) ⊎ (get_or subs k no_sub ≡ no_sub)
+      sub_or [] k = inr refl
+      sub_or (x ∷ rest) zero = inl (inl refl)
+      sub_or (x ∷ rest) (suc k) = elim (sub_or rest k) [ inl has ↦ inl (inr has) | inr none ↦ inr none ]
+
+  pub are_traversing : AreTraversing table typed effects
+  are_traversing = record {
+    first = λ n f entered traversed. absurd (none_traverses n f entered traversed);
+    given = given_through;
+    ending = ordered.are_closed table typed effects given.accepted given.owns given.order given.answered given.passed given.still;
+  }
+
   -- ---- the text
 
   pub plain_there : (named : NamedSub) → Elaborates named → (p : NamedPoint) → Has named.points p → IsPlain own p
@@ -290,7 +337,7 @@ module _ (table : Table) (typed : TypedProgram) (effects : Effects) (given : IsV
           ((given.order.bodies given.order.first (subst (λ subs. Has subs given.order.first) (sym given.order.subs) (inl refl))).numbered x has).1
 
   -- the initial values of package objects name nothing that owns, and no view
-  names_none : (named : NamedSub) → Elaborates named → (p : NamedPoint) → Has named.points p → (x : ℕ) → Has (named_in p.instr) x → has_scope_end s x ≡ true → ⊥
+  pub names_none : (named : NamedSub) → Elaborates named → (p : NamedPoint) → Has named.points p → (x : ℕ) → Has (named_in p.instr) x → has_scope_end s x ≡ true → ⊥
   names_none named e p there x names lasts =
       let declared = package_declares s (unnumbered own) given.order.first given.order.declares text_owners p (subst (λ (z : NamedSub). Has z.points p) (sym e) there)
       (still_there named e p there) in
@@ -314,7 +361,7 @@ module _ (table : Table) (typed : TypedProgram) (effects : Effects) (given : IsV
       by true false is none = refl
       by false b is none = refl
 
-  supplied_there : (named : NamedSub) → Has (flow_named table typed) named → (p : NamedPoint) → Has named.points p → IsSupplied s p
+  pub supplied_there : (named : NamedSub) → Has (flow_named table typed) named → (p : NamedPoint) → Has named.points p → IsSupplied s p
   supplied_there = ordered.supplied_there table typed effects given.accepted given.owns given.order given.answered given.passed given.still
 
   new_in : (named : NamedSub) → Has (flow_named table typed) named → IsNewIn (flow_sub own named)

@@ -48,13 +48,13 @@ use Rattle.view_laws.proofs.Formals.{passed_named}
 
 -- ---- lists
 
-dropped_has : (k : ℕ) (xs : List ℕ) (x : ℕ) → Has (drop k xs) x → Has xs x
+pub dropped_has : (k : ℕ) (xs : List ℕ) (x : ℕ) → Has (drop k xs) x → Has xs x
 dropped_has zero [] x has = has
 dropped_has zero (y ∷ xs) x has = has
 dropped_has (suc k) [] x has = has
 dropped_has (suc k) (y ∷ xs) x has = inr (dropped_has k xs x has)
 
-beside_first : (k : ℕ) (t : ℕ) (xs : List ℕ) (x : ℕ) → Has (drop (suc k) (t ∷ xs)) x → Has xs x
+pub beside_first : (k : ℕ) (t : ℕ) (xs : List ℕ) (x : ℕ) → Has (drop (suc k) (t ∷ xs)) x → Has xs x
 beside_first k t xs x has = dropped_has k xs x has
 
 taken_has : (k : ℕ) (xs : List ℕ) (x : ℕ) → Has (take k xs) x → Has xs x
@@ -90,7 +90,7 @@ temporary_from (o ∷ os) ts lasts (suc x) is = temporary_from os ts (λ y. last
 
 -- ---- what is taken alone
 
-takes_one : (i : Instruction) (q : Pos) (n : ℕ) (a : TypedTree) → Takes i (typed_tree.Call q n a) → (k : ℕ) × (taken i ≡ suc k)
+pub takes_one : (i : Instruction) (q : Pos) (n : ℕ) (a : TypedTree) → Takes i (typed_tree.Call q n a) → (k : ℕ) × (taken i ≡ suc k)
 unfolding waiting
 takes_one i q n a (inl (x, is)) = (0, ap taken is)
 takes_one i q n a (inr (inl (p, x, path, u, is, none))) = (waiting path, ap taken is ∙ (let one : 1 + waiting path ≡ suc (waiting path) = omega arith in one))
@@ -125,7 +125,7 @@ module _ (table : Table) (typed : TypedProgram) (effects : Effects) (given : IsV
   abbrev May : ℕ → Type 0
   May n = GivesNamed own n
 
-  weaker : (n : ℕ) → Asked n → May n
+  pub weaker : (n : ℕ) → Asked n → May n
   weaker n scalar t is = no_anonymous (full own.table t) (scalar t is)
 
   -- a temporary of a scalar type, or no temporary
@@ -408,9 +408,6 @@ module _ (table : Table) (typed : TypedProgram) (effects : Effects) (given : IsV
     fills_there : FillsTyped program p.instr (drop (taken p.instr) p.scope)
     fills_there = elim (where_is named has) [ inl e ↦ package_fills named e p there | inr inside ↦ body_fills named has inside p there ]
 
-  pub are_valued : AreValued table typed
-  are_valued = record { lasting = stored_unheld; passed = passed_unheld; takes = takes_there; fills = fills_there }
-
   -- ---- results and temporaries
 
   pub named_results : AreNamedResults program
@@ -470,3 +467,12 @@ module _ (table : Table) (typed : TypedProgram) (effects : Effects) (given : IsV
             let fills = filled_by own (sub_points (unnumbered own) body.0) found.0 (subst (λ (z : NamedSub). Has z.temporaries found.0) (sym body.4) sub.2) in
             filled_named body.0 body.1 fills.0 fills.1 found.0 fills.2)
       ]
+
+  pub are_valued : AreValued table typed
+  are_valued = record {
+    lasting = stored_unheld;
+    passed = passed_unheld;
+    takes = takes_there;
+    seen = λ named has p there. inl (λ x within is. temporaries_named x is);
+    fills = fills_there;
+  }

@@ -8,9 +8,9 @@ use Rattle.typed_tree.specs.Trees.{TypedTree, Name, Call, NoMore, More, TypedCod
 use Rattle.typed_tree.specs.Trees as typed
 use Rattle.typed_tree.specs.Programs.{TypedSub, TypedProgram}
 use Rattle.flow_paths.specs.Instructions.{Instruction, Declare, Assign}
-use Rattle.flow_paths.specs.Objects.{Typing, object_at, sub_at, traverses, is_variable, is_anonymous, is_observer, is_package_object, view_of}
+use Rattle.flow_paths.specs.Objects.{Typing, object_at, sub_at, traverses, is_variable, is_anonymous, is_observer, is_formal, is_package_object, view_of}
 use Rattle.flow_paths.specs.Names.{first, whole}
-use Rattle.flow_paths.specs.Laid.{typing_of}
+use Rattle.flow_paths.specs.Laid.{declared_within, typing_of}
 use Rattle.scope_laws.specs.Code.{roots, body_seen}
 use Rattle.layered_scopes.specs.Layered.{is_older, is_body_layered}
 
@@ -81,6 +81,9 @@ pub record AreViewsInOrder (table : Table) (program : TypedProgram) (first : Typ
   -- what stands around an object is older
   pub layered : (sub : TypedSub) → Has rest sub
       → (n : ℕ) × (is_body_layered (typing_of table program) (is_older (typing_of table program) program.scopes) (fits (typing_of table program)) n sub ≡ true)
+  -- what is declared is no formal, and formals belong to no package
+  pub declared : (sub : TypedSub) → Has program.subs sub → (x : ℕ) → Has (declared_within sub.body) x → is_formal (typing_of table program) x ≡ false
+  pub apart : (x : ℕ) → is_formal (typing_of table program) x ≡ true → is_package_object (typing_of table program) x ≡ false
   -- views are variables of subprograms
   pub local : (x : ℕ) → is_anonymous (view_of (typing_of table program) x) ≡ true
       → (is_variable (object_at (typing_of table program) x).kind ≡ true) × (is_package_object (typing_of table program) x ≡ false)

@@ -155,8 +155,10 @@ module _ (home : ℕ → ℕ) (observer : ℕ → Bool) (v : Views) (other : Aro
         view_on home observer other v s s facts facts' x w (viewed.views x w has) (λ b n loan. own_loan observer facts facts' left.loans b x n loan)
         (reached home observer other v s facts x w (viewed.views x w has));
     whole = apart;
+    past = viewed.past;
     lends = λ k n lent. lends_on observer v facts facts' left.loans k n (viewed.lends k n lent);
     far = viewed.far;
+    bare = λ w n p none. absurd none;
   }
 
   pub emptied : (s t : View) (u : Way) (l : Loc) (facts facts' : List Fact) → IsEmptied s t l → Viewed home observer other v s facts → IsRooted u
@@ -185,6 +187,8 @@ module _ (home : ℕ → ℕ) (observer : ℕ → Bool) (v : Views) (other : Aro
         view_on home observer other v s t facts facts' x w (viewed.views x w has) (λ b n loan. own_loan observer facts facts' left.loans b x n loan)
         (keeps_off s t l d viewed.owned u rooted reaches w (OfCell (v.cell x)) (reached home observer other v s facts x w (viewed.views x w has)) (λ past. off.own x w has past));
     whole = apart;
+    past = viewed.past;
     lends = λ k n lent. lends_on observer v facts facts' left.loans k n (viewed.lends k n lent);
     far = λ w n held. keeps_off s t l d viewed.owned u rooted reaches w (OfCell n) (viewed.far w n held) (λ past. off.far w n held past);
+    bare = λ w n p none. absurd none;
   }

@@ -1,6 +1,6 @@
 -- Places that a call takes for formals of mode `out`. Their leak checks are made before any of them is
 -- emptied; what they have then, they have still when they are.
-use Rattle.std.proofs.Common.{◌≡◌, refl, sym, ◌∙◌, subst, inl, inr, ℕ, List, [], ◌∷◌, ◌++◌}
+use Rattle.std.proofs.Common.{◌≡◌, refl, sym, ◌∙◌, subst, inl, inr, ℕ, suc, ◌<◌, List, [], ◌∷◌, ◌++◌}
 use Rattle.spark_base.specs.Lists.{Has}
 use Rattle.spark_base.specs.declared.position.Pos.{Pos}
 use Rattle.flow_paths.specs.Objects.{Typing}
@@ -29,17 +29,17 @@ abbrev pub found_in : Typing → Memory → List Out → List Leak
 found_in s m [] = []
 found_in s m (o ∷ outs) = leaks_at s o.pos m o.place ++ found_in s m outs
 
--- A place in a variable of a frame has what it had.
+-- A place in a variable of a frame, or of one below, has what it had.
 abbrev pub HasStill : Typing → ℕ → Memory → Memory → Way → Type 0
 HasStill s depth m n to =
-    (y : ℕ) (q p : List Step) → to ≡ along (Object (OfVariable depth y)) q
-    → word_in s.table (content s n [] (OfRoot (OfVariable depth y))) (p ++ q) ≡ word_in s.table (content s m [] (OfRoot (OfVariable depth y))) (p ++ q)
+    (f y : ℕ) (q p : List Step) → f < suc depth → to ≡ along (Object (OfVariable f y)) q
+    → word_in s.table (content s n [] (OfRoot (OfVariable f y))) (p ++ q) ≡ word_in s.table (content s m [] (OfRoot (OfVariable f y))) (p ++ q)
 
 abbrev pub HaveStill : Typing → ℕ → Memory → Memory → List Out → Type 0
 HaveStill s depth m n outs = (o : Out) → Has outs o → HasStill s depth m n o.way
 
 pub still_then : (s : Typing) (depth : ℕ) (a b c : Memory) (to : Way) → HasStill s depth a b to → HasStill s depth b c to → HasStill s depth a c to
-still_then s depth a b c to first second y q p is = second y q p is ∙ first y q p is
+still_then s depth a b c to first second f y q p low is = second f y q p low is ∙ first f y q p low is
 
 -- Of two ways that don't begin each other, neither leads into the place of the other one.
 pub places_apart : (view : View) → Owned view → (to : Way) (at : Loc) → Reaches view to at → (depth y : ℕ) (q p : List Step)
