@@ -70,6 +70,7 @@ pub mod Results
 pub mod Giving
 pub mod ScopeEnds
 pub mod CallEnds
+pub mod CallActs
 pub mod Calling
 pub mod CallBegins
 pub mod Stepping
