@@ -31,7 +31,8 @@ use Rattle.flow_paths.specs.Paths.{is_some_point, ControlPath, facts_before}
 use Rattle.flow_paths.specs.Effects.{flow_sub_at, path_points, globals_of, called_acts}
 use Rattle.flow_paths.specs.Scopes.{taken, brought, scope_behind, is_within, Leads}
 use Rattle.machine.specs.Words as machine
-use Rattle.machine.specs.Memory.{Memory}
+use Rattle.machine.specs.Memory as memory
+use Rattle.machine.specs.Memory.{Memory, Place}
 use Rattle.machine.specs.Evaluate.{Now, Exception}
 use Rattle.machine.specs.States.{Frame, State, sub_of, Outcome}
 use Rattle.machine.specs.Step.{Turn, turn, start, led, successor}
@@ -42,7 +43,7 @@ use Rattle.machine.specs.Owners.{is_in_formal, waiting_in, is_in}
 use Rattle.place_names.specs.declared.act.Mode.TheVariants as mode
 use Rattle.owned_ways.specs.Ways.{Step, Way, after, AllowsAll, Past}
 use Rattle.owned_ways.specs.Ways as ways
-use Rattle.owned_ways.proofs.Locations.{reaches_along, named_along as rooted_along, past_under}
+use Rattle.owned_ways.proofs.Locations.{reaches_along, named_along as rooted_along, past_under, under_along, under_itself}
 use Rattle.soundness.specs.Seen.{is_view_formal, IsNear, content, seen, home, trunk, word_in}
 use Rattle.owned_ways.proofs.Named.{longer}
 use Rattle.owned_ways.proofs.Dropped.{named_base}
@@ -75,7 +76,7 @@ use Rattle.viewed_steps.specs.Awaited.{AreValuesBut, temporaries_of, lasting_of,
 use Rattle.viewed_steps.proofs.Waited.{late_scope, within_lasting, lasting_more, Shares}
 use Rattle.viewed_steps.specs.Sound.{IsCopiedBack, ArePast, HoldsAt, ArePlaced, NoneAbove, ViewStage, stages_of, GoneElsewhere, Disturbs, AreWaiting, LeadsAlong, IsResting, IsKindOfFormal, IsScalarObject, HasTraversals}
 use Rattle.viewed_steps.specs.Ready.{IsReady, roots_passed, IsCalled}
-use Rattle.viewed_steps.specs.Taken.{Lodge}
+use Rattle.viewed_steps.specs.Taken.{Lodge, IsPassedOn}
 use Rattle.viewed_steps.proofs.Lent.{Spare, spare_both, loans_stay}
 use Rattle.viewed_steps.proofs.Placed.{within_on, lasts_more, scope_on, placed_on}
 use Rattle.viewed_steps.proofs.Waiting.{StandsBetween, gone_low, beside_them, handed}
@@ -89,7 +90,7 @@ use Rattle.flow_paths.specs.Effects.{written_by}
 use Rattle.viewed_steps.proofs.Aside.{names_off}
 use Rattle.viewed_steps.proofs.LaidOut.{AreLaidOut, outs_of, cells_of, AreOpenActuals}
 use Rattle.viewed_steps.proofs.Outs.{Out, IsUnderOne}
-use Rattle.viewed_steps.proofs.Entered.{ArePassedOn, IsOpen, AreBlank, not_above, passed_base, outs_taken, inside_plain, inside_named, inside_number, inside_itself, passed_one}
+use Rattle.viewed_steps.proofs.Entered.{ArePassedOn, IsOpen, AreBlank, not_above, passed_base, outs_taken, inside_plain, inside_named, inside_number, inside_itself, passed_one, from_taken, passed_pair}
 use Rattle.viewed_steps.proofs.Passed.{IsNamedBy, all_passed_on, apart_or, apart_there}
 use Rattle.viewed_steps.proofs.Cells.{passed_apart, passed_formal, are_kept, all_in, all_open, IsCellNamed, named_before, cells_named}
 use Rattle.viewed_steps.proofs.Standing.{or_right}
@@ -101,6 +102,8 @@ use Rattle.viewed_steps.proofs.Views.{AreAccess, AreFar, all_held, lies_far, not
 use Rattle.viewed_steps.proofs.Seeing.{AreClear}
 use Rattle.viewed_steps.proofs.Clear.{all_clear}
 use Rattle.viewed_steps.proofs.Exclusive.{first_true, second_true, mode_in, sees_shown, AreLent, are_lent, lent_clears}
+use Rattle.owned_ways.proofs.Unique.{one_way}
+use Rattle.viewed_steps.proofs.Bared.{not_before}
 
 module _ (table : Table) (typed : TypedProgram) (effects : Effects) (input : List ℕ) (ready : IsReady table typed effects) where
   abbrev program : FlowProgram
@@ -654,8 +657,8 @@ module _ (table : Table) (typed : TypedProgram) (effects : Effects) (input : Lis
             (more_gone (home s depth) (sees_only s) views other_all outs_gone outs_apart (view_here s easy.state) own_facts (λ w gone. inl gone) well_before))
 
         -- the names of those cells
-        pub named_cell : (c : Lodge) → Has cells c → IsCellNamed s depth facts_called views view_now formals actuals c
-        named_cell c has = cells_named s ready.owns state.memory depth facts_called procedure views view_now formals actuals passed own_facts laid copies_leave copies_own c has
+        pub named_cell : (c : Lodge) → Has cells c → IsCellNamed s depth facts_called views view_now formals actuals passed c
+        named_cell c has = cells_named s ready.accepted.settled ready.owns state.memory depth facts_called procedure views view_now formals actuals passed own_facts laid copies_leave copies_own c has
 
         pub cell_root : (c : Lodge) (has : Has cells c) → ways.number_of c.name ≡ ways.number_of (named_cell c has).whole
         cell_root c has = sym (longer c.name (named_cell c has).whole (named_cell c has).begins).root
@@ -675,7 +678,7 @@ module _ (table : Table) (typed : TypedProgram) (effects : Effects) (input : Lis
                     home s depth (ways.number_of c.way),
                     ways.number_of c.way,
                     named_base (home s depth) c.way named_there,
-                    not_above s ready.accepted.settled ready.owns in_formals (waiting_in easy.state) state.leaks depth views far_views facts_called next_there (ways.number_of c.way),
+                    not_above s ready.accepted.settled ready.owns in_formals (waiting_in easy.state) state.leaks depth views far_views holds.only facts_called next_there cells (ways.number_of c.way),
                   ))
               | inr held_there ↦ (
                   let foreign = held_there.passed.foreign in (
@@ -686,12 +689,35 @@ module _ (table : Table) (typed : TypedProgram) (effects : Effects) (input : Lis
                   ))
             ]
 
-        -- no place that is taken goes before one
-        pub cell_aside : (c : Lodge) → Has cells c → (to : Way) → Has ways_taken to → ways.Past to c.way → ⊥
-        cell_aside c has to taken past =
+        -- one of another place
+        housed_aside : (c : Lodge) (has : Has cells c) (k : Place) → k.base ≡ memory.OfCell c.cell
+            → (u : Way) × Has ways_taken u × IsPassedOn s cells depth facts_called next_there (named_cell c has).by.formal k u → (to : Way) → Has ways_taken to → ways.Past to c.way → ⊥
+        housed_aside c has k base (u, has_u, one) to taken past = elim (one.inside).stands [
+          | inl variable ↦ (let never : memory.OfVariable (one.inside).frame (one.inside).object ≡ memory.OfCell c.cell = sym variable.2 ∙ base in cc)
+          | inr cell ↦ (
+              let view = view_here s easy.state in
+              let number : (cell.0).0 ≡ c.cell = same_cell (sym (cell.0).2 ∙ base) in
+              let found = one.among (cell.0).0 (cell.0).1 in
+              let reach : ways.Reaches view (one.inside).trunk (ways.OfCell c.cell) =
+              subst (λ z. ways.Reaches view z (ways.OfCell c.cell)) found.2 (subst (λ z. ways.Reaches view found.0.way (ways.OfCell z)) (found.3 ∙ number) (named_cell found.0 found.1).reaches) in
+              let trunk_is : c.way ≡ (one.inside).trunk = one_way view well_all.owned c.way (one.inside).trunk (ways.OfCell c.cell) (named_cell c has).reaches reach in
+              let goes_on : u ≡ ways.along c.way (one.inside).steps = (one.inside).way ∙ ap (λ z. ways.along z (one.inside).steps) (sym trunk_is) in
+              let below : ways.Under c.way u = subst (ways.Under c.way) (sym goes_on) (under_along c.way c.way (one.inside).steps (under_itself c.way)) in
+              elim (passed_pair s state.memory cells depth facts_called next_there formals passed ways_taken outs all_passed_ways.1 to u taken has_u) [
+                | inl same ↦ not_before c.way (one.inside).steps (subst (λ z. ways.Past z c.way) (same ∙ goes_on) past)
+                | inr apart ↦ apart.0 (under_on to c.way u (past_under to c.way past) below)
+              ])
+        ]
+          where
+            same_cell : {a b : ℕ} → memory.OfCell a ≡ memory.OfCell b → a ≡ b
+            same_cell e = cc
+
+        -- one of a scalar place
+        scalar_aside : (c : Lodge) (has : Has cells c) → IsScalarObject s (named_cell c has).by.formal → (to : Way) → Has ways_taken to → ways.Past to c.way → ⊥
+        scalar_aside c has scalar to taken past =
             let one = passed_one s state.memory cells depth facts_called next_there formals passed ways_taken outs all_passed_ways.1 to taken in
             let inside = (one.2).inside in
-            let itself : expand views to ≡ to = inside_itself s ready.accepted.settled depth one.1 to inside views in
+            let itself : expand views to ≡ to = inside_itself s ready.accepted.settled depth one.1 to inside views holds.only in
             let plain_to : sees_only s (ways.number_of to) ≡ false =
             ap (sees_only s) (inside_number s ready.accepted.settled depth one.1 to inside)
             ∙ owner_sees s inside.object (inside_plain s ready.accepted.settled depth one.1 to inside) inside.owner in
@@ -700,19 +726,27 @@ module _ (table : Table) (typed : TypedProgram) (effects : Effects) (input : Lis
             subst (λ z. ways.Under z (expand views cell.whole)) cell.leads (expand_under views c.name cell.whole (λ r is. absurd (cell.deep r is)) cell.begins) in
             names_off (home s depth) (sees_only s) views (view_here s easy.state) facts_called well_all.views well_all.clear to cell.whole
             (inside_named s ready.accepted.settled depth one.1 to inside, plain_to) (cell.named, cell.plain) (one.2).unlent cell.unlent
-            (λ over. taken_apart to taken c has over)
+            (λ over. taken_apart to taken c has scalar over)
             (under_on (expand views to) c.way (expand views cell.whole) (subst (λ z. ways.Under z c.way) (sym itself) (past_under to c.way past)) below)
           where
-            taken_apart : (to : Way) → Has ways_taken to → (c : Lodge) (has : Has cells c) → overlaps (ways.name_of to) (ways.name_of (named_cell c has).whole) ≡ true → ⊥
-            taken_apart to taken c has over =
+            taken_apart : (to : Way) → Has ways_taken to → (c : Lodge) (has : Has cells c) → IsScalarObject s (named_cell c has).by.formal → overlaps (ways.name_of to) (ways.name_of (named_cell c has).whole) ≡ true → ⊥
+            taken_apart to taken c has scalar over =
                 let by = all_passed_ways.2 to taken in
                 let cell = named_cell c has in
                 elim no_overlap [
                   | inr plain ↦ true_false (is_scalar (full s.table (object_at s (by.0).formal).of)) (plain (by.0).formal (passed_formal formals actuals by.0 by.1) by.2) by.4
                   | inl none ↦ passed_apart s formals actuals none by.0 cell.by by.1 cell.among by.2 cell.back
-                      (λ same. true_false (is_scalar (full s.table (object_at s (by.0).formal).of)) (subst (IsScalarObject s) (sym same) cell.scalar) by.4)
+                      (λ same. true_false (is_scalar (full s.table (object_at s (by.0).formal).of)) (subst (IsScalarObject s) (sym same) scalar) by.4)
                       (subst (λ z. overlaps z cell.by.actual.name ≡ true) (sym by.3) (subst (λ z. overlaps (ways.name_of to) z ≡ true) (sym cell.called) over))
                 ]
+
+        -- no place that is taken goes before one
+        pub cell_aside : (c : Lodge) → Has cells c → (to : Way) → Has ways_taken to → ways.Past to c.way → ⊥
+        cell_aside c has to taken past = elim (named_cell c has).sort [
+          | inl scalar ↦ scalar_aside c has scalar to taken past
+          | inr (k, base, from, many) ↦ housed_aside c has k base (from_taken s state.memory cells depth facts_called next_there formals passed ways_taken outs all_passed_ways.1
+              (named_cell c has).by.formal k from many) to taken past
+        ]
 
         -- a package object that is passed to be copied back to is written
         act_of_passed : (b : alias.Passed) → Has (alias.passed formals actuals) b → IsCopiedBack s b.formal → is_package_object s b.actual.name.root ≡ true
@@ -787,7 +821,7 @@ module _ (table : Table) (typed : TypedProgram) (effects : Effects) (input : Lis
                   | inl (inl (u, moved, leads)) ↦ elim (stands (home s depth) (sees_only s) views (view_here s easy.state) own_facts well_before.views u
                       (moved.0, well_before.clear.owned (ways.name_of u) moved.1)) [
                         | inl own ↦ not_named (home s depth) (suc depth) x
-                            (not_above s ready.accepted.settled ready.owns in_formals (waiting_in easy.state) state.leaks depth views far_views facts_called next_there) w
+                            (not_above s ready.accepted.settled ready.owns in_formals (waiting_in easy.state) state.leaks depth views far_views holds.only facts_called next_there cells) w
                             (subst (ways.Named (home s depth)) leads own.0) (base_along (ways.Object root) q)
                         | inr held_there ↦ (
                             let foreign = held_there.passed.foreign in
