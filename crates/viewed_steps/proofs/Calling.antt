@@ -287,7 +287,7 @@ module _ (table : Table) (typed : TypedProgram) (effects : Effects) (input : Lis
           ⊎ AreLent s facts_now formals actuals
       by_callee = acting.by_callee table typed effects input ready state top below more_frames rest named p frames deep stages running awaiting of_sub at_point path views viewed_before kept scope holds placed_before above n actuals result e
 
-      abbrev clear_there : AreClear s facts_now formals actuals
+      abbrev pub clear_there : AreClear s facts_now formals actuals
       clear_there = acting.clear_there table typed effects input ready state top below more_frames rest named p frames deep stages running awaiting of_sub at_point path views viewed_before kept scope holds placed_before above n actuals result e
 
       abbrev lows_there : AreLowRoots s depth views formals actuals
