@@ -62,7 +62,7 @@ use Rattle.viewed_soundness.proofs.Outcomes.{IsGood, IsSame, Comes, Turned, Lead
 scalar_on : (table : Table) (a b : ℕ) → shape_of table a ≡ shape_of table b → is_scalar (full table a) ≡ true → is_scalar (full table b) ≡ true
 scalar_on table a b e p = sym (ap (λ z. is_scalar (view_of_shape z)) e) ∙ p
 
-matches_on : (table : Table) (a b c : ℕ) → Matches table a b → Matches table a c → Matches table b c
+pub matches_on : (table : Table) (a b c : ℕ) → Matches table a b → Matches table a c → Matches table b c
 matches_on table a b c (inl e) (inl f) = inl (sym e ∙ f)
 matches_on table a b c (inl e) (inr g) = inr (scalar_on table a b e g.0, g.1)
 matches_on table a b c (inr e) (inl f) = inr (e.1, scalar_on table a c f e.0)

@@ -42,6 +42,8 @@ pub mod LaidOut
 -- what formals are shown that own nothing
 pub mod Seeing
 pub mod Clear
+pub mod Reading
+pub mod Puts
 pub mod Called
 pub mod Acted
 -- the views of what is called
@@ -65,6 +67,7 @@ pub mod Operands
 pub mod Alone
 pub mod Taking
 pub mod Results
+pub mod Giving
 pub mod ScopeEnds
 pub mod CallEnds
 pub mod Calling
