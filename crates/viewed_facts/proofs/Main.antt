@@ -6,7 +6,6 @@ use Rattle.spark_base.specs.Lists.{Has}
 use Rattle.spark_base.proofs.Lists.{Has-append_left, Has-map_from}
 use Rattle.spark_base.specs.declared.position.Pos.{Pos}
 use Rattle.place_names.specs.declared.selector.Sel.{Sel}
-use Rattle.place_names.specs.declared.act.Act.{Act}
 use Rattle.place_names.specs.declared.act.Placed.{Placed}
 use Rattle.place_names.specs.declared.fact.Fact.{Fact}
 use Rattle.place_names.specs.declared.fact.Fact.TheVariants.{Moved}
@@ -33,7 +32,7 @@ use Rattle.machine.specs.Step.{Turn, turn, start}
 use Rattle.machine.specs.Step as steps
 use Rattle.machine.specs.Owners.{waiting_in}
 use Rattle.machine.specs.Run.{no_point, step}
-use Rattle.owned_ways.specs.Ways.{Way, View, Told, after}
+use Rattle.owned_ways.specs.Ways.{Way, View, Told}
 use Rattle.soundness.specs.Seen.{home, seen}
 use Rattle.soundness.specs.Typed.{Kept}
 use Rattle.soundness.specs.Sound.{Stage, facts_of, AreStages, IsRunnable, InScope, IsNamedSub, IsAtPoint, view_of as view_here}
@@ -232,7 +231,7 @@ module _ (table : Table) (typed : TypedProgram) (effects : Effects) (input : Lis
           by_room false full = subst (λ z. NoneFails Excused spots (checks_of z)) (sym (enters.full passed state.memory full)) (none_made Excused spots)
           by_room true fits =
               subst (λ z. NoneFails Excused spots (checks_of z)) (sym (enters.fits passed state.memory fits))
-              (outs_hold s ready.accepted.settled depth views elsewhere_here state.memory (waiting_in state) state.leaks facts_here variables_here (here.exact table typed effects input ready state top below more_frames rest named p frames deep stages running awaiting of_sub at_point path views viewed_before kept scope holds placed_before above exact_before) Excused p.pos procedure
+              (outs_hold s ready.accepted.settled depth views elsewhere_here state.memory (waiting_in state) state.leaks facts_here variables_here (here.exact table typed effects input ready state top below more_frames rest named p frames deep stages running awaiting of_sub at_point path views viewed_before kept scope holds placed_before above exact_before) kept holds.only Excused p.pos procedure
               (values ++ copies) knows_there view_there formals actuals passed laid called.actuals_stay values refl)
 
       evaluated_holds : (f : List Passed → Memory → Outcome) → Enters at ready.accepted.settled n actuals f → (y : Evaluated (List Passed))
