@@ -151,8 +151,17 @@ abbrev pub PassFitActuals : Program → Type 0
 PassFitActuals p =
     (sub : TypedSub) → Has (typed_of p).subs sub → CodeCalls (λ n actuals. AreFitActuals (laid_in p) (sub_at (laid_in p) n).formals actuals) sub.body
 
--- An actual that a formal of a named access type sees is rooted in a borrower or observer only where the subprogram that
--- calls lends no part of a package object.
+-- No actual that a formal of a named access type sees is rooted in a borrower or observer.
+abbrev pub AreOwnersShown : Typing → List ℕ → TypedTree → Type 0
+AreOwnersShown s (x ∷ formals) (More e rest) =
+    (is_view_formal s x ≡ true → (y : ℕ) → Has (root_of e) y → is_anonymous (view_of s y) ≡ false) × AreOwnersShown s formals rest
+AreOwnersShown s formals actuals = Unit {0}
+
+abbrev pub ShowOwners : Program → Type 0
+ShowOwners p =
+    (sub : TypedSub) → Has (typed_of p).subs sub → CodeCalls (λ n actuals. AreOwnersShown (laid_in p) (sub_at (laid_in p) n).formals actuals) sub.body
+
+-- Or only where the subprogram that calls lends no part of a package object.
 abbrev pub AreShownFit : Typing → Type 0 → List ℕ → TypedTree → Type 0
 AreShownFit s shared (x ∷ formals) (More e rest) =
     (is_formal s x ≡ true → IsScalarAt s x ⊎ ((y : ℕ) → Has (root_of e) y → is_anonymous (view_of s y) ≡ true → shared → ⊥))
@@ -175,4 +184,4 @@ pub record CallsWithOwners (p : Program) : Type 0 where
   pub formals : FormalsAreKinds p
   pub seen : FunctionsSee p
   pub passed : PassFitActuals p
-  pub shown : ShowsFit p
+  pub shown : ShowOwners p ⊎ ShowsFit p

@@ -22,7 +22,7 @@ use Rattle.typed_steps.specs.Steps.{Taken, IsPlaceOf, IsActual, ActualsTaken, Is
 use Rattle.soundness.specs.Ready.{root_of}
 use Rattle.soundness.proofs.Passing.{plain_type, signature_there}
 use Rattle.ready_laws.proofs.Actuals.{taken_stays, scalar_back}
-use Rattle.sound_files.specs.Class.{IsShownActual, IsCopiedActual, IsKeptActual, IsFitActual, AreFitActuals, AreShownFit}
+use Rattle.sound_files.specs.Class.{IsShownActual, IsCopiedActual, IsKeptActual, IsFitActual, AreFitActuals, AreOwnersShown, AreShownFit}
 use Rattle.viewed_steps.specs.Sound.{IsScalarObject, IsKindOfFormal, IsReachedBack, AreKeptPlaces, AreShownOwn}
 use Rattle.viewed_steps.specs.Ready.{IsSeen, IsCopyOf, IsValueTo, IsActualTo, AreActualsTo}
 use Rattle.view_laws.specs.Program.{PassActuals}
@@ -144,6 +144,12 @@ shown_own s own_law shared (x ∷ formals) (More e rest) fit = (
 )
 shown_own s own_law shared [] actuals fit = tt
 shown_own s own_law shared (x ∷ formals) actuals fit = tt
+
+pub owners_own : (s : Typing) (shared : Type 0) (formals : List ℕ) (actuals : TypedTree) → AreOwnersShown s formals actuals → AreShownOwn s shared formals actuals
+owners_own s shared (x ∷ formals) (More e rest) fit =
+    ((λ view y has anonymous both. (let no : true ≡ false = sym anonymous ∙ fit.0 view y has in cc)), owners_own s shared formals rest fit.1)
+owners_own s shared [] actuals fit = tt
+owners_own s shared (x ∷ formals) actuals fit = tt
 
 module _ (program : FlowProgram) where
   abbrev s : Typing
