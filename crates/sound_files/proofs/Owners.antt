@@ -21,7 +21,7 @@ use Rattle.machine.specs.Run.{no_point}
 use Rattle.soundness.proofs.Passing.{signature_is}
 use Rattle.soundness.proofs.Typings.{Agree, flow_agrees}
 use Rattle.viewed_steps.specs.Sound.{LendsShared}
-use Rattle.called_subs.specs.Called.{PointCalls}
+use Rattle.called_subs.specs.Called.{PointCalls, CodeCalls}
 use Rattle.called_subs.proofs.Main.{points_asked_at}
 use Rattle.called_subs.proofs.Statements.{IsFineSub}
 use Rattle.ready_laws.specs.InOrder.{IsSub}
@@ -161,7 +161,7 @@ module _ (p : Program) where
 
   code_passed : FormalsAreScalar p → CopyToVariables p → PassFitActuals p
   code_passed all copied sub has =
-      code_weaker (λ n actuals. AreCopied own (sub_at own n).formals actuals) Passed
+      code_weaker (λ n actuals. AreCopied own (sub_at own n).formals actuals) (λ n actuals. AreFitActuals wide (sub_at wide n).formals actuals)
       (λ n actuals h. subst (λ (z : Signature). AreFitActuals wide z.formals actuals) (sym (signature_same p n)) (scalar_passed all (sub_at own n).formals actuals h))
       sub.body (copied sub has)
 
