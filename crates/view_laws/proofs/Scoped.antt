@@ -1,6 +1,6 @@
 -- Of an accepted program with borrowers and observers whose subprograms are in order: that no fact speaks of an
 -- object that is declared, beside what `ready_laws` says of any program in order.
-use Rattle.std.proofs.Common.{◌≡◌, refl, sym, ap, ◌∙◌, subst, ◌⊎◌, inl, inr, ℕ, zero, suc, Bool, true, false, not, ◌&&◌, ◌||◌, List, [], ◌∷◌, map, get_or, Option, None, Some}
+use Rattle.std.proofs.Common.{◌≡◌, refl, sym, ap, ◌∙◌, subst, ◌⊎◌, inl, inr, ℕ, suc, Bool, true, false, not, ◌&&◌, ◌||◌, List, ◌∷◌, map, get_or, Option, None, Some}
 use Rattle.std.specs.Prelude.{reverse}
 use Rattle.std.specs.List.{AllByRecursion}
 use Rattle.spark_base.specs.declared.position.Pos.{Pos}
@@ -30,7 +30,7 @@ use Rattle.flow_paths.specs.Views.{text_report, elsewhere, traversed_of, travers
 use Rattle.machine.specs.Run.{no_point}
 use Rattle.flow_paths.specs.Effects.{path_points}
 use Rattle.flow_paths.specs.Scopes.{is_ready}
-use Rattle.machine.specs.States.{no_sub, sub_of}
+use Rattle.machine.specs.States.{sub_of}
 use Rattle.soundness.specs.Sound.{IsNamedSub, IsProcedure, IsEntered, calls_procedures, is_temporary_object}
 use Rattle.soundness.specs.Ready.{AreScoped, AreNew, AreElaborated, AreReturning, IsSupplied}
 use Rattle.soundness.proofs.Points.{IsLaid, flow_at}
@@ -53,6 +53,7 @@ use Rattle.ready_laws.proofs.Ready.{seen_has}
 use Rattle.typed_laws.specs.Needed.{IsFine}
 use Rattle.viewed_steps.specs.Awaited.{is_held}
 use Rattle.viewed_steps.specs.Ready.{AreTraversing}
+use Rattle.soundness.proofs.Points.{sub_there}
 use Rattle.view_laws.specs.InOrder.{no_views, stores_name, NamesSource, fits}
 use Rattle.view_laws.specs.Program.{IsViewProgram}
 use Rattle.view_laws.proofs.Same as same
@@ -201,30 +202,36 @@ module _ (table : Table) (typed : TypedProgram) (effects : Effects) (given : IsV
   none_traverses n f (inr (sub, has, p, there, actuals, result, is)) = not_traversed (sub_of program n) f (plainly sub has p there n actuals result is).no_traversal
 
   -- what one gives is named by its first formal, or nothing refutes that (V3)
-  given_through : (n f : ℕ) (sub : FlowSub) → sub_of program n ≡ sub → traversed_formal s sub ≡ Some f → (p : FlowPoint) → Has sub.points p
-      → (m : PlaceName) (b : Bool) → Has (map (λ (a : Placed). a.act) p.acts) (act.Give m b) → (IsOnlyRoot s (sub_acts sub) m.root f → ⊥) → ⊥
-  given_through n f sub is traversed p there m b gives other = elim (sub_or program.subs n) [
-    | inl has ↦ (
-        let at = Has-map_from (λ (a : Placed). a.act) p.acts (act.Give m b) gives in
-        let a : Placed = at.0 in
-        given.accepted.no_reports.complete (text_report a.pos rule.V3 m)
-        (on_views sub (subst (Has program.subs) is has) (elsewhere p a.pos m b (there, subst (Has p.acts) (placed_at a (act.Give m b) at.2) at.1)
-        (λ g also only. other (subst (IsOnlyRoot s (sub_acts sub) m.root) (let same : Some g ≡ Some f = sym also ∙ traversed in let one : g ≡ f = cc in one) only)))))
-    | inr none ↦ (let never : None ≡ Some f = sym (ap (traversed_formal s) none) ∙ ap (traversed_formal s) is ∙ traversed in cc)
-  ]
+  given_through : (sub : FlowSub) → Has program.subs sub → (p : FlowPoint) → Has sub.points p
+      → (m : PlaceName) (b : Bool) → Has (map (λ (a : Placed). a.act) p.acts) (act.Give m b)
+      → ((f : ℕ) → traversed_formal s sub ≡ Some f → IsOnlyRoot s (sub_acts sub) m.root f → ⊥) → ⊥
+  given_through sub has p there m b gives none =
+      let at = Has-map_from (λ (a : Placed). a.act) p.acts (act.Give m b) gives in
+      let a : Placed = at.0 in
+      given.accepted.no_reports.complete (text_report a.pos rule.V3 m)
+      (on_views sub has (elsewhere p a.pos m b (there, subst (Has p.acts) (placed_at a (act.Give m b) at.2) at.1) none))
     where
       placed_at : (a : Placed) (b : Act) → a.act ≡ b → a ≡ record { pos = a.pos; act = b }
       placed_at a b is = (λ i. record { pos = a.pos; act = is i })
 
-      sub_or : (subs : List FlowSub) (k : ℕ) → Has subs (get_or subs k no_sub) ⊎ (get_or subs k no_sub ≡ no_sub)
-      sub_or [] k = inr refl
-      sub_or (x ∷ rest) zero = inl (inl refl)
-      sub_or (x ∷ rest) (suc k) = elim (sub_or rest k) [ inl has ↦ inl (inr has) | inr none ↦ inr none ]
+  -- so none has a result of an anonymous type
+  none_gives : (n : ℕ) → IsEntered program n → traverses s.table (sub_of program n).result ≡ true → ⊥
+  none_gives n (inl main) gives = (
+      let same : Some (suc given.order.number) ≡ Some n = sym main_is ∙ main in
+      let number : suc given.order.number ≡ n = cc in
+      let none = subst (λ k. (sub_of program k).result ≡ None) number
+      (ordered.main_result table typed effects given.accepted given.owns given.order given.answered given.passed given.still) in
+      (let never : true ≡ false = sym gives ∙ ap (traverses s.table) none in cc))
+  none_gives n (inr (sub, has, p, there, actuals, result, is)) gives =
+      (let never : true ≡ false = sym gives ∙ (plainly sub has p there n actuals result is).no_traversal in cc)
 
   pub are_traversing : AreTraversing table typed effects
   are_traversing = record {
     first = λ n f entered traversed. absurd (none_traverses n f entered traversed);
+    formal = λ n entered gives. absurd (none_gives n entered gives);
     given = given_through;
+    returned = λ n entered named of_named p there e last is of result view. absurd (none_gives n entered
+        (ap (traverses s.table) (ap (λ (z : FlowSub). z.result) (sub_there table typed n named of_named) ∙ result) ∙ view));
     ending = ordered.are_closed table typed effects given.accepted given.owns given.order given.answered given.passed given.still;
   }
 

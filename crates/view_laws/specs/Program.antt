@@ -1,5 +1,5 @@
 -- A program with borrowers and observers and what is known of it.
-use Rattle.std.specs.Prelude.{◌≡◌, ◌⊎◌, ℕ, suc, true, false, Option, Some, None}
+use Rattle.std.specs.Prelude.{◌≡◌, ℕ, suc, true, false, Option, Some, None}
 use Rattle.spark_base.specs.Lists.{Has}
 use Rattle.place_names.specs.declared.act.Mode.TheVariants as mode
 use Rattle.type_definitions.specs.Types.{Table, full, is_scalar}
@@ -18,7 +18,7 @@ use Rattle.scope_laws.specs.Alone.{ResultsFit}
 use Rattle.ready_laws.specs.InOrder.{IsInOrder, AreAnswered, AreStill, ArePassed}
 use Rattle.soundness.specs.Seen.{is_view_formal}
 use Rattle.viewed_soundness.specs.Holds.{PartsAreNamed, is_exclusive}
-use Rattle.viewed_steps.specs.Sound.{IsScalarObject, IsShown, IsKindOfFormal, AreKeptPlaces}
+use Rattle.viewed_steps.specs.Sound.{IsScalarObject, IsKindOfFormal, AreKeptPlaces}
 use Rattle.viewed_steps.specs.Ready.{AreActualsTo}
 use Rattle.view_laws.specs.InOrder.{AreViewsInOrder}
 

@@ -7,6 +7,7 @@ pub mod Instructions
 pub mod Releases
 pub mod Loops
 pub mod Viewing
+pub mod Given
 pub mod Frames
 pub mod Here
 pub mod Stepping

@@ -33,7 +33,7 @@ use Rattle.machine.specs.Step.{Turn, turn, start}
 use Rattle.machine.specs.Step as steps
 use Rattle.machine.specs.Owners.{waiting_in}
 use Rattle.machine.specs.Run.{no_point, step}
-use Rattle.owned_ways.specs.Ways.{Way, Told, after}
+use Rattle.owned_ways.specs.Ways.{Way, View, Told, after}
 use Rattle.soundness.specs.Seen.{home, seen}
 use Rattle.soundness.specs.Typed.{Kept}
 use Rattle.soundness.specs.Sound.{Stage, facts_of, AreStages, IsRunnable, InScope, IsNamedSub, IsAtPoint, view_of as view_here}
@@ -44,10 +44,11 @@ use Rattle.soundness.proofs.Stays.{Quiet}
 use Rattle.soundness.proofs.Typings.{Agree}
 use Rattle.soundness.proofs.Passing.{Enters, frames_with, signature_is}
 use Rattle.owned_loans.specs.Views.{Around, known_gone, Views, Viewed}
-use Rattle.viewed_steps.specs.Sound.{ArePast, IsResting, HoldsAt, ArePlaced, NoneAbove, ViewStage, stages_of, GoneElsewhere, AreWaiting, IsRunning}
+use Rattle.viewed_steps.specs.Sound.{ArePast, IsResting, HoldsAt, ArePlaced, NoneAbove, ViewStage, stages_of, GoneElsewhere, AreWaiting, IsRunning, HasTraversals}
 use Rattle.viewed_steps.specs.Awaited.{AreAwaited, lasting_of}
 use Rattle.viewed_steps.specs.Ready.{IsCalled, IsReady}
-use Rattle.viewed_steps.proofs.Called.{AreLaidOut, call_adds_none}
+use Rattle.viewed_steps.proofs.Called.{call_adds_none}
+use Rattle.viewed_steps.proofs.LaidOut.{AreLaidOut}
 use Rattle.viewed_steps.proofs.Passed.{after_less}
 use Rattle.viewed_steps.proofs.Standing as standing
 use Rattle.viewed_steps.proofs.Calling as calling
@@ -124,7 +125,8 @@ module _ (table : Table) (typed : TypedProgram) (effects : Effects) (input : Lis
       (viewed_before : Viewed (home s (suc (length rest))) (sees_only s) (known_gone (home s (suc (length rest))) (GoneElsewhere program effects (below ∷ more_frames))) views
       (view_here s state) (facts_of program effects top))
       (kept : Kept s state.memory (waiting_in state)) (scope : InScope s state.memory (suc (length rest)) (lasting_of s p.scope)) (holds : HoldsAt s (suc (length rest)) views state.memory p)
-      (placed_before : ArePlaced program (suc (length rest)) (facts_of program effects top) views p.scope × ArePast s (suc (length rest)) views (below ∷ more_frames)) (above : NoneAbove s (suc (length rest)) state.memory)
+      (placed_before : ArePlaced program (suc (length rest)) (facts_of program effects top) views p.scope × ArePast s (suc (length rest)) views (below ∷ more_frames)) (above : NoneAbove s (suc (length rest)) state.memory
+      × HasTraversals table typed (view_here s state) (record { stage = top; views = views; cells = [] } ∷ (below ∷ more_frames)))
       (exact_before : Told (seen s state.memory [] []) (IsDefiniteOf program effects (record { stage = top; views = views; cells = [] } ∷ (below ∷ more_frames)))) where
     abbrev outer : List Frame
     outer = below.stage.frame ∷ rest
@@ -179,6 +181,9 @@ module _ (table : Table) (typed : TypedProgram) (effects : Effects) (input : Lis
           definite_variable (home s depth) (sees_only s) other views elsewhere_here (λ w gone. of_others s depth other w (here.away table typed effects input ready state top below more_frames rest named p frames deep stages running awaiting of_sub at_point path views viewed_before kept scope holds placed_before above exact_before w gone))
           (view_here s state) facts_here (here.viewed table typed effects input ready state top below more_frames rest named p frames deep stages running awaiting of_sub at_point path views viewed_before kept scope holds placed_before above exact_before)
 
+      abbrev view_there : View
+      view_there = calling.view_now table typed effects input ready state top below more_frames rest named p frames deep stages running awaiting of_sub at_point path views viewed_before kept scope holds placed_before above n actuals result e
+
       abbrev Given_there : List Passed → Type 0
       Given_there = calling.Given table typed effects input ready state top below more_frames rest named p frames deep stages running awaiting of_sub at_point path views viewed_before kept scope holds placed_before above n actuals result e
 
@@ -213,14 +218,13 @@ module _ (table : Table) (typed : TypedProgram) (effects : Effects) (input : Lis
             after_less (acts front)
                 (λ a there. (let from = Has-map_from (λ (z : Placed). z.act) front a there in
                 λ f new. call_adds_none s ready.owns procedure formals actuals
-                (calling.kinds table typed effects input ready state top below more_frames rest named p frames deep stages running awaiting of_sub at_point path views viewed_before kept scope holds placed_before above n actuals result e)
                 called.actuals_stay from.0
                 (subst (λ z. Has z from.0) (sym is) (Has-append_left front others from.0 from.1)) f (subst (λ z. Has (adds z) f) (sym from.2) new)))
                 facts_here (Moved (extend name q)) known.1,
           )
 
       -- where the actuals are evaluated, the checks of the outs are made in the memory before the call
-      entered_holds : (f : List Passed → Memory → Outcome) → Enters at ready.accepted.settled n actuals f → (passed : List Passed) → AreLaidOut s depth formals actuals passed
+      entered_holds : (f : List Passed → Memory → Outcome) → Enters at ready.accepted.settled n actuals f → (passed : List Passed) → AreLaidOut s state.memory depth views view_there formals actuals passed
           → NoneFails Excused spots (checks_of (f passed state.memory))
       entered_holds f enters passed laid = by_room (nat_le (frames_with at ready.accepted.settled n actuals passed state.memory) stack_words) refl
         where
@@ -229,7 +233,7 @@ module _ (table : Table) (typed : TypedProgram) (effects : Effects) (input : Lis
           by_room true fits =
               subst (λ z. NoneFails Excused spots (checks_of z)) (sym (enters.fits passed state.memory fits))
               (outs_hold s ready.accepted.settled depth views elsewhere_here state.memory (waiting_in state) state.leaks facts_here variables_here (here.exact table typed effects input ready state top below more_frames rest named p frames deep stages running awaiting of_sub at_point path views viewed_before kept scope holds placed_before above exact_before) Excused p.pos procedure
-              (values ++ copies) knows_there formals actuals passed laid called.actuals_stay values refl)
+              (values ++ copies) knows_there view_there formals actuals passed laid called.actuals_stay values refl)
 
       evaluated_holds : (f : List Passed → Memory → Outcome) → Enters at ready.accepted.settled n actuals f → (y : Evaluated (List Passed))
           → Quiet (calling.then_now table typed effects input ready state top below more_frames rest named p frames deep stages running awaiting of_sub at_point path views viewed_before kept scope holds placed_before above n actuals result e) Given_there y → NoneFails Excused spots (checks_of (steps.evaluated at y f))
@@ -270,20 +274,22 @@ module _ (table : Table) (typed : TypedProgram) (effects : Effects) (input : Lis
       → Viewed (home s top.depth) (sees_only s) (known_gone (home s top.depth) (GoneElsewhere program effects older)) views (view_here s state) (facts_of program effects top)
       → Kept s state.memory (waiting_in state)
       → (named : NamedSub) → IsNamedSub (flow_named table typed) top.frame.sub named → (p : NamedPoint) → IsAtPoint named.points top.frame.next p
-      → InScope s state.memory top.depth (lasting_of s p.scope) → HoldsAt s top.depth views state.memory p → ArePlaced program (facts_of program effects top) views p.scope
-      → NoneAbove s top.depth state.memory → Told (seen s state.memory [] []) (IsDefiniteOf program effects (record { stage = top; views = views; cells = [] } ∷ older))
+      → InScope s state.memory top.depth (lasting_of s p.scope) → HoldsAt s top.depth views state.memory p → ArePlaced program top.depth (facts_of program effects top) views p.scope × ArePast s top.depth views older
+      → NoneAbove s top.depth state.memory × HasTraversals table typed (view_here s state) (record { stage = top; views = views; cells = [] } ∷ older)
+      → Told (seen s state.memory [] []) (IsDefiniteOf program effects (record { stage = top; views = views; cells = [] } ∷ older))
       → Holds top state
   by_stages state top views [] fs is stages running awaiting path well kept named of_sub p at_point scope holds there above exact =
       package_holds state top named p running.0 of_sub at_point
   by_stages state top views (below ∷ more) (f ∷ (g ∷ rest)) is (frame, deep, (around_frame, deeper, others)) running awaiting path well kept named of_sub p at_point scope holds there above exact =
       main_holds state top below more rest named p (is ∙ (λ j. sym frame j ∷ (sym around_frame j ∷ rest))) deep (refl, deeper, others) running awaiting of_sub at_point path views
       (subst (λ d. Viewed (home s d) (sees_only s) (known_gone (home s d) (GoneElsewhere program effects (below ∷ more))) views (view_here s state) (facts_of program effects top)) deep well) kept
-      (subst (λ d. InScope s state.memory d (lasting_of s p.scope)) deep scope) (subst (λ d. HoldsAt s d views state.memory p) deep holds) there
-      (subst (λ d. NoneAbove s d state.memory) deep above) exact
+      (subst (λ d. InScope s state.memory d (lasting_of s p.scope)) deep scope) (subst (λ d. HoldsAt s d views state.memory p) deep holds)
+      (subst (λ d. ArePlaced program d (facts_of program effects top) views p.scope × ArePast s d views (below ∷ more)) deep there)
+      (subst (λ d. NoneAbove s d state.memory) deep above.0, above.1) exact
   by_stages state top views (below ∷ more) [] is stages running awaiting path well kept named of_sub p at_point scope holds there above exact = absurd stages
   by_stages state top views (below ∷ more) (f ∷ []) is stages running awaiting path well kept named of_sub p at_point scope holds there above exact = absurd stages.2
 
   pub excused_hold : ExcusedHold table typed effects input
   excused_hold state sound exact =
       by_stages state sound.top sound.views sound.older state.frames refl sound.stages sound.running sound.awaited sound.path sound.viewed sound.kept sound.named sound.of_sub
-      sound.point sound.at_point sound.scope sound.holds sound.placed sound.none_above exact
+      sound.point sound.at_point sound.scope sound.holds (sound.placed, sound.past) (sound.none_above, sound.traversals) exact

@@ -31,7 +31,7 @@ use Rattle.soundness.proofs.Freeing.{plain_parts}
 use Rattle.owned_loans.specs.Views.{Views, expand}
 use Rattle.viewed_steps.specs.Ready.{IsActualTo, AreActualsTo}
 use Rattle.viewed_steps.specs.Sound.{IsScalarObject}
-use Rattle.viewed_steps.proofs.Called.{IsOwnPut, IsPlaceLaid, IsLaidOne, AreLaidOut}
+use Rattle.viewed_steps.proofs.LaidOut.{IsOwnPut, IsPlainAt, IsPlaceLaid, IsLaidOne, AreLaidOut}
 use Rattle.viewed_steps.proofs.Carried.{inside_at, inside_spot, inside_reached}
 use Rattle.viewed_steps.proofs.Entered.{inside_named, inside_itself}
 use Rattle.exact_facts.specs.Exact.{IsOfVariable, NoneFails}
@@ -106,43 +106,47 @@ module _ (s : Typing) (settled : IsSettled s.table) (depth : ℕ) (v : Views) (e
   same_type t u (inl e) many = e
   same_type t u (inr both) many = (let no : true ≡ false = sym both.1 ∙ many in cc)
 
-  place_holds_at : (x before : ℕ) (e : TypedTree) (k : Place) (owning access : Bool) → IsPlaceLaid s depth x e k → IsActualTo s x mode.Out e
+  plain_scalar : (view : ways.View) (p : Pos) (y u : ℕ) (path : TypedTree) (k : Place) → IsPlainAt s depth v view (Name p y path u) k → is_scalar (full s.table k.of) ≡ true
+  plain_scalar view p y u path k (inl fixed) = fixed.scalar
+  plain_scalar view p y u path k (inr lodged) = lodged.2
+
+  place_holds_at : (view : ways.View) (x before : ℕ) (e : TypedTree) (k : Place) (owning access : Bool) → IsPlaceLaid s depth v view x e k → IsActualTo s x mode.Out e
       → ((name : PlaceName) → KnowsAt before name) → Holds (actual_spots s (passing_by mode.Out owning access) e before) (head_checks s pos m (To k) e)
-  place_holds_at x before (Name p y path u) k owning access (inl (plain, fixed)) (t, (leads, type), match, which) known =
+  place_holds_at view x before (Name p y path u) k owning access (inl (plain, at)) (t, (leads, type), match, which) known =
       scalar_holds (spot p (name_of y path) before) (λ part. checked_at p k.at (slots_at s m k.base) (offsets s.table k.of part)) u k.of
-      (subst (λ z. is_scalar (full s.table z) ≡ true) (sym type) (scalar_type t (object_at s x).of match plain)) fixed.scalar
-  place_holds_at x before (Name p y path u) k owning access (inr (many, own)) (t, (leads, type), match, which) known =
+      (subst (λ z. is_scalar (full s.table z) ≡ true) (sym type) (scalar_type t (object_at s x).of match plain)) (plain_scalar view p y u path k at)
+  place_holds_at view x before (Name p y path u) k owning access (inr (many, own)) (t, (leads, type), match, which) known =
       own_holds x y u before p p path k own
       (same_type k.of (object_at s x).of own.4 many ∙ sym (same_type t (object_at s x).of match many) ∙ sym (ap (shape_of s.table) type)) (known (name_of y path))
-  place_holds_at x before e k owning access laid (t, never, match, which) known = absurd never
+  place_holds_at view x before e k owning access laid (t, never, match, which) known = absurd never
 
-  one_holds : (x before : ℕ) (mode_of : Mode) (owning access : Bool) (e : TypedTree) (a : Passed) → IsLaidOne s depth x mode_of e a → IsActualTo s x mode_of e
+  one_holds : (view : ways.View) (x before : ℕ) (mode_of : Mode) (owning access : Bool) (e : TypedTree) (a : Passed) → IsLaidOne s m depth v view x mode_of e a → IsActualTo s x mode_of e
       → ((name : PlaceName) → KnowsAt before name) → Holds (actual_spots s (passing_by mode_of owning access) e before) (head_checks s pos m a e)
-  one_holds x before mode.In true access e (Value ws) laid stay known = (refl, tt)
-  one_holds x before mode.In false access e (Value ws) laid stay known = (refl, tt)
-  one_holds x before mode.InOut owning access e (From k) laid stay known = (refl, tt)
-  one_holds x before mode.Out owning access e (To k) laid stay known = place_holds_at x before e k owning access laid stay known
-  one_holds x before m' owning access e a laid stay known = absurd laid
+  one_holds view x before mode.In true access e (Value ws) laid stay known = (refl, tt)
+  one_holds view x before mode.In false access e (Value ws) laid stay known = (refl, tt)
+  one_holds view x before mode.InOut owning access e (From k) laid stay known = (refl, tt)
+  one_holds view x before mode.Out owning access e (To k) laid stay known = place_holds_at view x before e k owning access laid stay known
+  one_holds view x before m' owning access e a laid stay known = absurd laid
 
   -- ---- all of them
 
   module _ (procedure : Bool) (placed : List Placed)
       (known : (front others : List Placed) → placed ≡ front ++ others → (name : PlaceName) → KnowsAt (length front) name) where
-    pub outs_hold : (formals : List ℕ) (actuals : TypedTree) (passed : List Passed) → AreLaidOut s depth formals actuals passed → AreActualsTo s formals actuals
+    pub outs_hold : (view : ways.View) (formals : List ℕ) (actuals : TypedTree) (passed : List Passed) → AreLaidOut s m depth v view formals actuals passed → AreActualsTo s formals actuals
         → (front : List Placed) → placed ≡ front ++ actual_acts (map (passing s procedure) formals) actuals
         → NoneFails Excused (call_spots s (map (passing s procedure) formals) actuals (length front)) (out_checks s pos m passed actuals)
-    outs_hold [] actuals passed laid stay front is = tt
-    outs_hold (x ∷ formals) (More e rest) (a ∷ passed) laid stay front is =
+    outs_hold view [] actuals passed laid stay front is = tt
+    outs_hold view (x ∷ formals) (More e rest) (a ∷ passed) laid stay front is =
         let owning : Bool = is_owning s.table (object_at s x).of in
         let access : Bool = procedure && is_named_access (view_of s x) in
         let act : List Placed = actual_act (passing s procedure x) e in
         let later : List Placed = actual_acts (map (passing s procedure) formals) rest in
-        let first = one_holds x (length front) (object_at s x).mode owning access e a laid.0 stay.0 (known front (act ++ later) is) in
+        let first = one_holds view x (length front) (object_at s x).mode owning access e a laid.0 stay.0 (known front (act ++ later) is) in
         let longer : length (front ++ act) ≡ length front + length act = length-append front act in
         subst (NoneFails Excused (call_spots s (map (passing s procedure) (x ∷ formals)) (More e rest) (length front))) (sym (head_first s pos m a passed e rest))
         (both_hold Excused (actual_spots s (passing s procedure x) e (length front))
         (call_spots s (map (passing s procedure) formals) rest (length front + length act)) (head_checks s pos m a e) (out_checks s pos m passed rest) first.0 first.1
         (subst (λ z. NoneFails Excused (call_spots s (map (passing s procedure) formals) rest z) (out_checks s pos m passed rest)) longer
-        (outs_hold formals rest passed laid.1 stay.1 (front ++ act) (is ∙ sym (append_assoc front act later)))))
-    outs_hold (x ∷ formals) (More e rest) [] laid stay front is = absurd laid
-    outs_hold (x ∷ formals) actuals passed laid stay front is = tt
+        (outs_hold view formals rest passed laid.1 stay.1 (front ++ act) (is ∙ sym (append_assoc front act later)))))
+    outs_hold view (x ∷ formals) (More e rest) [] laid stay front is = absurd laid
+    outs_hold view (x ∷ formals) actuals passed laid stay front is = tt

@@ -34,7 +34,7 @@ use Rattle.viewed_facts.specs.Exact.{IsDefiniteBy, IsDefinite}
 
 -- ---- ways that begin at variables
 
-no_hand_base : (w : Way) (h : ℕ) → IsOfVariable w → base_of w ≡ OfRoot (OfHand h) → ⊥
+pub no_hand_base : (w : Way) (h : ℕ) → IsOfVariable w → base_of w ≡ OfRoot (OfHand h) → ⊥
 no_hand_base (Object (OfVariable f x)) h is e = cc
 no_hand_base (Object (OfHand k)) h is e = absurd is
 no_hand_base (Lost n) h is e = absurd is
@@ -99,7 +99,7 @@ module _ (home : ℕ → ℕ) (observer : ℕ → Bool) (other : Around home) (v
   IsName s facts viewed k = IsPlain home observer v s facts viewed.views k
 
   -- what a name stands for begins at a variable
-  stands_variable : (s : View) (facts : List Fact) (viewed : Viewed home observer other v s facts) (k : Way) → IsName s facts viewed k → IsOfVariable (expand v k)
+  pub stands_variable : (s : View) (facts : List Fact) (viewed : Viewed home observer other v s facts) (k : Way) → IsName s facts viewed k → IsOfVariable (expand v k)
   stands_variable s facts viewed k plain =
       let base = stands_base home observer v s facts viewed.views k plain in based_variable (expand v k) base.0 base.1 base.2
 

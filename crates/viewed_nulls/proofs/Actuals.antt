@@ -57,7 +57,7 @@ use Rattle.null_places.proofs.Laws.{Premises, Behaves, Finds, IsAt, IsWholeAt}
 use Rattle.null_places.proofs.Scalars.{PassedSame, scalar_none, value_passed_same, to_passed_same, from_passed_same}
 use Rattle.viewed_nulls.proofs.Names.{owner_found}
 use Rattle.viewed_nulls.proofs.Viewed.{viewed_premises, IsReadyIn, viewed_behaves}
-use Rattle.viewed_steps.proofs.Views.{observes_not}
+use Rattle.viewed_steps.proofs.Views.{AreAccess}
 
 -- A name that goes through no access value to a place of no anonymous type is that of no view.
 own_variable : (table : Table) (t u : ℕ) (way : List run.Step) (w : Way) → ((z : Way) → Past z (way_along way w) → ⊥) → Starts table t way u → IsNamed table u

@@ -31,7 +31,7 @@ use Rattle.soundness.proofs.Points.{flow_at}
 use Rattle.soundness.proofs.Scalars.{acts, acts_append}
 use Rattle.soundness.proofs.Taking.{Takes, takes_as, takes_both, nothing_more}
 use Rattle.owned_loans.specs.Views.{Around, Views}
-use Rattle.viewed_soundness.specs.Holds.{IsNamed, AllKeep, sees_only}
+use Rattle.viewed_soundness.specs.Holds.{is_fixed, IsNamed, AllKeep, sees_only}
 use Rattle.viewed_soundness.proofs.Names.{plain_named, true_false}
 use Rattle.viewed_soundness.proofs.Evaluated.{keep_both}
 use Rattle.viewed_soundness.proofs.Outcomes.{named_plain, not_views, assigned_acts}
@@ -82,7 +82,7 @@ module _ (table : Table) (typed : TypedProgram) (effects : Effects) (input : Lis
         acts (acts_of (record { typing = s; result = named.sub.result; roots = kept_roots own 0 own.objects (sub_facts own named.sub named.points) }) p.pos i)
 
     abbrev Keep : List Act → Type 0
-    Keep all = AllKeep (sees_only s) all
+    Keep all = AllKeep (is_fixed s) all
 
     module _ (so : Ready state.memory (waiting_in state) facts) (only : OnlyOwners s state.memory) (n : Memory) (agrees : Agrees state.memory n) where
       abbrev Same : Instruction → Type 0
@@ -171,13 +171,13 @@ module _ (table : Table) (typed : TypedProgram) (effects : Effects) (input : Lis
               let own_type : IsNamed s.table u = plain_named s.table u owner in
               let same = assigned_acts s p.pos x u (Name q x path u) path e own_type leads in
               let kept_there = subst (λ z. Keep (acts z)) same keep in
-              let before = (keep_both (sees_only s) (acts (acts_in s e ++ acts_in s path)) (act.Write (name_of x path) ∷ [])
+              let before = (keep_both (is_fixed s) (acts (acts_in s e ++ acts_in s path)) (act.Write (name_of x path) ∷ [])
               (subst Keep (acts_append (acts_in s e ++ acts_in s path) (record { pos = q; act = act.Write (name_of x path) } ∷ [])) kept_there)).0 in
               let two = takes_both (waits_in e) (waits_in path) (start t).waits on takes in
               assign_on t ready.accepted.settled ready.owns asks Ready laws facts so only n agrees two.0 on q x u path e owner own_type gives leads
               tt plainly tt two.1 two.2 compares.0 compares.1
               (subst (λ z. AllowsAll facts (acts z)) same allowed)
-              (keep_both (sees_only s) (acts (acts_in s e)) (acts (acts_in s path)) (subst Keep (acts_append (acts_in s e) (acts_in s path)) before)).0
+              (keep_both (is_fixed s) (acts (acts_in s e)) (acts (acts_in s path)) (subst Keep (acts_append (acts_in s e) (acts_in s path)) before)).0
           by_view source_there true view = elim (leads_or s ready.class.parts_named path (object_at s x).of u leads) [
             | inr own_type ↦ absurd (true_false (is_anonymous (full s.table u)) view (named_plain s.table u own_type))
             | inl whole_path ↦ to_view q x path u e is whole_path.0 whole_path.1 source_there view plainly takes compares allowed keep

@@ -35,7 +35,7 @@ use Rattle.null_places.proofs.Only.{OnlyOwners}
 use Rattle.null_places.proofs.Places.{IsWhole, spot_whole, plain_whole, access_whole, unmoved_whole}
 use Rattle.null_places.proofs.Walks.{SameNow, SameTo, walk_same}
 use Rattle.viewed_soundness.proofs.Walks.{owners_rooted}
-use Rattle.viewed_steps.proofs.Views.{all_owners, anonymous_is_view}
+use Rattle.viewed_steps.proofs.Views.{anonymous_is_view}
 
 module _ (h : Here) (settled : IsSettled h.typing.table) (hands : List Waiting) (leaks : List Leak) (m : Memory) (waits : List (List machine.Word))
     (other : Around (home h.typing h.frame)) (facts : List Fact) (v : Views) (kept : Kept h.typing m hands)

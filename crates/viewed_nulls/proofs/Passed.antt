@@ -36,25 +36,25 @@ use Rattle.viewed_steps.proofs.Backed as backed
 use Rattle.viewed_steps.proofs.Backed.{AwayBy, ViewedAway}
 use Rattle.null_places.proofs.Places.{spot_whole, unmoved_whole, moved_only}
 use Rattle.null_places.proofs.Calls.{IsWholly, IsWhollyPassed, AreWhollyPassed, fixed_wholly, AreWhollyBack}
-use Rattle.viewed_steps.proofs.Views.{AreFar}
+use Rattle.viewed_steps.proofs.Views.{AreAccess, AreFar}
 
 -- Of a place in a variable nothing is gone, where nothing says so of its way and what goes on from it.
-pub inside_wholly : (s : Typing) (settled : IsSettled s.table) (no_formals : (x : ℕ) → is_view_formal s x ≡ false) (hands : List Waiting) (leaks : List Leak) (f depth : ℕ) (v : Views)
+pub inside_wholly : (s : Typing) (settled : IsSettled s.table) (in_formals : (x : ℕ) → is_view_formal s x ≡ false) (hands : List Waiting) (leaks : List Leak) (f depth : ℕ) (v : Views)
     (facts : List Fact) (other : Around (home s depth)) (k : Place) (to : Way) → IsInside s f k to → (m : Memory) → Kept s m hands
     → Viewed (home s depth) (sees_only s) other v (seen s m hands leaks) facts → ((w : Way) → Under to w → ExcusedBy (home s depth) v other facts w → ⊥) → IsWholly s k m
-inside_wholly s settled no_formals hands leaks f depth v facts other k to inside m typed viewed clean only =
+inside_wholly s settled in_formals hands leaks f depth v facts other k to inside m typed viewed clean only =
     let at : Loc = inside_at s f k to inside in
     let spot : Spot s m hands k at = inside_spot s f k to inside m hands in (
       spot_whole s settled m hands only typed k at spot
           (unmoved_whole s settled m hands leaks (ExcusedBy (home s depth) v other facts) viewed.known to at (inside_rooted s f k to inside)
-          (inside_reached s f k to inside (seen s m hands leaks)) (inside_owns s f k to inside m hands (no_formals inside.object))
+          (inside_reached s f k to inside (seen s m hands leaks)) (inside_owns s f k to inside m hands (in_formals inside.object))
           (λ p said. clean (along to p) (under_along to to p (under_itself to)) said)),
       moved_only s settled m hands only typed k at spot,
     )
 
 -- ---- what is passed
 
-module _ (s : Typing) (settled : IsSettled s.table) (own_law : OwnsByShape s.table) (no_formals : (x : ℕ) → is_view_formal s x ≡ false)
+module _ (s : Typing) (settled : IsSettled s.table) (own_law : OwnsByShape s.table) (in_formals : (x : ℕ) → is_view_formal s x ≡ false)
     (hands : List Waiting) (depth : ℕ) (v : Views) (far : AreFar (home s depth) v depth) (facts : List Fact) (scope : List ℕ) where
   plain_wholly : (a : Passed) → IsLaid s a → (m : Memory) → Kept s m hands → IsWhollyPassed s a m
   plain_wholly (Value ws) laid m typed = tt
@@ -65,10 +65,10 @@ module _ (s : Typing) (settled : IsSettled s.table) (own_law : OwnsByShape s.tab
   ViewedIn other leaks m = Viewed (home s depth) (sees_only s) other v (seen s m hands leaks) facts
 
   abbrev outs_also : Around (home s depth) → List Out → Around (home s depth)
-  outs_also = entering.outs_also s settled own_law no_formals hands depth v far facts scope
+  outs_also = entering.outs_also s settled own_law in_formals hands depth v far facts scope
 
   abbrev away : Around (home s depth) → Way → Around (home s depth)
-  away = entering.away s settled own_law no_formals hands depth v far facts scope
+  away = entering.away s settled own_law in_formals hands depth v far facts scope
 
   -- one after the other, with the places that are taken gone, and those that are to be emptied
   pub passed_wholly : (other : Around (home s depth)) (leaks : List Leak) (formals : List ℕ) (passed : List Passed) (ways : List Way) (outs : List Out) (before m : Memory)
@@ -100,20 +100,20 @@ module _ (s : Typing) (settled : IsSettled s.table) (own_law : OwnsByShape s.tab
       let among = outs_taken s depth facts scope formals passed ways later more in
       let from = passed_base s depth facts scope formals passed ways later more in
       let root : (y : ℕ) × (base_of to ≡ OfRoot (OfVariable depth y)) = ((one.inside).object, inside_base s depth k to one.inside) in
-      let mine = entering.taken_open s settled own_law no_formals hands depth v far facts scope other to ways later among from apart open_there in
+      let mine = entering.taken_open s settled own_law in_formals hands depth v far facts scope other to ways later among from apart open_there in
       let here : ViewedIn (outs_also other later) leaks m = subst (λ z. ViewedIn (outs_also other z) leaks m) same viewed in
       subst (λ z. AreWhollyPassed s (suc depth) (x ∷ formals) (z ∷ passed) m) (sym is) (
-        inside_wholly s settled no_formals hands leaks depth depth v facts (outs_also other later) k to one.inside m typed here
-            (entered.clean s settled own_law no_formals hands leaks depth v far facts scope (outs_also other later) x k to one whole mine m typed here new),
+        inside_wholly s settled in_formals hands leaks depth depth v facts (outs_also other later) k to one.inside m typed here
+            (entered.clean s settled own_law in_formals hands leaks depth v far facts scope (outs_also other later) x k to one whole mine m typed here new),
         passed_wholly (away other to) leaks formals passed ways later before next more
-            (entering.others_open s settled own_law no_formals hands depth v far facts scope other to ways root apart open_there) at_first
-            (entered.kept_next s settled own_law no_formals hands leaks depth v far facts scope (outs_also other later) x k to one whole mine m typed here new)
-            (entering.beside_outs s settled own_law no_formals hands depth v far facts scope other to later leaks next
-            (entered.viewed_next s settled own_law no_formals hands leaks depth v far facts scope (outs_also other later) x k to one whole mine m typed here new))
-            (λ y has p. entered.one_blank s settled own_law no_formals hands leaks depth v far facts scope (outs_also other later) x k to one whole mine m typed here new y (differ y has) p
+            (entering.others_open s settled own_law in_formals hands depth v far facts scope other to ways root apart open_there) at_first
+            (entered.kept_next s settled own_law in_formals hands leaks depth v far facts scope (outs_also other later) x k to one whole mine m typed here new)
+            (entering.beside_outs s settled own_law in_formals hands depth v far facts scope other to later leaks next
+            (entered.viewed_next s settled own_law in_formals hands leaks depth v far facts scope (outs_also other later) x k to one whole mine m typed here new))
+            (λ y has p. entered.one_blank s settled own_law in_formals hands leaks depth v far facts scope (outs_also other later) x k to one whole mine m typed here new y (differ y has) p
             (blank y (inr has) p))
             (λ o has. still_then s depth before m next o.way (still o (subst (λ z. Has z o) (sym same) has))
-            (entered.one_still s settled own_law no_formals hands leaks depth v far facts scope (outs_also other later) x k to one whole mine m typed here new o.way (apart o.way (among o has)))),
+            (entered.one_still s settled own_law in_formals hands leaks depth v far facts scope (outs_also other later) x k to one whole mine m typed here new o.way (apart o.way (among o has)))),
       )
   passed_wholly other leaks (x ∷ formals) (a ∷ passed) (to ∷ ways) outs before m (inr (k, later, inr (pos, is, same), one, apart, differ, more)) open_there at_first typed viewed blank still =
       let new = blank x (inl refl) in
@@ -123,7 +123,7 @@ module _ (s : Typing) (settled : IsSettled s.table) (own_law : OwnsByShape s.tab
       let out : Out = record { way = to; place = k; pos = pos } in
       let here : ViewedIn (outs_also other (out ∷ later)) leaks m = subst (λ z. ViewedIn (outs_also other z) leaks m) same viewed in
       let found : List Leak = leaks ++ leaks_at s pos before k in
-      let mine = entering.still_checks s settled own_law no_formals hands depth v far facts scope x k to one pos leaks before m at_first
+      let mine = entering.still_checks s settled own_law in_formals hands depth v far facts scope x k to one pos leaks before m at_first
       (still out (subst (λ z. Has z out) (sym same) (inl refl))) in
       let gone_then : Way → Type 0 = (outs_also (away other to) later).gone in
       let gone_apart : (y : ℕ) (w z : Way) → v.way y ≡ Some w → IsForeign (home s depth) w → (outs_also (away other to) later).gone z → Under z w ⊎ Under w z → ⊥ =
@@ -131,16 +131,16 @@ module _ (s : Typing) (settled : IsSettled s.table) (own_law : OwnsByShape s.tab
         | inr (other_one, has_one, under) ↦ viewed.whole y w z has foreign (inr (other_one, subst (λ z. Has z other_one) (sym same) (inr has_one), under)) meets
         | inl at_first ↦ elim at_first [
           | inl gone ↦ viewed.whole y w z has foreign (inl gone) meets
-          | inr at ↦ entering.below_apart s settled own_law no_formals hands depth v far facts scope to root y w z has foreign
-              (entering.along_under s settled own_law no_formals hands depth v far facts scope to z at) meets
+          | inr at ↦ entering.below_apart s settled own_law in_formals hands depth v far facts scope to root y w z has foreign
+              (entering.along_under s settled own_law in_formals hands depth v far facts scope to z at) meets
         ]
       ] in
       subst (λ z. AreWhollyPassed s (suc depth) (x ∷ formals) (z ∷ passed) m) (sym is) (
         (λ only. moved_only s settled m hands only typed k (inside_at s depth k to one.inside) (inside_spot s depth k to one.inside m hands)),
         passed_wholly (away other to) found formals passed ways later before next more
-            (entering.others_open s settled own_law no_formals hands depth v far facts scope other to ways root apart open_there) at_first
-            (emptying.out_kept s settled own_law no_formals hands leaks depth v facts scope (outs_also other (out ∷ later)) gone_then gone_apart x k to one open_there.none m typed here new found)
-            (emptying.out_viewed s settled own_law no_formals hands leaks depth v facts scope (outs_also other (out ∷ later)) gone_then gone_apart x k to one open_there.none m typed here new found mine
+            (entering.others_open s settled own_law in_formals hands depth v far facts scope other to ways root apart open_there) at_first
+            (emptying.out_kept s settled own_law in_formals hands leaks depth v facts scope (outs_also other (out ∷ later)) gone_then gone_apart x k to one open_there.none m typed here new found)
+            (emptying.out_viewed s settled own_law in_formals hands leaks depth v facts scope (outs_also other (out ∷ later)) gone_then gone_apart x k to one open_there.none m typed here new found mine
             (λ w o off. elim o [
               | inl gone ↦ inl (inl gone)
               | inr (other_one, has_one, under) ↦ elim has_one [
@@ -148,16 +148,16 @@ module _ (s : Typing) (settled : IsSettled s.table) (own_law : OwnsByShape s.tab
                 | inr rest ↦ inr (other_one, rest, under)
               ]
             ]) (λ p. inl (inr (p, refl))))
-            (λ y has p. emptying.out_blank s settled own_law no_formals hands leaks depth v facts scope (outs_also other (out ∷ later)) gone_then gone_apart x k to one open_there.none m typed here new found
+            (λ y has p. emptying.out_blank s settled own_law in_formals hands leaks depth v facts scope (outs_also other (out ∷ later)) gone_then gone_apart x k to one open_there.none m typed here new found
             y (differ y has) p (blank y (inr has) p))
             (λ o has. still_then s depth before m next o.way (still o (subst (λ z. Has z o) (sym same) (inr has)))
-            (emptying.out_still s settled own_law no_formals hands leaks depth v facts scope (outs_also other (out ∷ later)) gone_then gone_apart x k to one open_there.none m typed here new found mine
+            (emptying.out_still s settled own_law in_formals hands leaks depth v facts scope (outs_also other (out ∷ later)) gone_then gone_apart x k to one open_there.none m typed here new found mine
             o.way (apart o.way (among o has)))),
       )
 
 -- ---- what is copied back
 
-module _ (t : Turn) (settled : IsSettled (typing t).table) (own_law : OwnsByShape (typing t).table) (no_formals : (x : ℕ) → is_view_formal (typing t) x ≡ false)
+module _ (t : Turn) (settled : IsSettled (typing t).table) (own_law : OwnsByShape (typing t).table) (in_formals : AreAccess (typing t))
     (hands : List Waiting) (leaks : List Leak) (depth : ℕ) (deep : length t.outer ≡ suc depth) (v : Views)
     (far : AreFar (home (typing t) depth) v depth) (facts : List Fact) (scope : List ℕ)
     (other : Around (home (typing t) depth))
@@ -168,7 +168,7 @@ module _ (t : Turn) (settled : IsSettled (typing t).table) (own_law : OwnsByShap
   s = typing t
 
   abbrev ViewedNow : List Return → List Way → Memory → Type 0
-  ViewedNow returns ways m = ViewedAway t settled own_law no_formals hands leaks depth deep v far facts scope other free whole none returns ways m
+  ViewedNow returns ways m = ViewedAway t settled own_law in_formals hands leaks depth deep v far facts scope other free whole none returns ways m
 
   -- a scalar one
   copied_wholly : (r : Return) (rest : List Return) (ways : List Way) (m : Memory) → IsCopied s r → Kept s m hands → ViewedNow (r ∷ rest) ways m
@@ -188,19 +188,19 @@ module _ (t : Turn) (settled : IsSettled (typing t).table) (own_law : OwnsByShap
         (to.frame, to.object, to.base),
         fixed_wholly s settled own_law hands formal fixed m typed,
         more next on.typed
-            (more_gone (home s depth) (sees_only s) v (backed.away t settled own_law no_formals hands leaks depth deep v far facts scope other free whole none (r ∷ rest) ways)
-            (AwayBy t settled own_law no_formals hands leaks depth deep v far facts scope other free whole none rest ways)
-            (backed.apart_by t settled own_law no_formals hands leaks depth deep v far facts scope other free whole none (r ∷ rest) rest ways m viewed) (seen s next hands leaks) facts
+            (more_gone (home s depth) (sees_only s) v (backed.away t settled own_law in_formals hands leaks depth deep v far facts scope other free whole none (r ∷ rest) ways)
+            (AwayBy t settled own_law in_formals hands leaks depth deep v far facts scope other free whole none rest ways)
+            (backed.apart_by t settled own_law in_formals hands leaks depth deep v far facts scope other free whole none (r ∷ rest) rest ways m viewed) (seen s next hands leaks) facts
             (λ w o. elim o [
               | inl away_there ↦ inl away_there
               | inr later ↦ elim later [
                 | inl taken_there ↦ inr (inl taken_there)
-                | inr left ↦ inr (inr (backed.left_more t settled own_law no_formals hands leaks depth deep v far facts scope other free whole none r rest w left))
+                | inr left ↦ inr (inr (backed.left_more t settled own_law in_formals hands leaks depth deep v far facts scope other free whole none r rest w left))
               ]
             ])
-            (same_viewed (home s depth) (sees_only s) (backed.away t settled own_law no_formals hands leaks depth deep v far facts scope other free whole none (r ∷ rest) ways) v
+            (same_viewed (home s depth) (sees_only s) (backed.away t settled own_law in_formals hands leaks depth deep v far facts scope other free whole none (r ∷ rest) ways) v
             (seen s m hands leaks) (seen s next hands leaks) facts on.same viewed))
-            (backed.taken_on t settled own_law no_formals hands leaks depth deep v far facts scope other free whole none m next rest ways
+            (backed.taken_on t settled own_law in_formals hands leaks depth deep v far facts scope other free whole none m next rest ways
             (λ k w has there bare p c held. bare p c (sym (on.hold depth there.object (p ++ there.steps)) ∙ held)) taken),
       )
 
@@ -211,17 +211,17 @@ module _ (t : Turn) (settled : IsSettled (typing t).table) (own_law : OwnsByShap
   back_wholly (r ∷ rest) (to ∷ ways) m (inl copied) typed viewed =
       copied_wholly r rest (to ∷ ways) m copied.0 typed viewed copied.1 (λ next kept there later. back_wholly rest (to ∷ ways) next later kept there)
   back_wholly (r ∷ rest) (to ∷ ways) m (inr (taken, apart, another, more)) typed viewed =
-      let begin = backed.taken_base t settled own_law no_formals hands leaks depth deep v far facts scope other free whole none m rest ways more in
+      let begin = backed.taken_base t settled own_law in_formals hands leaks depth deep v far facts scope other free whole none m rest ways more in
       let next : Memory = stored s r.to (words_of s m (variable_place (here t) r.formal)) (moved_out s (variable_place (here t) r.formal) m) in (
         (depth, (taken.0).inside.object, (taken.0).inside.base),
-        inside_wholly s settled no_formals hands leaks (suc depth) depth v facts
-            (backed.away t settled own_law no_formals hands leaks depth deep v far facts scope other free whole none (r ∷ rest) (to ∷ ways))
+        inside_wholly s settled in_formals hands leaks (suc depth) depth v facts
+            (backed.away t settled own_law in_formals hands leaks depth deep v far facts scope other free whole none (r ∷ rest) (to ∷ ways))
             (variable_place (here t) r.formal) (Object (OfVariable (suc depth) r.formal))
-            (backed.formal_inside t settled own_law no_formals hands leaks depth deep v far facts scope other free whole none r rest to ways m taken apart another begin typed viewed) m typed viewed
-            (backed.clean t settled own_law no_formals hands leaks depth deep v far facts scope other free whole none r rest to ways m taken apart another begin typed viewed),
+            (backed.formal_inside t settled own_law in_formals hands leaks depth deep v far facts scope other free whole none r rest to ways m taken apart another begin typed viewed) m typed viewed
+            (backed.clean t settled own_law in_formals hands leaks depth deep v far facts scope other free whole none r rest to ways m taken apart another begin typed viewed),
         back_wholly rest ways next
-            (backed.taken_on t settled own_law no_formals hands leaks depth deep v far facts scope other free whole none m next rest ways
-            (λ k w has there bare. backed.one_bare t settled own_law no_formals hands leaks depth deep v far facts scope other free whole none r rest to ways m taken apart another begin typed viewed k w has there bare) more)
-            (backed.one_kept t settled own_law no_formals hands leaks depth deep v far facts scope other free whole none r rest to ways m taken apart another begin typed viewed)
-            (backed.one_viewed t settled own_law no_formals hands leaks depth deep v far facts scope other free whole none r rest to ways m taken apart another begin typed viewed),
+            (backed.taken_on t settled own_law in_formals hands leaks depth deep v far facts scope other free whole none m next rest ways
+            (λ k w has there bare. backed.one_bare t settled own_law in_formals hands leaks depth deep v far facts scope other free whole none r rest to ways m taken apart another begin typed viewed k w has there bare) more)
+            (backed.one_kept t settled own_law in_formals hands leaks depth deep v far facts scope other free whole none r rest to ways m taken apart another begin typed viewed)
+            (backed.one_viewed t settled own_law in_formals hands leaks depth deep v far facts scope other free whole none r rest to ways m taken apart another begin typed viewed),
       )

@@ -46,6 +46,7 @@ use Rattle.null_places.proofs.Scalars.{view_same, steps_on, place_then, none_the
 use Rattle.null_places.proofs.Instructions.{SameStep, twin, declared_by, stored_same}
 use Rattle.viewed_nulls.proofs.Names.{name_same, access_found, view_whole}
 use Rattle.viewed_nulls.proofs.Viewed.{viewed_premises, anonymous_access, IsReadyIn, viewed_behaves, viewed_values}
+use Rattle.viewed_steps.proofs.Views.{AreAccess}
 
 -- The source of a view is a name of an access type.
 source_of : (s : Typing) (want : ℕ) (q : Pos) (y u : ℕ) (path : TypedTree) → is_anonymous (full s.table want) ≡ true → Source s want (Name q y path u)
@@ -59,9 +60,9 @@ source_of s want q y u path view (inr (lead, inr scalar)) =
     absurd (let no : false ≡ true = sym (ap (λ z. is_scalar (view_of_shape z)) sh.3) ∙ scalar.1 in cc)
 
 module _ (t : Turn) (settled : IsSettled (typing t).table) (own_law : OwnsByShape (typing t).table) (other : Around (home (typing t) (length t.outer)))
-    (alone : (w : Way) → IsNear (length t.outer) w → other.gone w → ⊥) (no_formals : (x : ℕ) → is_view_formal (typing t) x ≡ false) (v : Views)
+    (alone : (w : Way) → IsNear (length t.outer) w → other.gone w → ⊥) (in_formals : AreAccess (typing t)) (v : Views)
     (parts_named : PartsAreNamed (typing t).table) (facts : List Fact)
-    (so : IsReadyIn (here t) settled t.state.leaks other alone no_formals index_law own_law v parts_named t.state.memory (waiting_in t.state) facts)
+    (so : IsReadyIn (here t) settled t.state.leaks other alone in_formals index_law own_law v parts_named t.state.memory (waiting_in t.state) facts)
     (only : OnlyOwners (typing t) t.state.memory) (n : Memory) (agrees : Agrees t.state.memory n) where
   abbrev s : Typing
   s = typing t
@@ -85,13 +86,13 @@ module _ (t : Turn) (settled : IsSettled (typing t).table) (own_law : OwnsByShap
   asks = viewed_premises h parts_named
 
   abbrev ready_in : Memory → List Waiting → List Fact → Type 0
-  ready_in m' hands' known = IsReadyIn h settled t.state.leaks other alone no_formals index_law own_law v parts_named m' hands' known
+  ready_in m' hands' known = IsReadyIn h settled t.state.leaks other alone in_formals index_law own_law v parts_named m' hands' known
 
   laws : Values h asks ready_in
-  laws = viewed_values h settled t.state.leaks other alone no_formals index_law own_law v parts_named
+  laws = viewed_values h settled t.state.leaks other alone in_formals index_law own_law v parts_named
 
   law : Behaves h asks m hands facts
-  law = viewed_behaves h settled t.state.leaks other alone no_formals index_law own_law v parts_named m hands facts so only
+  law = viewed_behaves h settled t.state.leaks other alone in_formals index_law own_law v parts_named m hands facts so only
 
   live : (w : Way) (l : Loc) → IsOwners s w → Reaches (seen s m hands t.state.leaks) w l → (content s m hands (trunk l)).owns ≡ true
   live = live_trunk h settled t.state.leaks [] other alone (keeps s settled own_law) index_law own_law v parts_named m hands so.viewed.owned
@@ -115,17 +116,17 @@ module _ (t : Turn) (settled : IsSettled (typing t).table) (own_law : OwnsByShap
 
       same : (n' : Now) → SameNow s (record { memory = m; waits = on }) n' → SameTo s (walked s way (variable_place h y) (record { memory = m; waits = on })) (walked s way (variable_place h y) n')
       same =
-          name_same h settled hands t.state.leaks m on other facts v so.kept so.viewed so.holds alone live only no_formals y u way goes.lead
+          name_same h settled hands t.state.leaks m on other facts v so.kept so.viewed so.holds alone live only in_formals y u way goes.lead
           (λ e. cleared_open facts w (clears w called e))
 
       by_kind : (b : Bool) → shape_of s.table u ≡ shape.Access d c b → LeadsWhole h asks m hands facts on y u way
       by_kind true is = (
-        access_found h settled hands t.state.leaks m on other facts v so.kept so.viewed so.holds alone live only no_formals index_law own_law parts_named y u d c way goes.lead is
+        access_found h settled hands t.state.leaks m on other facts v so.kept so.viewed so.holds alone live only in_formals index_law own_law parts_named y u d c way goes.lead is
             (λ e. cleared_open facts w (clears w called e)) (λ e. cleared_whole facts w (clears w called e)),
         same,
       )
       by_kind false is = (
-        view_whole h settled hands t.state.leaks m on other facts v so.kept so.viewed so.holds alone live only no_formals y u way goes.lead
+        view_whole h settled hands t.state.leaks m on other facts v so.kept so.viewed so.holds alone live only in_formals y u way goes.lead
             (ap (λ z. is_anonymous (view_of_shape z)) is ∙ anonymous_access c) (λ e. cleared_open facts w (clears w called e)),
         same,
       )

@@ -47,7 +47,7 @@ use Rattle.soundness.proofs.Eased.{eased}
 use Rattle.soundness.proofs.Stays.{Quiet}
 use Rattle.soundness.proofs.Taking.{Takes, takes_as, no_takes, nothing_more}
 use Rattle.owned_loans.specs.Views.{Around, known_gone, Views, Viewed}
-use Rattle.viewed_soundness.specs.Holds.{IsNamed, AllKeep, sees_only}
+use Rattle.viewed_soundness.specs.Holds.{is_fixed, IsNamed, AllKeep, sees_only}
 use Rattle.viewed_soundness.proofs.Outcomes.{named_plain}
 use Rattle.viewed_steps.specs.Sound.{ArePast, IsScalarObject, IsResting, HoldsAt, ArePlaced, NoneAbove, ViewStage, stages_of, GoneElsewhere, AreWaiting, IsRunning, IsSound}
 use Rattle.viewed_steps.specs.Ready.{IsReady}
@@ -75,7 +75,7 @@ use Rattle.viewed_nulls.proofs.Actuals.{all_same}
 use Rattle.viewed_nulls.proofs.Passed.{passed_wholly, back_wholly}
 use Rattle.viewed_nulls.proofs.Viewed.{viewed_premises, gives_both, IsReadyIn, viewed_values}
 use Rattle.viewed_nulls.proofs.Instructions as own_instructions
-use Rattle.viewed_steps.proofs.Views.{all_held}
+use Rattle.viewed_steps.proofs.Views.{AreAccess, all_held}
 
 -- whether the scope of an object ends
 end_or : (i : Instruction) → ((x : ℕ) × (i ≡ EndScope x)) ⊎ ((x : ℕ) → i ≡ EndScope x → ⊥)
@@ -93,8 +93,8 @@ module _ (table : Table) (typed : TypedProgram) (effects : Effects) (input : Lis
   abbrev own : Typing
   own = typing_of table typed
 
-  abbrev no_formals : (x : ℕ) → is_view_formal s x ≡ false
-  no_formals = standing.no_in_formals table typed effects input ready
+  abbrev in_formals : AreAccess s
+  in_formals = standing.in_formals table typed effects input ready
 
   abbrev SameAt : State → Memory → Type 0
   SameAt state n = SameStepBy s (step program input state) (step program input (record state { memory = n }))
@@ -146,7 +146,7 @@ module _ (table : Table) (typed : TypedProgram) (effects : Effects) (input : Lis
         (record {
           viewed = viewed_first;
           kept = kept;
-          holds = all_held s no_formals 0 views state.memory (λ y k view at. holds.held y k (λ fading. no_end fading.0 fading.1) view at) holds.only holds.named;
+          holds = all_held s in_formals 0 views state.memory (λ y k view at. holds.held y k (λ fading. no_end fading.0 fading.1) view at) holds.only holds.named;
         }) only n agrees p.instr refl no_call
         (λ is. (let no : Declare x v ≡ Finish = sym e ∙ is in cc)) (λ w is. absurd (let no : Declare x v ≡ Hold w = sym e ∙ is in cc))
         (standing.fine table typed effects input ready state top [] [] named p frames of_sub at_point)
@@ -217,22 +217,22 @@ module _ (table : Table) (typed : TypedProgram) (effects : Effects) (input : Lis
     -- ---- where no scope ends
 
     module _ (going : (x : ℕ) → p.instr ≡ EndScope x → ⊥) where
-      so : IsReadyIn (steps.here main_turn) ready.accepted.settled state.leaks other alone no_formals index_law ready.owns views ready.class.parts_named
+      so : IsReadyIn (steps.here main_turn) ready.accepted.settled state.leaks other alone in_formals index_law ready.owns views ready.class.parts_named
           state.memory (waiting_in state) facts_now
       so = record {
         viewed = innermost.viewed table typed effects input ready state top below more_frames rest named p frames deep stages running awaiting of_sub at_point path views viewed_before kept scope holds placed_before above;
         kept = kept;
-        holds = all_held s no_formals (suc (length rest)) views state.memory (λ x k view at. holds.held x k (λ fading. going fading.0 fading.1) view at) holds.only holds.named;
+        holds = all_held s in_formals (suc (length rest)) views state.memory (λ x k view at. holds.held x k (λ fading. going fading.0 fading.1) view at) holds.only holds.named;
       }
 
       abbrev asks : Premises (steps.here main_turn)
       asks = viewed_premises (steps.here main_turn) ready.class.parts_named
 
       abbrev ready_in : Memory → List Waiting → List Fact → Type 0
-      ready_in m hands known = IsReadyIn (steps.here main_turn) ready.accepted.settled state.leaks other alone no_formals index_law ready.owns views ready.class.parts_named m hands known
+      ready_in m hands known = IsReadyIn (steps.here main_turn) ready.accepted.settled state.leaks other alone in_formals index_law ready.owns views ready.class.parts_named m hands known
 
       laws : Values (steps.here main_turn) asks ready_in
-      laws = viewed_values (steps.here main_turn) ready.accepted.settled state.leaks other alone no_formals index_law ready.owns views ready.class.parts_named
+      laws = viewed_values (steps.here main_turn) ready.accepted.settled state.leaks other alone in_formals index_law ready.owns views ready.class.parts_named
 
       abbrev Plain : Type 0
       Plain = innermost.Plain table typed effects input ready state top below more_frames rest named p frames deep stages running awaiting of_sub at_point path views viewed_before kept scope holds placed_before above
@@ -246,7 +246,7 @@ module _ (table : Table) (typed : TypedProgram) (effects : Effects) (input : Lis
           (each.spares table typed effects input ready state top below more_frames rest named p frames deep stages running awaiting of_sub at_point path views viewed_before kept scope holds placed_before above going no_call end)
           (standing.allowed table typed effects input ready state top older outer named p frames of_sub at_point path no_call)
 
-      keeps_there : AllKeep (sees_only s) (acts_of_main p.instr)
+      keeps_there : AllKeep (is_fixed s) (acts_of_main p.instr)
       keeps_there = standing.keeps_there table typed effects input ready state top older outer named p frames of_sub at_point
 
       -- ---- a return
@@ -268,7 +268,7 @@ module _ (table : Table) (typed : TypedProgram) (effects : Effects) (input : Lis
           same (λ ws i j now. ((refl, now.0), now.2)))
 
       value_same : Plain → (e : TypedTree) (of : ℕ) → p.instr ≡ Hold (More e NoMore) → named.sub.result ≡ Some of → Source s of e → TakesScalars s (Hold (More e NoMore))
-          → ComparesIn s (Hold (More e NoMore)) → AllowsAll facts_now (acts_of_main (Hold (More e NoMore))) → AllKeep (sees_only s) (acts_of_main (Hold (More e NoMore)))
+          → ComparesIn s (Hold (More e NoMore)) → AllowsAll facts_now (acts_of_main (Hold (More e NoMore))) → AllKeep (is_fixed s) (acts_of_main (Hold (More e NoMore)))
           → SameTo s (steps.taken_by main_turn of e (start main_turn)) (steps.taken_by main_turn of e (start (twin main_turn n)))
       unfolding acts_in waits_in Compares
       value_same plain e of is result source takes_plainly compares_there allowed keep =
@@ -281,21 +281,21 @@ module _ (table : Table) (typed : TypedProgram) (effects : Effects) (input : Lis
           source_same main_turn ready.accepted.settled ready.owns asks ready_in laws facts_now so only n agrees [] of e owner own_type (given_there of e owner source)
           tt (gives_both s e NoMore takes_plainly).0
           (takes_as (taken (Hold (More e NoMore))) (waits_in e) (start main_turn).waits [] (nothing_more (waits_in e)) (takes_of plain (Hold (More e NoMore)) is))
-          compares_there.0 (subst (AllowsAll facts_now) same allowed) (subst (AllKeep (sees_only s)) same keep)
+          compares_there.0 (subst (AllowsAll facts_now) same allowed) (subst (AllKeep (is_fixed s)) same keep)
         where
           given_there : (of : ℕ) (e : TypedTree) → is_anonymous (full s.table of) ≡ false → Source s of e → Gives s of e
           given_there of e owner (inl view) = absurd (let no : true ≡ false = sym view.0 ∙ owner in cc)
           given_there of e owner (inr gives) = gives
 
       returns : Plain → (v : TypedTree) (r : Option ℕ) → p.instr ≡ Hold v → named.sub.result ≡ r → Returns s r v → TakesScalars s (Hold v) → ComparesIn s (Hold v)
-          → AllowsAll facts_now (acts_of_main (Hold v)) → AllKeep (sees_only s) (acts_of_main (Hold v)) → Goal (Hold v)
+          → AllowsAll facts_now (acts_of_main (Hold v)) → AllKeep (is_fixed s) (acts_of_main (Hold v)) → Goal (Hold v)
       returns plain v None is result none takes_plainly compares_there allowed keep =
           subst Goal (sym (ap Hold none)) (goes_same main_turn n agrees state.memory n 0 agrees only)
       returns plain v (Some of) is result (e, same, source) takes_plainly compares_there allowed keep =
           subst Goal (sym (ap Hold same))
           (holds_value e of result
           (value_same plain e of (is ∙ ap Hold same) result source (subst (λ z. TakesScalars s (Hold z)) same takes_plainly) (subst (λ z. ComparesIn s (Hold z)) same compares_there)
-          (subst (λ z. AllowsAll facts_now (acts_of_main (Hold z))) same allowed) (subst (λ z. AllKeep (sees_only s) (acts_of_main (Hold z))) same keep)))
+          (subst (λ z. AllowsAll facts_now (acts_of_main (Hold z))) same allowed) (subst (λ z. AllKeep (is_fixed s) (acts_of_main (Hold z))) same keep)))
 
       goes_plainly : Plain × TakesScalars s p.instr → IsNoCall p.instr → (p.instr ≡ Finish → ⊥) → Goal p.instr
       goes_plainly (plain, takes_plainly) no_call end =
@@ -303,7 +303,7 @@ module _ (table : Table) (typed : TypedProgram) (effects : Effects) (input : Lis
           (innermost.orderly table typed effects input ready state top below more_frames rest named p frames deep stages running awaiting of_sub at_point path views viewed_before kept scope holds placed_before above) []
           so only n agrees p.instr refl no_call end
           (λ v is. returns plain v named.sub.result is refl (subst (IsFine s named.sub.result) is text) (subst (TakesScalars s) is takes_plainly) (subst (ComparesIn s) is compares)
-          (subst (λ i. AllowsAll facts_now (acts_of_main i)) is (allowed_now no_call end)) (subst (λ i. AllKeep (sees_only s) (acts_of_main i)) is keeps_there))
+          (subst (λ i. AllowsAll facts_now (acts_of_main i)) is (allowed_now no_call end)) (subst (λ i. AllKeep (is_fixed s) (acts_of_main i)) is keeps_there))
           text takes_plainly (takes_of plain p.instr refl) compares (allowed_now no_call end) keeps_there
 
       -- ---- what a function gave, alone
@@ -414,7 +414,7 @@ module _ (table : Table) (typed : TypedProgram) (effects : Effects) (input : Lis
             ])).0
 
         -- with the values that wait under plain types
-        so_easy : IsReadyIn (steps.here main_turn) ready.accepted.settled state.leaks other alone no_formals index_law ready.owns views ready.class.parts_named
+        so_easy : IsReadyIn (steps.here main_turn) ready.accepted.settled state.leaks other alone in_formals index_law ready.owns views ready.class.parts_named
             state.memory (waiting_in (eased main_turn).state) facts_now
         so_easy = record {
           viewed = (innermost.viewed_easy table typed effects input ready state top below more_frames rest named p frames deep stages running awaiting of_sub at_point path views viewed_before kept scope holds placed_before above plain_call).0;
@@ -447,7 +447,7 @@ module _ (table : Table) (typed : TypedProgram) (effects : Effects) (input : Lis
         same_there =
             subst (λ z. SameTo s (all_passed (steps.here main_turn) z formals actuals (start main_turn)) (all_passed (steps.here main_turn) z formals actuals (start (twin main_turn n))))
             (sym (calling.ways_are table typed effects input ready state top below more_frames rest named p frames deep stages running awaiting of_sub at_point path views viewed_before kept scope holds placed_before above k actuals result e))
-            (all_same (steps.here main_turn) ready.accepted.settled state.leaks other alone no_formals index_law ready.owns views ready.class.parts_named state.memory (waiting_in easy)
+            (all_same (steps.here main_turn) ready.accepted.settled state.leaks other alone in_formals index_law ready.owns views ready.class.parts_named state.memory (waiting_in easy)
             facts_now so_easy only (not (is_some (sub_of program k).result)) (start main_turn).waits [] facts_now [] formals actuals
             (elim no_overlap [ inl none ↦ inl (spares_first s facts_now formals actuals none) | inr plain ↦ inr plain ])
             (calling.kinds table typed effects input ready state top below more_frames rest named p frames deep stages running awaiting of_sub at_point path views viewed_before kept scope holds placed_before above k actuals result e)
@@ -460,7 +460,7 @@ module _ (table : Table) (typed : TypedProgram) (effects : Effects) (input : Lis
 
         whole_there : (passed : List Passed) → Given passed → AreWhollyPassed s (suc (suc (length rest))) formals passed state.memory
         whole_there passed given =
-            passed_wholly s ready.accepted.settled ready.owns no_formals (waiting_in easy) (suc (length rest)) views
+            passed_wholly s ready.accepted.settled ready.owns in_formals (waiting_in easy) (suc (length rest)) views
             (calling.far_views table typed effects input ready state top below more_frames rest named p frames deep stages running awaiting of_sub at_point path views viewed_before kept scope holds placed_before above k actuals result e passed given)
             (calling.facts_called table typed effects input ready state top below more_frames rest named p frames deep stages running awaiting of_sub at_point path views viewed_before kept scope holds placed_before above k actuals result e)
             (calling.next_there table typed effects input ready state top below more_frames rest named p frames deep stages running awaiting of_sub at_point path views viewed_before kept scope holds placed_before above k actuals result e)
@@ -500,7 +500,7 @@ module _ (table : Table) (typed : TypedProgram) (effects : Effects) (input : Lis
         by_rest (f ∷ r) (h ∷ m) same there waiting well still =
             let stages_there : AreStages (stages_of (below ∷ (h ∷ m))) (below.stage.frame ∷ rest) =
             subst (λ z. AreStages (stages_of (below ∷ (h ∷ m))) (below.stage.frame ∷ z)) (sym same) there in
-            back_wholly main_turn ready.accepted.settled ready.owns no_formals (waiting_in state) state.leaks below.stage.depth
+            back_wholly main_turn ready.accepted.settled ready.owns in_formals (waiting_in state) state.leaks below.stage.depth
             (ends.deep_low table typed effects input ready state top below more_frames rest named p frames deep stages running awaiting of_sub at_point path views viewed_before kept scope holds placed_before above h m stages_there waiting well still is)
             below.views (ends.far_low table typed effects input ready state top below more_frames rest named p frames deep stages running awaiting of_sub at_point path views viewed_before kept scope holds placed_before above h m stages_there waiting well still is) (facts_of program effects below.stage) (lasting_of s waiting.0.point.scope)
             (ends.around_low table typed effects input ready state top below more_frames rest named p frames deep stages running awaiting of_sub at_point path views viewed_before kept scope holds placed_before above h m stages_there waiting well still is)

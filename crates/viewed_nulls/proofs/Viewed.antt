@@ -30,7 +30,7 @@ use Rattle.owned_loans.specs.Views.{Around, Views, expand, ExcusedBy}
 use Rattle.owned_loans.proofs.Safe.{Open, OpenWhole}
 use Rattle.owned_loans.proofs.Allowed.{read_open, look_open, look_whole, move_open, move_unlent, move_unmoved, write_open, free_open, free_whole}
 use Rattle.viewed_soundness.specs.Taken.{GivesPlainly}
-use Rattle.viewed_soundness.specs.Holds.{IsNamed, PartsAreNamed, AllKeep, sees_only, IsOwners}
+use Rattle.viewed_soundness.specs.Holds.{is_fixed, IsNamed, PartsAreNamed, AllKeep, sees_only, IsOwners}
 use Rattle.viewed_soundness.proofs.Names.{Starts, name_walked}
 use Rattle.viewed_soundness.proofs.Stays.{Goes, taking, steps_taking}
 use Rattle.viewed_soundness.proofs.Evaluated.{keep_both, matches_named, part_named, Ready, GivenOn, live_trunk, evaluated_on}
@@ -39,7 +39,7 @@ use Rattle.null_places.proofs.Walks.{walk_same}
 use Rattle.null_places.proofs.Direct.{has_deref, past_deref, selectors_direct}
 use Rattle.null_places.proofs.Laws.{Premises, LeadsSame, LeadsWhole, Behaves, GivenBy, Values}
 use Rattle.viewed_nulls.proofs.Names.{name_same, found_at, view_whole, access_found, owner_found}
-use Rattle.viewed_steps.proofs.Views.{all_owners}
+use Rattle.viewed_steps.proofs.Views.{AreAccess}
 
 -- the type of a view
 pub anonymous_access : (c : Bool) → is_anonymous (view_of_shape (shape.Access 0 c false)) ≡ true
@@ -79,8 +79,8 @@ viewed_premises h parts_named = record {
   alike = gives_alike h.typing;
   made = gives_made h.typing;
   both_give = gives_both h.typing;
-  keeps = AllKeep (sees_only h.typing);
-  both_keep = keep_both (sees_only h.typing);
+  keeps = AllKeep (is_fixed h.typing);
+  both_keep = keep_both (is_fixed h.typing);
   takes = IsNamed h.typing.table;
   part = λ t i made. part_named h.typing.table parts_named t i (shape_of h.typing.table t) refl made;
   element = parts_named.element;

@@ -62,7 +62,7 @@ use Rattle.viewed_soundness.proofs.Outcomes.{IsGood, IsSame, Comes, Turned, Lead
 scalar_on : (table : Table) (a b : ℕ) → shape_of table a ≡ shape_of table b → is_scalar (full table a) ≡ true → is_scalar (full table b) ≡ true
 scalar_on table a b e p = sym (ap (λ z. is_scalar (view_of_shape z)) e) ∙ p
 
-matches_on : (table : Table) (a b c : ℕ) → Matches table a b → Matches table a c → Matches table b c
+pub matches_on : (table : Table) (a b c : ℕ) → Matches table a b → Matches table a c → Matches table b c
 matches_on table a b c (inl e) (inl f) = inl (sym e ∙ f)
 matches_on table a b c (inl e) (inr g) = inr (scalar_on table a b e g.0, g.1)
 matches_on table a b c (inr e) (inl f) = inr (e.1, scalar_on table a c f e.0)
@@ -516,7 +516,7 @@ module _ (t : Turn) (settled : IsSettled (typing t).table) (own_law : OwnsByShap
       ∙ no_parts observes.k observes.e observes.o (sym (ap (λ z. is_anonymous (view_of_shape z)) observes.view) ∙ observes.anonymous) (parts s.table) in
       ap (λ z. checked_at pos 0 (slots_at s m (run.variable_place (here t) x).base) (flat_map (machine.offsets s.table (object_at s x).of) z)) empty
 
-  stored_as : (x d : ℕ) (facts : List Fact) → Sees x d → Good v facts t.state → (z : machine.Word)
+  pub stored_as : (x d : ℕ) (facts : List Fact) → Sees x d → Good v facts t.state → (z : machine.Word)
       → stored s (run.variable_place (here t) x) (z ∷ []) m ≡ declared depth x (z ∷ []) m
   stored_as x d facts observes good z =
       ap (λ q. memory.put (memory.OfVariable (home s depth x) x) q m)

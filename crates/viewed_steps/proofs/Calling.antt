@@ -57,7 +57,7 @@ use Rattle.soundness.proofs.Passing.{AreReads, reads_keep, TakesAll, takes_each,
 use Rattle.soundness.proofs.Scalars.{acts, acts_append, after_append, allows_both}
 use Rattle.soundness.proofs.Points.{sub_in_range, one_named, one_point}
 use Rattle.soundness.proofs.Inherited.{AreGlobal, global_after, global_allowed, global_apart}
-use Rattle.soundness.proofs.Used.{used_global, called_are, globals_are, added_after}
+use Rattle.soundness.proofs.Used.{used_global, called_are, globals_are, added_after, fact_added}
 use Rattle.soundness.proofs.Around.{IsFar}
 use Rattle.soundness.proofs.Taking.{Takes}
 use Rattle.soundness.proofs.Eased.{eased}
@@ -70,11 +70,12 @@ use Rattle.owned_loans.proofs.Moves.{expand_under}
 use Rattle.owned_loans.proofs.Meeting.{stands}
 use Rattle.viewed_soundness.proofs.Names.{true_false, owner_sees}
 use Rattle.viewed_soundness.specs.Holds.{Holds, is_view, sees_only, IsOwners, is_exclusive, AllKeep, is_fixed}
+use Rattle.viewed_soundness.proofs.Given.{IsLow}
 use Rattle.viewed_soundness.proofs.Evaluated.{live_trunk, keep_both}
 use Rattle.soundness.specs.Ready.{IsSupplied, Fills}
 use Rattle.viewed_steps.specs.Awaited.{AreValuesBut, temporaries_of, lasting_of, awaited, WaitsAt, AreAwaited, AreScalar, FillsTyped, TakesScalars, IsTakenBy}
 use Rattle.viewed_steps.proofs.Waited.{late_scope, within_lasting, lasting_more, Shares}
-use Rattle.viewed_steps.specs.Sound.{IsCopiedBack, ArePast, HoldsAt, ArePlaced, NoneAbove, ViewStage, stages_of, GoneElsewhere, Disturbs, AreWaiting, LeadsAlong, IsResting, IsKindOfFormal, IsScalarObject, HasTraversals}
+use Rattle.viewed_steps.specs.Sound.{IsCopiedBack, ArePast, HoldsAt, ArePlaced, NoneAbove, ViewStage, stages_of, GoneElsewhere, Disturbs, AreWaiting, LeadsAlong, IsResting, IsKindOfFormal, IsScalarObject, HasTraversals, LendsShared, AreShownOwn}
 use Rattle.viewed_steps.specs.Ready.{IsReady, roots_passed, IsCalled}
 use Rattle.viewed_steps.specs.Taken.{Lodge, IsPassedOn}
 use Rattle.viewed_steps.proofs.Lent.{Spare, spare_both, loans_stay}
@@ -99,7 +100,9 @@ use Rattle.viewed_steps.proofs.Standing as standing
 use Rattle.viewed_steps.proofs.Packages as packages
 use Rattle.viewed_steps.proofs.Innermost as innermost
 use Rattle.viewed_steps.proofs.Views.{AreAccess, AreFar, all_held, lies_far, not_elsewhere, base_named}
-use Rattle.viewed_steps.proofs.Seeing.{AreClear}
+use Rattle.viewed_steps.proofs.Seeing.{AreClear, IsLowRoot, AreLowRoots, open_to}
+use Rattle.viewed_steps.proofs.Roots.{view_goes}
+use Rattle.soundness.specs.Ready.{root_of}
 use Rattle.viewed_steps.proofs.Clear.{all_clear}
 use Rattle.viewed_steps.proofs.Exclusive.{first_true, second_true, mode_in, sees_shown, AreLent, are_lent, lent_clears}
 use Rattle.owned_ways.proofs.Unique.{one_way}
@@ -437,6 +440,53 @@ module _ (table : Table) (typed : TypedProgram) (effects : Effects) (input : Lis
         | inr lent ↦ lent_clears s facts_now formals actuals (λ y has formal m of. (lent y has formal m of).clear)
       ]
 
+      -- borrowers and observers that are shown see nothing of package objects
+      lows_there : AreLowRoots s depth views formals actuals
+      lows_there =
+          all_low formals actuals
+          (ready.class.shown (flow_sub own named) (standing.in_program table typed effects input ready state top older outer named p frames of_sub at_point) main_turn.point
+          (standing.in_sub table typed effects input ready state top older outer named p frames of_sub at_point) n actuals result e)
+        where
+          Shared : Type 0
+          Shared = LendsShared s (flow_sub own named)
+
+          shared_way : (x : ℕ) (k : Way) → views.way x ≡ Some k → ways.Named (home s depth) k → is_package_object s (ways.number_of k) ≡ true → Shared
+          shared_way x k has at_home is_shared =
+              let goes = view_goes (home s depth) (sees_only s) views (view_here s state) (facts_of program effects top) viewed_before.views x k has at_home in
+              let lent = (goes.1).2 in
+              let from = fact_added program effects ready.accepted.effects_are (flow_sub own named) top.before (Lent goes.0 (goes.1).0 (ways.name_of (goes.1).1))
+              (subst (λ fs. Has fs (Lent goes.0 (goes.1).0 (ways.name_of (goes.1).1)))
+              (standing.facts_are table typed effects input ready state top older outer named p frames of_sub at_point path) lent) in (
+                from.0,
+                from.2,
+                from.1,
+                from.3,
+                goes.0,
+                (goes.1).0,
+                ways.name_of (goes.1).1,
+                from.4,
+                ap (is_package_object s) (sym (longer (goes.1).1 k (goes.1).4).root) ∙ is_shared,
+              )
+
+          low_way : (x : ℕ) (k : Way) → views.way x ≡ Some k → (Shared → ⊥) → IsLow s depth k
+          low_way x k has own_alone = elim (holds.lies x k has) [
+            | inr far ↦ inr (far.0, (let less = far.1 in omega (arith, less)), far.2)
+            | inl at_home ↦ inl (at_home, by_kind (is_package_object s (ways.number_of k)) refl at_home)
+          ]
+            where
+              by_kind : (b : Bool) → is_package_object s (ways.number_of k) ≡ b → ways.Named (home s depth) k → is_package_object s (ways.number_of k) ≡ false
+              by_kind false is at_home = is
+              by_kind true is at_home = absurd (own_alone (shared_way x k has at_home is))
+
+          one_low : (a : TypedTree) → ((y : ℕ) → Has (root_of a) y → is_anonymous (view_of s y) ≡ true → Shared → ⊥) → IsLowRoot s depth views a
+          one_low (Name q y path u) own_alone = λ k has anonymous. low_way y k has (own_alone y (inl refl) anonymous)
+          one_low a own_alone = tt
+
+          all_low : (xs : List ℕ) (es : TypedTree) → AreShownOwn s Shared xs es → AreLowRoots s depth views xs es
+          all_low [] es shown = tt
+          all_low (x ∷ xs) (More a rest) shown = ((λ formal. one_low a (shown.0 formal)), all_low xs rest shown.1)
+          all_low (x ∷ xs) es shown = tt
+
       abbrev pub Given : List Passed → Type 0
       Given passed =
           AreGiven (steps.here main_turn) ready.accepted.settled (waiting_in easy.state) state.leaks state.memory [] other facts_now views (viewed_easy plain_there.0).1 (viewed_easy plain_there.0).0 holds_now alone live_now in_formals
@@ -452,7 +502,7 @@ module _ (table : Table) (typed : TypedProgram) (effects : Effects) (input : Lis
       pub passed_quiet : Quiet then_now Given (all_passed (steps.here main_turn) ways_there formals actuals (start main_turn))
       passed_quiet =
           all_given (steps.here main_turn) ready.accepted.settled (waiting_in easy.state) state.leaks state.memory [] other facts_now views (viewed_easy plain_there.0).1 (viewed_easy plain_there.0).0 holds_now alone live_now in_formals
-          index_law ready.owns ready.class.parts_named formals_low procedure given_words taken_there.0 formals actuals kinds called.actuals_stay clear_there copied_there taken_there.1 values_allowed
+          index_law ready.owns ready.class.parts_named formals_low procedure given_words taken_there.0 formals actuals kinds called.actuals_stay (open_to s depth views facts_now formals actuals clear_there lows_there) copied_there taken_there.1 values_allowed
 
       abbrev pub view_now : ways.View
       view_now = seen s state.memory (waiting_in easy.state) state.leaks

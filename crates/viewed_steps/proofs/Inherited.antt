@@ -126,7 +126,7 @@ module _ (s : Typing) (n : Name) (shared : is_package_object s n.root ≡ true)
       forbidden_none (breaks_O10 m how owning access (Moved n)) _ m (Moved n)
       (apart_actual m how owning access (no_kind (m.root == n.root) (actual_writes how access) writes reads))
   apart_act (act.Global g written) fits writes reads = cc
-  apart_act (act.Give m true) fits writes reads = cc
+  apart_act (act.Give m true) fits writes reads = forbidden_none (breaks_O5 m (Moved n)) _ m (Moved n) (apart_overlap m (own_root m.root fits))
   apart_act (act.Give m false) fits writes reads = forbidden_none (breaks_O6 m (Moved n)) _ m (Moved n) (apart_overlap m reads)
 
   -- ---- loans
@@ -175,7 +175,7 @@ module _ (s : Typing) (n : Name) (shared : is_package_object s n.root ≡ true)
   apart_seen h (act.Actual m how owning access) fits writes =
       forbidden_none (breaks_O10 m how owning access (Observing h)) _ m (Observing h) (seen_actual h m how owning access writes)
   apart_seen h (act.Global g written) fits writes = cc
-  apart_seen h (act.Give m true) fits writes = cc
+  apart_seen h (act.Give m true) fits writes = forbidden_none (breaks_O5 m (Observing h)) _ m (Observing h) (apart_overlap m (own_root m.root fits))
   apart_seen h (act.Give m false) fits writes = refl
 
   abbrev Borrowing : ℕ → Fact
@@ -220,7 +220,7 @@ module _ (s : Typing) (n : Name) (shared : is_package_object s n.root ≡ true)
       forbidden_none (breaks_O10 m how owning access (Borrowing h)) _ m (Borrowing h)
       (lent_actual h m how owning access (no_kind (m.root == n.root) (actual_writes how access) writes reads))
   apart_borrowed h (act.Global g written) fits writes reads = cc
-  apart_borrowed h (act.Give m true) fits writes reads = cc
+  apart_borrowed h (act.Give m true) fits writes reads = forbidden_none (breaks_O5 m (Borrowing h)) _ m (Borrowing h) (apart_overlap m (own_root m.root fits))
   apart_borrowed h (act.Give m false) fits writes reads = forbidden_none (breaks_O6 m (Borrowing h)) _ m (Borrowing h) (apart_overlap m reads)
 
   pub lent_end : (l : Loan) (h x : ℕ) (borrower : Bool) → forbids (act.EndScope x borrower) (Lent l h n) ≡ None

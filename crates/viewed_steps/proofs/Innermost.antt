@@ -1,12 +1,15 @@
 -- The innermost frame of a run, beside those that wait: which acts its facts and theirs allow, where
 -- its variables own, and that the others wait still.
+use Rattle.place_names.specs.declared.act.Act.TheVariants as act
+use Rattle.flow_paths.specs.Views.{sub_acts, traversed_formal}
+use Rattle.viewed_steps.proofs.Rooted.{own_root}
 use Rattle.viewed_steps.proofs.Traversed.{named_left, named_brought}
 use Rattle.viewed_soundness.specs.Holds.{is_view, sees_only, is_given}
 use Rattle.soundness.proofs.Lasting.{ownerless}
 use Rattle.typed_tree.specs.declared.object.ObjectKind.{ObjectKind}
 use Rattle.typed_tree.specs.declared.object.ObjectKind.TheVariants as object_kind
 use Rattle.std.specs.List.{AllByRecursion}
-use Rattle.std.proofs.Common.{◌≡◌, refl, sym, ap, ◌∙◌, subst, ◌⊎◌, inl, inr, ℕ, suc, ◌<◌, Bool, true, false, ◌&&◌, ◌||◌, ◌==◌, eq-eqb, List, [], ◌∷◌, ◌++◌, map, take, drop, length, get_or, arith, Some, None, if◌then◌else◌, Option}
+use Rattle.std.proofs.Common.{◌≡◌, refl, sym, ap, ◌∙◌, subst, ◌⊎◌, inl, inr, ℕ, suc, ◌<◌, Bool, true, false, ◌&&◌, ◌||◌, ◌==◌, eq-eqb, List, [], ◌∷◌, ◌++◌, map, take, drop, length, get_or, arith, Some, None, if◌then◌else◌}
 use Rattle.spark_base.specs.Lists.{Has}
 use Rattle.spark_base.proofs.Lists.{Has-append_left, Has-append_cases, Has-map_from}
 use Rattle.place_names.specs.declared.act.Act.{Act}
@@ -22,7 +25,7 @@ use Rattle.typed_tree.specs.Trees.{Call as CallIn, TypedTree}
 use Rattle.typed_tree.specs.Programs.{TypedProgram}
 use Rattle.flow_paths.specs.declared.report.Effects.{Effects}
 use Rattle.flow_paths.specs.Instructions.{Instruction, EndScope}
-use Rattle.flow_paths.specs.Objects.{Typing, traverses, object_at, is_anonymous, is_package_object, is_variable, is_borrower, is_observer, is_borrowing, is_observing, has_scope_end, view_of}
+use Rattle.flow_paths.specs.Objects.{Typing, object_at, is_anonymous, is_package_object, is_variable, is_borrower, is_observer, is_borrowing, is_observing, has_scope_end, view_of}
 use Rattle.flow_paths.specs.Points.{NamedPoint, FlowPoint}
 use Rattle.flow_paths.specs.Laid.{FlowSub, FlowProgram, NamedSub, number_in, flow_sub, typing_of, flow_typing, flow_program, flow_named}
 use Rattle.flow_paths.specs.Paths.{ControlPath}
@@ -372,13 +375,16 @@ module _ (table : Table) (typed : TypedProgram) (effects : Effects) (input : Lis
             ap (λ (z : FlowSub). z.result) (sub_there table typed ready.main ready.main_there.named ready.main_there.stands)
             ∙ ready.main_there.procedure ready.main_there.named ready.main_there.stands
 
-    -- so the value is no view
-    pub plain_traversal : traverses s.table named.sub.result ≡ false
-    plain_traversal = by_result named.sub.result refl
-      where
-        by_result : (r : Option ℕ) → named.sub.result ≡ r → traverses s.table r ≡ false
-        by_result None is = refl
-        by_result (Some of) is = named_result of is
+    -- what a function gives belongs to no package
+    pub gives_own : (m : PlaceName) (b : Bool)
+        → Has (standing.acts_here table typed effects input ready state top older outer named p frames of_sub at_point p.instr) (act.Give m b) → is_package_object s m.root ≡ false
+    gives_own m b has = unless (is_package_object s m.root) (λ shared. standing.given_here table typed effects input ready state top older outer named p frames of_sub at_point m b has
+        (λ f traversed only. (
+        let no_view : is_view s m.root ≡ false = unless (is_view s m.root) (λ view. true_false (is_package_object s m.root) shared (local m.root view)) in
+        let root : m.root ≡ f = only.1 m.root (own_root s (sub_acts (flow_sub own named)) f None m.root no_view) in
+        let given = ready.traversing.first top.frame.sub f (running.0).entered
+        (ap (traversed_formal s) (standing.sub_is table typed effects input ready state top older outer named p frames of_sub at_point) ∙ traversed) in
+        true_false (is_view s m.root) (ap (is_view s) root ∙ given_view s f given.1) no_view)))
 
     -- ---- what waits
 

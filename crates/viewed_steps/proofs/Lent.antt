@@ -1,5 +1,6 @@
 -- Loans end where scopes end, and nowhere else. Other acts of an instruction that calls nothing read or
 -- write what they name, or give a borrower another place.
+use Rattle.spark_base.proofs.Lists.{Has-append_right}
 use Rattle.std.proofs.Common.{◌≡◌, refl, sym, ap, ◌∙◌, subst, inl, inr, ℕ, Bool, true, false, not, List, [], ◌∷◌, ◌++◌, Option, Some, None, if◌then◌else◌}
 use Rattle.spark_base.specs.Lists.{Has}
 use Rattle.spark_base.specs.declared.position.Pos.{Pos}
@@ -17,22 +18,22 @@ use Rattle.typed_tree.specs.Trees.{TypedTree, Number, Literal, Text, Name, Compo
 use Rattle.typed_tree.specs.Trees as typed
 use Rattle.flow_paths.specs.Instructions.{Instruction, Skip, Declare, Assign, Output, Input, Release, Test, Choose, Start, Next, Evaluate, LeaveLoop, Hold, EndScope, Finish, Fall}
 use Rattle.flow_paths.specs.Instructions as instruction
-use Rattle.flow_paths.specs.Objects.{Typing, is_borrower, is_observer, traverses}
+use Rattle.flow_paths.specs.Objects.{Typing, is_borrower, is_observer, traverses, is_package_object}
 use Rattle.flow_paths.specs.Names.{Written, has_call, name_of, written, first, source, whole}
 use Rattle.flow_paths.specs.Acts.{Frame, placed, naming, used, acts_in, index_acts, source_acts, observe, declared_acts, reborrow, target_pos, stored_acts, assigned_to, returned_acts, gives_variable, acts_of}
 use Rattle.owned_ways.specs.Ways.{after}
 use Rattle.owned_ways.proofs.Assigned.{kept_fact}
 use Rattle.soundness.specs.Sound.{IsNoCall}
-use Rattle.soundness.proofs.Scalars.{acts}
+use Rattle.soundness.proofs.Scalars.{acts, acts_append}
 
--- An act ends a scope or a call, is that of a call, gives a place to what is no borrower, or to a
--- caller that may write it.
+-- An act ends a scope or a call, is that of a call, gives a place to what is no borrower, or a package object
+-- to a caller that may write it.
 abbrev pub ends : Typing → Act → Bool
 ends s (act.EndScope x borrower) = true
 ends s (act.Return roots) = true
 ends s (act.Global g written) = true
 ends s (act.Reborrow b m) = not (is_borrower s b)
-ends s (act.Give m borrows) = borrows
+ends s (act.Give m true) = is_package_object s m.root
 ends s _ = false
 
 -- other acts end no loan
@@ -189,13 +190,30 @@ module _ (s : Typing) where
       by_kind false true is = spare_source e (observe s x) (λ n. refl)
       by_kind false false is = spare_stored target e
 
-  spare_returned : (result : Option ℕ) (v : TypedTree) → traverses s.table result ≡ false → Spare s (returned_acts s result v)
-  spare_returned result v plain =
-      subst (λ b. Spare s (if b then source_acts s (first v) (λ m. act.Give m (gives_variable s result)) else acts_in s v)) (sym plain) (spare_in v)
+  -- what is given belongs to no package
+  abbrev pub GivesOwn : List Placed → Type 0
+  GivesOwn ps = (m : PlaceName) (b : Bool) → Has (acts ps) (act.Give m b) → is_package_object s m.root ≡ false
 
--- an instruction that is no call and isn't the end of a scope or of a call has none such, but in
--- traversal functions
-pub spare_acts : (f : Frame) (p : Pos) (i : Instruction) → traverses f.typing.table f.result ≡ false → IsNoCall i → ((x : ℕ) → i ≡ EndScope x → ⊥) → (i ≡ Finish → ⊥)
+  spare_given : (b : Bool) (w : Option Written) → GivesOwn (naming w (λ m. act.Give m b)) → Spare s (naming w (λ m. act.Give m b))
+  spare_given b None own = tt
+  spare_given true (Some w) own = (own w.name true (inl refl), tt)
+  spare_given false (Some w) own = (refl, tt)
+
+  spare_returned : (result : Option ℕ) (v : TypedTree) → GivesOwn (returned_acts s result v) → Spare s (returned_acts s result v)
+  spare_returned result v = by_kind (traverses s.table result)
+    where
+      by_kind : (c : Bool) → GivesOwn (if c then source_acts s (first v) (λ m. act.Give m (gives_variable s result)) else acts_in s v)
+          → Spare s (if c then source_acts s (first v) (λ m. act.Give m (gives_variable s result)) else acts_in s v)
+      by_kind false own = spare_in v
+      by_kind true own =
+          spare_both s (index_acts s (first v)) (naming (source (first v)) (λ m. act.Give m (gives_variable s result))) (spare_index (first v))
+          (spare_given (gives_variable s result) (source (first v)) (λ m b has. own m b
+          (subst (λ z. Has z (act.Give m b)) (sym (acts_append (index_acts s (first v)) (naming (source (first v)) (λ m. act.Give m (gives_variable s result)))))
+          (Has-append_right (acts (index_acts s (first v))) (acts (naming (source (first v)) (λ m. act.Give m (gives_variable s result)))) (act.Give m b) has))))
+
+-- an instruction that is no call and isn't the end of a scope or of a call has none such, if what it gives
+-- belongs to no package
+pub spare_acts : (f : Frame) (p : Pos) (i : Instruction) → GivesOwn f.typing (acts_of f p i) → IsNoCall i → ((x : ℕ) → i ≡ EndScope x → ⊥) → (i ≡ Finish → ⊥)
     → Spare f.typing (acts_of f p i)
 spare_acts f p Skip plain calls going end = tt
 spare_acts f p (Declare x v) plain calls going end = spare_declared f.typing x v

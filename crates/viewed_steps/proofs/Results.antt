@@ -41,7 +41,7 @@ use Rattle.owned_ways.specs.Ways.{Step, OfVariable, OfRoot, Way, Held, after, Al
 use Rattle.owned_ways.specs.Ways as ways
 use Rattle.soundness.specs.Seen.{IsNear, content, word_in, home}
 use Rattle.soundness.specs.Typed.{Kept}
-use Rattle.typed_laws.specs.Needed.{IsFine, Stays, Source, Returns}
+use Rattle.typed_laws.specs.Needed.{IsFine, Stays, Source}
 use Rattle.soundness.specs.Sound.{IsNoCall, Stage, facts_of, AreStages, IsRunnable, returns_value, InScope, IsNamedSub, IsAtPoint, view_of as view_here}
 use Rattle.soundness.proofs.Scalars.{acts}
 use Rattle.soundness.proofs.Scoped.{Inside}
@@ -53,10 +53,10 @@ use Rattle.soundness.proofs.Eased.{eased, waits_same}
 use Rattle.soundness.proofs.Successors.{below_one}
 use Rattle.owned_loans.specs.Views.{Around, known_gone, Views, Viewed}
 use Rattle.viewed_soundness.specs.Holds.{IsNamed, AllKeep, is_view, sees_only, is_fixed}
-use Rattle.viewed_soundness.proofs.Outcomes.{named_plain, IsGood, Leads_on}
+use Rattle.viewed_soundness.proofs.Outcomes.{IsGood, Leads_on}
 use Rattle.viewed_steps.specs.Awaited.{AreFor, AreValues, AreValuesBut, temporaries_of, lasting_of, awaited, AreAwaited, AreScalar, FillsTyped, TakesScalars, IsTakenBy, TakesAlone}
 use Rattle.viewed_steps.proofs.Waited.{temporary_first, lasting_more, Shares}
-use Rattle.viewed_steps.specs.Sound.{IsWayOf, ArePast, HoldsAt, ArePlaced, NoneAbove, ViewStage, stages_of, GoneElsewhere, AreWaiting, IsStoredAt, returns_one, LeadsAlong, IsResting, HasTraversals}
+use Rattle.viewed_steps.specs.Sound.{IsWayOf, ArePast, HoldsAt, ArePlaced, NoneAbove, ViewStage, stages_of, GoneElsewhere, AreWaiting, IsStoredAt, returns_one, LeadsAlong, IsResting, HasTraversals, NoneGiven, IsGivenBelow}
 use Rattle.viewed_steps.specs.Taken.{TakenBy}
 use Rattle.viewed_steps.specs.Ready.{IsReady}
 use Rattle.viewed_steps.proofs.Lent.{Spare, loans_stay}
@@ -439,14 +439,11 @@ module _ (table : Table) (typed : TypedProgram) (effects : Effects) (input : Lis
       no_finish_then : p.instr ≡ Finish → ⊥
       no_finish_then same = (let never : Hold (More e last) ≡ Finish = sym is ∙ same in cc)
 
-      pub named_result : IsNamed s.table of
-      named_result = plain_named s.table of (innermost.named_result table typed effects input ready state top below more_frames rest named p frames deep stages running awaiting of_sub at_point path views viewed_before kept scope holds placed_before above of result)
-
-      acts_then : acts_of_main p.instr ≡ acts (acts_in s e)
+      acts_then : is_anonymous (full s.table of) ≡ false → acts_of_main p.instr ≡ acts (acts_in s e)
       unfolding acts_in
-      acts_then =
+      acts_then plain_result =
           ap acts_of_main is ∙ ap (λ r. acts (flow.returned_acts s r (More e last))) result
-          ∙ ap (λ b. acts (if b then flow.source_acts s e (λ m. act.Give m (flow.gives_variable s (Some of))) else acts_in s e ++ acts_in s last)) (named_plain s.table of named_result)
+          ∙ ap (λ b. acts (if b then flow.source_acts s e (λ m. act.Give m (flow.gives_variable s (Some of))) else acts_in s e ++ acts_in s last)) plain_result
           ∙ ap acts (ap (λ z. acts_in s e ++ acts_in s z) alone_there ∙ append-nil (acts_in s e))
 
       takes_value : Plain → Takes (waits_in e) given_words []
@@ -462,11 +459,14 @@ module _ (table : Table) (typed : TypedProgram) (effects : Effects) (input : Lis
       abbrev spare_value : Spare s (standing.acts_by table typed effects input ready state top older outer named p frames of_sub at_point s p.instr)
       spare_value = each.spares table typed effects input ready state top below more_frames rest named p frames deep stages running awaiting of_sub at_point path views viewed_before kept scope holds placed_before above going_then no_call_then no_finish_then
 
-      allowed_value : AllowsAll facts_now (acts (acts_in s e))
-      allowed_value = subst (AllowsAll facts_now) acts_then (allowed_now spare_value (standing.allowed table typed effects input ready state top older outer named p frames of_sub at_point path no_call_then))
+      pub allowed_then : AllowsAll facts_now (acts_of_main p.instr)
+      allowed_then = allowed_now spare_value (standing.allowed table typed effects input ready state top older outer named p frames of_sub at_point path no_call_then)
 
-      keeps_value : AllKeep (is_fixed s) (acts (acts_in s e))
-      keeps_value = subst (AllKeep (is_fixed s)) acts_then (standing.keeps_there table typed effects input ready state top older outer named p frames of_sub at_point)
+      allowed_value : is_anonymous (full s.table of) ≡ false → AllowsAll facts_now (acts (acts_in s e))
+      allowed_value plain_result = subst (AllowsAll facts_now) (acts_then plain_result) (allowed_now spare_value (standing.allowed table typed effects input ready state top older outer named p frames of_sub at_point path no_call_then))
+
+      keeps_value : is_anonymous (full s.table of) ≡ false → AllKeep (is_fixed s) (acts (acts_in s e))
+      keeps_value plain_result = subst (AllKeep (is_fixed s)) (acts_then plain_result) (standing.keeps_there table typed effects input ready state top older outer named p frames of_sub at_point)
 
       left_values : Left (steps.waiting main_turn)
       left_values = left_after (subst (FillsNone s) (sym is) tt)
@@ -501,7 +501,7 @@ module _ (table : Table) (typed : TypedProgram) (effects : Effects) (input : Lis
       abbrev value_of : List machine.Word → Waiting
       value_of ws = record { of = of; words = ws }
 
-      abbrev below_with : Waiting → ViewStage
+      abbrev pub below_with : Waiting → ViewStage
       below_with v = record below { stage = record below.stage { frame = record below.stage.frame { waits = v ∷ below.stage.frame.waits } } }
 
       value_there : (ws : List machine.Word) → length ws ≡ words s.table of → (waits : List Waiting) (xs : List ℕ) → AreValuesBut s (Some of) waits xs
@@ -587,7 +587,7 @@ module _ (table : Table) (typed : TypedProgram) (effects : Effects) (input : Lis
       abbrev top_then : Stage
       top_then = standing.at_next table typed effects input ready state top older outer named p frames of_sub at_point path (steps.waiting main_turn) top.frame.loops next_number
 
-      abbrev state_then : List machine.Word → Memory → State
+      abbrev pub state_then : List machine.Word → Memory → State
       state_then ws m = handed_over program input main_turn.point state top.frame below.stage.frame rest of ws m
 
       hands_then : (ws : List machine.Word) (m : Memory) → waiting_in (state_then ws m) ≡ value_of ws ∷ waiting_in easy.state
@@ -598,23 +598,21 @@ module _ (table : Table) (typed : TypedProgram) (effects : Effects) (input : Lis
       abbrev facts_then : List Fact
       facts_then = after (acts_of_main p.instr) own_facts
 
-      -- it is of no anonymous type
-      named_value : (ws : List machine.Word) (waits others : List Waiting) (w : Waiting) → value_of ws ∷ waits ≡ w ∷ others → is_anonymous (full s.table w.of) ≡ true → ⊥
-      named_value ws waits others w same seen_there = true_false (is_anonymous (full s.table of)) (ap (λ (z : Waiting). is_anonymous (full s.table z.of)) first ∙ seen_there) (named_plain s.table of named_result)
-        where
-          first : value_of ws ≡ w
-          first = cc
+      -- the top frame afterwards
+      abbrev pub top_stage_then : ViewStage
+      top_stage_then = record { stage = top_then; views = views; cells = [] }
 
-      returned_to : (ws : List machine.Word) (m : Memory)
-          → Viewed (home s depth) (sees_only s) other views (seen s m (value_of ws ∷ waiting_in easy.state) state.leaks) (after (acts (acts_in s e)) facts_now)
+      pub returned_to : (ws : List machine.Word) (m : Memory)
+          → Viewed (home s depth) (sees_only s) other views (seen s m (value_of ws ∷ waiting_in easy.state) state.leaks) (after (acts_of_main p.instr) facts_now)
           → Kept s m (value_of ws ∷ waiting_in easy.state) → Holds s depth views m → length ws ≡ words s.table of → Inside s IsOld m depth (lasting_of s left_scope)
-          → OthersKept s depth state.memory m → Along (Goes (state_then ws m))
-      returned_to ws m viewed_then kept_then holds_then long inside_then stay =
+          → OthersKept s depth state.memory m → IsGivenBelow table typed (seen s m (value_of ws ∷ waiting_in easy.state) state.leaks) top_stage_then (below_with (value_of ws))
+          → Along (Goes (state_then ws m))
+      returned_to ws m viewed_then kept_then holds_then long inside_then stay given_then =
           let v : Waiting = value_of ws in
           let view = seen s m (v ∷ waiting_in easy.state) state.leaks in
           let view_same : view ≡ view_here s (state_then ws m) = ap (λ z. seen s m z state.leaks) (sym (hands_then ws m)) in
           let well_all : Viewed (home s depth) (sees_only s) other views view (after (acts_of_main p.instr) facts_now) =
-          subst (λ z. Viewed (home s depth) (sees_only s) other views view (after z facts_now)) (sym acts_then) viewed_then in
+          viewed_then in
           let well = apart_from_them (acts_of_main p.instr) views view holds.only well_all in
           let found = standing.next_at table typed effects input ready state top older outer named p frames of_sub at_point path next_number next_has in
           let step_on : Has (path_point (standing.points table typed effects input ready state top older outer named p frames of_sub at_point) top.frame.next).next next_number =
@@ -690,7 +688,7 @@ module _ (table : Table) (typed : TypedProgram) (effects : Effects) (input : Lis
               traversals = (
                 (
                   none_given table typed (view_here s (state_then ws m)) (record { stage = top_then; views = views; cells = [] }) (empty_given table typed (record { stage = top_then; views = views; cells = [] }) no_value_left),
-                  inl (λ w others same seen_there. named_value ws below.stage.frame.waits others w same seen_there),
+                  subst (λ z. IsGivenBelow table typed z top_stage_then (below_with v)) view_same given_then,
                   (above.1).0.2,
                 ),
                 ((above.1).1.0, (above.1).1.1),
@@ -699,61 +697,60 @@ module _ (table : Table) (typed : TypedProgram) (effects : Effects) (input : Lis
             returns_one no_call_then no_finish_then going_then below more_frames (v ∷ below.stage.frame.waits) refl (refl, refl, refl) (λ x w has. inl has) refl,
           )
 
-      then_returned : (y : Evaluated (List machine.Word))
-          → Given (steps.here main_turn) ready.accepted.settled state.leaks [] other alone (keeps s ready.accepted.settled ready.owns) index_law ready.owns views
-          ready.class.parts_named of (waiting_in easy.state) (after (acts (acts_in s e)) facts_now) y
-          → Gets (λ ws m. Inside s IsOld m depth (lasting_of s left_scope)) y → Gets (λ ws m. OthersKept s depth state.memory m) y
-          → Along (steps.evaluated main_turn y (λ ws m. Goes (state_then ws m)))
-      then_returned (Done ws n) (good, long, same) inside_then stay = returned_to ws n.memory good.viewed good.kept good.holds long inside_then stay
-      then_returned (Raises x n) given inside_then stay = ((λ trap. trap), raised_well n.memory)
-      then_returned (Traps x n) never inside_then stay = absurd never
+      -- a result of no anonymous type
+      module _ (plain_result : is_anonymous (full s.table of) ≡ false) where
+        pub named_result : IsNamed s.table of
+        named_result = plain_named s.table of plain_result
 
-      -- what the value comes to
-      abbrev IsGivenValue : Type 0
-      IsGivenValue =
-          Given (steps.here main_turn) ready.accepted.settled state.leaks [] other alone (keeps s ready.accepted.settled ready.owns) index_law ready.owns views
-          ready.class.parts_named of (waiting_in easy.state) (after (acts (acts_in s e)) facts_now) (steps.taken_by main_turn of e (start main_turn))
+        named_value : (ws : List machine.Word) → NoneGiven s (below_with (value_of ws))
+        named_value ws w others same seen_there = true_false (is_anonymous (full s.table of)) (ap (λ (z : Waiting). is_anonymous (full s.table z.of)) first ∙ seen_there) plain_result
+          where
+            first : value_of ws ≡ w
+            first = cc
 
-      value_step : IsGivenValue → Along (steps.hold main_turn (More e last))
-      value_step given =
-          subst (Along) (sym (hold_is program input main_turn.point state top.frame below.stage.frame rest e last of sub_result))
-          (then_returned (steps.taken_by main_turn of e (start main_turn)) given
-          (source_inside main_turn AnyLeft tt IsOld (lasting_of s left_scope) (lasting_of s left_scope) inside_left (λ x within. within) of e)
-          (source_stays main_turn of e))
+        then_returned : (y : Evaluated (List machine.Word))
+            → Given (steps.here main_turn) ready.accepted.settled state.leaks [] other alone (keeps s ready.accepted.settled ready.owns) index_law ready.owns views
+            ready.class.parts_named of (waiting_in easy.state) (after (acts (acts_in s e)) facts_now) y
+            → Gets (λ ws m. Inside s IsOld m depth (lasting_of s left_scope)) y → Gets (λ ws m. OthersKept s depth state.memory m) y
+            → Along (steps.evaluated main_turn y (λ ws m. Goes (state_then ws m)))
+        then_returned (Done ws n) (good, long, same) inside_then stay =
+            returned_to ws n.memory (subst (λ z. Viewed (home s depth) (sees_only s) other views (seen s n.memory (value_of ws ∷ waiting_in easy.state) state.leaks) (after z facts_now))
+            (sym (acts_then plain_result)) good.viewed) good.kept good.holds long inside_then stay (inl (named_value ws))
+        then_returned (Raises x n) given inside_then stay = ((λ trap. trap), raised_well n.memory)
+        then_returned (Traps x n) never inside_then stay = absurd never
 
-      plain_given : Plain × TakesScalars s p.instr → IsGivenValue
-      plain_given plain =
-          source_given easy ready.accepted.settled ready.owns other alone in_formals views ready.class.parts_named may refl refl given_words of e named_result source
-          (plainly_value plain.1) (takes_value plain.0) facts_now
-          (each.good table typed effects input ready state top below more_frames rest named p frames deep stages running awaiting of_sub at_point path views viewed_before kept scope holds placed_before above going_then no_call_then plain.0) allowed_value keeps_value
+        -- what the value comes to
+        abbrev IsGivenValue : Type 0
+        IsGivenValue =
+            Given (steps.here main_turn) ready.accepted.settled state.leaks [] other alone (keeps s ready.accepted.settled ready.owns) index_law ready.owns views
+            ready.class.parts_named of (waiting_in easy.state) (after (acts (acts_in s e)) facts_now) (steps.taken_by main_turn of e (start main_turn))
 
-      -- what was given alone
-      alone_given : TakesAlone s p → IsGivenValue
-      unfolding acts_in
-      alone_given alone_taken = elim (alone_taken.8) [
-        | inl (x, other_instr) ↦ (let never : Hold (More e last) ≡ Declare x (More (CallIn alone_taken.3 alone_taken.4 alone_taken.5) NoMore) = sym is ∙ other_instr in cc)
-        | inr (inl (q, x, steps, u, other_instr, calls)) ↦ (
-            let never : Hold (More e last) ≡ Assign (Name q x steps u) (CallIn alone_taken.3 alone_taken.4 alone_taken.5) = sym is ∙ other_instr in cc)
-        | inr (inr same_instr) ↦ (
-            let call : TypedTree = CallIn alone_taken.3 alone_taken.4 alone_taken.5 in
-            let both : Hold (More e last) ≡ Hold (More call NoMore) = sym is ∙ same_instr in
-            let is_call : e ≡ call = cc in
-            subst (λ z. Source s of z → Given (steps.here main_turn) ready.accepted.settled state.leaks [] other alone (keeps s ready.accepted.settled ready.owns)
-            index_law ready.owns views ready.class.parts_named of (waiting_in easy.state) (after (acts (acts_in s z)) facts_now) (steps.taken_by main_turn of z (start main_turn)))
-            (sym is_call)
-            (λ source_call. alone_value.source_alone table typed effects input ready state top below more_frames rest named p frames deep stages running awaiting of_sub at_point path views viewed_before kept scope holds placed_before above going_then alone_taken of named_result source_call) source)
-      ]
+        pub value_step : IsGivenValue → Along (steps.hold main_turn (More e last))
+        value_step given =
+            subst (Along) (sym (hold_is program input main_turn.point state top.frame below.stage.frame rest e last of sub_result))
+            (then_returned (steps.taken_by main_turn of e (start main_turn)) given
+            (source_inside main_turn AnyLeft tt IsOld (lasting_of s left_scope) (lasting_of s left_scope) inside_left (λ x within. within) of e)
+            (source_stays main_turn of e))
 
-    pub return_step : (e last : TypedTree) → p.instr ≡ Hold (More e last) → Along (turn main_turn (Hold (More e last)))
-    return_step e last is = by_result named.sub.result refl (subst (IsFine s named.sub.result) is (standing.fine table typed effects input ready state top older outer named p frames of_sub at_point))
-      where
-        by_result : (r : Option ℕ) → named.sub.result ≡ r → Returns s r (More e last) → Along (steps.hold main_turn (More e last))
-        by_result None none never = cc
-        by_result (Some of) result (value_there, same, source) =
-            let value_is : value_there ≡ e = cc in
-            let source_here : Source s of e = subst (Source s of) value_is source in
-            let last_is : last ≡ NoMore = cc in
-            value_step e last is of result source_here last_is (elim (innermost.taken_there table typed effects input ready state top below more_frames rest named p frames deep stages running awaiting of_sub at_point path views viewed_before kept scope holds placed_before above) [
-              | inl plain ↦ plain_given e last is of result source_here last_is plain
-              | inr alone_taken ↦ alone_given e last is of result source_here last_is alone_taken
-            ])
+        pub plain_given : Plain × TakesScalars s p.instr → IsGivenValue
+        plain_given plain =
+            source_given easy ready.accepted.settled ready.owns other alone in_formals views ready.class.parts_named may refl refl given_words of e named_result source
+            (plainly_value plain.1) (takes_value plain.0) facts_now
+            (each.good table typed effects input ready state top below more_frames rest named p frames deep stages running awaiting of_sub at_point path views viewed_before kept scope holds placed_before above going_then no_call_then plain.0) (allowed_value plain_result) (keeps_value plain_result)
+
+        -- what was given alone
+        pub alone_given : TakesAlone s p → IsGivenValue
+        unfolding acts_in
+        alone_given alone_taken = elim (alone_taken.8) [
+          | inl (x, other_instr) ↦ (let never : Hold (More e last) ≡ Declare x (More (CallIn alone_taken.3 alone_taken.4 alone_taken.5) NoMore) = sym is ∙ other_instr in cc)
+          | inr (inl (q, x, steps, u, other_instr, calls)) ↦ (
+              let never : Hold (More e last) ≡ Assign (Name q x steps u) (CallIn alone_taken.3 alone_taken.4 alone_taken.5) = sym is ∙ other_instr in cc)
+          | inr (inr same_instr) ↦ (
+              let call : TypedTree = CallIn alone_taken.3 alone_taken.4 alone_taken.5 in
+              let both : Hold (More e last) ≡ Hold (More call NoMore) = sym is ∙ same_instr in
+              let is_call : e ≡ call = cc in
+              subst (λ z. Source s of z → Given (steps.here main_turn) ready.accepted.settled state.leaks [] other alone (keeps s ready.accepted.settled ready.owns)
+              index_law ready.owns views ready.class.parts_named of (waiting_in easy.state) (after (acts (acts_in s z)) facts_now) (steps.taken_by main_turn of z (start main_turn)))
+              (sym is_call)
+              (λ source_call. alone_value.source_alone table typed effects input ready state top below more_frames rest named p frames deep stages running awaiting of_sub at_point path views viewed_before kept scope holds placed_before above going_then alone_taken of named_result source_call) source)
+        ]

@@ -25,7 +25,7 @@ is_true false e = cc
 
 module _ (s : Typing) (acts : List Act) (f : ℕ) (first : Option Way) where
   -- an object that is no view is its own root
-  own_root : (x : ℕ) → is_view s x ≡ false → Roots s acts x x
+  pub own_root : (x : ℕ) → is_view s x ≡ false → Roots s acts x x
   own_root x plain =
       itself x (is_true (not (holds_loans s x))
       (no_loans (is_variable (object_at s x).kind) (is_borrowing (view_of s x)) (is_observing (view_of s x)) (is_view_formal s x) plain))

@@ -1,8 +1,10 @@
 -- A frame that stands at a point of a program that is ready: its acts, its facts and its successors.
-use Rattle.flow_paths.specs.Views.{sub_acts}
+use Rattle.place_names.specs.declared.act.Act.TheVariants as act
+use Rattle.place_names.specs.Names.{Name as PlaceName}
+use Rattle.flow_paths.specs.Views.{sub_acts, traversed_formal, IsOnlyRoot}
 use Rattle.spark_base.proofs.Lists.{Has-append_left, Has-append_right}
 use Rattle.std.specs.Prelude.{flat_map}
-use Rattle.std.proofs.Common.{◌≡◌, refl, sym, ap, ◌∙◌, subst, inl, inr, ℕ, Bool, true, false, ◌&&◌, ◌||◌, List, [], ◌∷◌, ◌++◌, length, get_or, append-nil, Option, None, not}
+use Rattle.std.proofs.Common.{◌≡◌, refl, sym, ap, ◌∙◌, subst, inl, inr, ℕ, Bool, true, false, ◌&&◌, ◌||◌, List, [], ◌∷◌, ◌++◌, length, get_or, append-nil, Option, None, not, Some}
 use Rattle.spark_base.specs.Lists.{Has}
 use Rattle.place_names.specs.declared.act.Mode.{Mode}
 use Rattle.place_names.specs.declared.act.Mode.TheVariants as mode
@@ -232,6 +234,11 @@ module _ (table : Table) (typed : TypedProgram) (effects : Effects) (input : Lis
         among (z ∷ ps) k (inl same) has =
             Has-append_left (acts z.acts) (flat_map (λ (z : FlowPoint). acts z.acts) ps) a (subst (λ (z : FlowPoint). Has (acts z.acts) a) (sym same) has)
         among (z ∷ ps) k (inr later) has = Has-append_right (acts z.acts) (flat_map (λ (z : FlowPoint). acts z.acts) ps) a (among ps k later has)
+
+    -- what is given has no other root than the first formal, or none that isn't refuted
+    pub given_here : (m : PlaceName) (b : Bool) → Has (acts_here p.instr) (act.Give m b)
+        → ((f : ℕ) → traversed_formal s sub ≡ Some f → IsOnlyRoot s (sub_acts sub) m.root f → ⊥) → ⊥
+    given_here m b has = ready.traversing.given sub in_program here in_sub m b (subst (λ z. Has (acts z) (act.Give m b)) acts_agree has)
 
     module _ (path : ControlPath (path_points program effects (sub_of program top.frame.sub)) top.before top.frame.next) where
       pub path_here : ControlPath points top.before top.frame.next

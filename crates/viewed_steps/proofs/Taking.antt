@@ -218,9 +218,8 @@ module _ (table : Table) (typed : TypedProgram) (effects : Effects) (input : Lis
       -- ---- a view
 
       -- The call is one whose first actual is a name, and gives what the view designates.
-      module _ (x n : ℕ) (q r : Pos) (steps_there : TypedTree) (u : ℕ) (others : TypedTree) (y : ℕ)
-          (call_is : held_call ≡ CallIn r n (More (Name q y steps_there u) others)) (gives : GivesView s n (object_at s x).of)
-          (view : is_anonymous (view_of s x) ≡ true) (variable : is_variable (object_at s x).kind ≡ true) (stored : IsStoredAt p.instr x) where
+      module _ (of n : ℕ) (q r : Pos) (steps_there : TypedTree) (u : ℕ) (others : TypedTree) (y : ℕ)
+          (call_is : held_call ≡ CallIn r n (More (Name q y steps_there u) others)) (gives : GivesView s n of) where
         same_sub : alone_taken.4 ≡ n
         same_sub = cc
 
@@ -232,16 +231,16 @@ module _ (table : Table) (typed : TypedProgram) (effects : Effects) (input : Lis
             some_is : (a b : ℕ) → Some a ≡ Some b → a ≡ b
             some_is a b e = cc
 
-        value_anonymous : is_anonymous (full s.table value_there.of) ≡ true
+        pub value_anonymous : is_anonymous (full s.table value_there.of) ≡ true
         value_anonymous = ap (λ z. is_anonymous (full s.table z)) value_of_view ∙ gives.anonymous
 
-        given_there : IsGivenTo s (view_here s state) depth p.instr views value_there
+        pub given_there : IsGivenTo s (view_here s state) depth p.instr views value_there
         given_there = given value_there first_there.4 first_there.5 value_anonymous
 
-        abbrev word_there : machine.Word
+        abbrev pub word_there : machine.Word
         word_there = given_there.word
 
-        abbrev call_there : TraversalCall
+        abbrev pub call_there : TraversalCall
         call_there = (given_there.traverses).call
 
         -- the value is that of the call
@@ -257,10 +256,10 @@ module _ (table : Table) (typed : TypedProgram) (effects : Effects) (input : Lis
         takes_one e c (inr (inr is)) (inr (inl (k, b, w, o, same, none))) = (let both : Hold (More e NoMore) ≡ Assign (Name k b w o) c = sym is ∙ same in cc)
         takes_one e c (inr (inr is)) (inr (inr same)) = (let both : Hold (More e NoMore) ≡ Hold (More c NoMore) = sym is ∙ same in cc)
 
-        call_same : call_in given_there.sub call_there ≡ held_call
+        pub call_same : call_in given_there.sub call_there ≡ held_call
         call_same = takes_one (call_in given_there.sub call_there) held_call (given_there.traverses).taken alone_taken.8
 
-        root_same : call_there.root ≡ y
+        pub root_same : call_there.root ≡ y
         root_same = (let e : call_in given_there.sub call_there ≡ CallIn r n (More (Name q y steps_there u) others) = call_same ∙ call_is in cc)
 
         -- it is in hand no more
@@ -270,10 +269,10 @@ module _ (table : Table) (typed : TypedProgram) (effects : Effects) (input : Lis
         hands_there : waiting_in state ≡ value_there ∷ others_in_hand
         hands_there = first_there.2
 
-        words_there : given_words ≡ (word_there ∷ []) ∷ []
+        pub words_there : given_words ≡ (word_there ∷ []) ∷ []
         words_there = first_there.3 ∙ ap (λ z. z ∷ []) given_there.is
 
-        good_there : IsGood easy ready.accepted.settled ready.owns other alone views ready.class.parts_named may refl refl views facts_now easy.state
+        pub good_there : IsGood easy ready.accepted.settled ready.owns other alone views ready.class.parts_named may refl refl views facts_now easy.state
         good_there = record {
           viewed = without_view s ready.accepted.settled state.memory value_there others_in_hand value_anonymous (home s depth) (sees_only s) other views state.leaks facts_now
               (subst (λ z. Viewed (home s depth) (sees_only s) other views (seen s state.memory z state.leaks) facts_now) hands_there viewed);
@@ -281,21 +280,10 @@ module _ (table : Table) (typed : TypedProgram) (effects : Effects) (input : Lis
           holds = all_held s in_formals depth views state.memory (λ a k is_view_there e. holds.held a k (λ fading. going fading.0 fading.1) is_view_there e) holds.only holds.owners holds.own;
         }
 
-        looks : Sees easy ready.accepted.settled ready.owns other alone views ready.class.parts_named may refl refl x gives.d
-        looks = record {
-          k = gives.k;
-          e = gives.e;
-          o = gives.o;
-          view = gives.want;
-          fits = gives.fits;
-          anonymous = view;
-          mine = innermost.home_frame table typed effects input ready state top below more_frames rest named p frames deep stages running awaiting of_sub at_point path views viewed_before kept scope holds placed_before above x (ready.orderly.local x view);
-        }
-
         abbrev way_there : Way
         way_there = on (ways.All (given_there.traverses).place) given_there.rest
 
-        coming : IsComing easy ready.accepted.settled ready.owns other alone views ready.class.parts_named may refl refl call_there.root gives.d (traversed_name call_there) word_there
+        pub coming : IsComing easy ready.accepted.settled ready.owns other alone views ready.class.parts_named may refl refl call_there.root gives.d (traversed_name call_there) word_there
         coming = record {
           place = (given_there.traverses).place;
           rest = given_there.rest;
@@ -308,24 +296,38 @@ module _ (table : Table) (typed : TypedProgram) (effects : Effects) (input : Lis
           lifted = given_there.lifted;
         }
 
-        own_object : is_given s x ≡ false
-        own_object = own_there s x variable
+        -- an object that takes it
+        module _ (x : ℕ) (of_same : of ≡ (object_at s x).of) (view : is_anonymous (view_of s x) ≡ true) (variable : is_variable (object_at s x).kind ≡ true)
+            (stored : IsStoredAt p.instr x) where
+          looks : Sees easy ready.accepted.settled ready.owns other alone views ready.class.parts_named may refl refl x gives.d
+          looks = record {
+            k = gives.k;
+            e = gives.e;
+            o = gives.o;
+            view = ap (shape_of s.table) (sym of_same) ∙ gives.want;
+            fits = gives.fits;
+            anonymous = view;
+            mine = innermost.home_frame table typed effects input ready state top below more_frames rest named p frames deep stages running awaiting of_sub at_point path views viewed_before kept scope holds placed_before above x (ready.orderly.local x view);
+          }
 
-        -- the source lasts
-        may_with : MayBe program (scope_behind p) x y → IsSourceIn (sub_acts (sub_of program top.frame.sub)) x y → may x call_there.root
-        may_with there source = subst (may x) (sym root_same) (there, stored, source)
+          own_object : is_given s x ≡ false
+          own_object = own_there s x variable
 
-        may_be : Lasts program p.scope y x → is_within x (scope_behind p) ≡ true → IsSourceIn (sub_acts (sub_of program top.frame.sub)) x y → may x call_there.root
-        may_be lasts within source = subst (may x) (sym root_same) (
-          record {
-            lasts = each.lasts_behind table typed effects input ready state top below more_frames rest named p frames deep stages running awaiting of_sub at_point path views viewed_before kept scope holds placed_before above going no_calls y x lasts;
-            within = within;
-            view = view;
-            plain = innermost.variable_stays table typed effects input ready state top below more_frames rest named p frames deep stages running awaiting of_sub at_point path views viewed_before kept scope holds placed_before above x variable;
-          },
-          stored,
-          source,
-        )
+          -- the source lasts
+          may_with : MayBe program (scope_behind p) x y → IsSourceIn (sub_acts (sub_of program top.frame.sub)) x y → may x call_there.root
+          may_with there source = subst (may x) (sym root_same) (there, stored, source)
+
+          may_be : Lasts program p.scope y x → is_within x (scope_behind p) ≡ true → IsSourceIn (sub_acts (sub_of program top.frame.sub)) x y → may x call_there.root
+          may_be lasts within source = subst (may x) (sym root_same) (
+            record {
+              lasts = each.lasts_behind table typed effects input ready state top below more_frames rest named p frames deep stages running awaiting of_sub at_point path views viewed_before kept scope holds placed_before above going no_calls y x lasts;
+              within = within;
+              view = view;
+              plain = innermost.variable_stays table typed effects input ready state top below more_frames rest named p frames deep stages running awaiting of_sub at_point path views viewed_before kept scope holds placed_before above x variable;
+            },
+            stored,
+            source,
+          )
 
       in_sub : (a : Act) → Has (acts_of_main p.instr) a → Has (sub_acts (sub_of program top.frame.sub)) a
       in_sub = standing.acts_in_sub table typed effects input ready state top older outer named p frames of_sub at_point
@@ -368,22 +370,22 @@ module _ (table : Table) (typed : TypedProgram) (effects : Effects) (input : Lis
                 → LeadsFrom (Declare y declared_tree) (turn main_turn (Declare y declared_tree))
             by_source (r, n, others, call_is, gives) =
                 let stored : IsStoredAt p.instr y = inl (declared_tree, is) in
-                let c : TraversalCall = call_there y n found.0 r found.2 found.3 others found.1 call_is gives view variable_there stored in
-                let word : machine.Word = word_there y n found.0 r found.2 found.3 others found.1 call_is gives view variable_there stored in
-                let root : c.root ≡ found.1 = root_same y n found.0 r found.2 found.3 others found.1 call_is gives view variable_there stored in
-                let sub : ℕ = (given_there y n found.0 r found.2 found.3 others found.1 call_is gives view variable_there stored).sub in
-                let same_call : call_in sub c ≡ held_call = call_same y n found.0 r found.2 found.3 others found.1 call_is gives view variable_there stored in
+                let c : TraversalCall = call_there (object_at s y).of n found.0 r found.2 found.3 others found.1 call_is gives in
+                let word : machine.Word = word_there (object_at s y).of n found.0 r found.2 found.3 others found.1 call_is gives in
+                let root : c.root ≡ found.1 = root_same (object_at s y).of n found.0 r found.2 found.3 others found.1 call_is gives in
+                let sub : ℕ = (given_there (object_at s y).of n found.0 r found.2 found.3 others found.1 call_is gives).sub in
+                let same_call : call_in sub c ≡ held_call = call_same (object_at s y).of n found.0 r found.2 found.3 others found.1 call_is gives in
                 each.declared_main table typed effects input ready state top below more_frames rest named p frames deep stages running awaiting of_sub at_point path views viewed_before kept scope holds placed_before above going no_calls (Declare y declared_tree) y declared_tree
                 (subst (λ z. LeadsFrom (Declare y (More z NoMore)) (each.Declared table typed effects input ready state top below more_frames rest named p frames deep stages running awaiting of_sub at_point path views viewed_before kept scope holds placed_before above going no_calls y (More z NoMore) easy)) same_call
                 (subst (λ ws. LeadsFrom (Declare y (More (call_in sub c) NoMore)) (steps.evaluated easy
                 (steps.first_value main_turn (object_at s y).of (More (call_in sub c) NoMore) (record { memory = state.memory; waits = ws })) (λ vs m. steps.goes easy (declared depth y vs m) 0)))
-                (sym (words_there y n found.0 r found.2 found.3 others found.1 call_is gives view variable_there stored))
+                (sym (words_there (object_at s y).of n found.0 r found.2 found.3 others found.1 call_is gives))
                 (view_declared easy ready.accepted.settled ready.owns other alone views ready.class.parts_named may refl refl sub c y gives.d word facts_now
-                (looks y n found.0 r found.2 found.3 others found.1 call_is gives view variable_there stored) variable_there
-                (own_object y n found.0 r found.2 found.3 others found.1 call_is gives view variable_there stored)
-                (good_there y n found.0 r found.2 found.3 others found.1 call_is gives view variable_there stored)
-                (coming y n found.0 r found.2 found.3 others found.1 call_is gives view variable_there stored)
-                (may_be y n found.0 r found.2 found.3 others found.1 call_is gives view variable_there stored found.7 within_behind
+                (looks (object_at s y).of n found.0 r found.2 found.3 others found.1 call_is gives y refl view variable_there stored) variable_there
+                (own_object (object_at s y).of n found.0 r found.2 found.3 others found.1 call_is gives y refl view variable_there stored)
+                (good_there (object_at s y).of n found.0 r found.2 found.3 others found.1 call_is gives)
+                (coming (object_at s y).of n found.0 r found.2 found.3 others found.1 call_is gives)
+                (may_be (object_at s y).of n found.0 r found.2 found.3 others found.1 call_is gives y refl view variable_there stored found.7 within_behind
                 (declared_source s y view variable_there found.4 found.0 found.1 found.2 found.3 found.6 (sub_acts (sub_of program top.frame.sub))
                 (λ a has. in_sub a (subst (λ i. Has (acts_of_main i) a) (sym is) (subst (λ z. Has (acts_of_main (Declare y z)) a) (sym found.5) has)))))
                 (λ borrows. (
@@ -430,11 +432,11 @@ module _ (table : Table) (typed : TypedProgram) (effects : Effects) (input : Lis
             by_source : ((r : Pos) × (n : ℕ) × (others : TypedTree) × (held_call ≡ CallIn r n (More (Name found.0 found.1 found.2 found.3) others)) × GivesView s n (object_at s y).of)
                 → LeadsFrom (Assign whole held_call) (turn main_turn (Assign whole held_call))
             by_source (r, n, others, call_is, gives) =
-                let c : TraversalCall = call_there y n found.0 r found.2 found.3 others found.1 call_is gives view variable_there stored in
-                let word : machine.Word = word_there y n found.0 r found.2 found.3 others found.1 call_is gives view variable_there stored in
-                let root : c.root ≡ found.1 = root_same y n found.0 r found.2 found.3 others found.1 call_is gives view variable_there stored in
-                let sub : ℕ = (given_there y n found.0 r found.2 found.3 others found.1 call_is gives view variable_there stored).sub in
-                let same_call : call_in sub c ≡ held_call = call_same y n found.0 r found.2 found.3 others found.1 call_is gives view variable_there stored in
+                let c : TraversalCall = call_there (object_at s y).of n found.0 r found.2 found.3 others found.1 call_is gives in
+                let word : machine.Word = word_there (object_at s y).of n found.0 r found.2 found.3 others found.1 call_is gives in
+                let root : c.root ≡ found.1 = root_same (object_at s y).of n found.0 r found.2 found.3 others found.1 call_is gives in
+                let sub : ℕ = (given_there (object_at s y).of n found.0 r found.2 found.3 others found.1 call_is gives).sub in
+                let same_call : call_in sub c ≡ held_call = call_same (object_at s y).of n found.0 r found.2 found.3 others found.1 call_is gives in
                 let itself_lasts : Lasts program (scope_behind p) y y =
                 inr (within_behind, view_ends s y (anonymous_view s y view), ready.orderly.itself _, innermost.variable_stays table typed effects input ready state top below more_frames rest named p frames deep stages running awaiting of_sub at_point path views viewed_before kept scope holds placed_before above y variable_there) in
                 let lasts_there : Lasts program (scope_behind p) found.1 y = by_kind (is_observer s y) refl itself_lasts in
@@ -443,13 +445,13 @@ module _ (table : Table) (typed : TypedProgram) (effects : Effects) (input : Lis
                 (subst (λ ws. LeadsFrom (Assign whole (call_in sub c)) (steps.evaluated easy (followed_by (steps.taken_by main_turn (object_at s y).of (call_in sub c) (record { memory = state.memory; waits = ws }))
                 (λ vs now. followed_by (place_of (steps.here main_turn) whole now) (λ b now. Done (record { words = vs; place = b }) now)))
                 (λ (st : steps.Stored) m. steps.leaking_goes (checks_at s (steps.target_pos main_turn whole) m st.place) (steps.goes easy (stored_in s st.place st.words m) 0))))
-                (sym (words_there y n found.0 r found.2 found.3 others found.1 call_is gives view variable_there stored))
+                (sym (words_there (object_at s y).of n found.0 r found.2 found.3 others found.1 call_is gives))
                 (view_assigned easy ready.accepted.settled ready.owns other alone views ready.class.parts_named may refl refl sub c y gives.d word facts_now
-                (looks y n found.0 r found.2 found.3 others found.1 call_is gives view variable_there stored) variable_there
-                (own_object y n found.0 r found.2 found.3 others found.1 call_is gives view variable_there stored)
-                (good_there y n found.0 r found.2 found.3 others found.1 call_is gives view variable_there stored)
-                (coming y n found.0 r found.2 found.3 others found.1 call_is gives view variable_there stored)
-                (may_with y n found.0 r found.2 found.3 others found.1 call_is gives view variable_there stored (record { lasts = lasts_there; within = within_behind; view = view; plain = innermost.variable_stays table typed effects input ready state top below more_frames rest named p frames deep stages running awaiting of_sub at_point path views viewed_before kept scope holds placed_before above y variable_there })
+                (looks (object_at s y).of n found.0 r found.2 found.3 others found.1 call_is gives y refl view variable_there stored) variable_there
+                (own_object (object_at s y).of n found.0 r found.2 found.3 others found.1 call_is gives y refl view variable_there stored)
+                (good_there (object_at s y).of n found.0 r found.2 found.3 others found.1 call_is gives)
+                (coming (object_at s y).of n found.0 r found.2 found.3 others found.1 call_is gives)
+                (may_with (object_at s y).of n found.0 r found.2 found.3 others found.1 call_is gives y refl view variable_there stored (record { lasts = lasts_there; within = within_behind; view = view; plain = innermost.variable_stays table typed effects input ready state top below more_frames rest named p frames deep stages running awaiting of_sub at_point path views viewed_before kept scope holds placed_before above y variable_there })
                 (assigned_source s y view variable_there held_call found.0 found.1 found.2 found.3 found.4 (sub_acts (sub_of program top.frame.sub)) p.pos k found.6
                 (λ a has. in_sub a (subst (λ i. Has (acts_of_main i) a) (sym is) has))))
                 p.pos k (λ borrows. root ∙ found.6 borrows)

@@ -12,12 +12,12 @@ use Rattle.place_names.specs.declared.act.Mode.{Mode}
 use Rattle.place_names.specs.declared.act.Mode.TheVariants as mode
 use Rattle.place_names.specs.declared.act.Placed.{Placed}
 use Rattle.type_definitions.specs.Types.{Table, full, is_scalar, is_owning}
-use Rattle.typed_tree.specs.Trees.{TypedTree, Name, NoMore, More}
+use Rattle.typed_tree.specs.Trees.{TypedTree, Name, NoMore, More, Null}
 use Rattle.typed_tree.specs.Trees as typed
 use Rattle.typed_tree.specs.Programs.{TypedProgram}
 use Rattle.flow_paths.specs.declared.report.Effects.{Effects}
-use Rattle.flow_paths.specs.Instructions.{Declare, Assign, Call, Input, EndScope, Finish}
-use Rattle.flow_paths.specs.Objects.{Typing, object_at, sub_at, is_formal, is_variable, is_anonymous, is_observer, is_package_object, view_of}
+use Rattle.flow_paths.specs.Instructions.{Declare, Assign, Call, Input, EndScope, Finish, Hold}
+use Rattle.flow_paths.specs.Objects.{Typing, object_at, sub_at, is_formal, is_variable, is_anonymous, is_observer, is_package_object, view_of, traverses}
 use Rattle.flow_paths.specs.Points.{NamedPoint, FlowPoint}
 use Rattle.flow_paths.specs.Laid.{FlowSub, FlowProgram, NamedSub, number_in, flow_typing, flow_program, flow_named}
 use Rattle.flow_paths.specs.Scopes.{taken, is_within}
@@ -79,9 +79,9 @@ abbrev pub IsOwnPlace : Typing → TypedTree → Type 0
 IsOwnPlace s e = (y : ℕ) → Has (root_of e) y → is_view_formal s y ≡ false
 
 -- What a formal is shown that owns nothing: null, or what a name of its type designates that is rooted in an
--- own variable of the frame, or in such a formal.
+-- object that belongs to no package.
 abbrev pub IsShowable : Typing → ℕ → Type 0
-IsShowable s y = (is_package_object s y ≡ false) × (is_anonymous (view_of s y) ≡ false)
+IsShowable s y = is_package_object s y ≡ false
 
 abbrev pub IsSeen : Typing → ℕ → TypedTree → Type 0
 IsSeen s x typed.Null = Unit {0}
@@ -202,9 +202,16 @@ pub record AreTraversing (table : Table) (typed : TypedProgram) (effects : Effec
   pub first : (n f : ℕ) → IsEntered (flow_program table typed) n
       → traversed_formal (flow_typing (flow_program table typed)) (sub_of (flow_program table typed) n) ≡ Some f
       → (is_formal (flow_typing (flow_program table typed)) f ≡ true) × (is_given (flow_typing (flow_program table typed)) f ≡ true)
-  pub given : (n f : ℕ) (sub : FlowSub) → sub_of (flow_program table typed) n ≡ sub → traversed_formal (flow_typing (flow_program table typed)) sub ≡ Some f
-      → (p : FlowPoint) → Has sub.points p → (m : PlaceName) (b : Bool) → Has (map (λ (a : Placed). a.act) p.acts) (Give m b)
-      → (IsOnlyRoot (flow_typing (flow_program table typed)) (sub_acts sub) m.root f → ⊥) → ⊥
+  pub formal : (n : ℕ) → IsEntered (flow_program table typed) n → traverses (flow_typing (flow_program table typed)).table (sub_of (flow_program table typed) n).result ≡ true
+      → (f : ℕ) × (traversed_formal (flow_typing (flow_program table typed)) (sub_of (flow_program table typed) n) ≡ Some f)
+  pub given : (sub : FlowSub) → Has (flow_program table typed).subs sub → (p : FlowPoint) → Has sub.points p → (m : PlaceName) (b : Bool)
+      → Has (map (λ (a : Placed). a.act) p.acts) (Give m b)
+      → ((f : ℕ) → traversed_formal (flow_typing (flow_program table typed)) sub ≡ Some f → IsOnlyRoot (flow_typing (flow_program table typed)) (sub_acts sub) m.root f → ⊥) → ⊥
+  -- one returns null, a name, or what another one gives that goes through a name
+  pub returned : (n : ℕ) → IsEntered (flow_program table typed) n → (sub : NamedSub) → IsNamedSub (flow_named table typed) n sub → (p : NamedPoint) → Has sub.points p
+      → (e last : TypedTree) → p.instr ≡ Hold (More e last)
+      → (of : ℕ) → sub.sub.result ≡ Some of → is_anonymous (full (flow_program table typed).table of) ≡ true
+      → (e ≡ Null) ⊎ ((q : Pos) × (y : ℕ) × (path : TypedTree) × (u : ℕ) × IsSourceName (flow_typing (flow_program table typed)) of e q y path u)
   pub ending : (k : ℕ) → IsEntered (flow_program table typed) k → is_some (sub_of (flow_program table typed) k).result ≡ true → (before : List ℕ) (last : ℕ)
       → ControlPath (path_points (flow_program table typed) effects (sub_of (flow_program table typed) k)) before last
       → has_returned (sub_of (flow_program table typed) k) before ≡ true

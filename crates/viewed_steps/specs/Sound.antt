@@ -9,6 +9,8 @@ use Rattle.spark_base.specs.Lists.{Has}
 use Rattle.spark_base.specs.declared.position.Pos.{Pos}
 use Rattle.place_names.specs.declared.act.Mode.TheVariants as mode
 use Rattle.place_names.specs.declared.fact.Fact.{Fact}
+use Rattle.place_names.specs.declared.act.Placed.{Placed}
+use Rattle.place_names.specs.Facts.{adds}
 use Rattle.place_names.specs.declared.fact.Fact.TheVariants.{Moved, Lent}
 use Rattle.place_names.specs.declared.rule.Loan.{Loan}
 use Rattle.place_names.specs.declared.rule.Loan.TheVariants.{Borrowed, Observed}
@@ -74,6 +76,19 @@ AreKeptPlaces s (x ∷ formals) (More e rest) =
     ⊎ (IsReachedBack s x e × ((y : ℕ) → Has (root_of e) y → is_package_object s y ≡ false))) × AreKeptPlaces s formals rest
 AreKeptPlaces s formals actuals = Unit {0}
 
+-- A subprogram lends a part of a package object.
+abbrev pub LendsShared : Typing → FlowSub → Type 0
+LendsShared s sub =
+    (q : FlowPoint) × Has sub.points q × (a : Placed) × Has q.acts a × (l : Loan) × (h : ℕ) × (m : PlaceName) × Has (adds a.act) (Lent l h m)
+    × (is_package_object s m.root ≡ true)
+
+-- What is shown to formals that own nothing is rooted in borrowers and observers only if they see no part of a
+-- package object.
+abbrev pub AreShownOwn : Typing → Type 0 → List ℕ → TypedTree → Type 0
+AreShownOwn s shared (x ∷ formals) (More e rest) =
+    (is_view_formal s x ≡ true → (y : ℕ) → Has (root_of e) y → is_anonymous (view_of s y) ≡ true → shared → ⊥) × AreShownOwn s shared formals rest
+AreShownOwn s shared formals actuals = Unit {0}
+
 -- Anonymous access types are those of objects alone, and functions that are called have no results of
 -- such types; formals are such, those of functions of mode `in`, and what they are shown isn't changed through
 -- them; those of procedures of mode `in` that own nothing are of access-to-variable types; actuals are copied
@@ -91,6 +106,8 @@ pub record IsViewClass (program : FlowProgram) : Type 0 where
   pub copied : (sub : FlowSub) → Has program.subs sub → (p : FlowPoint) → Has sub.points p → (n : ℕ) (actuals : TypedTree) (result : Option ℕ)
       → p.instr ≡ Call n actuals result → ((x : ℕ) → Has (sub_of program n).formals x → is_formal (flow_typing program) x ≡ true)
       → AreKeptPlaces (flow_typing program) (sub_of program n).formals actuals
+  pub shown : (sub : FlowSub) → Has program.subs sub → (p : FlowPoint) → Has sub.points p → (n : ℕ) (actuals : TypedTree) (result : Option ℕ)
+      → p.instr ≡ Call n actuals result → AreShownOwn (flow_typing program) (LendsShared (flow_typing program) sub) (sub_of program n).formals actuals
 
 -- ---- where objects last
 

@@ -1,0 +1,553 @@
+-- A traversal function gives its result: null, or what goes on from what its first formal sees.
+use Rattle.place_names.specs.declared.act.Act.TheVariants as act
+use Rattle.flow_paths.specs.Acts as flow
+use Rattle.flow_paths.specs.Acts.{acts_in}
+use Rattle.soundness.proofs.Scalars.{acts}
+use Rattle.soundness.proofs.Taking.{Takes, takes_as, nothing_more, takes_zero}
+use Rattle.viewed_steps.proofs.Returned.{goes_on, names_view, name_given, changes_nothing}
+use Rattle.place_names.specs.Facts.{removes, effect}
+use Rattle.soundness.proofs.Operands.{hold_is}
+use Rattle.soundness.proofs.Stays.{Quiet}
+use Rattle.type_definitions.specs.declared.table.Shape.TheVariants as shape
+use Rattle.viewed_steps.proofs.Taking as taking
+use Rattle.viewed_steps.proofs.Results as results
+use Rattle.std.specs.Prelude.{is_some, filter}
+use Rattle.owned_loans.proofs.Ways.{expand_on}
+use Rattle.viewed_steps.proofs.Traversed.{source_named}
+use Rattle.flow_paths.specs.Views.{sub_acts, traversed_formal, IsOnlyRoot}
+use Rattle.viewed_steps.specs.Traversals.{GivesView, IsSourceIn, SeesFirst, IsSourceName, AreGiven, traversed_name}
+use Rattle.viewed_steps.proofs.Sources.{view_shape}
+use Rattle.spark_base.specs.declared.position.Pos.{Pos}
+use Rattle.viewed_soundness.proofs.Names.{given_view}
+use Rattle.std.proofs.Common.{◌≡◌, refl, sym, ap, ◌∙◌, subst, ◌⊎◌, inl, inr, ℕ, suc, ◌<◌, Bool, true, false, List, [], ◌∷◌, ◌++◌, drop, length, Some, None, map, Option, ◌||◌, append-nil, not, take, if◌then◌else◌}
+use Rattle.spark_base.specs.Lists.{Has}
+use Rattle.place_names.specs.declared.act.Act.{Act}
+use Rattle.place_names.specs.declared.fact.Fact.{Fact}
+use Rattle.place_names.specs.declared.fact.Fact.TheVariants.{Moved}
+use Rattle.place_names.specs.Names.{Name as PlaceName}
+use Rattle.type_definitions.specs.Types.{Table, full, words, words_of as shape_words, shape_of}
+use Rattle.typed_tree.specs.Trees.{TypedTree, NoMore, More, Name, Call as CallIn, Null as TypedNull}
+use Rattle.typed_tree.specs.Programs.{TypedProgram}
+use Rattle.flow_paths.specs.declared.report.Effects.{Effects}
+use Rattle.flow_paths.specs.Instructions.{Instruction, EndScope, Declare, Assign, Call}
+use Rattle.flow_paths.specs.Objects.{Typing, is_anonymous, is_package_object, traverses}
+use Rattle.flow_paths.specs.Names.{waiting as waits_in, name_of}
+use Rattle.flow_paths.specs.Points.{NamedPoint}
+use Rattle.flow_paths.specs.Laid.{FlowProgram, NamedSub, typing_of, flow_typing, flow_program, flow_named, number_in, FlowSub, flow_sub}
+use Rattle.flow_paths.specs.Paths.{ControlPath}
+use Rattle.flow_paths.specs.Effects.{path_points}
+use Rattle.flow_paths.specs.Scopes.{taken, scope_behind}
+use Rattle.machine.specs.Words.{fits_type}
+use Rattle.machine.specs.Words as machine
+use Rattle.machine.specs.Evaluate as run
+use Rattle.soundness.proofs.Contents.{bool_cases}
+use Rattle.machine.specs.Memory.{given_up, Memory, cell}
+use Rattle.machine.specs.Evaluate.{Done, followed_by, place_of, Raises, Traps, Evaluated, Now, evaluate}
+use Rattle.machine.specs.States.{Waiting, Frame, State, Outcome, sub_of, Goes}
+use Rattle.machine.specs.Step.{Turn, turn, start, successor}
+use Rattle.machine.specs.Step as steps
+use Rattle.machine.specs.Owners.{waiting_in, WellOwned}
+use Rattle.owned_ways.specs.Ways.{Step, OfVariable, OfRoot, Way, Held, after, AllowsAll}
+use Rattle.soundness.specs.Seen.{IsNear, content, word_in, home, seen}
+use Rattle.soundness.specs.Typed.{Kept, IsCell}
+use Rattle.typed_laws.specs.Needed.{IsFine, Source, Matches, Returns}
+use Rattle.viewed_soundness.specs.Taken.{GivesPlainly}
+use Rattle.soundness.specs.Sound.{IsNoCall, Stage, facts_of, AreStages, IsRunnable, returns_value, InScope, IsNamedSub, IsAtPoint, view_of as view_here, has_returned}
+use Rattle.soundness.proofs.Scoped.{Inside}
+use Rattle.soundness.proofs.Around.{IsFar}
+use Rattle.soundness.proofs.Waited.{FillsNone}
+use Rattle.soundness.proofs.Eased.{eased}
+use Rattle.owned_loans.specs.Views.{Around, known_gone, Views, Viewed, Go}
+use Rattle.viewed_soundness.specs.Holds.{is_view, sees_only}
+use Rattle.viewed_soundness.proofs.Outcomes.{Leads_on, IsGood}
+use Rattle.viewed_steps.specs.Awaited.{AreValues, lasting_of, AreAwaited, TakesAlone, AreScalar, TakesScalars, temporaries_of}
+use Rattle.viewed_steps.proofs.Waited.{Shares}
+use Rattle.viewed_steps.specs.Sound.{ArePast, IsResting, HoldsAt, ArePlaced, NoneAbove, ViewStage, stages_of, GoneElsewhere, AreWaiting, IsStoredAt, LeadsAlong, HasTraversals, IsGivenBelow}
+use Rattle.viewed_steps.specs.Ready.{IsReady, AreOrderly}
+use Rattle.viewed_steps.proofs.Lent.{Spare}
+use Rattle.viewed_steps.proofs.Placed.{MayBe}
+use Rattle.viewed_steps.proofs.Waiting.{StandsBetween, beside_them, handed}
+use Rattle.viewed_steps.proofs.Standing.{or_right}
+use Rattle.viewed_steps.proofs.Standing as standing
+use Rattle.viewed_steps.proofs.Packages as packages
+use Rattle.viewed_steps.proofs.Innermost as innermost
+use Rattle.machine.specs.Step.{led}
+use Rattle.soundness.specs.Seen.{seen}
+use Rattle.soundness.specs.Ready.{IsSupplied}
+use Rattle.viewed_steps.proofs.EachInstruction as each
+use Rattle.flow_paths.specs.Instructions.{Hold}
+use Rattle.type_definitions.specs.Types.{shape_of}
+use Rattle.owned_ways.specs.Ways as ways
+use Rattle.owned_loans.specs.Views.{on, expand}
+use Rattle.viewed_soundness.proofs.Outcomes.{IsGood}
+use Rattle.viewed_soundness.proofs.Lends.{matches_on}
+use Rattle.viewed_soundness.proofs.Coming.{IsComing}
+use Rattle.viewed_steps.specs.Traversals.{traversed_name}
+use Rattle.viewed_steps.proofs.Blank.{reached_with, with_view, kept_with_view}
+use Rattle.viewed_steps.proofs.Sources.{view_scalar}
+use Rattle.viewed_steps.specs.Traversals.{GivesView, IsGivenTo, AreGiven}
+use Rattle.viewed_steps.proofs.Views.{AreAccess}
+
+module _ (table : Table) (typed : TypedProgram) (effects : Effects) (input : List ℕ) (ready : IsReady table typed effects) where
+  abbrev program : FlowProgram
+  program = flow_program table typed
+
+  abbrev s : Typing
+  s = flow_typing program
+
+  abbrev own : Typing
+  own = typing_of table typed
+
+  abbrev in_formals : AreAccess s
+  in_formals = standing.in_formals table typed effects input ready
+
+  abbrev local : (x : ℕ) → is_view s x ≡ true → is_package_object s x ≡ false
+  local = standing.local table typed effects input ready
+
+  abbrev unmoved_stage : (e : Stage) → e.frame.sub ≡ 0 → (name : PlaceName) → Has (facts_of program effects e) (Moved name) → ⊥
+  unmoved_stage = packages.unmoved_stage table typed effects input ready
+
+  module _ (state : State) (top : Stage) (below : ViewStage) (more_frames : List ViewStage) (rest : List Frame) (named : NamedSub) (p : NamedPoint)
+      (frames : state.frames ≡ top.frame ∷ (below.stage.frame ∷ rest)) (deep : top.depth ≡ suc (length rest))
+      (stages : AreStages (stages_of (below ∷ more_frames)) (below.stage.frame ∷ rest))
+      (running : IsRunnable table typed top.frame.sub × IsResting s top × AreWaiting table typed effects state top.frame.sub top.frame.returns (below ∷ more_frames))
+      (awaiting : AreAwaited table typed None (top ∷ stages_of (below ∷ more_frames)))
+      (of_sub : IsNamedSub (flow_named table typed) top.frame.sub named) (at_point : IsAtPoint named.points top.frame.next p)
+      (path : ControlPath (path_points program effects (sub_of program top.frame.sub)) top.before top.frame.next) (views : Views)
+      (viewed_before : Viewed (home s (suc (length rest))) (sees_only s) (known_gone (home s (suc (length rest))) (GoneElsewhere program effects (below ∷ more_frames))) views
+      (view_here s state) (facts_of program effects top))
+      (kept : Kept s state.memory (waiting_in state)) (scope : InScope s state.memory (suc (length rest)) (lasting_of s p.scope)) (holds : HoldsAt s (suc (length rest)) views state.memory p)
+      (placed_before : ArePlaced program (suc (length rest)) (facts_of program effects top) views p.scope × ArePast s (suc (length rest)) views (below ∷ more_frames)) (above : NoneAbove s (suc (length rest)) state.memory
+      × HasTraversals table typed (view_here s state) (record { stage = top; views = views; cells = [] } ∷ (below ∷ more_frames))) where
+    abbrev outer : List Frame
+    outer = below.stage.frame ∷ rest
+
+    abbrev older : List ViewStage
+    older = below ∷ more_frames
+
+    abbrev depth : ℕ
+    depth = suc (length rest)
+
+    abbrev between : (g : ViewStage) → Has (below ∷ more_frames) g → StandsBetween table typed effects unmoved_stage local state (suc (length rest)) g
+    between = innermost.between table typed effects input ready state top below more_frames rest named p frames deep stages running awaiting of_sub at_point path views viewed_before kept scope holds placed_before above
+
+    abbrev other : Around (home s (suc (length rest)))
+    other = beside_them table typed effects unmoved_stage local state (suc (length rest)) (below ∷ more_frames) between
+
+    abbrev alone : (w : Way) → IsNear (suc (length rest)) w → IsFar (suc (length rest)) (GoneElsewhere program effects (below ∷ more_frames)) w → ⊥
+    alone = innermost.alone table typed effects input ready state top below more_frames rest named p frames deep stages running awaiting of_sub at_point path views viewed_before kept scope holds placed_before above
+
+    abbrev main_turn : Turn
+    main_turn = standing.t table typed effects input ready state top older outer named p frames of_sub at_point
+
+    abbrev own_facts : List Fact
+    own_facts = standing.facts table typed effects input ready state top older outer named p frames of_sub at_point path
+
+    abbrev handed_on : List Fact
+    handed_on = handed table typed effects unmoved_stage local state (suc (length rest)) (below ∷ more_frames) between
+
+    abbrev facts_now : List Fact
+    facts_now = own_facts ++ handed_on
+
+    abbrev acts_of_main : Instruction → List Act
+    acts_of_main i = standing.acts_here table typed effects input ready state top older outer named p frames of_sub at_point i
+
+    abbrev allowed_now : Spare s (standing.acts_by table typed effects input ready state top older outer named p frames of_sub at_point s p.instr) → AllowsAll own_facts (acts_of_main p.instr)
+        → AllowsAll facts_now (acts_of_main p.instr)
+    allowed_now = innermost.allowed_now table typed effects input ready state top below more_frames rest named p frames deep stages running awaiting of_sub at_point path views viewed_before kept scope holds placed_before above
+
+    abbrev viewed : Viewed (home s depth) (sees_only s) other views (view_here s state) facts_now
+    viewed = innermost.viewed table typed effects input ready state top below more_frames rest named p frames deep stages running awaiting of_sub at_point path views viewed_before kept scope holds placed_before above
+
+    abbrev left_scope : List ℕ
+    left_scope = drop (taken p.instr) p.scope
+
+    abbrev given_words : List (List machine.Word)
+    given_words = (start main_turn).waits
+
+    abbrev easy : Turn
+    easy = eased main_turn
+
+    abbrev Left : List Waiting → Type 0
+    Left waits = AreValues s waits (scope_behind p)
+
+    abbrev left_after : FillsNone s p.instr → Left (steps.waiting main_turn)
+    left_after = innermost.left_after table typed effects input ready state top below more_frames rest named p frames deep stages running awaiting of_sub at_point path views viewed_before kept scope holds placed_before above
+
+    abbrev IsOld : ℕ → ℕ → Type 0
+    IsOld f x =
+        (f < suc (length rest)) × ((f ≡ 0)
+        ⊎ ((q : List Step) × (k : ℕ) × (word_in s.table (content s state.memory [] (OfRoot (OfVariable f x))) q ≡ Held k)))
+
+    abbrev inside_left : Inside s IsOld state.memory depth (lasting_of s left_scope)
+    inside_left = innermost.inside_left table typed effects input ready state top below more_frames rest named p frames deep stages running awaiting of_sub at_point path views viewed_before kept scope holds placed_before above
+
+    abbrev supplied_here : IsSupplied s p
+    supplied_here = innermost.supplied_here table typed effects input ready state top below more_frames rest named p frames deep stages running awaiting of_sub at_point path views viewed_before kept scope holds placed_before above
+
+    abbrev shared : Shares s (taken p.instr) top.frame.waits p.scope
+    shared = innermost.shared table typed effects input ready state top below more_frames rest named p frames deep stages running awaiting of_sub at_point path views viewed_before kept scope holds placed_before above
+
+    -- where it leads, and how the frames come from those before
+    abbrev Along : Outcome → Type 0
+    Along outcome = LeadsAlong table typed effects p.instr state.memory (record { stage = top; views = views; cells = [] }) (below ∷ more_frames) outcome
+
+    abbrev may : ℕ → ℕ → Type 0
+    may x y = MayBe program (scope_behind p) x y × IsStoredAt p.instr x × IsSourceIn (sub_acts (sub_of program top.frame.sub)) x y
+
+    abbrev LeadsFrom : Instruction → Outcome → Type 0
+    LeadsFrom i outcome = Leads_on easy ready.accepted.settled ready.owns other alone views ready.class.parts_named may refl refl (after (acts_of_main i) facts_now) outcome
+
+    abbrev orderly : AreOrderly program p (λ q. (n : ℕ) × Has (map (number_in named.points) p.next) n × IsAtPoint named.points n q)
+    orderly = innermost.orderly table typed effects input ready state top below more_frames rest named p frames deep stages running awaiting of_sub at_point path views viewed_before kept scope holds placed_before above
+
+    abbrev raised_well : (m : Memory) → WellOwned s (steps.counted (record state { memory = given_up state.memory m }))
+    raised_well = innermost.raised_well table typed effects input ready state top below more_frames rest named p frames deep stages running awaiting of_sub at_point path views viewed_before kept scope holds placed_before above
+
+    abbrev Plain : Type 0
+    Plain = AreScalar s (temporaries_of s (take (taken p.instr) p.scope))
+
+    -- ---- a return of a view
+
+    module _ (e last : TypedTree) (is : p.instr ≡ Hold (More e last)) (of : ℕ) (result : named.sub.result ≡ Some of) (source : Source s of e) (alone_there : last ≡ NoMore)
+        (view : is_anonymous (full s.table of) ≡ true) where
+      pub sub_result : (sub_of program top.frame.sub).result ≡ Some of
+      sub_result = ap (λ (z : FlowSub). z.result) (standing.sub_is table typed effects input ready state top older outer named p frames of_sub at_point) ∙ result
+
+      going_then : (x : ℕ) → p.instr ≡ EndScope x → ⊥
+      going_then x same = (let never : Hold (More e last) ≡ EndScope x = sym is ∙ same in cc)
+
+      no_call_then : IsNoCall p.instr
+      no_call_then n actuals temporary same = (let never : Hold (More e last) ≡ Call n actuals temporary = sym is ∙ same in cc)
+
+      returns_there : is_some (sub_of program top.frame.sub).result ≡ true
+      returns_there = ap is_some sub_result
+
+      -- the first formal, and what it sees
+      abbrev first_formal : (f : ℕ) × (traversed_formal s (sub_of program top.frame.sub) ≡ Some f)
+      first_formal = ready.traversing.formal top.frame.sub (running.0).entered (ap (traverses s.table) sub_result ∙ view)
+
+      abbrev first : Option Way
+      first = ((above.1).1.0 first_formal.0 first_formal.1).0
+
+      seen_first : (other_named : NamedSub) → IsNamedSub (flow_named table typed) below.stage.frame.sub other_named → (q : NamedPoint)
+          → IsAtPoint other_named.points below.stage.frame.next q → SeesFirst s below.stage.depth q.instr top.frame.sub below.views first
+      seen_first = ((above.1).1.0 first_formal.0 first_formal.1).2
+
+      none_back : top.frame.returns ≡ []
+      none_back = ((above.1).1.0 first_formal.0 first_formal.1).3
+
+      formal_view : is_view s first_formal.0 ≡ true
+      formal_view = given_view s first_formal.0 (ready.traversing.first top.frame.sub first_formal.0 (running.0).entered first_formal.1).1
+
+      -- What is given, by what was in hand before.
+      abbrev in_hand : List Waiting
+      in_hand = waiting_in easy.state
+
+      abbrev value_of : List machine.Word → Waiting
+      value_of ws = record { of = of; words = ws }
+
+      abbrev seen_here : ways.View
+      seen_here = seen s state.memory in_hand state.leaks
+
+      -- A value: of its type; and the cell that it designates is reached by what goes on from what the formal sees.
+      pub record IsGivenBack (z : machine.Word) : Type 0 where
+        pub typed_there : (d : ℕ) (c n : Bool) (k : ℕ) → shape_of s.table of ≡ shape.Access d c n → z ≡ machine.Cell k → IsCell s state.memory d k
+        pub goes : (k : ℕ) → z ≡ machine.Cell k → (w : Way) × (first ≡ Some w) × (r : List Go) × ways.Reaches seen_here (on w r) (ways.OfCell k)
+
+      -- it is given to the frame below
+      module _ (z : machine.Word) (back : IsGivenBack z) (other_named : NamedSub) (other_of : IsNamedSub (flow_named table typed) below.stage.frame.sub other_named) (q : NamedPoint)
+          (at_q : IsAtPoint other_named.points below.stage.frame.next q) where
+        abbrev sees : SeesFirst s below.stage.depth q.instr top.frame.sub below.views first
+        sees = seen_first other_named other_of q at_q
+
+        nothing_given : ((k : ℕ) → z ≡ machine.Cell k → ⊥) → IsGivenTo s (seen s state.memory (value_of (z ∷ []) ∷ in_hand) state.leaks) below.stage.depth q.instr below.views (value_of (z ∷ []))
+        nothing_given none = record {
+          sub = top.frame.sub;
+          traverses = sees.traverses;
+          rest = [];
+          word = z;
+          is = refl;
+          reached = λ k e. absurd (none k e);
+          lifted = λ is_view_there k e. absurd (none k e);
+        }
+
+        given_word : (y : machine.Word) → z ≡ y → IsGivenTo s (seen s state.memory (value_of (z ∷ []) ∷ in_hand) state.leaks) below.stage.depth q.instr below.views (value_of (z ∷ []))
+        given_word (machine.Cell k) e =
+            let there = back.goes k e in record {
+              sub = top.frame.sub;
+              traverses = sees.traverses;
+              rest = there.2;
+              word = z;
+              is = refl;
+              reached = λ j same. (
+                  let number : k ≡ j = same_cell k j (sym e ∙ same) in
+                  let way : expand below.views (on (ways.All (sees.traverses).place) there.2) ≡ on there.0 there.2 =
+                  expand_on below.views (ways.All (sees.traverses).place) there.2 (λ d. d) ∙ ap (λ w. on w there.2) (sees.leads there.0 there.1) in
+                  subst (λ n. ways.Reaches (seen s state.memory (value_of (z ∷ []) ∷ in_hand) state.leaks) (expand below.views (on (ways.All (sees.traverses).place) there.2)) (ways.OfCell n)) number
+                  (subst (λ w. ways.Reaches (seen s state.memory (value_of (z ∷ []) ∷ in_hand) state.leaks) w (ways.OfCell k)) (sym way)
+                  (reached_with s ready.accepted.settled state.memory (value_of (z ∷ [])) in_hand view state.leaks (on there.0 there.2) (ways.OfCell k) there.3)));
+              lifted = λ is_view_there j same. sees.lifted is_view_there there.0 there.1;
+            }
+          where
+            same_cell : (k j : ℕ) → machine.Cell k ≡ machine.Cell j → k ≡ j
+            same_cell k j e = cc
+        given_word (machine.Int n) e = nothing_given (λ j same. (let never : machine.Int n ≡ machine.Cell j = sym e ∙ same in cc))
+        given_word (machine.Enumerated n) e = nothing_given (λ j same. (let never : machine.Enumerated n ≡ machine.Cell j = sym e ∙ same in cc))
+        given_word machine.Null e = nothing_given (λ j same. (let never : machine.Null ≡ machine.Cell j = sym e ∙ same in cc))
+
+      -- ---- the state afterwards
+
+      module _ (good : IsGood easy ready.accepted.settled ready.owns other alone views ready.class.parts_named may refl refl views facts_now easy.state)
+          (facts_same : after (acts_of_main p.instr) facts_now ≡ facts_now) where
+        given_below : (z : machine.Word) → IsGivenBack z
+            → IsGivenBelow table typed (seen s state.memory (value_of (z ∷ []) ∷ in_hand) state.leaks) (results.top_stage_then table typed effects input ready state top below more_frames rest named p frames deep stages running awaiting of_sub at_point path views viewed_before kept scope holds placed_before above e last is of result source alone_there)
+            (results.below_with table typed effects input ready state top below more_frames rest named p frames deep stages running awaiting of_sub at_point path views viewed_before kept scope holds placed_before above e last is of result source alone_there (value_of (z ∷ [])))
+        given_below z back = inr (
+          returns_there,
+          returned_now,
+          none_back,
+          λ other_named other_of q at_q w others same seen_there. subst (IsGivenTo s (seen s state.memory (value_of (z ∷ []) ∷ in_hand) state.leaks) below.stage.depth q.instr below.views)
+              (first_one (value_of (z ∷ [])) w below.stage.frame.waits others same) (given_word z back other_named other_of q at_q z refl),
+        )
+          where
+            first_one : (v w : Waiting) (waits others : List Waiting) → v ∷ waits ≡ w ∷ others → v ≡ w
+            first_one v w waits others same = cc
+
+            returned_now : has_returned (sub_of program top.frame.sub) (top.frame.next ∷ top.before) ≡ true
+            returned_now = ap (λ b. b || has_returned (sub_of program top.frame.sub) top.before)
+                (ap returns_value (innermost.instr_there table typed effects input ready state top below more_frames rest named p frames deep stages running awaiting of_sub at_point path views viewed_before kept scope holds placed_before above ∙ is))
+
+        gives_it : (z : machine.Word) → IsGivenBack z → Along (Goes (results.state_then table typed effects input ready state top below more_frames rest named p frames deep stages running awaiting of_sub at_point path views viewed_before kept scope holds placed_before above e last is of result source alone_there (z ∷ []) state.memory))
+        gives_it z back =
+            results.returned_to table typed effects input ready state top below more_frames rest named p frames deep stages running awaiting of_sub at_point path views viewed_before kept scope holds placed_before above e last is of result source alone_there (z ∷ []) state.memory
+            (subst (Viewed (home s depth) (sees_only s) other views (seen s state.memory (value_of (z ∷ []) ∷ in_hand) state.leaks)) (sym facts_same)
+            (with_view s ready.accepted.settled state.memory (value_of (z ∷ [])) in_hand view (home s depth) (sees_only s) other views state.leaks facts_now good.viewed))
+            (kept_with_view s ready.accepted.settled state.memory (value_of (z ∷ [])) in_hand view z refl back.typed_there good.kept)
+            good.holds one_word inside_left (λ f y some others o. record { word = refl; gone = λ g. g }) (given_below z back)
+          where
+            one_word : 1 ≡ words s.table of
+            one_word =
+                let sh = view_shape (shape_of s.table of) view in
+                sym (ready.accepted.settled.word_law of ∙ ap (shape_words (words s.table)) sh.3)
+
+        then_gives : (y : Evaluated (List machine.Word)) → Quiet (record { memory = state.memory; waits = [] }) (λ ws. (z : machine.Word) × (ws ≡ z ∷ []) × IsGivenBack z) y
+            → Along (steps.evaluated main_turn y (λ ws m. Goes (results.state_then table typed effects input ready state top below more_frames rest named p frames deep stages running awaiting of_sub at_point path views viewed_before kept scope holds placed_before above e last is of result source alone_there ws m)))
+        then_gives (Done ws n) (same, (z, word, back)) =
+            subst (λ (b : Now). Along (Goes (results.state_then table typed effects input ready state top below more_frames rest named p frames deep stages running awaiting of_sub at_point path views viewed_before kept scope holds placed_before above e last is of result source alone_there ws b.memory))) (sym same)
+            (subst (λ b. Along (Goes (results.state_then table typed effects input ready state top below more_frames rest named p frames deep stages running awaiting of_sub at_point path views viewed_before kept scope holds placed_before above e last is of result source alone_there b state.memory))) (sym word) (gives_it z back))
+        then_gives (Raises how n) quiet = ((λ trap. trap), raised_well n.memory)
+        then_gives (Traps how n) never = absurd never
+
+        view_step : Quiet (record { memory = state.memory; waits = [] }) (λ ws. (z : machine.Word) × (ws ≡ z ∷ []) × IsGivenBack z) (steps.taken_by main_turn of e (start main_turn))
+            → Along (steps.hold main_turn (More e last))
+        view_step quiet =
+            subst Along (sym (hold_is program input main_turn.point state top.frame below.stage.frame rest e last of sub_result))
+            (then_gives (steps.taken_by main_turn of e (start main_turn)) quiet)
+
+      -- ---- the value
+
+      -- giving changes no facts
+      give_same : (m : PlaceName) (b : Bool) (facts : List Fact) → effect (act.Give m b) facts ≡ facts
+      give_same m b facts = append-nil (filter (λ g. not (removes (act.Give m b) g)) facts) ∙ all_stay facts
+        where
+          all_stay : (facts : List Fact) → filter (λ g. not (removes (act.Give m b) g)) facts ≡ facts
+          all_stay [] = refl
+          all_stay (f ∷ facts) = ap (λ z. f ∷ z) (all_stay facts)
+
+      -- What comes by a name that has no other root than the first formal, or none that isn't refuted.
+      comes_back : (d k y : ℕ) (c n o m : Bool) (u : ℕ) (name : PlaceName) (z : machine.Word) → shape_of s.table of ≡ shape.Access k c n → Matches s.table d k
+          → ((IsOnlyRoot s (sub_acts (sub_of program top.frame.sub)) y first_formal.0 → ⊥) → ⊥)
+          → IsComing easy ready.accepted.settled ready.owns other alone views ready.class.parts_named may refl refl y d name z → IsGivenBack z
+      comes_back d k y c n o m u name z want fits only coming = record {
+        typed_there = λ d' c' n' j shape_there e. (
+            let there = coming.typed j e in
+            let same : k ≡ d' = same_designated k d' c n c' n' (sym want ∙ shape_there) in
+            (there.0, there.1, matches_on s.table d d' (cell state.memory j).of (subst (Matches s.table d) same fits) there.2));
+        goes = λ j e. goes_on easy ready.accepted.settled ready.owns other alone views ready.class.parts_named may refl refl (sub_acts (sub_of program top.frame.sub)) first_formal.0 first
+            formal_view ((above.1).1.0 first_formal.0 first_formal.1).1 y d name z only coming j e;
+      }
+        where
+          same_designated : (k d : ℕ) (a b c n : Bool) → shape.Access k a b ≡ shape.Access d c n → k ≡ d
+          same_designated k d a b c n is = cc
+
+      acts_there : acts_of_main p.instr ≡ acts (flow.source_acts s e (λ m. act.Give m (flow.gives_variable s (Some of))))
+      acts_there =
+          ap acts_of_main is ∙ ap (λ r. acts (flow.returned_acts s r (More e last))) result
+          ∙ ap (λ b. acts (if b then flow.source_acts s e (λ m. act.Give m (flow.gives_variable s (Some of))) else acts_in s (More e last))) view
+
+      -- V3, of the act at this point
+      only_root : (q : Pos) (y : ℕ) (path : TypedTree) (u : ℕ) → IsSourceName s of e q y path u
+          → (IsOnlyRoot s (sub_acts (sub_of program top.frame.sub)) y first_formal.0 → ⊥) → ⊥
+      only_root q y path u named_so none =
+          standing.given_here table typed effects input ready state top older outer named p frames of_sub at_point (name_of y path) (flow.gives_variable s (Some of))
+          (subst (λ z. Has z (act.Give (name_of y path) (flow.gives_variable s (Some of)))) (sym acts_there)
+          (source_named s of e q y path u named_so (λ m. act.Give m (flow.gives_variable s (Some of)))))
+          (λ f traversed one. none (subst (λ z. IsOnlyRoot s (sub_acts z) y first_formal.0)
+          (sym (standing.sub_is table typed effects input ready state top older outer named p frames of_sub at_point))
+          (subst (IsOnlyRoot s (sub_acts (flow_sub own named)) y) (same_formal f traversed) one)))
+        where
+          some_is : {a b : ℕ} → Some a ≡ Some b → a ≡ b
+          some_is same = cc
+
+          same_formal : (f : ℕ) → traversed_formal s (flow_sub own named) ≡ Some f → f ≡ first_formal.0
+          same_formal f traversed =
+              some_is (sym traversed ∙ ap (traversed_formal s) (sym (standing.sub_is table typed effects input ready state top older outer named p frames of_sub at_point)) ∙ first_formal.1)
+
+      allowed_there : AllowsAll facts_now (acts_of_main p.instr)
+      allowed_there = results.allowed_then table typed effects input ready state top below more_frames rest named p frames deep stages running awaiting of_sub at_point path views viewed_before kept scope holds placed_before above e last is of result source alone_there
+
+      -- a name
+      by_name : Plain × TakesScalars s p.instr → (q : Pos) (y : ℕ) (steps_there : TypedTree) (u : ℕ) → e ≡ Name q y steps_there u → Along (steps.hold main_turn (More e last))
+      unfolding waits_in
+      by_name plain q y steps_there u name =
+          let good = each.good table typed effects input ready state top below more_frames rest named p frames deep stages running awaiting of_sub at_point path views viewed_before kept scope holds placed_before above going_then no_call_then plain.0 in
+          let looks = names_view easy ready.accepted.settled ready.owns other alone views ready.class.parts_named may refl refl q of y u steps_there view (subst (Source s of) name source) in
+          let takes : Takes (waits_in steps_there) given_words [] =
+          takes_as (taken (Hold (More e last))) (waits_in steps_there) given_words []
+          ((λ j. taken (Hold (More (name j) (alone_there j)))) ∙ nothing_more (waits_in steps_there)) (innermost.takes_of table typed effects input ready state top below more_frames rest named p frames deep stages running awaiting of_sub at_point path views viewed_before kept scope holds placed_before above plain.0 (Hold (More e last)) is) in
+          let acts_name : acts_of_main p.instr ≡ acts (flow.returned_acts s (Some of) (More (Name q y steps_there u) NoMore)) =
+          acts_there ∙ ap (λ z. acts (flow.source_acts s z (λ m. act.Give m (flow.gives_variable s (Some of))))) name
+          ∙ ap (λ b. acts (if b then flow.source_acts s (Name q y steps_there u) (λ m. act.Give m (flow.gives_variable s (Some of))) else acts_in s (More (Name q y steps_there u) NoMore))) (sym view) in
+          let allowed_name = subst (AllowsAll facts_now) acts_name allowed_there in
+          view_step good
+          (ap (λ z. after z facts_now) acts_name
+          ∙ changes_nothing easy ready.accepted.settled ready.owns other alone views ready.class.parts_named may refl refl given_words q of y u steps_there view looks takes facts_now good allowed_name
+          ∙ give_same (name_of y steps_there) (flow.gives_variable s (Some of)) facts_now)
+          (subst (λ z. Quiet (record { memory = state.memory; waits = [] }) (λ ws. (w : machine.Word) × (ws ≡ w ∷ []) × IsGivenBack w) (steps.taken_by main_turn of z (start main_turn))) (sym name)
+          (quiet_on (steps.taken_by main_turn of (Name q y steps_there u) (start main_turn))
+          (λ w coming. comes_back looks.d looks.k y looks.e looks.o true true u (name_of y steps_there) w looks.want looks.fits (only_root q y steps_there u (inl name)) coming)
+          (name_given easy ready.accepted.settled ready.owns other alone views ready.class.parts_named may refl refl given_words q of y u steps_there view looks takes facts_now good allowed_name)))
+        where
+          quiet_on : {C : machine.Word → Type 0} (a : Evaluated (List machine.Word)) → ((w : machine.Word) → C w → IsGivenBack w)
+              → Quiet (record { memory = state.memory; waits = [] }) (λ ws. (w : machine.Word) × (ws ≡ w ∷ []) × C w) a
+              → Quiet (record { memory = state.memory; waits = [] }) (λ ws. (w : machine.Word) × (ws ≡ w ∷ []) × IsGivenBack w) a
+          quiet_on (Done ws n) into (same, (w, word, c)) = (same, (w, word, into w c))
+          quiet_on (Raises how n) into same = same
+          quiet_on (Traps how n) into never = never
+
+      -- null
+      by_null : Plain × TakesScalars s p.instr → e ≡ TypedNull → Along (steps.hold main_turn (More e last))
+      unfolding waits_in evaluate
+      by_null plain null =
+          let good = each.good table typed effects input ready state top below more_frames rest named p frames deep stages running awaiting of_sub at_point path views viewed_before kept scope holds placed_before above going_then no_call_then plain.0 in
+          view_step good (ap (λ z. after z facts_now) (acts_there ∙ ap (λ z. acts (flow.source_acts s z (λ m. act.Give m (flow.gives_variable s (Some of))))) null))
+          (subst (λ z. Quiet (record { memory = state.memory; waits = [] }) (λ ws. (w : machine.Word) × (ws ≡ w ∷ []) × IsGivenBack w) (steps.taken_by main_turn of z (start main_turn))) (sym null)
+          (subst (Quiet (record { memory = state.memory; waits = [] }) (λ ws. (w : machine.Word) × (ws ≡ w ∷ []) × IsGivenBack w)) (sym (null_taken (start main_turn)))
+          (nothing_left plain.0, (machine.Null, refl, no_cell))))
+        where
+          no_cell : IsGivenBack machine.Null
+          no_cell = record { typed_there = λ d c n k shape_there same. cc; goes = λ k same. cc }
+
+          takes_nothing : taken (Hold (More e last)) ≡ 0
+          takes_nothing = (λ j. taken (Hold (More (null j) (alone_there j))))
+
+          nothing_left : Plain → start main_turn ≡ record { memory = state.memory; waits = [] }
+          nothing_left plain_there =
+              ap (λ ws. record { memory = state.memory; waits = ws })
+              (takes_zero given_words [] (takes_as (taken (Hold (More e last))) 0 given_words [] takes_nothing (innermost.takes_of table typed effects input ready state top below more_frames rest named p frames deep stages running awaiting of_sub at_point path views viewed_before kept scope holds placed_before above plain_there (Hold (More e last)) is)))
+
+          null_taken : (now : Now) → steps.taken_by main_turn of TypedNull now ≡ Done (machine.Null ∷ []) now
+          null_taken now = ap (λ c. if c then run.viewed (steps.here main_turn) TypedNull now else followed_by (run.value (steps.here main_turn) TypedNull now) (run.checked (steps.here main_turn) of)) view
+
+      abbrev AreSame : TypedTree → TypedTree → Type 0
+      AreSame a b = a ≡ b
+
+      -- what another one gave
+      by_call : TakesAlone s p → (q : Pos) (y : ℕ) (steps_there : TypedTree) (u : ℕ) (r : Pos) (n : ℕ) (more : TypedTree) → e ≡ CallIn r n (More (Name q y steps_there u) more)
+          → GivesView s n of → Along (steps.hold main_turn (More e last))
+      unfolding evaluate
+      by_call alone_taken q y steps_there u r n more call gives = elim alone_taken.8 [
+        | inl (x, other_instr) ↦ (let never : Hold (More e last) ≡ Declare x (More (CallIn alone_taken.3 alone_taken.4 alone_taken.5) NoMore) = sym is ∙ other_instr in cc)
+        | inr (inl (k, x, steps_of, w, other_instr, calls)) ↦ (
+            let never : Hold (More e last) ≡ Assign (Name k x steps_of w) (CallIn alone_taken.3 alone_taken.4 alone_taken.5) = sym is ∙ other_instr in cc)
+        | inr (inr same_instr) ↦ (
+            let both : Hold (More e last) ≡ Hold (More (CallIn alone_taken.3 alone_taken.4 alone_taken.5) NoMore) = sym is ∙ same_instr in
+            let same_call : e ≡ CallIn alone_taken.3 alone_taken.4 alone_taken.5 = cc in
+            by_held (sym same_call ∙ call) (sym same_call))
+      ]
+        where
+          given_here : AreGiven s (view_here s state) depth p.instr views top.frame.waits
+          given_here = subst (λ d. AreGiven s (view_here s state) d p.instr views top.frame.waits) deep ((above.1).0.0 named of_sub p at_point)
+
+          call_taken : (now : Now) (word : machine.Word) (a : Pos) (b : ℕ) (actuals : TypedTree) → now.waits ≡ (word ∷ []) ∷ []
+              → steps.taken_by main_turn of (CallIn a b actuals) now ≡ Done (word ∷ []) (record { memory = now.memory; waits = [] })
+          call_taken now word a b actuals words_there =
+              ap (λ c. if c then run.viewed (steps.here main_turn) (CallIn a b actuals) now else followed_by (run.value (steps.here main_turn) (CallIn a b actuals) now) (run.checked (steps.here main_turn) of)) view
+              ∙ (let call_there : TypedTree = CallIn a b actuals in ap (λ ws. run.viewed (steps.here main_turn) call_there (record { memory = now.memory; waits = ws })) words_there)
+
+          by_held : AreSame (CallIn alone_taken.3 alone_taken.4 alone_taken.5) (CallIn r n (More (Name q y steps_there u) more)) → AreSame (CallIn alone_taken.3 alone_taken.4 alone_taken.5) e
+              → Along (steps.hold main_turn (More e last))
+          by_held call_is held_is =
+              let good = taking.good_there table typed effects input ready state top below more_frames rest named p frames deep stages running awaiting of_sub at_point path views viewed_before kept scope holds placed_before above going_then no_call_then alone_taken given_here of n q r steps_there u more y call_is gives in
+              let coming = taking.coming table typed effects input ready state top below more_frames rest named p frames deep stages running awaiting of_sub at_point path views viewed_before kept scope holds placed_before above going_then no_call_then alone_taken given_here of n q r steps_there u more y call_is gives in
+              let word = taking.word_there table typed effects input ready state top below more_frames rest named p frames deep stages running awaiting of_sub at_point path views viewed_before kept scope holds placed_before above going_then no_call_then alone_taken given_here of n q r steps_there u more y call_is gives in
+              let words_there = taking.words_there table typed effects input ready state top below more_frames rest named p frames deep stages running awaiting of_sub at_point path views viewed_before kept scope holds placed_before above going_then no_call_then alone_taken given_here of n q r steps_there u more y call_is gives in
+              let root = taking.root_same table typed effects input ready state top below more_frames rest named p frames deep stages running awaiting of_sub at_point path views viewed_before kept scope holds placed_before above going_then no_call_then alone_taken given_here of n q r steps_there u more y call_is gives in
+              let c = taking.call_there table typed effects input ready state top below more_frames rest named p frames deep stages running awaiting of_sub at_point path views viewed_before kept scope holds placed_before above going_then no_call_then alone_taken given_here of n q r steps_there u more y call_is gives in
+              view_step good
+              (ap (λ z. after z facts_now) (acts_there ∙ ap (λ z. acts (flow.source_acts s z (λ m. act.Give m (flow.gives_variable s (Some of))))) call)
+              ∙ give_same (name_of y steps_there) (flow.gives_variable s (Some of)) facts_now)
+              (subst (Quiet (record { memory = state.memory; waits = [] }) (λ ws. (w : machine.Word) × (ws ≡ w ∷ []) × IsGivenBack w))
+              (sym (ap (λ z. steps.taken_by main_turn of z (start main_turn)) (sym held_is) ∙ call_taken (start main_turn) word alone_taken.3 alone_taken.4 alone_taken.5 words_there)) (
+                refl,
+                (
+                  word,
+                  refl,
+                  comes_back gives.d gives.k c.root gives.e gives.o true true u (traversed_name c) word gives.want gives.fits
+                      (λ none. only_root q y steps_there u (inr (r, n, more, call, gives)) (λ one. none (subst (λ z. IsOnlyRoot s (sub_acts (sub_of program top.frame.sub)) z first_formal.0) (sym root) one))) coming,
+                ),
+              ))
+
+      -- ---- by what is returned
+
+      not_alone : TakesAlone s p → ((a : Pos) (b : ℕ) (actuals : TypedTree) → e ≡ CallIn a b actuals → ⊥) → ⊥
+      not_alone alone_taken no_call = elim alone_taken.8 [
+        | inl (x, other_instr) ↦ (let never : Hold (More e last) ≡ Declare x (More (CallIn alone_taken.3 alone_taken.4 alone_taken.5) NoMore) = sym is ∙ other_instr in cc)
+        | inr (inl (k, x, steps_of, w, other_instr, calls)) ↦ (
+            let never : Hold (More e last) ≡ Assign (Name k x steps_of w) (CallIn alone_taken.3 alone_taken.4 alone_taken.5) = sym is ∙ other_instr in cc)
+        | inr (inr same_instr) ↦ (
+            let both : Hold (More e last) ≡ Hold (More (CallIn alone_taken.3 alone_taken.4 alone_taken.5) NoMore) = sym is ∙ same_instr in
+            let same_call : e ≡ CallIn alone_taken.3 alone_taken.4 alone_taken.5 = cc in
+            no_call alone_taken.3 alone_taken.4 alone_taken.5 same_call)
+      ]
+
+      not_plain : (r : Pos) (n : ℕ) (actuals : TypedTree) → e ≡ CallIn r n actuals → GivesView s n of → TakesScalars s p.instr → ⊥
+      unfolding GivesPlainly
+      not_plain r n actuals call gives plainly =
+          let held : GivesPlainly s (More e last) = subst (TakesScalars s) is plainly in
+          let of_call : GivesPlainly s (CallIn r n actuals) = subst (GivesPlainly s) call held.0 in
+          view_scalar (shape_of s.table gives.result) gives.anonymous (of_call gives.result gives.result_is)
+
+      pub view_returned : Along (steps.hold main_turn (More e last))
+      view_returned = elim (ready.traversing.returned top.frame.sub (running.0).entered named of_sub p (innermost.point_there_now table typed effects input ready state top below more_frames rest named p frames deep stages running awaiting of_sub at_point path views viewed_before kept scope holds placed_before above) e last is of result view) [
+        | inl null ↦ elim (innermost.taken_there table typed effects input ready state top below more_frames rest named p frames deep stages running awaiting of_sub at_point path views viewed_before kept scope holds placed_before above) [
+          | inl plain ↦ by_null plain null
+          | inr alone_taken ↦ absurd (not_alone alone_taken (λ a b actuals call. (let never : TypedNull ≡ CallIn a b actuals = sym null ∙ call in cc)))
+        ]
+        | inr (q, y, steps_there, u, inl name) ↦ elim (innermost.taken_there table typed effects input ready state top below more_frames rest named p frames deep stages running awaiting of_sub at_point path views viewed_before kept scope holds placed_before above) [
+          | inl plain ↦ by_name plain q y steps_there u name
+          | inr alone_taken ↦ absurd (not_alone alone_taken (λ a b actuals call. (let never : Name q y steps_there u ≡ CallIn a b actuals = sym name ∙ call in cc)))
+        ]
+        | inr (q, y, steps_there, u, inr (r, n, more, call, gives)) ↦ elim (innermost.taken_there table typed effects input ready state top below more_frames rest named p frames deep stages running awaiting of_sub at_point path views viewed_before kept scope holds placed_before above) [
+          | inl plain ↦ absurd (not_plain r n (More (Name q y steps_there u) more) call gives plain.1)
+          | inr alone_taken ↦ by_call alone_taken q y steps_there u r n more call gives
+        ]
+      ]
+
+    pub return_step : (e last : TypedTree) → p.instr ≡ Hold (More e last) → Along (turn main_turn (Hold (More e last)))
+    return_step e last is = by_result named.sub.result refl (subst (IsFine s named.sub.result) is (standing.fine table typed effects input ready state top older outer named p frames of_sub at_point))
+      where
+        by_result : (r : Option ℕ) → named.sub.result ≡ r → Returns s r (More e last) → Along (steps.hold main_turn (More e last))
+        by_result None none never = cc
+        by_result (Some of) result (value_there, same, source) =
+            let value_is : value_there ≡ e = cc in
+            let source_here : Source s of e = subst (Source s of) value_is source in
+            let last_is : last ≡ NoMore = cc in
+            elim (bool_cases (is_anonymous (full s.table of))) [
+              | inl view ↦ view_returned e last is of result source_here last_is view
+              | inr plain_result ↦ results.value_step table typed effects input ready state top below more_frames rest named p frames deep stages running awaiting of_sub at_point path views viewed_before kept scope holds placed_before above e last is of result source_here last_is plain_result (elim (innermost.taken_there table typed effects input ready state top below more_frames rest named p frames deep stages running awaiting of_sub at_point path views viewed_before kept scope holds placed_before above) [
+                | inl plain ↦ results.plain_given table typed effects input ready state top below more_frames rest named p frames deep stages running awaiting of_sub at_point path views viewed_before kept scope holds placed_before above e last is of result source_here last_is plain_result plain
+                | inr alone_taken ↦ results.alone_given table typed effects input ready state top below more_frames rest named p frames deep stages running awaiting of_sub at_point path views viewed_before kept scope holds placed_before above e last is of result source_here last_is plain_result alone_taken
+              ])
+            ]
