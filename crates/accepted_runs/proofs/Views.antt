@@ -29,9 +29,9 @@ use Rattle.accepted_runs.specs.Classes.{AreInThirdClass}
 
 -- ---- with calls
 
--- What a function gives is of a scalar type, or stands alone and is of no anonymous access type. Formals are of scalar types,
--- or of mode `in out` and of no anonymous access type. Actuals of modes `out` and `in out` go through no access value, and
--- those for formals of other types than scalar ones belong to no package.
+-- What a function gives is of a scalar type, or stands alone and is of no anonymous access type. Formals are of scalar types;
+-- or of no anonymous access type, and of mode `out` or `in out`, or of mode `in` and of a type that owns nothing; or of mode
+-- `in` and of a named access type. Actuals that are copied back to go through no access value, where they may own.
 pub record AreInSecondViewClass (trees : List (List SourceUnit)) : Type 0 where
   -- there is a main procedure, so that there are runs
   pub main : ℕ

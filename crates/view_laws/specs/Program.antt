@@ -30,9 +30,9 @@ PassActuals program =
     → AreActualsTo (flow_typing program) (sub_of program n).formals actuals
 
 -- It is accepted and typed, and anonymous access types are those of objects alone. What functions give is of scalar
--- types; or it stands alone, and is of no anonymous access type. Formals are of scalar types, or of mode `in out` and of no
--- anonymous access type, those of functions and of the main procedure of scalar types; actuals that are copied back to go
--- through no access value, and those that aren't scalar belong to no package; and its subprograms and views are in order.
+-- types; or it stands alone, and is of no anonymous access type. Formals are of the four kinds, those of functions of mode
+-- `in`, and nothing is changed through these; actuals that are copied back to go through no access value, or are scalar and
+-- belong to no package; and its subprograms and views are in order.
 pub record IsViewProgram (table : Table) (typed : TypedProgram) (effects : Effects) : Type 0 where
   pub accepted : Accepted table typed effects
   pub owns : OwnsByShape (flow_program table typed).table

@@ -434,7 +434,7 @@ module _ (table : Table) (typed : TypedProgram) (effects : Effects) (input : Lis
               )
           by_result None is = inr (lent_there is)
 
-      clear_there : AreClear s facts_now formals actuals
+      pub clear_there : AreClear s facts_now formals actuals
       clear_there = elim by_callee [
         | inl modes ↦ all_clear s procedure formals actuals facts_now modes.0 copies_allowed
         | inr lent ↦ lent_clears s facts_now formals actuals (λ y has formal m of. (lent y has formal m of).clear)
