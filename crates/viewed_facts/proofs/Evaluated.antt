@@ -1,8 +1,7 @@
 -- Facts without an element stay exact in expressions, with names through borrowers and observers.
-use Rattle.std.proofs.Common.{◌≡◌, refl, sym, ap, ◌∙◌, subst, ℕ, suc, ◌+◌, Bool, true, false, ◌||◌, List, [], ◌∷◌, ◌++◌, length, arith, append-nil, if◌then◌else◌, ◌⊎◌, inl, inr}
+use Rattle.std.proofs.Common.{◌≡◌, refl, sym, ap, ◌∙◌, subst, ℕ, suc, ◌+◌, Bool, true, false, ◌||◌, List, [], ◌∷◌, ◌++◌, length, append-nil, if◌then◌else◌, inr}
 use Rattle.viewed_soundness.specs.Taken.{GivesPlainly}
 use Rattle.viewed_facts.proofs.Steps.{IsAway, IsOthers, of_others}
-use Rattle.place_names.specs.declared.rule.Loan.TheVariants.{Borrowed}
 use Rattle.std.specs.Prelude.{nat_le}
 use Rattle.place_names.specs.declared.act.Act.TheVariants as act
 use Rattle.place_names.specs.declared.fact.Fact.{Fact}
@@ -12,7 +11,7 @@ use Rattle.type_definitions.specs.declared.table.Shape.{Shape}
 use Rattle.type_definitions.specs.Types.{shape_of, is_owning, parts}
 use Rattle.typed_tree.specs.Trees.{TypedTree, Number, Literal, Name, Call, EndOfFile, Parens, Unary, Binary, Short, IsNull, Aggregate, Alike, New, NoMore, More}
 use Rattle.typed_tree.specs.Trees as typed
-use Rattle.flow_paths.specs.Objects.{object_at, is_observer}
+use Rattle.flow_paths.specs.Objects.{object_at}
 use Rattle.flow_paths.specs.Names.{waiting, name_of}
 use Rattle.flow_paths.specs.Acts.{used, acts_in}
 use Rattle.machine.specs.Words.{default, fits_type}
@@ -25,24 +24,22 @@ use Rattle.machine.specs.States.{Waiting, Leak}
 use Rattle.owned_ways.specs.Ways.{OfVariable, Loc, Way, Object, Reaches, Under, Named, Allows, after, AllowsAll, number_of}
 use Rattle.owned_ways.specs.Ways as ways
 use Rattle.part_offsets.specs.Parts.{IsSettled}
-use Rattle.soundness.specs.Seen.{seen, home, IsNear, is_view_formal}
+use Rattle.soundness.specs.Seen.{seen, home, IsNear}
 use Rattle.soundness.specs.Typed.{OwnsByShape}
 use Rattle.typed_laws.specs.Needed.{Stays, Gives, GivesParts, GivesFirst, IndexLaw}
 use Rattle.soundness.proofs.Defaults.{none_default}
-use Rattle.soundness.proofs.Near.{named_near, near_under}
 use Rattle.soundness.proofs.Walks.{way_along, Walked}
 use Rattle.soundness.proofs.Scalars.{after_append, allows_both, acts, acts_append, read_effect, number_along, named_along}
 use Rattle.soundness.proofs.Taking.{Takes, takes_as, takes_both, takes_zero, nothing_more}
 use Rattle.soundness.proofs.Stays.{Quiet, One}
 use Rattle.soundness.proofs.Evaluated.{Keeps, regrouped}
-use Rattle.owned_loans.specs.Views.{Around, Views, expand, IsThrough}
+use Rattle.owned_loans.specs.Views.{Around, Views, expand}
 use Rattle.owned_loans.proofs.Allowed.{read_open, move_open}
 use Rattle.viewed_soundness.specs.Holds.{is_fixed, IsOwners, IsNamed, PartsAreNamed, KeepsObserved, AllKeep, sees_only}
 use Rattle.viewed_soundness.proofs.Stays.{Goes, no_selectors, taking, steps_taking, waited_quiet, name_on}
 use Rattle.viewed_soundness.proofs.Evaluated.{keep_both, matches_named, Ready, GivenOn, live_trunk, checked_on, blank_ready, evaluated_on, part_named}
 use Rattle.viewed_facts.specs.Exact.{IsExact}
 use Rattle.viewed_facts.proofs.Memories.{taken_exact, made_exact}
-use Rattle.viewed_soundness.proofs.Names.{neither, stands_owners}
 use Rattle.viewed_soundness.proofs.Spared.{gone_off}
 use Rattle.viewed_soundness.proofs.Names.{free_sees, free_formal, changed_owners}
 

@@ -1,37 +1,27 @@
 -- Facts of all frames, as the innermost one has them: its own, those of the frames around on package
 -- objects beside them, and what those frames have moved of their own.
 use Rattle.viewed_soundness.specs.Holds.{is_view}
-use Rattle.std.proofs.Common.{◌≡◌, refl, sym, ap, ◌∙◌, subst, ◌⊎◌, inl, inr, ℕ, suc, Bool, true, false, not, ◌&&◌, ◌==◌, List, ◌++◌, arith, Option, Some, None}
+use Rattle.std.proofs.Common.{◌≡◌, ◌⊎◌, inl, inr, ℕ, true, false, List, ◌++◌, Some}
 use Rattle.place_names.specs.declared.rule.Loan.TheVariants.{Borrowed}
 use Rattle.spark_base.specs.Lists.{Has}
-use Rattle.spark_base.proofs.Lists.{Has-append_cases, Has-map, Has-append_left}
-use Rattle.place_names.specs.declared.act.Mode.TheVariants as mode
-use Rattle.place_names.specs.declared.act.Act.{Act}
-use Rattle.place_names.specs.declared.act.Act.TheVariants as act
+use Rattle.spark_base.proofs.Lists.{Has-append_cases}
 use Rattle.place_names.specs.declared.fact.Fact.{Fact}
 use Rattle.place_names.specs.declared.fact.Fact.TheVariants.{Moved}
-use Rattle.place_names.specs.Names.{Name as PlaceName, begins, has_elem, covers}
-use Rattle.place_names.specs.Facts.{removes}
+use Rattle.place_names.specs.Names.{Name as PlaceName}
 use Rattle.type_definitions.specs.Types.{Table}
 use Rattle.typed_tree.specs.Programs.{TypedProgram}
 use Rattle.flow_paths.specs.declared.report.Effects.{Effects}
-use Rattle.flow_paths.specs.Effects.{act_writes}
-use Rattle.flow_paths.specs.Objects.{Typing, is_anonymous, is_package_object, view_of}
+use Rattle.flow_paths.specs.Objects.{Typing, is_package_object}
 use Rattle.flow_paths.specs.Laid.{FlowProgram, flow_typing, flow_program}
-use Rattle.machine.specs.States.{Return, State}
-use Rattle.owned_ways.specs.Ways.{Way, View, Told, Named, number_of, sels_of, name_of, Under}
-use Rattle.soundness.specs.Seen.{home, IsNear}
-use Rattle.soundness.specs.Sound.{Stage, facts_of, view_of as view_here}
-use Rattle.soundness.proofs.Around.{near_or_far, IsFar, near_package, package_named, inherited_has}
-use Rattle.owned_loans.specs.Views.{on, known_gone, Views, expand}
-use Rattle.owned_loans.proofs.Ended.{stands_itself}
-use Rattle.owned_loans.proofs.Ways.{under_on, on_under, lifts, lifted_root, lifted_way}
-use Rattle.viewed_steps.proofs.Roots.{borrower_goes}
+use Rattle.machine.specs.States.{State}
+use Rattle.owned_ways.specs.Ways.{Way, View, Told, name_of}
+use Rattle.soundness.specs.Seen.{home}
+use Rattle.soundness.specs.Sound.{Stage, facts_of}
+use Rattle.soundness.proofs.Around.{near_or_far, IsFar}
+use Rattle.owned_loans.specs.Views.{Views}
 use Rattle.viewed_steps.specs.Sound.{ViewStage, GoneElsewhere}
-use Rattle.viewed_steps.proofs.Lent.{ends}
 use Rattle.viewed_steps.proofs.Waiting.{StandsBetween, handed, none_moved, gone_low, near_lent, IsLentFor}
 use Rattle.viewed_facts.proofs.Steps.{based_variable}
-use Rattle.exact_facts.proofs.Steps.{named_variable}
 use Rattle.viewed_facts.specs.Exact.{IsDefiniteBy, IsDefinite, IsDefiniteOf}
 
 -- ---- the frames

@@ -5,34 +5,32 @@ use Rattle.spark_base.specs.Lists.{Has}
 use Rattle.spark_base.specs.declared.position.Pos.{Pos}
 use Rattle.place_names.specs.declared.act.Act.{Act}
 use Rattle.place_names.specs.declared.act.Act.TheVariants as act
-use Rattle.place_names.specs.declared.act.Placed.{Placed}
 use Rattle.place_names.specs.declared.fact.Fact.{Fact}
 use Rattle.place_names.specs.declared.fact.Fact.TheVariants.{Moved}
 use Rattle.place_names.specs.Names.{Name as PlaceName}
 use Rattle.place_names.specs.Facts.{adds, effect}
 use Rattle.typed_tree.specs.Trees.{TypedTree, Name, NoMore, More, Call as CallIn}
 use Rattle.flow_paths.specs.declared.point.LeakSpot.{LeakSpot}
-use Rattle.flow_paths.specs.Objects.{Typing, object_at, is_anonymous, is_borrower, is_borrowing, is_observing, is_observer, is_variable, view_of}
+use Rattle.flow_paths.specs.Objects.{Typing, object_at, is_borrower, is_borrowing, is_observing, is_observer, is_variable, view_of}
 use Rattle.flow_paths.specs.Names.{name_of, written, source}
 use Rattle.flow_paths.specs.Scopes.{taken}
 use Rattle.flow_paths.specs.Acts.{acts_in, index_acts, source_acts, declared_acts, observe, reborrow, assigned_to, stored_acts, target_pos as acts_target_pos}
 use Rattle.machine.specs.Words as machine
-use Rattle.machine.specs.Memory.{Memory, Place, declared, stored}
+use Rattle.machine.specs.Memory.{Memory, Place, declared}
 use Rattle.machine.specs.Evaluate.{Now, Evaluated, Done, followed_by, evaluate, checked, value, viewed}
 use Rattle.machine.specs.Evaluate as run
 use Rattle.machine.specs.Calls.{checks_at}
-use Rattle.machine.specs.States.{Waiting, Outcome}
+use Rattle.machine.specs.States.{Outcome}
 use Rattle.machine.specs.Step.{Turn, typing, here, taken_by, goes, leaking_goes, target_pos, first_value}
 use Rattle.machine.specs.Step as steps
-use Rattle.machine.specs.Owners.{waiting_in}
-use Rattle.owned_ways.specs.Ways.{Way, View, Allows, after, AllowsAll}
+use Rattle.owned_ways.specs.Ways.{Way, View, Allows, after}
 use Rattle.part_offsets.specs.Parts.{IsSettled}
-use Rattle.soundness.specs.Seen.{home, seen, IsNear}
+use Rattle.soundness.specs.Seen.{home, IsNear}
 use Rattle.soundness.specs.Typed.{OwnsByShape}
 use Rattle.soundness.proofs.Scalars.{acts}
 use Rattle.owned_loans.specs.Views.{Around, Views, Viewed}
 use Rattle.owned_loans.proofs.Taken.{reborrow_unused}
-use Rattle.viewed_soundness.specs.Holds.{PartsAreNamed, sees_only}
+use Rattle.viewed_soundness.specs.Holds.{PartsAreNamed}
 use Rattle.viewed_soundness.proofs.Outcomes.{IsGood}
 use Rattle.viewed_soundness.proofs.Lends.{Sees, Puts, put_at, stored_as}
 use Rattle.viewed_steps.proofs.Ended.{view_kinds}

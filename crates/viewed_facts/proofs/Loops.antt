@@ -1,7 +1,6 @@
 -- Facts without an element stay exact in output, input and the iterations of loops, which change scalar places at most.
-use Rattle.std.proofs.Common.{◌≡◌, refl, sym, ap, ◌∙◌, subst, inl, inr, ℕ, suc, ◌+◌, Bool, true, false, List, [], ◌∷◌, ◌++◌, take, drop, length, append-nil, arith, ℤ, Option, Some, None, if◌then◌else◌, ◌⊎◌}
+use Rattle.std.proofs.Common.{◌≡◌, refl, sym, ap, ◌∙◌, subst, inl, inr, ℕ, ◌+◌, Bool, true, false, List, [], ◌∷◌, ◌++◌, take, drop, length, append-nil, ℤ, Option, Some, None, if◌then◌else◌}
 use Rattle.viewed_facts.proofs.Steps.{IsAway, IsOthers, of_others}
-use Rattle.place_names.specs.declared.rule.Loan.TheVariants.{Borrowed}
 use Rattle.std.specs.Prelude as int
 use Rattle.spark_base.specs.declared.position.Pos.{Pos}
 use Rattle.place_names.specs.declared.act.Act.{Act}
@@ -32,7 +31,6 @@ use Rattle.machine.specs.Step as steps
 use Rattle.machine.specs.Owners.{waiting_in}
 use Rattle.owned_ways.specs.Ways.{OfVariable, Way, Object, Under, Named, Allows, after, AllowsAll, number_of, Reaches}
 use Rattle.owned_ways.specs.Ways as ways
-use Rattle.owned_ways.proofs.Assigned.{named_rooted}
 use Rattle.part_offsets.specs.Parts.{IsSettled}
 use Rattle.soundness.specs.Seen.{seen, home, IsNear, is_view_formal}
 use Rattle.soundness.specs.Typed.{OwnsByShape}
@@ -48,7 +46,7 @@ use Rattle.soundness.proofs.Numbers.{index_law}
 use Rattle.soundness.proofs.Lasting.{keeps}
 use Rattle.soundness.proofs.Freeing.{switched}
 use Rattle.soundness.proofs.Loops.{scalar_same}
-use Rattle.owned_loans.specs.Views.{Around, Views, expand, IsThrough}
+use Rattle.owned_loans.specs.Views.{Around, Views, expand}
 use Rattle.owned_loans.proofs.Allowed.{write_open}
 use Rattle.owned_ways.specs.Ways.{Loc}
 use Rattle.viewed_soundness.specs.Holds.{PartsAreNamed, sees_only, IsOwners}

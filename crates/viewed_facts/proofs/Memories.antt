@@ -19,7 +19,7 @@ use Rattle.machine.specs.States.{Waiting, Leak}
 use Rattle.owned_ways.specs.Ways.{OfVariable, OfHand, Loc, OfRoot, OfCell, Inside, Way, Object, Gone, Held, View, Step, Reaches, part, along, Told, Owned, Named, Spares, Allows, Under, sels_of, name_of, number_of}
 use Rattle.owned_ways.proofs.Locations.{under_along, under_itself, named_along, reaches_along}
 use Rattle.owned_ways.proofs.Named.{same_way}
-use Rattle.owned_ways.proofs.Assigned.{named_rooted, given_apart}
+use Rattle.owned_ways.proofs.Assigned.{given_apart}
 use Rattle.part_offsets.specs.Parts.{type_in, offset_in, is_leaf, IsSettled}
 use Rattle.soundness.specs.Seen.{Content, content, trunk, steps_in, word_in, owner_at, owner_word, seen_of, seen, is_view_formal}
 use Rattle.soundness.specs.Changes.{Alike, hand, Checks, Takes}
@@ -34,7 +34,7 @@ use Rattle.owned_loans.proofs.Others.{clean_away}
 use Rattle.place_names.specs.declared.rule.Loan.{Loan}
 use Rattle.owned_loans.proofs.Allowed.{move_unlent, move_unmoved}
 use Rattle.exact_facts.specs.Exact.{IsOfVariable}
-use Rattle.exact_facts.proofs.Steps.{variable_rooted, fact_before, Keeps, IsPlaced, no_hand}
+use Rattle.exact_facts.proofs.Steps.{variable_rooted, fact_before, Keeps, IsPlaced}
 use Rattle.exact_facts.proofs.Parts.{plain_leaf}
 use Rattle.exact_facts.proofs.Memories.{sels_part, named_part, end_plain, Shows, same_told}
 use Rattle.viewed_facts.specs.Exact.{IsDefinite, IsExact}

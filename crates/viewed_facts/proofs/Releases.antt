@@ -1,6 +1,5 @@
 -- Facts without an element stay exact in releases, and their excused leak checks don't fail.
-use Rattle.std.proofs.Common.{◌≡◌, refl, sym, ap, ◌∙◌, subst, inl, inr, ℕ, suc, Bool, true, false, not, List, [], ◌∷◌, ◌++◌, map, length, arith, ◌⊎◌}
-use Rattle.place_names.specs.declared.rule.Loan.TheVariants.{Borrowed}
+use Rattle.std.proofs.Common.{◌≡◌, refl, sym, ap, ◌∙◌, subst, inl, inr, ℕ, suc, Bool, true, false, not, List, [], ◌∷◌, ◌++◌, map, length, arith}
 use Rattle.spark_base.specs.Lists.{Has}
 use Rattle.spark_base.specs.declared.position.Pos.{Pos}
 use Rattle.place_names.specs.declared.selector.Sel.TheVariants as sel
@@ -45,7 +44,7 @@ use Rattle.soundness.proofs.Scalars.{acts, acts_append, after_append, allows_bot
 use Rattle.soundness.proofs.Taking.{Takes}
 use Rattle.soundness.proofs.Stays.{Quiet}
 use Rattle.soundness.proofs.Numbers.{index_law}
-use Rattle.owned_loans.specs.Views.{Around, Views, expand, ExcusedBy, IsThrough}
+use Rattle.owned_loans.specs.Views.{Around, Views, expand, ExcusedBy}
 use Rattle.owned_loans.proofs.Allowed.{free_open}
 use Rattle.owned_loans.proofs.Moves.{IsPlace}
 use Rattle.viewed_soundness.specs.Holds.{IsNamed, PartsAreNamed, sees_only, is_fixed, IsOwners}

@@ -1,24 +1,21 @@
 -- At the end of a scope, facts of all frames stay exact, and no leak check fails that is excused.
 use Rattle.viewed_soundness.specs.Holds.{is_view, sees_only}
-use Rattle.std.proofs.Common.{◌≡◌, eqb-true, refl, sym, ap, ◌∙◌, subst, inl, inr, ℕ, suc, true, false, List, [], ◌∷◌, ◌++◌, length, Some, None, ◌⊎◌, take}
-use Rattle.place_names.specs.declared.rule.Loan.TheVariants.{Borrowed}
+use Rattle.std.proofs.Common.{◌≡◌, refl, sym, ◌∙◌, subst, inl, inr, ℕ, suc, true, false, List, [], ◌∷◌, ◌++◌, length, Some, None, take}
 use Rattle.spark_base.specs.Lists.{Has}
 use Rattle.spark_base.specs.declared.position.Pos.{Pos}
 use Rattle.place_names.specs.declared.selector.Sel.{Sel}
 use Rattle.place_names.specs.declared.act.Act.{Act}
-use Rattle.place_names.specs.declared.act.Act.TheVariants as act
 use Rattle.place_names.specs.declared.act.Placed.{Placed}
 use Rattle.place_names.specs.declared.fact.Fact.{Fact}
 use Rattle.place_names.specs.declared.fact.Fact.TheVariants.{Moved}
 use Rattle.place_names.specs.Names.{Name as PlaceName, object}
-use Rattle.place_names.specs.Facts.{removes}
 use Rattle.type_definitions.specs.Types.{Table, parts}
 use Rattle.typed_tree.specs.Trees.{Name, NoMore, More}
 use Rattle.typed_tree.specs.Programs.{TypedProgram}
 use Rattle.flow_paths.specs.declared.report.Effects.{Effects}
 use Rattle.flow_paths.specs.declared.point.LeakSpot.{LeakSpot}
 use Rattle.flow_paths.specs.Instructions.{Instruction, Declare, Assign, Call, Hold, EndScope}
-use Rattle.flow_paths.specs.Objects.{Typing, object_at, is_anonymous, is_package_object, is_borrower, view_of}
+use Rattle.flow_paths.specs.Objects.{Typing, object_at, is_package_object, is_borrower}
 use Rattle.flow_paths.specs.Acts as flow
 use Rattle.flow_paths.specs.Acts.{acts_in, leaks_of, spot, stored_acts, assigned_to}
 use Rattle.flow_paths.specs.Points.{NamedPoint}
@@ -33,15 +30,13 @@ use Rattle.machine.specs.Step.{Turn, turn}
 use Rattle.machine.specs.Owners.{waiting_in}
 use Rattle.machine.specs.Run.{step}
 use Rattle.owned_ways.specs.Ways.{Way, Told, after}
-use Rattle.soundness.specs.Seen.{home, seen, IsNear, is_view_formal}
+use Rattle.soundness.specs.Seen.{home, seen, IsNear}
 use Rattle.soundness.specs.Typed.{Kept}
-use Rattle.soundness.specs.Sound.{Stage, facts_of, AreStages, IsRunnable, IsNoCall, InScope, Uses, IsNamedSub, IsAtPoint, view_of as view_here}
-use Rattle.soundness.proofs.Contents.{bool_cases}
+use Rattle.soundness.specs.Sound.{Stage, facts_of, AreStages, IsRunnable, IsNoCall, InScope, IsNamedSub, IsAtPoint, view_of as view_here}
 use Rattle.soundness.proofs.Scalars.{acts}
 use Rattle.soundness.proofs.Eased.{eased}
 use Rattle.soundness.proofs.Around.{IsFar}
-use Rattle.owned_loans.specs.Views.{Around, known_gone, Views, Viewed, IsThrough}
-use Rattle.viewed_soundness.proofs.Names.{true_false}
+use Rattle.owned_loans.specs.Views.{Around, known_gone, Views, Viewed}
 use Rattle.viewed_steps.specs.Sound.{ArePast, IsResting, HoldsAt, ArePlaced, NoneAbove, ViewStage, stages_of, GoneElsewhere, AreWaiting, AreLeft, HasTraversals}
 use Rattle.viewed_steps.specs.Awaited.{AreAwaited, lasting_of, AreScalar, temporaries_of, TakesScalars}
 use Rattle.viewed_steps.specs.Ready.{IsReady}

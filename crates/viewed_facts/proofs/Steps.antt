@@ -1,5 +1,5 @@
 -- Facts without an element stay exact in each of the four steps, under its act, and where a view gets another way.
-use Rattle.std.proofs.Common.{◌≡◌, refl, sym, ap, ◌∙◌, subst, ◌⊎◌, inl, inr, ℕ, suc, Bool, false, eq-eqb, List, [], ◌∷◌, arith, Option, Some}
+use Rattle.std.proofs.Common.{◌≡◌, refl, sym, ap, ◌∙◌, subst, ◌⊎◌, inl, inr, ℕ, Bool, false, eq-eqb, List, [], ◌∷◌, Option, Some}
 use Rattle.spark_base.specs.Lists.{Has}
 use Rattle.place_names.specs.declared.selector.Sel.{Sel}
 use Rattle.place_names.specs.declared.rule.Loan.TheVariants.{Borrowed}

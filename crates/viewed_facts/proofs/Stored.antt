@@ -1,7 +1,6 @@
 -- Facts without an element stay exact in an assignment to what isn't a view, and its excused leak checks don't fail.
-use Rattle.std.proofs.Common.{◌≡◌, refl, sym, ap, ◌∙◌, subst, inl, ℕ, false, List, [], ◌∷◌, ◌++◌, map, length, append_assoc, ◌⊎◌}
+use Rattle.std.proofs.Common.{◌≡◌, refl, sym, ap, ◌∙◌, subst, inl, ℕ, false, List, [], ◌∷◌, ◌++◌, map, length, append_assoc}
 use Rattle.viewed_soundness.specs.Taken.{GivesPlainly}
-use Rattle.place_names.specs.declared.rule.Loan.TheVariants.{Borrowed}
 use Rattle.spark_base.specs.Lists.{Has}
 use Rattle.spark_base.specs.declared.position.Pos.{Pos}
 use Rattle.place_names.specs.declared.act.Act.{Act}
@@ -33,7 +32,7 @@ use Rattle.soundness.proofs.Scalars.{after_append, allows_both, acts, acts_appen
 use Rattle.soundness.proofs.Taking.{Takes}
 use Rattle.soundness.proofs.Stays.{Quiet}
 use Rattle.soundness.proofs.Evaluated.{regrouped, Keeps}
-use Rattle.owned_loans.specs.Views.{Around, Views, expand, IsThrough}
+use Rattle.owned_loans.specs.Views.{Around, Views, expand}
 use Rattle.owned_loans.proofs.Allowed.{write_open}
 use Rattle.viewed_soundness.specs.Holds.{is_fixed, IsNamed, PartsAreNamed, AllKeep, sees_only}
 use Rattle.viewed_soundness.proofs.Stays.{Goes, steps_taking, name_on}

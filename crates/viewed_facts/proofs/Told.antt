@@ -1,8 +1,7 @@
 -- Where a step of an instruction goes on that is no call and isn't the end of a scope, facts of all frames are exact,
 -- with the views then.
 use Rattle.viewed_soundness.specs.Holds.{is_view, sees_only, is_given, is_exclusive, is_fixed, AllKeep, IsNamed}
-use Rattle.std.proofs.Common.{◌≡◌, refl, sym, ap, ◌∙◌, subst, inl, inr, ℕ, suc, true, false, List, [], ◌∷◌, ◌++◌, map, length, Some, None, ◌⊎◌, take, ◌||◌, ◌&&◌, not}
-use Rattle.place_names.specs.declared.rule.Loan.TheVariants.{Borrowed}
+use Rattle.std.proofs.Common.{◌≡◌, refl, sym, ap, ◌∙◌, subst, inl, inr, ℕ, suc, true, false, List, [], ◌∷◌, ◌++◌, map, length, Some, None, take, ◌||◌, ◌&&◌, not}
 use Rattle.spark_base.specs.Lists.{Has}
 use Rattle.spark_base.specs.declared.position.Pos.{Pos}
 use Rattle.place_names.specs.declared.act.Act.{Act}
@@ -11,7 +10,6 @@ use Rattle.place_names.specs.declared.act.Placed.{Placed}
 use Rattle.place_names.specs.declared.fact.Fact.{Fact}
 use Rattle.place_names.specs.declared.fact.Fact.TheVariants.{Moved}
 use Rattle.place_names.specs.Names.{Name as PlaceName}
-use Rattle.place_names.specs.Facts.{removes}
 use Rattle.type_definitions.specs.Types.{Table, full}
 use Rattle.typed_tree.specs.Trees.{TypedTree, Name, NoMore, More, Call as CallIn}
 use Rattle.typed_tree.specs.Programs.{TypedProgram}
@@ -23,7 +21,7 @@ use Rattle.flow_paths.specs.Names.{waiting as waits_in, name_of, selectors}
 use Rattle.flow_paths.specs.Points.{NamedPoint}
 use Rattle.flow_paths.specs.Laid.{FlowProgram, NamedSub, number_in, flow_sub, typing_of, flow_typing, flow_program, flow_named}
 use Rattle.flow_paths.specs.Paths.{PathPoint, ControlPath, facts_before}
-use Rattle.flow_paths.specs.Effects.{act_writes, path_points}
+use Rattle.flow_paths.specs.Effects.{path_points}
 use Rattle.flow_paths.specs.LeakPlan.{IsExcused}
 use Rattle.flow_paths.specs.Scopes.{taken}
 use Rattle.machine.specs.Memory.{Memory, stored}
@@ -36,25 +34,23 @@ use Rattle.machine.specs.Run.{step}
 use Rattle.owned_ways.specs.Ways.{Way, Told, after, AllowsAll, Allows}
 use Rattle.soundness.specs.Seen.{home, seen, IsNear, is_view_formal}
 use Rattle.soundness.specs.Typed.{Kept}
-use Rattle.soundness.specs.Sound.{Stage, facts_of, AreStages, IsRunnable, IsNoCall, InScope, Uses, IsNamedSub, IsAtPoint, view_of as view_here}
+use Rattle.soundness.specs.Sound.{Stage, facts_of, AreStages, IsRunnable, IsNoCall, InScope, IsNamedSub, IsAtPoint, view_of as view_here}
 use Rattle.typed_laws.specs.Needed.{IsFine, Leads, Source}
 use Rattle.soundness.proofs.Contents.{bool_cases}
 use Rattle.soundness.proofs.Taking.{Takes, takes_as, nothing_more}
 use Rattle.soundness.proofs.Eased.{eased}
 use Rattle.soundness.proofs.Inherited.{after_splits}
 use Rattle.soundness.proofs.Around.{IsFar}
-use Rattle.owned_loans.specs.Views.{Around, known_gone, Views, Viewed, IsThrough}
+use Rattle.owned_loans.specs.Views.{Around, known_gone, Views, Viewed}
 use Rattle.viewed_soundness.proofs.Names.{true_false, free_formal, plain_named}
 use Rattle.viewed_soundness.proofs.Outcomes.{IsGood, assigned_acts}
 use Rattle.viewed_steps.specs.Sound.{ArePast, IsResting, HoldsAt, ArePlaced, NoneAbove, ViewStage, stages_of, GoneElsewhere, AreWaiting, IsStoredAt, AreTurned, HasTraversals}
 use Rattle.viewed_steps.specs.Awaited.{AreAwaited, lasting_of, AreScalar, temporaries_of, TakesScalars}
 use Rattle.viewed_steps.specs.Ready.{AreOrderly, IsReady}
-use Rattle.viewed_steps.proofs.Lent.{spare_has}
 use Rattle.viewed_steps.proofs.Waiting.{StandsBetween, beside_them, handed}
 use Rattle.viewed_steps.proofs.Standing as standing
 use Rattle.viewed_steps.proofs.Packages as packages
 use Rattle.viewed_steps.proofs.Innermost as innermost
-use Rattle.viewed_steps.proofs.EachInstruction as each
 use Rattle.viewed_facts.specs.Exact.{IsDefiniteOf, IsExact}
 use Rattle.viewed_facts.proofs.Instructions.{ExactOn, turned_exact}
 use Rattle.viewed_facts.proofs.Viewing.{reborrow_unmoved}

@@ -1,7 +1,6 @@
 -- Facts without an element stay exact where a borrower or observer is declared or assigned. What is exact is said with the
 -- ways that views had before.
-use Rattle.std.proofs.Common.{◌≡◌, refl, sym, ap, ◌∙◌, subst, inl, inr, ℕ, Bool, true, false, List, [], ◌∷◌, ◌++◌, length, Some, if◌then◌else◌, ◌⊎◌}
-use Rattle.place_names.specs.declared.rule.Loan.TheVariants.{Borrowed}
+use Rattle.std.proofs.Common.{◌≡◌, refl, sym, ap, ◌∙◌, subst, inl, inr, ℕ, Bool, true, false, List, [], ◌∷◌, ◌++◌, length, Some, if◌then◌else◌}
 use Rattle.spark_base.specs.Lists.{Has}
 use Rattle.spark_base.specs.declared.position.Pos.{Pos}
 use Rattle.place_names.specs.declared.act.Act.{Act}
@@ -29,14 +28,14 @@ use Rattle.machine.specs.Owners.{waiting_in}
 use Rattle.owned_ways.specs.Ways.{Way, Allows, after, AllowsAll}
 use Rattle.owned_ways.specs.Ways as ways
 use Rattle.part_offsets.specs.Parts.{IsSettled}
-use Rattle.soundness.specs.Seen.{home, seen, IsNear, is_view_formal}
+use Rattle.soundness.specs.Seen.{home, seen, IsNear}
 use Rattle.soundness.specs.Typed.{OwnsByShape}
 use Rattle.typed_laws.specs.Needed.{Source}
 use Rattle.soundness.proofs.Scalars.{acts, acts_append, after_append, allows_both}
 use Rattle.soundness.proofs.Taking.{Takes}
 use Rattle.soundness.proofs.Stays.{Quiet}
 use Rattle.soundness.proofs.Numbers.{index_law}
-use Rattle.owned_loans.specs.Views.{Around, Views, IsThrough}
+use Rattle.owned_loans.specs.Views.{Around, Views}
 use Rattle.owned_loans.proofs.Allowed.{Cleared, borrow_clears, observe_clears, reborrow_clears}
 use Rattle.owned_loans.proofs.Taken.{reborrow_unused}
 use Rattle.viewed_soundness.specs.Holds.{PartsAreNamed, sees_only}
