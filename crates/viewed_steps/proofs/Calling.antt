@@ -441,7 +441,7 @@ module _ (table : Table) (typed : TypedProgram) (effects : Effects) (input : Lis
       ]
 
       -- borrowers and observers that are shown see nothing of package objects
-      lows_there : AreLowRoots s depth views formals actuals
+      pub lows_there : AreLowRoots s depth views formals actuals
       lows_there =
           all_low formals actuals
           (ready.class.shown (flow_sub own named) (standing.in_program table typed effects input ready state top older outer named p frames of_sub at_point) main_turn.point
