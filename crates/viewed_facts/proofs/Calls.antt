@@ -7,11 +7,11 @@ use Rattle.place_names.specs.declared.rule.Loan.TheVariants.{Borrowed}
 use Rattle.flow_paths.specs.Objects.{Typing, is_package_object}
 use Rattle.machine.specs.Memory.{Memory}
 use Rattle.machine.specs.States.{Return, Frame}
-use Rattle.owned_ways.specs.Ways.{Step, Root, OfVariable, Loc, OfRoot, OfCell, Inside, Way, Object, Lost, Into, All, Gone, Held, View, part, along, Reaches, Under, Told, Named, base_of, number_of, name_of}
+use Rattle.owned_ways.specs.Ways.{Step, Root, OfVariable, Loc, OfRoot, OfCell, Inside, Way, Object, Lost, Into, All, Gone, Held, View, part, along, Reaches, Under, Told, base_of, number_of, name_of}
 use Rattle.owned_ways.proofs.Locations.{under_along, under_itself}
 use Rattle.owned_ways.proofs.Dropped.{named_base}
 use Rattle.part_offsets.specs.Parts.{IsSettled}
-use Rattle.soundness.specs.Seen.{word_in, content, seen, home, is_view_formal}
+use Rattle.soundness.specs.Seen.{word_in, content, seen, home}
 use Rattle.soundness.proofs.Contents.{word_part, word_root}
 use Rattle.soundness.specs.Sound.{AreStages}
 use Rattle.owned_loans.specs.Views.{Views, AreClear, AreViews, expand}
@@ -19,7 +19,6 @@ use Rattle.owned_loans.proofs.Safe.{clean_name}
 use Rattle.exact_facts.proofs.Steps.{under_covers}
 use Rattle.viewed_steps.specs.Sound.{ViewStage, stages_of, Lies}
 use Rattle.viewed_steps.specs.Taken.{TakenBy, AreCarried, IsPassedOn, AreTaken, Lodge, IsTakenIn}
-use Rattle.viewed_steps.proofs.Between.{base_under, same_variable, taken_from}
 use Rattle.viewed_soundness.proofs.Names.{owner_sees}
 use Rattle.viewed_steps.proofs.Entered.{inside_plain, inside_named, inside_number, inside_itself}
 use Rattle.viewed_facts.specs.Exact.{IsDefiniteBy}

@@ -18,7 +18,7 @@ use Rattle.machine.specs.Memory.{Memory}
 use Rattle.machine.specs.States.{Waiting, Frame, State, Outcome, Goes, Ends, sub_of, Return}
 use Rattle.machine.specs.Owners.{waiting_in}
 use Rattle.machine.specs.Run.{step}
-use Rattle.owned_ways.specs.Ways.{OfVariable, OfRoot, Under, base_of, number_of, Way, Loc, Gone, Reaches, Told, Named, name_of, OfCell, Step, along, part, Owned}
+use Rattle.owned_ways.specs.Ways.{OfVariable, OfRoot, Under, base_of, number_of, Way, Loc, Gone, Reaches, Told, name_of, OfCell, Step, along, part, Owned}
 use Rattle.soundness.specs.Seen.{home, seen}
 use Rattle.soundness.specs.Typed.{Kept}
 use Rattle.soundness.specs.Sound.{Stage, facts_of, AreStages, IsRunnable, InScope, IsNamedSub, IsAtPoint, IsNoCall, IsOnward, view_of as view_here}

@@ -1,6 +1,6 @@
 -- The leak checks of a call are those of what is passed for formals of mode `out`. None fails that is excused, if facts are
 -- exact before the call.
-use Rattle.std.proofs.Common.{◌≡◌, refl, sym, ap, ◌∙◌, subst, inl, inr, ℕ, ◌+◌, Bool, true, false, not, ◌&&◌, List, [], ◌∷◌, ◌++◌, map, length, append_assoc, arith, if◌then◌else◌, Some}
+use Rattle.std.proofs.Common.{◌≡◌, refl, sym, ap, ◌∙◌, subst, inl, inr, ℕ, ◌+◌, Bool, true, false, ◌&&◌, List, [], ◌∷◌, ◌++◌, map, length, append_assoc, arith, Some}
 use Rattle.std.proofs.lemmas.List.{length-append, length-map}
 use Rattle.spark_base.specs.Lists.{Has}
 use Rattle.spark_base.specs.declared.position.Pos.{Pos}
@@ -28,9 +28,8 @@ use Rattle.soundness.specs.Seen.{home, seen}
 use Rattle.soundness.specs.Typed.{Matches, Kept}
 use Rattle.soundness.proofs.Fixed.{matches_scalar}
 use Rattle.soundness.proofs.Freeing.{plain_parts}
-use Rattle.owned_loans.specs.Views.{Views, expand}
+use Rattle.owned_loans.specs.Views.{Views}
 use Rattle.viewed_steps.specs.Ready.{IsActualTo, AreActualsTo}
-use Rattle.viewed_steps.specs.Sound.{IsScalarObject}
 use Rattle.viewed_steps.proofs.LaidOut.{IsOwnPut, IsPlainAt, IsPlaceLaid, IsLaidOne, AreLaidOut}
 use Rattle.viewed_steps.proofs.Carried.{inside_at, inside_spot, inside_reached}
 use Rattle.viewed_steps.proofs.Entered.{inside_named, inside_itself}

@@ -26,8 +26,7 @@ use Rattle.flow_paths.specs.Paths.{PathPoint, is_some_point, ControlPath, begins
 use Rattle.flow_paths.specs.Effects.{flow_sub_at, path_points}
 use Rattle.flow_paths.specs.Scopes.{taken, scope_behind, Leads, is_temporary}
 use Rattle.machine.specs.Words as machine
-use Rattle.machine.specs.Memory as memory
-use Rattle.machine.specs.Memory.{Memory, no_slot, variable_slots, Place}
+use Rattle.machine.specs.Memory.{Memory, no_slot, variable_slots}
 use Rattle.machine.specs.Evaluate.{Now, Exception}
 use Rattle.machine.specs.States.{Frame, State, Leak, sub_of, frame_at_start, Outcome, Goes}
 use Rattle.machine.specs.Step.{Turn, turn, start, led, successor}
@@ -81,7 +80,7 @@ use Rattle.viewed_steps.proofs.Packages as packages
 use Rattle.viewed_steps.proofs.Innermost as innermost
 use Rattle.viewed_steps.proofs.Views.{AreAccess, AreFar, formal_view, anonymous_view, scalar_no_view, view_cases}
 use Rattle.viewed_steps.proofs.Shown.{same_cells}
-use Rattle.viewed_steps.proofs.Exclusive.{AreLent, IsFrom, from_past, from_far, from_apart, from_place}
+use Rattle.viewed_steps.proofs.Exclusive.{second_true, AreLent, IsFrom, from_past, from_far, from_apart, from_place}
 use Rattle.viewed_steps.proofs.Opening.{Opens, all_opened, low_of, opened_from, opened_views, opened_whole, opened_lies, opened_held, opened_placed}
 use Rattle.viewed_steps.proofs.Calling as calling
 use Rattle.viewed_steps.proofs.Bared.{taken_bare}
@@ -442,9 +441,9 @@ module _ (table : Table) (typed : TypedProgram) (effects : Effects) (input : Lis
             taken_bare s cells with_all depth facts_called next_there (view_here s easy.state) (λ c has. (named_cell c has).reaches) (returns_of formals passed) ways_taken taken_then w l
             (elim top [
               | inl (c, has, way, is) ↦ (
-                  subst (λ z. ways.Reaches (view_here s easy.state) w z) is (subst (λ z. ways.Reaches (view_here s easy.state) z (ways.OfCell c.cell)) way (named_cell c has).reaches),
-                  ap steps_in (sym is),
-                )
+                subst (λ z. ways.Reaches (view_here s easy.state) w z) is (subst (λ z. ways.Reaches (view_here s easy.state) z (ways.OfCell c.cell)) way (named_cell c has).reaches),
+                ap steps_in (sym is),
+              )
               | inr (y, also, way, is) ↦ (subst (λ z. ways.Reaches (view_here s easy.state) z l) way (sym is), ap steps_in (sym is))
             ]) q taken r k held
 
@@ -763,10 +762,6 @@ module _ (table : Table) (typed : TypedProgram) (effects : Effects) (input : Lis
             formal_lasts : (k : ObjectKind) → is_formal_kind k ≡ true → is_temporary k ≡ false
             formal_lasts object_kind.Formal is = refl
             formal_lasts k is = cc
-
-            second_true : (a b : Bool) → a && b ≡ true → b ≡ true
-            second_true true b is = is
-            second_true false b is = cc
 
             -- no formal is of an anonymous type
             formal_only : (x : ℕ) → Has formals x → is_view s x ≡ true → is_view_formal s x ≡ true
