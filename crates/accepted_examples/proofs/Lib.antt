@@ -8,4 +8,5 @@ pub mod Sound
 pub mod Observed
 pub mod Lent
 pub mod Handed
+pub mod Copied
 pub mod Shown
