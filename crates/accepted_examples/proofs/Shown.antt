@@ -27,7 +27,7 @@ use Rattle.type_definitions.specs.Whole.{type_fault}
 use Rattle.typing_steps.specs.Programs.{program_of}
 use Rattle.typed_tree.specs.declared.object.Object.{Object}
 use Rattle.typed_tree.specs.Programs.{TypedSub, text_io}
-use Rattle.flow_paths.specs.Objects.{is_named_access, Typing, Signature, object_at, sub_at, is_formal_kind, is_formal}
+use Rattle.flow_paths.specs.Objects.{is_named_access, is_anonymous, view_of, Typing, Signature, object_at, sub_at, is_formal_kind, is_formal}
 use Rattle.flow_paths.specs.Points.{FlowPoint}
 use Rattle.flow_paths.specs.Laid.{FlowSub}
 use Rattle.flow_paths.specs.Effects.{asks_for_end, path_points}
@@ -39,7 +39,7 @@ use Rattle.file_positions.specs.Texts.{AreParsed}
 use Rattle.file_positions.proofs.Cuts.{cut_in_order}
 use Rattle.called_subs.specs.Called.{Calls, CodeCalls}
 use Rattle.order_laws.specs.Orderly.{typed_of, typing_in}
-use Rattle.sound_files.specs.Class.{CallsProcedures, FormalsAreKinds, laid_in, FunctionsSee, AreFitActuals, PassFitActuals}
+use Rattle.sound_files.specs.Class.{CallsProcedures, FormalsAreKinds, laid_in, FunctionsSee, AreFitActuals, PassFitActuals, AreOwnersShown, ShowOwners}
 use Rattle.sound_files.proofs.Results.{results_fit}
 use Rattle.viewed_files.proofs.Files.{parsed_called_sound}
 use Rattle.accepted_runs.proofs.Runs.{RunsAreSound}
@@ -148,10 +148,16 @@ pub passed : PassFitActuals (program_of files)
 unfolding computes naming typing lowering Calls CodeCalls
 passed =
     of_three (λ sub. CodeCalls (λ n actuals. AreFitActuals laid (sub_at laid n).formals actuals) sub.body) _ _ _ tt ((tt, tt), tt)
-    (tt, ((((λ is. inr (inl (refl, (refl, (refl, refl))))), tt), (tt, tt)), tt))
+    (tt, ((((λ is. inr (inl (refl, (refl, refl)))), tt), (tt, tt)), tt))
+
+pub shown : ShowOwners (program_of files)
+unfolding computes naming typing lowering Calls CodeCalls
+shown =
+    of_three (λ sub. CodeCalls (λ n actuals. AreOwnersShown laid (sub_at laid n).formals actuals) sub.body) _ _ _ tt ((tt, tt), tt)
+    (tt, ((((λ view y has. elim has [ inl same ↦ subst (λ z. is_anonymous (view_of laid z) ≡ false) same refl | inr none ↦ absurd none ]), tt), (tt, tt)), tt))
 
 pub class : AreInSecondViewClass files
-class = record { main = 2; is_main = is_main; calls = record { results = results_fit (program_of files) (inl calls); formals = formals; seen = seen; passed = passed } }
+class = record { main = 2; is_main = is_main; calls = record { results = results_fit (program_of files) (inl calls); formals = formals; seen = seen; passed = passed; shown = inl shown } }
 
 -- ---- nothing is reported of it
 
