@@ -10,6 +10,8 @@ pub mod Subs
 pub mod Clear
 -- null where something was moved
 pub mod Nulls
+-- what names of what owns are
+pub mod Leaked
 -- before the first step
 pub mod Starts
 -- whole runs
