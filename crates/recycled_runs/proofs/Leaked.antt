@@ -1,11 +1,11 @@
 -- What stands at a variable or a cell that owns names cells that are there.
-use Rattle.std.proofs.Common.{◌≡◌, refl, sym, ap, ◌∙◌, subst, inl, inr, ◌⊎◌, ℕ, zero, suc, ◌<◌, Bool, true, false, List, [], ◌∷◌, ◌++◌, append-nil, length, get_or, slice_get, Some, ℤ, pos, negsuc, if◌then◌else◌}
+use Rattle.std.proofs.Common.{◌≡◌, refl, sym, ap, ◌∙◌, subst, inl, inr, ℕ, zero, suc, ◌<◌, true, false, List, [], ◌∷◌, append-nil, length, get_or, slice_get, Some, ℤ, pos, negsuc, if◌then◌else◌}
 use Rattle.std.proofs.lemmas.List.{length-map}
 use Rattle.spark_base.specs.Lists.{Has}
 use Rattle.type_definitions.specs.Types.{Table}
 use Rattle.flow_paths.specs.Objects.{Typing}
 use Rattle.flow_paths.specs.Laid.{FlowProgram, flow_typing}
-use Rattle.part_offsets.specs.Parts.{offset_in, IsSettled}
+use Rattle.part_offsets.specs.Parts.{IsSettled}
 use Rattle.part_offsets.proofs.Leaves.{leaf_from}
 use Rattle.owned_ways.specs.Ways.{Held, Loc, Step, OfRoot, Owned}
 use Rattle.owned_ways.specs.Ways as ways
@@ -21,11 +21,9 @@ use Rattle.machine.specs.States as machine
 use Rattle.null_places.specs.Cleared.{cleared_slot}
 use Rattle.null_places.specs.Agrees.{AgreeSlot, AgreeSlots, SameState}
 use Rattle.null_places.proofs.Memories.{cell_agree, slots_agree}
-use Rattle.reuse_heap.specs.Cells.{Cell as StoredCell}
 use Rattle.run_codes.specs.Points.{State}
-use Rattle.run_codes.specs.Related.{types, PointsTo, SlotStands, AllStand, IsTable}
+use Rattle.run_codes.specs.Related.{types, SlotStands, AllStand, IsTable}
 use Rattle.run_points.specs.States.{StateStands}
-use Rattle.numbered_cells.specs.Follows.{IsThere}
 use Rattle.handled_runs.specs.Leaks.{IsLeaked, AreLeaked}
 
 -- ---- one word

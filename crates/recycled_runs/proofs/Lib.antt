@@ -10,6 +10,8 @@ pub mod Subs
 pub mod Clear
 -- null where something was moved
 pub mod Nulls
+-- points that make no leak check
+pub mod Quiet
 -- what names of what owns are
 pub mod Leaked
 -- before the first step
