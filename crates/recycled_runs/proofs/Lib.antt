@@ -18,5 +18,7 @@ pub mod Leaked
 pub mod Starts
 -- whole runs
 pub mod Runs
+-- what leak checks tell of
+pub mod Checks
 -- those of programs that are ready
 pub mod Ready

@@ -1,21 +1,20 @@
 -- A point that is lowered from none of some instructions makes no leak check.
-use Rattle.std.proofs.Common.{◌≡◌, subst, ℕ, zero, ◌+◌, Bool, true, false, List, [], ◌∷◌, Option, Some, None, ℤ, pos, if◌then◌else◌}
+use Rattle.std.proofs.Common.{◌≡◌, subst, ℕ, zero, ◌+◌, Bool, List, [], ◌∷◌, Option, Some, None, ℤ, pos}
 use Rattle.std.specs.Prelude.{option_and_then}
-use Rattle.spark_base.specs.declared.position.Pos.{Pos}
 use Rattle.typed_tree.specs.Trees.{TypedTree, NoMore, More}
 use Rattle.flow_paths.specs.Instructions.{Instruction, Skip, Declare, LeaveLoop}
 use Rattle.flow_paths.specs.Instructions as instruction
 use Rattle.flow_paths.specs.Points.{FlowPoint}
 use Rattle.type_definitions.specs.declared.table.Shape.{Shape}
 use Rattle.type_definitions.specs.declared.table.Shape.TheVariants as shape
-use Rattle.type_definitions.specs.Types.{shape_of, is_owning}
+use Rattle.type_definitions.specs.Types.{shape_of}
 use Rattle.machine.specs.Evaluate.{AsValue}
 use Rattle.flow_paths.specs.Names.{waiting}
 use Rattle.typed_tree.specs.declared.node.ShortCircuit.{ShortCircuit}
 use Rattle.run_codes.specs.Codes.{Code, Number, Place, InFrame, InPackages, Behind, Fill, Checked, Pointer as LookedAt, Default, Does, Go, Assign, Call, Output, Input, Release, Test, Choose, Start, Next, EvaluateLeft, EvaluateRight, Hold, EndPointer, EndScope, Finish, Fall}
 use Rattle.run_codes.specs.Lowered.{Placed, Scalar, scalar_of, option_map, no_index, lowered, place, value}
 use Rattle.run_codes.specs.Flat.{default_words}
-use Rattle.run_codes.specs.Programs.{Around, typing, type_of, name_pos, own_offset, own_loop, going, on_going, on_next, put_at, stored_at, use_for, scalar_code, condition, chosen_code, alternatives, text_pieces, is_or_else, tested, declared, assigned, input_to, release_at, started, next_turn, operand, gone_on, held_result, does}
+use Rattle.run_codes.specs.Programs.{Around, typing, type_of, own_offset, own_loop, going, on_going, on_next, put_at, stored_at, use_for, scalar_code, condition, chosen_code, alternatives, text_pieces, is_or_else, tested, declared, input_to, started, next_turn, operand, gone_on, held_result, does}
 
 -- What makes no leak check.
 abbrev pub IsQuiet : Does → Type 0
