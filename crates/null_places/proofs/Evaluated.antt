@@ -32,7 +32,7 @@ use Rattle.null_places.proofs.Memories.{NoneGone, words_agree, moved_agree, made
 use Rattle.null_places.proofs.Only.{OnlyOwners, made_only}
 use Rattle.null_places.proofs.Places.{spot_whole, plain_whole, moved_only}
 use Rattle.null_places.proofs.Walks.{SameNow, SameTo, then_same, simply}
-use Rattle.null_places.proofs.Laws.{Premises, Behaves, Values, GivenBy, IsAt, IsWholeAt, checked_by, IsMovableAt}
+use Rattle.null_places.proofs.Laws.{Premises, Behaves, Values, GivenBy, IsAt, checked_by, IsMovableAt}
 use Rattle.null_places.proofs.Scalars.{copy_same, place_then, scalar_on, steps_on}
 
 module _ (h : Here) (settled : IsSettled h.typing.table) (own_law : OwnsByShape h.typing.table) (asks : Premises h)

@@ -1,22 +1,13 @@
 -- Evaluations in memories that agree, and where names lead in them.
-use Rattle.std.proofs.Common.{◌≡◌, refl, sym, subst, ℕ, Bool, true, false, List, [], ◌∷◌, if◌then◌else◌}
-use Rattle.flow_paths.specs.Objects.{Typing, designated}
+use Rattle.std.proofs.Common.{◌≡◌, refl, subst, ℕ, Bool, true, false, List, [], ◌∷◌, if◌then◌else◌}
+use Rattle.flow_paths.specs.Objects.{Typing}
 use Rattle.machine.specs.Words.{component_type, element_type}
 use Rattle.machine.specs.Words as machine
-use Rattle.machine.specs.Memory.{Memory, Place, cell, slots_of, words_of}
-use Rattle.machine.specs.Evaluate.{Now, Evaluated, Done, Raises, Traps, followed_by, component_place, element_place, cell_place, designated_place, stepped, walked, Touched}
-use Rattle.machine.specs.Evaluate as run
-use Rattle.machine.specs.States.{Waiting, Leak}
-use Rattle.owned_ways.specs.Ways.{Component, Element, Loc, Way, Into, All, Reaches, IsRooted, Past, Owned, Known}
-use Rattle.owned_ways.proofs.Locations.{under_itself}
-use Rattle.part_offsets.specs.Parts.{IsSettled}
-use Rattle.soundness.specs.Seen.{content, trunk, seen}
-use Rattle.soundness.specs.Typed.{Kept, Spot}
-use Rattle.soundness.proofs.Walks.{way_along, past_along, Lead, Walked, walk}
+use Rattle.machine.specs.Memory.{cell}
+use Rattle.machine.specs.Evaluate.{Now, Evaluated, Done, Raises, Traps, followed_by, cell_place, designated_place, Touched}
 use Rattle.null_places.specs.Agrees.{Agrees}
-use Rattle.null_places.proofs.Memories.{NoneGone, words_agree, cell_agree}
+use Rattle.null_places.proofs.Memories.{cell_agree}
 use Rattle.null_places.proofs.Only.{OnlyOwners}
-use Rattle.null_places.proofs.Places.{spot_whole, access_whole}
 
 -- ---- two evaluations
 

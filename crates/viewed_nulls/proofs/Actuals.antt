@@ -1,6 +1,6 @@
 -- The actuals of a call lead to the same in memories that agree: values, scalar places in variables, and
 -- other places in variables, of which nothing is moved.
-use Rattle.std.proofs.Common.{◌≡◌, refl, sym, ap, ◌∙◌, subst, ◌⊎◌, inl, inr, ℕ, Bool, true, false, ◌&&◌, List, [], ◌∷◌, map, arith, length, if◌then◌else◌, Some, ◌<◌, pos}
+use Rattle.std.proofs.Common.{◌≡◌, refl, sym, ap, ◌∙◌, subst, ◌⊎◌, inl, inr, ℕ, Bool, true, false, ◌&&◌, List, [], ◌∷◌, map, arith, length, if◌then◌else◌, Some, ◌<◌}
 use Rattle.spark_base.specs.Lists.{Has}
 use Rattle.place_names.specs.declared.act.Act.TheVariants as act
 use Rattle.place_names.specs.declared.act.Mode.{Mode}
@@ -28,20 +28,20 @@ use Rattle.owned_ways.proofs.Locations.{under_itself}
 use Rattle.part_offsets.specs.Parts.{IsSettled}
 use Rattle.soundness.specs.Seen.{IsNear, content, trunk, seen, home, is_view_formal}
 use Rattle.soundness.specs.Typed.{OwnsByShape, Matches}
-use Rattle.soundness.specs.Sound.{goes_through_none, AreCopied}
+use Rattle.soundness.specs.Sound.{goes_through_none}
 use Rattle.typed_laws.specs.Needed.{IndexLaw}
 use Rattle.soundness.proofs.Contents.{bool_cases}
 use Rattle.soundness.proofs.Fixed.{matches_scalar}
 use Rattle.soundness.proofs.Walks.{way_along, past_along}
-use Rattle.soundness.proofs.Scalars.{named_along, acts, acts_append, allows_both, number_along, after_append}
+use Rattle.soundness.proofs.Scalars.{named_along, acts, acts_append, allows_both, number_along}
 use Rattle.soundness.proofs.Stays.{Quiet}
 use Rattle.soundness.proofs.Taking.{Takes, takes_both}
 use Rattle.soundness.proofs.Passing.{reads_keep, plain_type}
 use Rattle.soundness.proofs.Lasting.{keeps}
-use Rattle.owned_loans.specs.Views.{Around, Views, Viewed, IsForeign}
+use Rattle.owned_loans.specs.Views.{Around, Views, IsForeign}
 use Rattle.owned_loans.proofs.Allowed.{cleared_open, cleared_whole}
 use Rattle.viewed_soundness.specs.Holds.{IsNamed, PartsAreNamed, sees_only, IsOwners, IsAccess}
-use Rattle.viewed_soundness.proofs.Names.{Starts, true_false, view_access, not_view, plain_observer, plain_sees, both_no, plain_named}
+use Rattle.viewed_soundness.proofs.Names.{Starts, true_false, view_access, not_view, plain_sees, both_no, plain_named}
 use Rattle.viewed_soundness.proofs.Stays.{Goes}
 use Rattle.viewed_soundness.proofs.Evaluated.{matches_named, live_trunk}
 use Rattle.viewed_steps.specs.Sound.{IsScalarObject, IsKindOfFormal}
@@ -56,7 +56,7 @@ use Rattle.null_places.proofs.Only.{OnlyOwners}
 use Rattle.null_places.proofs.Direct.{has_deref, past_deref, selectors_direct}
 use Rattle.null_places.proofs.Walks.{SameNow, SameTo, then_same, simply}
 use Rattle.null_places.proofs.Laws.{Premises, Behaves, Finds, IsAt, IsWholeAt}
-use Rattle.null_places.proofs.Scalars.{PassedSame, scalar_none, value_passed_same, to_passed_same, from_passed_same, place_then, steps_on, view_same, copy_same, none_there}
+use Rattle.null_places.proofs.Scalars.{scalar_none, value_passed_same, to_passed_same, from_passed_same, place_then, steps_on, view_same, copy_same, none_there}
 use Rattle.viewed_nulls.proofs.Names.{name_same, access_found, view_whole, owner_found}
 use Rattle.viewed_nulls.proofs.Viewed.{viewed_premises, anonymous_access, IsReadyIn, leads, viewed_behaves}
 use Rattle.viewed_steps.proofs.Views.{AreAccess}

@@ -23,7 +23,7 @@ use Rattle.machine.specs.Step.{Turn, turn, start}
 use Rattle.machine.specs.Step as steps
 use Rattle.machine.specs.Owners.{waiting_in}
 use Rattle.owned_ways.specs.Ways.{Way, AllowsAll}
-use Rattle.soundness.specs.Seen.{IsNear, home, is_view_formal}
+use Rattle.soundness.specs.Seen.{IsNear, home}
 use Rattle.soundness.specs.Sound.{IsNoCall}
 use Rattle.typed_laws.specs.Needed.{IsFine, Source, FirstSource}
 use Rattle.soundness.proofs.Numbers.{index_law}
@@ -31,7 +31,7 @@ use Rattle.soundness.proofs.Points.{flow_at}
 use Rattle.soundness.proofs.Scalars.{acts, acts_append}
 use Rattle.soundness.proofs.Taking.{Takes, takes_as, takes_both, nothing_more}
 use Rattle.owned_loans.specs.Views.{Around, Views}
-use Rattle.viewed_soundness.specs.Holds.{is_fixed, IsNamed, AllKeep, sees_only}
+use Rattle.viewed_soundness.specs.Holds.{is_fixed, IsNamed, AllKeep}
 use Rattle.viewed_soundness.proofs.Names.{plain_named, true_false}
 use Rattle.viewed_soundness.proofs.Evaluated.{keep_both}
 use Rattle.viewed_soundness.proofs.Outcomes.{named_plain, not_views, assigned_acts}

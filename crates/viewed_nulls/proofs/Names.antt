@@ -1,5 +1,5 @@
 -- A name that may be rooted in a borrower or observer leads to the same place in memories that agree.
-use Rattle.std.proofs.Common.{◌≡◌, refl, sym, ap, ◌∙◌, subst, inl, inr, ℕ, suc, Bool, true, false, List, [], ◌∷◌, length, get_or, arith, if◌then◌else◌, ◌||◌, ◌++◌, not}
+use Rattle.std.proofs.Common.{◌≡◌, refl, sym, ap, ◌∙◌, subst, inl, inr, ℕ, Bool, true, false, List, [], ◌∷◌, length, get_or, arith, if◌then◌else◌, ◌||◌, ◌++◌, not}
 use Rattle.place_names.specs.declared.fact.Fact.{Fact}
 use Rattle.type_definitions.specs.declared.table.Shape.TheVariants as shape
 use Rattle.type_definitions.specs.Types.{shape_of, view_of as view_of_shape, components_of}
@@ -11,12 +11,10 @@ use Rattle.machine.specs.Evaluate.{Here, Now, Evaluated, Done, Raises, Traps, fo
 use Rattle.machine.specs.Evaluate as run
 use Rattle.machine.specs.States.{Waiting, Leak}
 use Rattle.owned_ways.specs.Ways.{OfVariable, Loc, OfRoot, OfCell, Way, Object, All, View, Reaches, IsRooted, Named, along, number_of}
-use Rattle.owned_ways.proofs.Assigned.{named_rooted}
 use Rattle.owned_ways.proofs.Locations.{under_along, under_itself}
 use Rattle.part_offsets.specs.Parts.{IsSettled, offset_in}
 use Rattle.soundness.specs.Seen.{IsNear, content, trunk, seen, home, is_view_formal}
 use Rattle.soundness.specs.Typed.{Kept, Spot, loc_of}
-use Rattle.soundness.proofs.Near.{named_near, near_along}
 use Rattle.soundness.proofs.Walks.{way_along, Lead, Walked}
 use Rattle.soundness.proofs.Scalars.{number_along, named_along}
 use Rattle.soundness.proofs.Stays.{Quiet}

@@ -11,22 +11,19 @@ use Rattle.machine.specs.Evaluate.{variable_place}
 use Rattle.machine.specs.Calls.{Passed, Value, From, To, with_formal}
 use Rattle.machine.specs.States.{Waiting, Leak, Return}
 use Rattle.machine.specs.Step.{Turn, typing, here}
-use Rattle.owned_ways.specs.Ways.{Step, OfVariable, OfHand, Loc, OfRoot, Way, Object, Under, along, base_of, OfCell, Reaches, Past, Owned}
+use Rattle.owned_ways.specs.Ways.{OfVariable, OfHand, Loc, OfRoot, Way, Object, Under, along, base_of, OfCell, Reaches, Owned}
 use Rattle.owned_ways.proofs.Locations.{under_along, under_itself}
 use Rattle.part_offsets.specs.Parts.{IsSettled}
 use Rattle.soundness.specs.Seen.{seen, home, is_view_formal}
 use Rattle.soundness.specs.Changes.{leaks_at}
 use Rattle.soundness.specs.Typed.{OwnsByShape, Kept, Spot, IsFixed}
-use Rattle.soundness.specs.Sound.{IsCopied}
-use Rattle.soundness.proofs.Passing.{IsLaid}
-use Rattle.soundness.proofs.Fixed.{fixed_one}
 use Rattle.soundness.proofs.Returning.{formal_fixed}
 use Rattle.owned_loans.specs.Views.{Around, Views, ExcusedBy, IsForeign, Viewed}
 use Rattle.owned_loans.proofs.Moves.{same_viewed}
 use Rattle.viewed_steps.specs.Taken.{IsInside, AreTaken, Lodge, IsPlainPlace, IsCopiedTo}
 use Rattle.viewed_steps.proofs.Between.{more_gone, same_reaches, IsHomed}
-use Rattle.viewed_steps.proofs.Carried.{inside_at, inside_spot, inside_reached, inside_rooted, inside_owns, inside_base, inside_homed}
-use Rattle.viewed_steps.proofs.Alike.{IsPlainSpot, IsLaidIn, fixed_plain, plain_place, one_there, Enters, with_one, moved_there, stored_there, one_then}
+use Rattle.viewed_steps.proofs.Carried.{inside_at, inside_spot, inside_reached, inside_rooted, inside_owns, inside_homed}
+use Rattle.viewed_steps.proofs.Alike.{IsPlainSpot, IsLaidIn, fixed_plain, plain_place, one_there, Enters, moved_there, stored_there, one_then}
 use Rattle.viewed_steps.proofs.Entered as entered
 use Rattle.viewed_steps.proofs.Entered.{ArePassedOn, IsOpen, AreBlank, passed_base, outs_taken, IsPlainPassed, IsPlainOne}
 use Rattle.viewed_steps.proofs.Entering as entering

@@ -22,7 +22,7 @@ use Rattle.machine.specs.Owners.{waiting_in}
 use Rattle.owned_ways.specs.Ways.{OfVariable, Loc, Way, Object, Reaches, IsRooted, Allows, AllowsAll, number_of}
 use Rattle.owned_ways.specs.Ways as ways
 use Rattle.part_offsets.specs.Parts.{IsSettled}
-use Rattle.soundness.specs.Seen.{IsNear, content, trunk, seen, home, is_view_formal}
+use Rattle.soundness.specs.Seen.{IsNear, content, trunk, seen, home}
 use Rattle.soundness.specs.Typed.{OwnsByShape}
 use Rattle.typed_laws.specs.Needed.{Leads, Gives, Source}
 use Rattle.soundness.proofs.Walks.{way_along}

@@ -15,7 +15,7 @@ use Rattle.typed_tree.specs.Trees.{TypedTree, Name, NoMore, More, Call as CallIn
 use Rattle.typed_tree.specs.Programs.{TypedProgram}
 use Rattle.flow_paths.specs.declared.report.Effects.{Effects}
 use Rattle.flow_paths.specs.Instructions.{Instruction, Declare, Assign, Call, Hold, EndScope, Finish}
-use Rattle.flow_paths.specs.Objects.{Signature, Typing, sub_at, passings, is_anonymous, object_at, view_of}
+use Rattle.flow_paths.specs.Objects.{Typing, sub_at, passings, is_anonymous, object_at, view_of}
 use Rattle.flow_paths.specs.Names.{has_call, waiting as waits_in, name_of}
 use Rattle.flow_paths.specs.Acts as flow
 use Rattle.flow_paths.specs.Acts.{acts_in}
@@ -35,7 +35,7 @@ use Rattle.machine.specs.Step as steps
 use Rattle.machine.specs.Owners.{waiting_in}
 use Rattle.machine.specs.Run.{step}
 use Rattle.owned_ways.specs.Ways.{Way, Allows, AllowsAll}
-use Rattle.soundness.specs.Seen.{IsNear, home, is_view_formal}
+use Rattle.soundness.specs.Seen.{IsNear, home}
 use Rattle.soundness.specs.Typed.{Kept}
 use Rattle.soundness.specs.Sound.{Stage, facts_of, AreStages, IsRunnable, IsNoCall, IsPlain, InScope, IsNamedSub, IsAtPoint, view_of as view_here}
 use Rattle.typed_laws.specs.Needed.{IsFine, Source, Gives, Returns}
@@ -49,7 +49,7 @@ use Rattle.soundness.proofs.Taking.{Takes, takes_as, no_takes, nothing_more}
 use Rattle.owned_loans.specs.Views.{Around, known_gone, Views, Viewed}
 use Rattle.viewed_soundness.specs.Holds.{is_fixed, IsNamed, AllKeep, sees_only}
 use Rattle.viewed_soundness.proofs.Outcomes.{named_plain}
-use Rattle.viewed_steps.specs.Sound.{ArePast, IsScalarObject, IsResting, HoldsAt, ArePlaced, NoneAbove, ViewStage, stages_of, GoneElsewhere, AreWaiting, IsRunning, IsSound, HasTraversals}
+use Rattle.viewed_steps.specs.Sound.{ArePast, IsResting, HoldsAt, ArePlaced, NoneAbove, ViewStage, stages_of, GoneElsewhere, AreWaiting, IsRunning, IsSound, HasTraversals}
 use Rattle.viewed_steps.specs.Ready.{IsReady}
 use Rattle.viewed_steps.proofs.Standing as standing
 use Rattle.viewed_steps.proofs.Innermost as innermost
@@ -59,7 +59,6 @@ use Rattle.viewed_steps.proofs.Passed.{apart_or}
 use Rattle.place_names.specs.Reports.{Report}
 use Rattle.flow_paths.specs.Aliases as alias
 use Rattle.flow_paths.specs.Aliases.{overlap_reports}
-use Rattle.soundness.proofs.Passing.{signature_is}
 use Rattle.viewed_steps.proofs.CallEnds as ends
 use Rattle.null_places.specs.Agrees.{Agrees}
 use Rattle.null_places.specs.Compares.{Compares, ComparesIn, AreCompared}

@@ -11,7 +11,7 @@ use Rattle.flow_paths.specs.Objects.{Typing, object_at, is_anonymous}
 use Rattle.flow_paths.specs.Names.{name_of}
 use Rattle.flow_paths.specs.Acts.{acts_in}
 use Rattle.machine.specs.Words as machine
-use Rattle.machine.specs.Memory.{Memory, Place}
+use Rattle.machine.specs.Memory.{Memory}
 use Rattle.machine.specs.Evaluate.{Here, Now, Use, AsValue, Evaluated, Done, Raises, Traps, evaluate, steps_of, variable_place, walked}
 use Rattle.machine.specs.Evaluate as run
 use Rattle.machine.specs.States.{Waiting, Leak}
@@ -30,7 +30,7 @@ use Rattle.owned_loans.specs.Views.{Around, Views, expand, ExcusedBy}
 use Rattle.owned_loans.proofs.Safe.{Open, OpenWhole}
 use Rattle.owned_loans.proofs.Allowed.{read_open, look_open, look_whole, move_open, move_unlent, move_unmoved, write_open, free_open, free_whole}
 use Rattle.viewed_soundness.specs.Taken.{GivesPlainly}
-use Rattle.viewed_soundness.specs.Holds.{is_fixed, IsNamed, PartsAreNamed, AllKeep, sees_only, IsOwners}
+use Rattle.viewed_soundness.specs.Holds.{is_fixed, IsNamed, PartsAreNamed, AllKeep, IsOwners}
 use Rattle.viewed_soundness.proofs.Names.{Starts, name_walked, free_sees, free_formal}
 use Rattle.viewed_soundness.proofs.Stays.{Goes, taking, steps_taking, no_selectors}
 use Rattle.viewed_soundness.proofs.Evaluated.{keep_both, matches_named, part_named, Ready, GivenOn, live_trunk, evaluated_on}
