@@ -215,12 +215,13 @@ abbrev pub ChecksLive : FlowProgram → Program → List ℕ → (machine.State 
 ChecksLive program p input sound =
     (s t : machine.State) (g : State) → sound s → OnlyOwners (flow_typing program) s.memory → SameState s t → StateStands program t g
     → (m : machine.Frame) (fs : List machine.Frame) (f : Frame) (outer : List Frame) (q : Point) → t.frames ≡ m ∷ fs → g.frames ≡ f ∷ outer → slice_get p.points f.next ≡ Some q
-    → MakesChecks (get_or (sub_of program m.sub).points m.next no_point).instr → LeaksThere (turn_of (flow_typing program).table p input g f outer q) q.does
+    → points.are_taken (turn_of (flow_typing program).table p input g f outer q) ≡ true → MakesChecks (get_or (sub_of program m.sub).points m.next no_point).instr
+    → LeaksThere (turn_of (flow_typing program).table p input g f outer q) q.does
 
 module _ (program : FlowProgram) (p : Program) (input : List ℕ) (lowered : IsLowered program p) (laws : IsTable (flow_typing program).table) (settled : IsSettled (flow_typing program).table) where
   -- So it is of all points, where sound states are owned.
   pub leaks_live : (sound : machine.State → Type 0) → ((s : machine.State) → sound s → Owned (view_of (flow_typing program) s)) → EndsOwn program → ChecksLive program p input sound → LeaksLive program p input sound
-  leaks_live sound owned ends checks s t g good only same stands f outer q frames next = by t.frames g.frames refl stands.frames stands.runs frames
+  leaks_live sound owned ends checks s t g good only same stands f outer q frames next taken = by t.frames g.frames refl stands.frames stands.runs frames
     where
       by : (fs : List machine.Frame) (gs : List Frame) → t.frames ≡ fs → FramesStand program stands.laid (types t.memory) g.memory.stack fs gs → FirstRuns program fs → gs ≡ f ∷ outer
           → LeaksThere (turn_of (flow_typing program).table p input g f outer q) q.does
@@ -239,7 +240,7 @@ module _ (program : FlowProgram) (p : Program) (input : List ℕ) (lowered : IsL
           elim (which fp.instr) [
             | inl none ↦ quiet_there (turn_of (flow_typing program).table p input g f outer q) q.does (quiet (with_takes (around_sub program m.sub) takes) fp fp.instr q.does none lowers)
             | inr other ↦ elim other [
-              | inl makes ↦ checks s t g good only same stands m fs f outer q these frames next makes
+              | inl makes ↦ checks s t g good only same stands m fs f outer q these frames next taken makes
               | inr scope ↦
                   subst (AllThere program p input lowered laws settled s t g (owned s good) same stands m (length fs) f frame outer q takes)
                   (ap (does (with_takes (around_sub program m.sub) takes) fp) (sym scope.1) ∙ lowers)
