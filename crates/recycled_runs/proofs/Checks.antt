@@ -49,7 +49,7 @@ MakesChecks (Call sub e result) = Unit {0}
 MakesChecks (Release e) = Unit {0}
 MakesChecks _ = ⊥
 
-which : (i : Instruction) → ChecksNone i ⊎ (MakesChecks i ⊎ ((x : ℕ) × (i ≡ EndScope x)))
+which : (i : Instruction) → ChecksNone i ⊎ (MakesChecks i ⊎ (((x : ℕ) × (i ≡ EndScope x)) ⊎ (i ≡ Finish)))
 which Skip = inl tt
 which (Declare x v) = inl tt
 which (Assign target e) = inr (inl tt)
@@ -64,8 +64,8 @@ which (Next x reversed low high) = inl tt
 which (Evaluate t e left) = inl tt
 which (LeaveLoop e) = inl tt
 which (Hold v) = inl tt
-which (EndScope x) = inr (inr (x, refl))
-which Finish = inl tt
+which (EndScope x) = inr (inr (inl (x, refl)))
+which Finish = inr (inr (inr refl))
 which Fall = inl tt
 
 quiet_there : (t : points.Turn) (d : Does) → IsQuiet d → LeaksThere t d
@@ -87,7 +87,7 @@ quiet_there t (codes.EvaluateRight c n) is = tt
 quiet_there t (codes.Hold v of n) is = tt
 quiet_there t (codes.EndPointer at n) is = absurd is
 quiet_there t (codes.EndScope at of n) is = absurd is
-quiet_there t codes.Finish is = tt
+quiet_there t codes.Finish is = absurd is
 quiet_there t codes.Fall is = tt
 
 -- ---- words of the stack
@@ -241,9 +241,14 @@ module _ (program : FlowProgram) (p : Program) (input : List ℕ) (lowered : IsL
             | inl none ↦ quiet_there (turn_of (flow_typing program).table p input g f outer q) q.does (quiet (with_takes (around_sub program m.sub) takes) fp fp.instr q.does none lowers)
             | inr other ↦ elim other [
               | inl makes ↦ checks s t g good only same stands m fs f outer q these frames next taken makes
-              | inr scope ↦
-                  subst (AllThere program p input lowered laws settled s t g (owned s good) same stands m (length fs) f frame outer q takes)
-                  (ap (does (with_takes (around_sub program m.sub) takes) fp) (sym scope.1) ∙ lowers)
-                  (scope_there program p input lowered laws settled s t g (owned s good) same stands m (length fs) f frame outer q takes fp scope.0 (ends m.sub m.next scope.0 runs scope.1))
+              | inr last ↦ elim last [
+                | inl scope ↦
+                    subst (AllThere program p input lowered laws settled s t g (owned s good) same stands m (length fs) f frame outer q takes)
+                    (ap (does (with_takes (around_sub program m.sub) takes) fp) (sym scope.1) ∙ lowers)
+                    (scope_there program p input lowered laws settled s t g (owned s good) same stands m (length fs) f frame outer q takes fp scope.0 (ends m.sub m.next scope.0 runs scope.1))
+                | inr finish ↦
+                    subst (AllThere program p input lowered laws settled s t g (owned s good) same stands m (length fs) f frame outer q takes)
+                    (ap (does (with_takes (around_sub program m.sub) takes) fp) (sym finish) ∙ lowers) tt
+              ]
             ]
           ]
