@@ -69,7 +69,7 @@ module _ (table : Table) (made : List ℕ) where
   one_stands (Pointer d) x (pos (suc n)) gone is = stays (Pointer d) x (pos (suc n)) is.1 is
   one_stands (Pointer d) x (negsuc n) gone is = subst (λ b. OneStands (Pointer d) (if b then no_slot else x) (pos 0)) (sym is.1) (refl, tt)
 
-  pub all_stand : (all : List Sort) (xs : List Slot) (zs : List ℤ) (ks : List Kind) → IsFront (map kind_of all) ks → ((o : ℕ) → IsGone xs o → (d : ℕ) × (slice_get all o ≡ Some (Pointer d)))
+  all_stand : (all : List Sort) (xs : List Slot) (zs : List ℤ) (ks : List Kind) → IsFront (map kind_of all) ks → ((o : ℕ) → IsGone xs o → (d : ℕ) × (slice_get all o ≡ Some (Pointer d)))
       → AllStand table made all xs zs → AllStand table made all (map cleared_slot xs) (cleared_words ks zs)
   all_stand [] xs zs ks front gone is = tt
   all_stand (s ∷ all) [] zs ks front gone is = absurd is
