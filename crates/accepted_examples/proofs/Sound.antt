@@ -9,9 +9,10 @@ use Rattle.flow_paths.specs.Laid.{FlowSub}
 use Rattle.program_check.specs.Sources.{flow_of}
 use Rattle.file_positions.specs.Texts.{AreParsed}
 use Rattle.file_positions.proofs.Cuts.{cut_in_order}
-use Rattle.function_files.proofs.Main.{parsed_functions_sound}
+use Rattle.viewed_files.proofs.Files.{parsed_called_sound}
 use Rattle.accepted_runs.proofs.Runs.{RunsAreSound}
-use Rattle.accepted_runs.proofs.Functions.{AreInThirdClass}
+use Rattle.accepted_runs.specs.Classes.{AreInSecondViewClass}
+use Rattle.accepted_runs.proofs.Views.{third_second}
 use Rattle.accepted_runs.proofs.Main.{first_third}
 use Rattle.accepted_examples.proofs.Naming.{naming}
 use Rattle.accepted_examples.proofs.Typing.{typing}
@@ -48,11 +49,11 @@ still : all_pass (λ (sub : FlowSub). all_pass no_acts (path_points (flow_of fil
 unfolding computes naming typing
 still = refl
 
-third : AreInThirdClass files
-third = first_third files class
+second : AreInSecondViewClass files
+second = third_second files (first_third files class)
 
 pub small_sound : RunsAreSound files
 small_sound input =
-    parsed_functions_sound files (cuts ∷ []) parsed named typed third.text (nothing (flow_of files) quiet) (no_effects (flow_of files) quiet)
+    parsed_called_sound files (cuts ∷ []) parsed named typed second.main second.is_main (nothing (flow_of files) quiet) (no_effects (flow_of files) quiet)
     (no_reports (flow_of files) quiet no_aliases (each (λ (sub : FlowSub). all_pass no_acts (path_points (flow_of files) (nothing (flow_of files) quiet) sub)) (flow_of files).subs still))
-    third.calls input
+    second.calls input

@@ -7,16 +7,16 @@ use Rattle.typing_steps.specs.Programs.{program_of}
 use Rattle.soundness.proofs.Successors.{nothing_procedures}
 use Rattle.program_check.specs.Sources.{flow_of}
 use Rattle.sound_files.specs.Class.{IsNamedText, IsPlainText, CallsNothing, HasNoFunction, FormalsAreScalar, CopyToVariables}
-use Rattle.sound_files.proofs.First.{named_text}
 use Rattle.sound_files.proofs.Classes.{no_results, formless_formals, formless_copied}
 use Rattle.command_words.specs.Words.{Check}
 use Rattle.run_command.specs.Answers.{Answer}
-use Rattle.spark_tool.specs.Commands.{command_of}
-use Rattle.spark_tool.specs.Reading.{sources}
-use Rattle.spark_tool.specs.Product.{Product}
+use Rattle.tool_answers.specs.Commands.{command_of}
+use Rattle.tool_answers.specs.Reading.{sources}
+use Rattle.tool_answers.specs.Product.{Product}
 use Rattle.accepted_runs.proofs.Passing.{Passed}
 use Rattle.accepted_runs.proofs.Runs.{RunsAreSound, RunsHold, RunsAreWithNull}
-use Rattle.accepted_runs.proofs.Functions.{AreInThirdClass, accepted_functions_sound}
+use Rattle.accepted_runs.specs.Classes.{AreInThirdClass}
+use Rattle.accepted_runs.proofs.Functions.{accepted_functions_sound}
 
 -- ---- the first class
 
@@ -26,7 +26,7 @@ pub record AreInClass (trees : List (List SourceUnit)) : Type 0 where
 
 pub first_third : (trees : List (List SourceUnit)) → AreInClass trees → AreInThirdClass trees
 first_third trees class = record {
-  text = named_text (program_of trees) class.text;
+  text = record { named = class.text.named; main = class.text.main; is_main = class.text.is_main };
   calls = record {
     results = inl (λ sub has p there. nothing_procedures p.instr (class.calls sub has p there));
     formals = formless_formals (program_of trees) class.text.formless;

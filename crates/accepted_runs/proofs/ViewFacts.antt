@@ -1,5 +1,6 @@
 -- In runs of programs with borrowers and observers that `check` accepts, no leak check fails that the leak plan
--- excuses: where results are of scalar types, and formals, too, or of mode `in out`, and so without formals and calls.
+-- excuses: where results are of scalar types or stand alone, and formals are of scalar types or of mode `in out`, and so
+-- without formals and calls.
 use Rattle.std.proofs.Common.{◌≡◌, ℕ, List, Some}
 use Rattle.spark_base.specs.declared.limits.TheConstants.{SOURCE_BYTES}
 use Rattle.ada_tree.specs.declared.unit.SourceUnit.{SourceUnit}
@@ -10,13 +11,14 @@ use Rattle.order_laws.specs.Orderly.{typed_of}
 use Rattle.viewed_facts.proofs.Runs.{run_holds}
 use Rattle.command_words.specs.Words.{Check}
 use Rattle.run_command.specs.Answers.{Answer}
-use Rattle.spark_tool.specs.Commands.{command_of}
-use Rattle.spark_tool.specs.Reading.{sources}
-use Rattle.spark_tool.specs.Product.{Product}
+use Rattle.tool_answers.specs.Commands.{command_of}
+use Rattle.tool_answers.specs.Reading.{sources}
+use Rattle.tool_answers.specs.Product.{Product}
 use Rattle.accepted_runs.specs.Passed.{Passes}
 use Rattle.accepted_runs.proofs.Passing.{Passed, product_passed}
 use Rattle.accepted_runs.proofs.Runs.{RunsHold}
-use Rattle.accepted_runs.proofs.Views.{AreInViewClass, AreInSecondViewClass, passed_called_ready, first_second}
+use Rattle.accepted_runs.specs.Classes.{AreInSecondViewClass}
+use Rattle.accepted_runs.proofs.Views.{AreInViewClass, passed_called_ready, first_second}
 
 -- ---- with calls
 

@@ -1,5 +1,5 @@
--- The runs of programs with borrowers and observers that `check` accepts are sound: where results are of scalar types,
--- and formals too, or of mode `in out`; and so without formals and calls.
+-- The runs of programs with borrowers and observers that `check` accepts are sound: where results are of scalar types or
+-- stand alone, and formals are of scalar types or of mode `in out`; and so without formals and calls.
 use Rattle.std.proofs.Common.{◌≡◌, inl, ℕ, List, Some}
 use Rattle.spark_base.specs.declared.limits.TheConstants.{TOKENS, SOURCE_BYTES}
 use Rattle.ada_tree.specs.declared.unit.SourceUnit.{SourceUnit}
@@ -18,25 +18,16 @@ use Rattle.viewed_steps.proofs.Main.{ready_sound}
 use Rattle.viewed_files.proofs.Files.{parsed_called_ready}
 use Rattle.command_words.specs.Words.{Check}
 use Rattle.run_command.specs.Answers.{Answer}
-use Rattle.spark_tool.specs.Commands.{command_of}
-use Rattle.spark_tool.specs.Reading.{sources}
-use Rattle.spark_tool.specs.Product.{Product}
+use Rattle.tool_answers.specs.Commands.{command_of}
+use Rattle.tool_answers.specs.Reading.{sources}
+use Rattle.tool_answers.specs.Product.{Product}
 use Rattle.accepted_runs.specs.Passed.{Passes}
 use Rattle.accepted_runs.proofs.Passing.{Passed, product_passed}
 use Rattle.accepted_runs.proofs.Parsed.{are_parsed}
 use Rattle.accepted_runs.proofs.Runs.{RunsAreSound}
-use Rattle.accepted_runs.proofs.Functions.{AreInThirdClass}
+use Rattle.accepted_runs.specs.Classes.{AreInThirdClass, AreInSecondViewClass}
 
 -- ---- with calls
-
--- Formals are of scalar types, or of mode `in out` and of no anonymous access type. Results are of scalar types, or
--- procedures alone are called. Actuals of modes `out` and `in out` go through no access value, and those for formals of
--- other types than scalar ones belong to no package.
-pub record AreInSecondViewClass (trees : List (List SourceUnit)) : Type 0 where
-  -- there is a main procedure, so that there are runs
-  pub main : ℕ
-  pub is_main : (typed_of (program_of trees)).main ≡ Some main
-  pub calls : CallsWithOwners (program_of trees)
 
 -- Such a program is ready, as the laws on its steps ask.
 pub passed_called_ready : (texts : List (List ℕ)) (trees : List (List SourceUnit)) (effects : Effects) → Passes texts trees effects → AreInSecondViewClass trees

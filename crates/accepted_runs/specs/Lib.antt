@@ -1,1 +1,3 @@
 pub mod Passed
+pub mod Classes
+pub mod Headline

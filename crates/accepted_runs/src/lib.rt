@@ -5,8 +5,8 @@
 //! file is there, that its tokens spell a source, that the program breaks no rule of names and of
 //! types and no limit, and that there are no reports (`specs/Passed.antt`, `proofs/Passing.antt`).
 //! The files are parsed then, as `file_positions` has it (`proofs/Parsed.antt`). So the laws of
-//! `function_files` speak of what `check` accepts (`proofs/Functions.antt`), of smaller classes of
-//! programs, too (`proofs/Main.antt`); and so do those of `viewed_files` (`proofs/Views.antt`), of
-//! `viewed_facts` (`proofs/ViewFacts.antt`) and of `viewed_nulls` (`proofs/ViewNulls.antt`). Nothing
-//! here runs.
+//! `viewed_files` speak of what `check` accepts (`proofs/Views.antt`), and so do those of `viewed_facts`
+//! (`proofs/ViewFacts.antt`) and of `viewed_nulls` (`proofs/ViewNulls.antt`); and of smaller classes of
+//! programs (`specs/Classes.antt`), without anonymous access types (`proofs/Functions.antt`,
+//! `proofs/Main.antt`). Nothing here runs.
 #![tactic(auto)]

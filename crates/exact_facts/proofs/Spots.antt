@@ -1,22 +1,33 @@
 -- The objects of the flow are those of the typed program, and temporaries after them. The leak checks
--- of a point go by the former alone.
-use Rattle.std.proofs.Common.{◌≡◌, refl, sym, ap, ◌∙◌, subst, ◌⊎◌, inl, inr, ℕ, zero, suc, ◌+◌, true, false, List, [], ◌∷◌, ◌++◌, map, flat_map, length, get_or, Option, Some, None}
+-- of a point go by the former alone; and what an excused one says of the facts at its point.
+use Rattle.std.proofs.Common.{◌≡◌, refl, sym, ap, ◌∙◌, subst, ◌⊎◌, inl, inr, ℕ, zero, suc, ◌+◌, true, false, List, [], ◌∷◌, ◌++◌, map, flat_map, length, get_or, Option, Some, None, Bool, not, IsTrue, take}
 use Rattle.spark_base.specs.Lists.{Has}
 use Rattle.spark_base.specs.declared.position.Pos.{Pos}
+use Rattle.place_names.specs.declared.act.Act.{Act}
 use Rattle.place_names.specs.declared.act.Mode.TheVariants as mode
+use Rattle.place_names.specs.declared.act.Placed.{Placed}
+use Rattle.place_names.specs.declared.fact.Fact.{Fact}
+use Rattle.place_names.specs.declared.fact.Fact.TheVariants.{Moved}
 use Rattle.place_names.specs.declared.selector.Sel.TheVariants as sel
-use Rattle.place_names.specs.Names.{object, extend}
+use Rattle.place_names.specs.Names.{object, extend, has_elem}
+use Rattle.place_names.specs.Facts.{effect, facts_behind}
+use Rattle.place_names.proofs.Facts.{facts_behind-append}
 use Rattle.type_definitions.specs.Types.{Table, parts}
 use Rattle.typed_tree.specs.declared.object.Object.{Object}
 use Rattle.typed_tree.specs.Trees.{TypedTree, Name, More}
 use Rattle.typed_tree.specs.Programs.{TypedProgram, text_io}
+use Rattle.flow_paths.specs.declared.point.LeakSpot.{LeakSpot}
 use Rattle.flow_paths.specs.Instructions.{Instruction, Assign, Call, Release, Test, EndScope}
-use Rattle.flow_paths.specs.Objects.{Typing, object_at, sub_at, designated, is_formal, Passing, Place, passings}
+use Rattle.flow_paths.specs.Objects.{Typing, object_at, sub_at, designated, is_formal, Passing, ByValue, Traversed, Place, passings}
 use Rattle.flow_paths.specs.Names.{Written, written, name_of}
-use Rattle.flow_paths.specs.Acts.{spot, acts_in, actual_act, spots_at, actual_spots, call_spots, leaks_of}
+use Rattle.flow_paths.specs.Acts.{spot, acts_in, index_acts, actual_values, actual_act, spots_at, actual_spots, call_spots, leaks_of}
 use Rattle.flow_paths.specs.Laid.{Temporary, temporary_object, NamedSub, typing_of, flow_typing, flow_program, flow_named}
+use Rattle.flow_paths.specs.Paths.{PathPoint, path_point, ControlPath, acts_along, facts_before, facts_within}
+use Rattle.flow_paths.specs.LeakPlan.{IsExcused}
 use Rattle.flow_paths.specs.Scopes.{is_temporary}
+use Rattle.owned_ways.specs.Ways.{after}
 use Rattle.soundness.specs.Sound.{IsNoCall, is_temporary_object}
+use Rattle.soundness.proofs.Scalars.{acts}
 use Rattle.soundness.proofs.Typings.{Agree, wide, wide_is, instruction_same, passings_same}
 use Rattle.typed_laws.specs.Needed.{IsFine}
 
@@ -29,6 +40,17 @@ module _ (a b : Typing) (agree : Agree a b) where
   acts_same : (pos : Pos) (e : TypedTree) → acts_in a e ≡ acts_in b e
   acts_same pos e =
       instruction_same a b agree None [] pos (Test e) (λ n actuals t never x has. (let no : Test e ≡ Call n actuals t = never in cc))
+
+  index_same : (pos : Pos) (e : TypedTree) → index_acts a e ≡ index_acts b e
+  index_same pos (Name p x path t) = acts_same pos path
+  index_same pos e = refl
+
+  -- what is read of the actuals of a call
+  pub values_same : (pos : Pos) (ways : List Passing) (actuals : TypedTree) → actual_values a ways actuals ≡ actual_values b ways actuals
+  values_same pos (ByValue ∷ ways) (More e rest) = (λ j. acts_same pos e j ++ values_same pos ways rest j)
+  values_same pos (Traversed ∷ ways) (More e rest) = (λ j. index_same pos e j ++ values_same pos ways rest j)
+  values_same pos (Place m owning access ∷ ways) (More e rest) = (λ j. index_same pos e j ++ values_same pos ways rest j)
+  values_same pos _ _ = refl
 
   written_same : (w : Option Written) (before : ℕ) → spots_at a w before ≡ spots_at b w before
   written_same None before = refl
@@ -94,3 +116,29 @@ object_same table typed x other =
         → is_temporary_object (wide table typed) x ≡ false → object_at (wide table typed) x ≡ object_at (typing_of table typed) x
     by (inl same) other = same
     by (inr temporary) other = (let no : true ≡ false = sym temporary ∙ other in cc)
+
+-- ---- an excused check
+
+take_front : {A : Type 0} (front rest : List A) → take (length front) (front ++ rest) ≡ front
+take_front [] [] = refl
+take_front [] (x ∷ rest) = refl
+take_front (x ∷ front) rest = ap (λ z. x ∷ z) (take_front front rest)
+
+after_behind : (more : List Act) (facts : List Fact) → after more facts ≡ facts_behind facts more
+after_behind [] facts = refl
+after_behind (a ∷ more) facts = after_behind more (effect a facts)
+
+is_plain : (b : Bool) → IsTrue (not b) → b ≡ false
+is_plain true t = cc
+is_plain false t = refl
+
+-- what an excused leak check says of the facts just before its act
+pub excused_knows : (points : List PathPoint) (n : ℕ) (before : List ℕ) → ControlPath points before n → (front rest : List Placed)
+    → (path_point points n).acts ≡ front ++ rest → (check : LeakSpot) → check.before ≡ length front → IsExcused points n check
+    → (has_elem check.name.sels ≡ false) × Has (after (acts front) (facts_before points before)) (Moved check.name)
+excused_knows points n before path front rest split check count excused =
+    let cut : take check.before (path_point points n).acts ≡ front = (λ j. take (count j) (split j)) ∙ take_front front rest in
+    let facts : facts_within points before (take check.before (path_point points n).acts) ≡ after (acts front) (facts_before points before) =
+    ap (facts_within points before) cut ∙ facts_behind-append [] (acts_along points before) (acts front)
+    ∙ sym (after_behind (acts front) (facts_before points before)) in
+    (is_plain (has_elem check.name.sels) excused.definite, subst (λ z. Has z (Moved check.name)) facts (excused.moved before path))

@@ -6,20 +6,14 @@ use Rattle.spark_base.proofs.Lists.{Has-append_cases, Has-filter}
 use Rattle.place_names.specs.declared.selector.Sel.{Sel}
 use Rattle.place_names.specs.declared.selector.Sel.TheVariants.{Field, Elem, Deref}
 use Rattle.place_names.specs.declared.act.Act.{Act}
-use Rattle.place_names.specs.declared.act.Act.TheVariants.{Move, Write, Free, EndScope}
 use Rattle.place_names.specs.declared.fact.Fact.{Fact}
-use Rattle.place_names.specs.declared.fact.Fact.TheVariants.{Moved}
 use Rattle.place_names.specs.Names.{begins, is_prefix, is_equal, has_elem, covers}
 use Rattle.place_names.specs.Facts.{adds, removes, effect}
-use Rattle.owned_ways.specs.Ways.{Step, OfVariable, OfHand, Loc, OfRoot, OfCell, Inside, Way, Object, Lost, Into, All, Empty, Gone, Held, View, part, along, Reaches, IsRooted, Under, Told, Owned, IsRelease, IsDrop, base_of, number_of, sels_of, name_of, Named, Allows}
-use Rattle.owned_ways.proofs.Locations.{both_true, under_itself, under_along, reaches_along}
-use Rattle.owned_ways.proofs.Unique.{one_way}
+use Rattle.owned_ways.specs.Ways.{Step, OfVariable, OfHand, Loc, OfRoot, OfCell, Inside, Way, Object, Lost, Into, All, Gone, Held, View, Reaches, IsRooted, Under, Told, base_of, number_of, sels_of, name_of, Named}
+use Rattle.owned_ways.proofs.Locations.{both_true}
 use Rattle.owned_ways.proofs.Named.{longer}
-use Rattle.owned_ways.proofs.Moving.{Given}
-use Rattle.owned_ways.proofs.Assigned.{move_clean}
 use Rattle.owned_ways.proofs.Dropped.{named_base}
-use Rattle.owned_ways.proofs.Told.{told_after}
-use Rattle.exact_facts.specs.Exact.{IsOfVariable, IsDefiniteBy}
+use Rattle.exact_facts.specs.Exact.{IsOfVariable}
 
 -- ---- facts
 
@@ -79,24 +73,6 @@ variable_rooted (Lost n) is = absurd is
 variable_rooted (Into w i) is = variable_rooted w is
 variable_rooted (All w) is = variable_rooted w is
 
-no_hand_there : (h : ℕ) (w : Way) → IsOfVariable w → Under (Object (OfHand h)) w → ⊥
-no_hand_there h (Object (OfVariable f x)) is e = cc
-no_hand_there h (Object (OfHand k)) is e = absurd is
-no_hand_there h (Lost n) is e = absurd is
-no_hand_there h (Into w i) is (inl e) = cc
-no_hand_there h (Into w i) is (inr u) = no_hand_there h w is u
-no_hand_there h (All w) is (inl e) = cc
-no_hand_there h (All w) is (inr u) = no_hand_there h w is u
-
-pub definite_variable : (home : ℕ → ℕ) (other : Way → Type 0) (facts : List Fact) (w : Way) → IsDefiniteBy home other facts w → IsOfVariable w
-definite_variable home other facts w (inl definite) = named_variable home w definite.0.0
-definite_variable home other facts w (inr elsewhere) = elsewhere.0
-
--- ---- what is told of fewer ways
-
-told_fewer : (s : View) (moved moved' : Way → Type 0) → ((w : Way) → moved' w → moved w) → Told s moved → Told s moved'
-told_fewer s moved moved' less told w l m r = told w l (less w m) r
-
 -- ---- ways that lead on no new way
 
 -- Ways keep to some locations, and what they find there was there before.
@@ -150,146 +126,3 @@ keeps_placed s t held = record {
   cell = λ l n p e. tt;
   held = held;
 }
-
--- ---- the four steps
-
--- What is moved elsewhere begins with no name of the frame.
-module _ (home : ℕ → ℕ) (other : Way → Type 0) (clear : (v w : Way) → Under v w → Named home v → other w → ⊥) where
-  abbrev Definite : List Fact → Way → Type 0
-  Definite facts w = IsDefiniteBy home other facts w
-
-  rooted : (facts : List Fact) (w : Way) → Definite facts w → IsRooted w
-  rooted facts w is = variable_rooted w (definite_variable home other facts w is)
-
-  pub told_still : (s t : View) (on : Loc → Type 0) (facts : List Fact) → ((f x : ℕ) → on (OfRoot (OfVariable f x))) → Keeps s t on
-      → ((l : Loc) → on l → s.word l ≡ Gone → t.word l ≡ Gone)
-      → Told s (IsDefiniteBy home other facts) → Told t (IsDefiniteBy home other facts)
-  told_still s t on facts all keeps gone told =
-      told_on s t on (Definite facts) (λ w is. variable_begins on all w (definite_variable home other facts w is)) keeps gone told
-
-  -- what was told of a way, where it reached it before
-  was_there : (s t : View) (facts : List Fact) → Keeps s t IsPlaced → (w : Way) (l : Loc) → Definite facts w → Reaches t w l → Reaches s w l
-  was_there s t facts keeps w l is r =
-      (reached_before s t IsPlaced keeps w l (variable_begins IsPlaced (λ f x. tt) w (definite_variable home other facts w is)) r).1
-
-  -- a value in hand is put at a target
-  pub told_put : (s t : View) (h : ℕ) (k : Way) (to : Loc) (facts : List Fact) → Named home k → Given s t (Object (OfHand h)) k (OfRoot (OfHand h)) to
-      → Told s (IsDefiniteBy home other facts) → Told t (IsDefiniteBy home other (effect (Write (name_of k)) facts))
-  told_put s t h k to facts named given told =
-      told_after s t (Object (OfHand h)) k (OfRoot (OfHand h)) to (Definite facts) (Definite (effect (Write (name_of k)) facts))
-      (rooted facts) given told
-      (λ v u d. no_hand_there h v (definite_variable home other facts v d) u) only
-    where
-      only : (w : Way) → Definite (effect (Write (name_of k)) facts) w
-          → (Definite facts w × (Under k w → ⊥)) ⊎ ((p : List Step) × (w ≡ along (Object (OfHand h)) p) × (t.word (part (OfRoot (OfHand h)) p) ≡ Gone))
-      only w (inr elsewhere) = inl (inr elsewhere, λ u. clear k w u named elsewhere.1)
-      only w (inl d) = elim (fact_before (Write (name_of k)) facts (Moved (name_of w)) d.0.1) [
-        | inl old ↦ inl (
-          inl ((d.0.0, old.0), d.1),
-          λ u. (let covered = under_covers k w u d.1 in let kept = old.1 in cc),
-        )
-        | inr none ↦ absurd none
-      ]
-
-  -- a variable gets a value, of which no fact speaks
-  pub told_given : (s t : View) (h : ℕ) (k : Way) (to : Loc) (facts : List Fact) → Given s t (Object (OfHand h)) k (OfRoot (OfHand h)) to
-      → ((w : Way) → IsDefiniteBy home other facts w → Under k w → ⊥)
-      → Told s (IsDefiniteBy home other facts) → Told t (IsDefiniteBy home other facts)
-  told_given s t h k to facts given none told =
-      told_after s t (Object (OfHand h)) k (OfRoot (OfHand h)) to (Definite facts) (Definite facts)
-      (rooted facts) given told
-      (λ v u d. no_hand_there h v (definite_variable home other facts v d) u)
-      (λ w d. inl (d, none w d))
-
-  -- what a name has is taken into a hand
-  pub told_taken : (s t : View) (m : Way) (h : ℕ) (from : Loc) (parts : List (List Sel)) (facts : List Fact) → Named home m
-      → Given s t m (Object (OfHand h)) from (OfRoot (OfHand h)) → Allows facts (Move (name_of m) parts)
-      → ((w : Way) → Named home w → has_elem (sels_of w) ≡ false → Has (adds (Move (name_of m) parts)) (Moved (name_of w))
-      → (p : List Step) × (w ≡ along m p) × (t.word (part from p) ≡ Gone))
-      → Told s (IsDefiniteBy home other facts) → Told t (IsDefiniteBy home other (effect (Move (name_of m) parts) facts))
-  told_taken s t m h from parts facts named given allowed takes told =
-      told_after s t m (Object (OfHand h)) from (OfRoot (OfHand h)) (Definite facts) (Definite (effect (Move (name_of m) parts) facts))
-      (rooted facts) given told clean only
-    where
-      clean : (v : Way) → Under m v → Definite facts v → ⊥
-      clean v u (inl d) = move_clean home facts m parts allowed v u d.0
-      clean v u (inr elsewhere) = clear m v u named elsewhere.1
-
-      only : (w : Way) → Definite (effect (Move (name_of m) parts) facts) w
-          → (Definite facts w × (Under (Object (OfHand h)) w → ⊥)) ⊎ ((p : List Step) × (w ≡ along m p) × (t.word (part from p) ≡ Gone))
-      only w (inr elsewhere) = inl (inr elsewhere, no_hand_there h w elsewhere.0)
-      only w (inl d) = elim (fact_before (Move (name_of m) parts) facts (Moved (name_of w)) d.0.1) [
-        | inl old ↦ inl (inl ((d.0.0, old.0), d.1), no_hand_there h w (named_variable home w d.0.0))
-        | inr new ↦ inr (takes w d.0.0 d.1 new)
-      ]
-
-  -- a cell is freed, and its name becomes null
-  pub told_released : (s t : View) (k : Way) (at : Loc) (n : ℕ) (facts : List Fact) → Named home k → Owned s → IsRelease s t at n
-      → Reaches s k at → s.word at ≡ Held n
-      → Told s (IsDefiniteBy home other facts) → Told t (IsDefiniteBy home other (effect (Free (name_of k)) facts))
-  told_released s t k at n facts named owned step target held told = by
-    where
-      was : (l : Loc) (c : ℕ) → IsPlaced l → t.word l ≡ Held c → s.word l ≡ Held c
-      was l c placed h =
-          sym (step.off l (λ e. (let is : Held c ≡ Empty = sym h ∙ ap t.word e ∙ step.null in cc))
-          (λ b. (let is : Held c ≡ Empty = sym h ∙ ap t.word b.1 ∙ step.empty b.0 in cc))) ∙ h
-
-      -- what isn't below the cell stays gone
-      apart : (w : Way) (l : Loc) → Definite facts w → (Under k w → ⊥) → Reaches t w l → t.word l ≡ Gone
-      apart w l is off r =
-          let before = was_there s t facts (keeps_placed s t was) w l is r in
-          let gone : s.word l ≡ Gone = told w l is before in
-          step.off l
-          (λ e. (let is_held : Gone ≡ Held n = sym gone ∙ ap s.word e ∙ held in cc))
-          (λ b. (
-          let cell : Reaches s (along (All k) b.0) (part (OfCell n) b.0) = reaches_along s (All k) (OfCell n) b.0 (at, n, target, held, refl) in
-          let same : w ≡ along (All k) b.0 = one_way s owned w (along (All k) b.0) l before (subst (Reaches s (along (All k) b.0)) (sym b.1) cell) in
-          off (subst (Under k) (sym same) (under_along k (All k) b.0 (inr (under_itself k))))))
-          ∙ gone
-
-      by : Told t (IsDefiniteBy home other (effect (Free (name_of k)) facts))
-      by w l (inr elsewhere) r = apart w l (inr elsewhere) (λ u. clear k w u named elsewhere.1) r
-      by w l (inl d) r = elim (fact_before (Free (name_of k)) facts (Moved (name_of w)) d.0.1) [
-        | inr none ↦ absurd none
-        | inl old ↦ apart w l (inl ((d.0.0, old.0), d.1)) (λ u. (let covered = under_covers k w u d.1 in let kept = old.1 in cc)) r
-      ]
-
-  -- nothing is freed where there was null
-  pub told_unfreed : (s : View) (a : Act) (facts : List Fact) → (adds a ≡ []) → Told s (IsDefiniteBy home other facts)
-      → Told s (IsDefiniteBy home other (effect a facts))
-  told_unfreed s a facts none told = told_fewer s (Definite facts) (Definite (effect a facts)) fewer told
-    where
-      fewer : (w : Way) → Definite (effect a facts) w → Definite facts w
-      fewer w (inr elsewhere) = inr elsewhere
-      fewer w (inl d) = elim (fact_before a facts (Moved (name_of w)) d.0.1) [
-        | inl old ↦ inl ((d.0.0, old.0), d.1)
-        | inr new ↦ absurd (subst (λ z. Has z (Moved (name_of w))) none new)
-      ]
-
-  -- the scope of an object of the frame ends
-  pub told_dropped : (s t : View) (x : ℕ) (borrower : Bool) (facts : List Fact) → Owned s → IsDrop s t (OfVariable (home x) x)
-      → Told s (IsDefiniteBy home other facts) → Told t (IsDefiniteBy home other (effect (EndScope x borrower) facts))
-  told_dropped s t x borrower facts owned step told = by
-    where
-      was : (l : Loc) (c : ℕ) → IsPlaced l → t.word l ≡ Held c → s.word l ≡ Held c
-      was l c placed h = sym (step.off l (λ b. (let is : Held c ≡ Empty = sym h ∙ ap t.word b.1 ∙ step.empty b.0 in cc))) ∙ h
-
-      apart : (w : Way) (l : Loc) → Definite facts w → (Under (Object (OfVariable (home x) x)) w → ⊥) → Reaches t w l → t.word l ≡ Gone
-      apart w l is off r =
-          let before = was_there s t facts (keeps_placed s t was) w l is r in
-          step.off l (λ b. (
-          let there : Reaches s (along (Object (OfVariable (home x) x)) b.0) (part (OfRoot (OfVariable (home x) x)) b.0) = reaches_along s (Object (OfVariable (home x) x)) (OfRoot (OfVariable (home x) x)) b.0 refl in
-          let same : w ≡ along (Object (OfVariable (home x) x)) b.0 = one_way s owned w (along (Object (OfVariable (home x) x)) b.0) l before (subst (Reaches s (along (Object (OfVariable (home x) x)) b.0)) (sym b.1) there) in
-          off (subst (Under (Object (OfVariable (home x) x))) (sym same) (under_along (Object (OfVariable (home x) x)) (Object (OfVariable (home x) x)) b.0 (under_itself (Object (OfVariable (home x) x)))))))
-          ∙ told w l is before
-
-      by : Told t (IsDefiniteBy home other (effect (EndScope x borrower) facts))
-      by w l (inr elsewhere) r = apart w l (inr elsewhere) (λ u. clear (Object (OfVariable (home x) x)) w u refl elsewhere.1) r
-      by w l (inl d) r = elim (fact_before (EndScope x borrower) facts (Moved (name_of w)) d.0.1) [
-        | inr none ↦ absurd none
-        | inl old ↦ apart w l (inl ((d.0.0, old.0), d.1))
-            (λ u. (
-            let number : number_of w ≡ x = (longer (Object (OfVariable (home x) x)) w u).root in
-            let ends = eq-eqb (number_of w) x number in
-            let kept = old.1 in cc)) r
-      ]

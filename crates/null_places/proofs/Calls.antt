@@ -1,15 +1,14 @@
 -- Calls of subprograms and their ends lead to the same in memories that agree, where of what is passed
 -- and copied back nothing is gone: so it is with formals of scalar types.
-use Rattle.std.proofs.Common.{◌≡◌, refl, sym, inl, inr, subst, ◌∙◌, ℕ, suc, Bool, true, false, List, [], ◌∷◌, ◌++◌, length, nat_le, if◌then◌else◌}
-use Rattle.spark_base.specs.Lists.{Has}
+use Rattle.std.proofs.Common.{◌≡◌, refl, sym, subst, ℕ, suc, Bool, true, false, List, [], ◌∷◌, ◌++◌, length, nat_le, if◌then◌else◌, ◌∙◌}
 use Rattle.spark_base.specs.declared.position.Pos.{Pos}
-use Rattle.type_definitions.specs.Types.{full, is_scalar}
+use Rattle.type_definitions.specs.Types.{full}
 use Rattle.typed_tree.specs.Trees.{TypedTree, More}
 use Rattle.flow_paths.specs.Objects.{Typing, object_at, sub_at, passings}
 use Rattle.flow_paths.specs.Names.{written}
 use Rattle.machine.specs.Words.{fits_type}
 use Rattle.machine.specs.Words as machine
-use Rattle.machine.specs.Memory.{Memory, OfVariable, Place, slots_of, words_of, stored, moved_out, declared, without_frame}
+use Rattle.machine.specs.Memory.{Memory, OfVariable, Place, slots_of, words_of, stored, moved_out, declared, without_frame, cell, Base, OfCell}
 use Rattle.machine.specs.Evaluate.{Now, Evaluated, Done, Raises, Traps, followed_by, checked, variable_place, ConstraintError, StorageError}
 use Rattle.machine.specs.Calls.{Passed, Value, From, To, written_pos, all_passed, out_checks, with_formal, with_formals, returns_of}
 use Rattle.machine.specs.States.{Waiting, Return, Frame, State, Normal, Outcome, Goes, Ends, sub_of, frame_words, stack_words, frame_at_start}
@@ -17,17 +16,13 @@ use Rattle.machine.specs.Step.{Turn, typing, here, start, waiting, counted, behi
 use Rattle.machine.specs.Step as steps
 use Rattle.part_offsets.specs.Parts.{IsSettled}
 use Rattle.soundness.specs.Typed.{OwnsByShape, Kept, IsFixed}
-use Rattle.soundness.specs.Sound.{IsCopied}
 use Rattle.soundness.proofs.Stays.{Quiet}
-use Rattle.soundness.proofs.Keeping.{scalar}
-use Rattle.soundness.proofs.Lasting.{keeps, lengths, declared_kept, less_kept, put_away}
 use Rattle.soundness.proofs.Steps.{no_leaf}
-use Rattle.soundness.proofs.Fixed.{plain_word, fixed_at, fixed_spot, fixed_one}
-use Rattle.soundness.proofs.Passing.{IsLaid, AreLaid, Enters}
-use Rattle.soundness.proofs.Returning.{formal_fixed}
+use Rattle.soundness.proofs.Fixed.{fixed_at, fixed_spot}
+use Rattle.soundness.proofs.Passing.{Enters}
 use Rattle.null_places.proofs.Walks.{SameTo}
 use Rattle.null_places.specs.Agrees.{Agrees}
-use Rattle.null_places.proofs.Memories.{NoneGone, words_agree, checks_agree, declared_agree, moved_agree, stored_agree, frame_agree}
+use Rattle.null_places.proofs.Memories.{NoneGone, words_agree, checks_agree, declared_agree, moved_agree, stored_agree, frame_agree, cell_agree}
 use Rattle.null_places.proofs.Only.{OnlyOwners, stored_only, declared_only, frame_only}
 use Rattle.null_places.proofs.Places.{spot_whole, plain_whole, moved_only}
 use Rattle.null_places.proofs.Instructions.{SameStep, twin, both_are, leaking_same, raised_same, step_then}
@@ -53,11 +48,11 @@ AgreeBy s m n = Agrees m n × OnlyOwners s m
 abbrev pub IsWholly : Typing → Place → Memory → Type 0
 IsWholly s k m = OnlyOwners s m → NoneGone (slots_of s m k) × OnlyOwners s (moved_out s k m)
 
--- So it is with what is passed, one after the other.
+-- So it is with what is passed, one after the other; of a place that is emptied something may be gone.
 abbrev pub IsWhollyPassed : Typing → Passed → Memory → Type 0
 IsWhollyPassed s (Value ws) m = Unit {0}
 IsWhollyPassed s (From k) m = IsWholly s k m
-IsWhollyPassed s (To k) m = IsWholly s k m
+IsWhollyPassed s (To k) m = OnlyOwners s m → OnlyOwners s (moved_out s k m)
 
 abbrev pub AreWhollyPassed : Typing → ℕ → List ℕ → List Passed → Memory → Type 0
 AreWhollyPassed s f (x ∷ formals) (a ∷ passed) m = IsWhollyPassed s a m × AreWhollyPassed s f formals passed (with_formal s f x a m)
@@ -79,7 +74,7 @@ module _ (s : Typing) (f : ℕ) where
       (words_agree s m n same.0 k both.0)
       (declared_same x (words_of s m k) (moved_out s k m) (moved_out s k n) (taken_same k m n both.1 same.0))
   one_formal x (To k) m n whole same =
-      declared_same x (machine.default s.table (object_at s x).of) (moved_out s k m) (moved_out s k n) (taken_same k m n (whole same.1).1 same.0)
+      declared_same x (machine.default s.table (object_at s x).of) (moved_out s k m) (moved_out s k n) (taken_same k m n (whole same.1) same.0)
 
   pub formals_same : (formals : List ℕ) (passed : List Passed) (m n : Memory) → AreWhollyPassed s f formals passed m → AgreeBy s m n
       → AgreeBy s (with_formals s f formals passed m) (with_formals s f formals passed n)
@@ -96,49 +91,9 @@ module _ (s : Typing) (settled : IsSettled s.table) (own_law : OwnsByShape s.tab
   fixed_wholly k fixed m kept only = (
     spot_whole s settled m hands only kept k (fixed_at s settled k fixed) (fixed_spot s settled k fixed m hands)
         (plain_whole s settled m hands k (fixed_at s settled k fixed) (fixed_spot s settled k fixed m hands) (λ p. no_leaf s.table settled k.of fixed.scalar p)),
-    moved_only s settled m hands only kept k (fixed_at s settled k fixed) (fixed_spot s settled k fixed m hands),
+    moved_only s settled m hands only kept k (fixed_at s settled k fixed) (fixed_spot s settled k fixed m hands)
+        (λ p leaf f x is. (let no : true ≡ false = sym leaf ∙ no_leaf s.table settled k.of fixed.scalar p in cc)),
   )
-
-  -- words stay typed
-  moved_kept : (k : Place) → IsFixed s k → (m : Memory) → Kept s m hands → Kept s (moved_out s k m) hands
-  moved_kept k fixed m kept =
-      less_kept s settled (moved_out s k m) (record { of = k.of; words = words_of s m k }) hands
-      ((keeps s settled own_law).moved m hands k (fixed_at s settled k fixed) (fixed_spot s settled k fixed m hands) kept)
-
-  stored_kept : (k : Place) → IsFixed s k → (ws : List machine.Word) → length ws ≡ 1 → (m : Memory) → Kept s m hands → Kept s (stored s k ws m) hands
-  stored_kept k fixed ws one m kept =
-      let v : Waiting = record { of = k.of; words = ws } in
-      put_away s settled m v hands k (fixed_at s settled k fixed) (scalar s settled m v hands fixed.scalar kept) (fixed_spot s settled k fixed m (v ∷ hands))
-      (one ∙ sym (plain_word s settled k.of fixed.scalar)) (inl refl)
-
-  module _ (f : ℕ) where
-    abbrev Plain : ℕ → Type 0
-    Plain x = is_scalar (full s.table (object_at s x).of) ≡ true
-
-    declared_typed : (x : ℕ) (ws : List machine.Word) (m : Memory) → Plain x → length ws ≡ 1 → Kept s m hands → Kept s (declared f x ws m) hands
-    declared_typed x ws m plain one kept =
-        let v : Waiting = record { of = (object_at s x).of; words = ws } in
-        declared_kept s settled m f x v hands (scalar s settled m v hands plain kept) (one ∙ sym (plain_word s settled (object_at s x).of plain)) (inl refl)
-
-    one_plain : (x : ℕ) (a : Passed) → IsLaid s a → Plain x → (m : Memory) → Kept s m hands → IsWhollyPassed s a m × Kept s (with_formal s f x a m) hands
-    one_plain x (Value ws) laid plain m kept = (tt, declared_typed x ws m plain laid kept)
-    one_plain x (From k) laid plain m kept = (
-      fixed_wholly k laid m kept,
-      declared_typed x (words_of s m k) (moved_out s k m) plain (fixed_one s settled k laid m hands kept) (moved_kept k laid m kept),
-    )
-    one_plain x (To k) laid plain m kept = (
-      fixed_wholly k laid m kept,
-      declared_typed x (machine.default s.table (object_at s x).of) (moved_out s k m) plain
-          (lengths s.table (object_at s x).of ∙ plain_word s settled (object_at s x).of plain) (moved_kept k laid m kept),
-    )
-
-    pub scalars_passed : (formals : List ℕ) (passed : List Passed) → ((x : ℕ) → Has formals x → Plain x) → AreLaid s passed
-        → (m : Memory) → Kept s m hands → AreWhollyPassed s f formals passed m
-    scalars_passed [] passed plain are m kept = tt
-    scalars_passed (x ∷ formals) [] plain are m kept = tt
-    scalars_passed (x ∷ formals) (a ∷ rest) plain are m kept =
-        let first = one_plain x a are.0 (plain x (inl refl)) m kept in
-        (first.0, scalars_passed formals rest (λ y has. plain y (inr has)) are.1 (with_formal s f x a m) first.1)
 
 -- ---- the call
 
@@ -205,35 +160,28 @@ BackSame s (Done m i) (Done n j) = Agrees m n × OnlyOwners s m
 BackSame s (Raises e i) (Raises f j) = (e ≡ f) × Agrees i.memory j.memory
 BackSame s _ _ = ⊥
 
--- Of formals that are copied back nothing is gone, one after the other; and the places are in variables.
+-- A place is in a variable, or in a cell that wasn't freed.
+abbrev pub IsStanding : Memory → Base → Type 0
+IsStanding m (OfVariable f x) = Unit {0}
+IsStanding m (OfCell n) = (cell m n).freed ≡ false
+
+stands_agree : (m n : Memory) → Agrees m n → (b : Base) → IsStanding m b → IsStanding n b
+stands_agree m n same (OfVariable f x) there = tt
+stands_agree m n same (OfCell k) there = sym (cell_agree m n same k).1 ∙ there
+
+-- Of formals that are copied back nothing is gone, one after the other; and the places are there.
 abbrev pub AreWhollyBack : Turn → List Return → Memory → Type 0
 AreWhollyBack t [] m = Unit {0}
 AreWhollyBack t (r ∷ rest) m =
-    ((f x : ℕ) × (r.to.base ≡ OfVariable f x)) × IsWholly (typing t) (variable_place (here t) r.formal) m
+    IsStanding m r.to.base × IsWholly (typing t) (variable_place (here t) r.formal) m
     × AreWhollyBack t rest (stored (typing t) r.to (words_of (typing t) m (variable_place (here t) r.formal)) (moved_out (typing t) (variable_place (here t) r.formal) m))
 
 module _ (t : Turn) where
-  -- a place in a variable is there
-  back_is : (r : Return) (rest : List Return) (i : Now) (f x : ℕ) → r.to.base ≡ OfVariable f x → copied_back t (r ∷ rest) i
+  back_is : (r : Return) (rest : List Return) (i : Now) (b : Base) → r.to.base ≡ b → IsStanding i.memory b → copied_back t (r ∷ rest) i
       ≡ followed_by (checked (here t) r.to.of (words_of (typing t) i.memory (variable_place (here t) r.formal)) i)
       (λ ws n. copied_back t rest (record n { memory = stored (typing t) r.to ws (moved_out (typing t) (variable_place (here t) r.formal) n.memory) }))
-  back_is r rest i f x base = rw base refl
-
-  -- scalar ones
-  pub scalars_back : (settled : IsSettled (typing t).table) (own_law : OwnsByShape (typing t).table) (hands : List Waiting) (returns : List Return)
-      → ((r : Return) → Has returns r → IsCopied (typing t) r) → (m : Memory) → Kept (typing t) m hands → AreWhollyBack t returns m
-  scalars_back settled own_law hands [] copied m kept = tt
-  scalars_back settled own_law hands (r ∷ rest) copied m kept =
-      let is : IsCopied (typing t) r = copied r (inl refl) in
-      let formal : Place = variable_place (here t) r.formal in
-      let fixed : IsFixed (typing t) formal = formal_fixed t r.formal is.0 in
-      let to : IsFixed (typing t) r.to = is.1 in (
-        (to.frame, to.object, to.base),
-        fixed_wholly (typing t) settled own_law hands formal fixed m kept,
-        scalars_back settled own_law hands rest (λ q has. copied q (inr has)) (stored (typing t) r.to (words_of (typing t) m formal) (moved_out (typing t) formal m))
-            (stored_kept (typing t) settled own_law hands r.to is.1 (words_of (typing t) m formal) (fixed_one (typing t) settled formal fixed m hands kept)
-            (moved_out (typing t) formal m) (moved_kept (typing t) settled own_law hands formal fixed m kept)),
-      )
+  back_is r rest i (OfVariable f x) base there = rw base refl
+  back_is r rest i (OfCell n) base there = rw (base, there) refl
 
 module _ (t : Turn) (n : Memory) (agrees : Agrees t.state.memory n) where
   if_same : (b : Bool) (ws : List machine.Word) (i j : Now) (f g : List machine.Word → Now → Evaluated Memory) → Agrees i.memory j.memory
@@ -257,8 +205,8 @@ module _ (t : Turn) (n : Memory) (agrees : Agrees t.state.memory n) where
       (λ us z. copied_back t rest (record z { memory = stored s r.to us (moved_out s formal z.memory) })) in
       let g : List machine.Word → Now → Evaluated Memory =
       (λ us z. copied_back (twin t n) rest (record z { memory = stored s r.to us (moved_out s formal z.memory) })) in
-      subst (λ z. BackSame s z (copied_back (twin t n) (r ∷ rest) j)) (sym (back_is t r rest i whole.0.0 whole.0.1 whole.0.2))
-      (subst (BackSame s (followed_by (checked (here t) r.to.of ws i) f)) (sym (back_is (twin t n) r rest j whole.0.0 whole.0.1 whole.0.2))
+      subst (λ z. BackSame s z (copied_back (twin t n) (r ∷ rest) j)) (sym (back_is t r rest i r.to.base refl whole.0))
+      (subst (BackSame s (followed_by (checked (here t) r.to.of ws i) f)) (sym (back_is (twin t n) r rest j r.to.base refl (stands_agree i.memory j.memory same r.to.base whole.0)))
       (subst (λ us. BackSame s (followed_by (checked (here t) r.to.of ws i) f) (followed_by (checked (here t) r.to.of us j) g)) words_so
       (if_same (fits_type s.table r.to.of ws) ws i j f g same
       (back_same rest (record i { memory = next }) (record j { memory = next' }) whole.2

@@ -19,14 +19,14 @@ use Rattle.flow_paths.specs.Acts.{acts_in, stored_acts, source_acts}
 use Rattle.run_values.specs.declared.items.Item.{Item}
 use Rattle.run_values.specs.declared.items.Item.TheVariants as item
 use Rattle.run_values.specs.Items.{next_item}
-use Rattle.machine.specs.Words.{default, fits_type}
+use Rattle.machine.specs.Words.{fits_type}
 use Rattle.machine.specs.Words as machine
 use Rattle.machine.specs.Memory.{Memory, Place, cell, freed, slots_of, words_of, declared, undeclared, stored}
-use Rattle.machine.specs.Evaluate.{Here, Now, AsValue, Exception, Trap, Evaluated, Done, Raises, Traps, followed_by, evaluate, initial, checked, value, viewed, place_of, cell_place, variable_place, walked, steps_of, text_of}
+use Rattle.machine.specs.Evaluate.{Here, Now, AsValue, Exception, Trap, Evaluated, Done, Raises, Traps, followed_by, evaluate, initial, checked, value, viewed, place_of, cell_place, variable_place, text_of}
 use Rattle.machine.specs.Evaluate as run
 use Rattle.machine.specs.Calls.{checks_at}
 use Rattle.machine.specs.States.{Waiting, Loop, Leak, State, Outcome, Goes, Ends}
-use Rattle.machine.specs.Step.{Turn, typing, here, start, waiting, counted, raised, trapped, Stored, first_value, taken_by, declare, assign, end_scope, goes, behind, leaking, leaking_goes, target_pos}
+use Rattle.machine.specs.Step.{Turn, typing, here, start, waiting, raised, trapped, Stored, first_value, taken_by, declare, assign, end_scope, goes, behind, leaking, leaking_goes, target_pos}
 use Rattle.machine.specs.Step as steps
 use Rattle.machine.specs.Owners.{waiting_in}
 use Rattle.owned_ways.specs.Ways.{OfVariable, Loc, OfRoot, Allows, after, AllowsAll}

@@ -13,9 +13,7 @@ pub mod Each
 pub mod Calls
 pub mod Direct
 -- programs without borrowers and observers
-pub mod Plain
 -- typed programs
 pub mod Typed
 -- steps, and the law
-pub mod Steps
 pub mod Runs

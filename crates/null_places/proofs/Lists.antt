@@ -50,13 +50,6 @@ pair_at R f g one (suc n) (x ∷ xs) (y ∷ ys) p = (p.0, pair_at R f g one n xs
 pair_at R f g one n [] (y ∷ ys) p = absurd p
 pair_at R f g one n (x ∷ xs) [] p = absurd p
 
-pub pair_map : {A : Type 0} (R : A → A → Type 0) (f g : A → A) → ((x y : A) → R x y → R (f x) (g y)) → (xs ys : List A) → Pairwise R xs ys
-    → Pairwise R (map f xs) (map g ys)
-pair_map R f g one [] [] p = tt
-pair_map R f g one (x ∷ xs) (y ∷ ys) p = (one x y p.0, pair_map R f g one xs ys p.1)
-pair_map R f g one [] (y ∷ ys) p = absurd p
-pair_map R f g one (x ∷ xs) [] p = absurd p
-
 -- what each item gives is the same
 pub pair_same : {A B : Type 0} (R : A → A → Type 0) (f : A → B) → ((x y : A) → R x y → f x ≡ f y) → (xs ys : List A) → Pairwise R xs ys
     → map f xs ≡ map f ys

@@ -1,26 +1,19 @@
--- A run with null in moved places gives the same, in a program that is ready.
+-- A run with null in moved places gives the same, if the steps of its states do.
 use Rattle.std.proofs.Common.{◌≡◌, refl, sym, ap, ◌∙◌, subst, ℕ, zero, suc, Bool, true, false, List, [], ◌∷◌, nat_le, if◌then◌else◌}
-use Rattle.type_definitions.specs.Types.{Table}
-use Rattle.typed_tree.specs.Programs.{TypedProgram}
-use Rattle.flow_paths.specs.declared.report.Effects.{Effects}
 use Rattle.flow_paths.specs.Objects.{Typing, object_at}
-use Rattle.flow_paths.specs.Laid.{FlowProgram, flow_typing, flow_program}
+use Rattle.flow_paths.specs.Laid.{FlowProgram, flow_typing}
 use Rattle.machine.specs.Words.{default}
-use Rattle.machine.specs.Memory.{Memory, OfVariable, OfCell}
+use Rattle.machine.specs.Memory.{Memory, OfVariable, OfCell, Base}
 use Rattle.machine.specs.Evaluate.{StorageError}
 use Rattle.machine.specs.States.{State, Ending, Raised, Spent, Outcome, Goes, Ends, sub_of, frame_words, stack_words, frame_at_start}
 use Rattle.machine.specs.Run.{empty_memory, step, then_on, within, state_at_start, run_of, main_of, run_with, ended, run}
-use Rattle.soundness.specs.Sound.{IsSound, LeadsOn}
-use Rattle.soundness.specs.Ready.{IsReady}
-use Rattle.soundness.proofs.Beginning.{sound_start}
-use Rattle.soundness.proofs.Stepping.{sound_step}
 use Rattle.null_places.specs.Cleared.{cleared_state, cleared_outcome, null_step, null_within, null_run_of, null_run, RunsWithNull}
 use Rattle.null_places.specs.Agrees.{Agrees, SameState, SameOutcome}
-use Rattle.null_places.specs.Compares.{AreCompared}
 use Rattle.null_places.proofs.Memories.{itself, clear_agrees, agrees_right, agrees_clear, count_agree, freed_count}
-use Rattle.null_places.proofs.Only.{OnlyOwners, fresh_whole}
+use Rattle.null_places.proofs.Only.{OnlyOwners, fresh_whole, OwnersGone}
 use Rattle.null_places.proofs.Instructions.{SameStepBy}
-use Rattle.null_places.proofs.Steps.{step_same}
+use Rattle.soundness.specs.Seen.{content}
+use Rattle.soundness.specs.Typed.{loc_of}
 
 -- ---- outcomes
 
@@ -106,11 +99,17 @@ module _ (program : FlowProgram) (input : List ℕ) (sound : State → Type 0)
   start_good : IsGood (state_at_start program)
   start_good = (begins, none)
     where
-      none : OnlyOwners (flow_typing program) empty_memory
-      none (OfVariable f x) o gone =
+      each : (b : Base) → OwnersGone (flow_typing program).table (content (flow_typing program) empty_memory [] (loc_of b))
+      each (OfVariable f x) o gone =
           (let no : true ≡ false = sym gone ∙ fresh_whole (default (flow_typing program).table (object_at (flow_typing program) x).of) o in cc)
-      none (OfCell zero) o gone = cc
-      none (OfCell (suc k)) o gone = cc
+      each (OfCell zero) o gone = cc
+      each (OfCell (suc k)) o gone = cc
+
+      none : OnlyOwners (flow_typing program) empty_memory
+      none = (
+        each,
+        λ f x o gone. (let no : true ≡ false = sym gone ∙ fresh_whole (default (flow_typing program).table (object_at (flow_typing program) x).of) o in cc),
+      )
 
   runs_same : (main k : ℕ) → SameOutcome (run_of program main input k) (null_run_of program main input k)
   runs_same main k = by_room (nat_le (frame_words program (frame_at_start main [] ∷ frame_at_start 0 [] ∷ [])) stack_words)
@@ -125,18 +124,3 @@ module _ (program : FlowProgram) (input : List ℕ) (sound : State → Type 0)
   pub sound_runs : RunsWithNull program input
   unfolding run null_run
   sound_runs k = ended_same (run_of program (main_of program.main) input k) (null_run_of program (main_of program.main) input k) (runs_same (main_of program.main) k)
-
--- ---- programs that are ready
-
-module _ (table : Table) (typed : TypedProgram) (effects : Effects) (input : List ℕ) (ready : IsReady table typed effects)
-    (compared : AreCompared (flow_program table typed)) where
-  leads : (o : Outcome) → LeadsOn table typed effects o → GoesOn (λ state. IsSound table typed effects state) o
-  leads (Goes state) on = on
-  leads (Ends e state) on = tt
-
-  -- With each budget the run with null in moved places gives what the run gives.
-  pub ready_runs : RunsWithNull (flow_program table typed) input
-  ready_runs =
-      sound_runs (flow_program table typed) input (λ state. IsSound table typed effects state) (sound_start table typed effects ready)
-      (λ state sound. leads (step (flow_program table typed) input state) (sound_step table typed effects input ready state sound))
-      (step_same table typed effects input ready compared)

@@ -1,9 +1,8 @@
 -- Scalar expressions, the indexes of names and the actuals of scalar formals give the same in memories
 -- that agree.
-use Rattle.std.proofs.Common.{◌≡◌, refl, sym, ap, ◌∙◌, subst, inl, inr, ℕ, Bool, true, false, not, ◌&&◌, List, [], ◌∷◌, ◌++◌, map, drop, get_or, ◌+◌, ℤ, ◌-ℤ◌, int_le, unsigned_abs, Option, Some, None, if◌then◌else◌}
+use Rattle.std.proofs.Common.{◌≡◌, refl, sym, ap, ◌∙◌, subst, inl, inr, ℕ, Bool, true, false, not, ◌&&◌, List, [], ◌∷◌, ◌++◌, drop, get_or, ◌+◌, ℤ, ◌-ℤ◌, int_le, unsigned_abs, Option, Some, None, if◌then◌else◌}
 use Rattle.spark_base.specs.declared.position.Pos.{Pos}
 use Rattle.place_names.specs.declared.act.Act.TheVariants as act
-use Rattle.place_names.specs.declared.act.Mode.{Mode}
 use Rattle.place_names.specs.declared.act.Mode.TheVariants as mode
 use Rattle.place_names.specs.declared.act.Placed.{Placed}
 use Rattle.place_names.specs.declared.fact.Fact.{Fact}
@@ -18,26 +17,22 @@ use Rattle.typed_tree.specs.Trees as typed
 use Rattle.flow_paths.specs.Objects.{object_at, is_anonymous, view_of as view_of_object, Passing, ByValue}
 use Rattle.flow_paths.specs.Objects as objects
 use Rattle.flow_paths.specs.Names.{has_call, waiting, name_of}
-use Rattle.flow_paths.specs.Acts.{used, acts_in, actual_values}
+use Rattle.flow_paths.specs.Acts.{used, acts_in}
 use Rattle.machine.specs.Words.{component_type, fits_type}
 use Rattle.machine.specs.Words as machine
 use Rattle.machine.specs.Memory.{Memory, Place, slots_of, words_of, moved_out}
-use Rattle.machine.specs.Evaluate.{Here, Now, Use, AsValue, AsView, Evaluated, Done, Raises, Traps, followed_by, evaluate, steps_of, place_of, text_of, value, variable_place, walked, held_or_taken, taken, viewed, checked, indexed, operated, operated_alone, given, decides, truth}
+use Rattle.machine.specs.Evaluate.{Here, Now, Use, AsValue, AsView, Evaluated, Done, Raises, Traps, followed_by, evaluate, steps_of, place_of, text_of, value, variable_place, walked, held_or_taken, viewed, checked, indexed, operated, operated_alone, given, decides, truth}
 use Rattle.machine.specs.Evaluate as run
-use Rattle.machine.specs.Owners.{is_in}
-use Rattle.machine.specs.Calls.{Passed, From, To, type_of, value_passed, passed, all_passed}
+use Rattle.machine.specs.Calls.{Passed, From, To, type_of, value_passed, passed}
 use Rattle.machine.specs.States.{Waiting}
 use Rattle.owned_ways.specs.Ways.{Loc, Allows, after, AllowsAll}
 use Rattle.part_offsets.specs.Parts.{IsSettled}
 use Rattle.soundness.specs.Typed.{OwnsByShape, Spot}
-use Rattle.soundness.specs.Sound.{goes_through_none, AreCopied}
-use Rattle.soundness.specs.Ready.{IsActualBy, AreActuals}
 use Rattle.typed_laws.specs.Needed.{Stays, Leads, Writes}
 use Rattle.soundness.proofs.Steps.{no_leaf}
 use Rattle.soundness.proofs.Scalars.{after_append, allows_both, acts, acts_append}
 use Rattle.soundness.proofs.Contents.{bool_cases}
 use Rattle.soundness.proofs.Taking.{Takes, takes_as, takes_both, takes_zero}
-use Rattle.soundness.proofs.Passing.{way_by, way_of, head_acts, head_values, head_reads, reads_keep}
 use Rattle.soundness.proofs.Stays.{Quiet, One, Any, quiet_then, quiet_from}
 use Rattle.null_places.specs.Compares.{Compares}
 use Rattle.null_places.proofs.Memories.{itself, NoneGone, words_agree}
@@ -448,87 +443,3 @@ module _ (h : Here) (settled : IsSettled h.typing.table) (own_law : OwnsByShape 
         (λ k is. quiet_then (at on) Any Any (checked h (type_of h x) (words_of h.typing m k) (at on)) (λ ws now. Done (From k) now)
         (checked_quiet on x (words_of h.typing m k)) (λ ws any. (refl, tt))),
   )
-
-  -- ---- all of them, by how each one is passed
-
-  module _ (how : ℕ → Passing) (Actual : ℕ → TypedTree → Type 0) (head : ℕ → TypedTree → List Placed)
-      (one : (x : ℕ) (e : TypedTree) → Actual x e → (before on : List (List machine.Word)) → Takes (waiting e) before on → asks.calls (has_call e) → Compares h.typing e
-      → AllowsAll facts (acts (head x e)) → PassedSame before on (how x) x e)
-      (stay : (x : ℕ) (e : TypedTree) → Actual x e → after (acts (head x e)) facts ≡ facts)
-      (split : (x : ℕ) (e : TypedTree) → Actual x e → (ways : List Passing) (rest : TypedTree)
-      → actual_values h.typing (how x ∷ ways) (More e rest) ≡ head x e ++ actual_values h.typing ways rest) where
-    abbrev pub AllActual : List ℕ → TypedTree → Type 0
-    AllActual (x ∷ formals) (More e rest) = Actual x e × AllActual formals rest
-    AllActual formals actuals = Unit {0}
-
-    pub all_by : (before on : List (List machine.Word)) (formals : List ℕ) (actuals : TypedTree) → AllActual formals actuals → Takes (waiting actuals) before on
-        → asks.calls (has_call actuals) → Compares h.typing actuals → AllowsAll facts (acts (actual_values h.typing (map how formals) actuals))
-        → (n' : Now) → SameNow h.typing (record { memory = m; waits = before }) n'
-        → SameTo h.typing (all_passed h (map how formals) formals actuals (record { memory = m; waits = before })) (all_passed h (map how formals) formals actuals n')
-    unfolding Compares has_call waiting
-    all_by before on [] actuals are takes calls compares allowed n' same = (refl, same)
-    all_by before on (x ∷ formals) (More e rest) (is, are) takes calls compares allowed n' same =
-        let two = takes_both (waiting e) (waiting rest) before on takes in
-        let each = allows_both facts (acts (head x e)) (acts (actual_values h.typing (map how formals) rest))
-        (subst (AllowsAll facts) (acts_append (head x e) (actual_values h.typing (map how formals) rest))
-        (subst (λ z. AllowsAll facts (acts z)) (split x e is (map how formals) rest) allowed)) in
-        let calling = asks.both_calls (has_call e) (has_call rest) calls in
-        let first = one x e is before two.0 two.1 calling.0 compares.0 each.0 in
-        let next : Passed → Now → Evaluated (List Passed) = (λ a now. followed_by (all_passed h (map how formals) formals rest now) (λ more now. Done (a ∷ more) now)) in
-        then_same h.typing (QuietAt two.0 (Any {A = Passed})) (passed h (how x) x e (at before)) (passed h (how x) x e n') next next first.1 (first.0 n' same)
-        (λ a n n'' q now. subst (λ z. SameTo h.typing (next a z) (next a n'')) (sym q.0)
-        (simply h.typing (all_passed h (map how formals) formals rest (at two.0)) (all_passed h (map how formals) formals rest n'') (λ more now. Done (a ∷ more) now) (λ more now. Done (a ∷ more) now)
-        (all_by two.0 on formals rest are two.2 calling.1 compares.1
-        (subst (λ z. AllowsAll z (acts (actual_values h.typing (map how formals) rest))) (stay x e is) each.1) n''
-        (subst (λ z. SameNow h.typing z n'') q.0 now))
-        (λ more k k' last. (refl, last))))
-    all_by before on (x ∷ formals) actuals are takes calls compares allowed n' same = (refl, same)
-
-  -- ---- of scalar types
-
-  abbrev Scalar_actual : ℕ → TypedTree → Type 0
-  Scalar_actual x e = IsActualBy h.typing (object_at h.typing x).mode e × (is_in (object_at h.typing x).mode ≡ false → goes_through_none e ≡ true)
-
-  scalar_by : (mode_of : Mode) (x : ℕ) (e : TypedTree) → IsActualBy h.typing mode_of e → (is_in mode_of ≡ false → goes_through_none e ≡ true)
-      → (before on : List (List machine.Word)) → Takes (waiting e) before on → asks.calls (has_call e) → Compares h.typing e
-      → AllowsAll facts (acts (head_acts h.typing own_law mode_of e)) → PassedSame before on (way_by h.typing own_law mode_of) x e
-  unfolding Compares goes_through_none has_call waiting
-  scalar_by mode.In x e stays direct before on takes calls compares allowed = value_passed_same before on x e stays takes calls compares allowed
-  scalar_by mode.Out x (Name p y path u) (t, (lead, type), plain) direct before on takes calls compares allowed =
-      to_passed_same before on false false x p y u path lead takes calls compares allowed (IsThere u) (λ way goes. law.direct on y u path way goes (direct refl))
-  scalar_by mode.Out x e (t, never, plain) direct before on takes calls compares allowed = absurd never
-  scalar_by mode.InOut x (Name p y path u) (t, (lead, type), plain) direct before on takes calls compares allowed =
-      from_passed_same before on false false x p y u path lead takes calls compares allowed (IsThere u)
-      (λ k there. scalar_none k there.0 u there.1 there.2 (subst (λ z. is_scalar (full h.typing.table z) ≡ true) (sym type) plain))
-      (λ way goes. law.direct on y u path way goes (direct refl))
-  scalar_by mode.InOut x e (t, never, plain) direct before on takes calls compares allowed = absurd never
-
-  abbrev Scalar_head : ℕ → TypedTree → List Placed
-  Scalar_head x e = head_acts h.typing own_law (object_at h.typing x).mode e
-
-  scalar_one : (x : ℕ) (e : TypedTree) → Scalar_actual x e → (before on : List (List machine.Word)) → Takes (waiting e) before on → asks.calls (has_call e)
-      → Compares h.typing e → AllowsAll facts (acts (Scalar_head x e)) → PassedSame before on (way_of h.typing own_law x) x e
-  scalar_one x e is before on takes calls compares allowed = scalar_by (object_at h.typing x).mode x e is.0 is.1 before on takes calls compares allowed
-
-  scalar_stay : (x : ℕ) (e : TypedTree) → Scalar_actual x e → after (acts (Scalar_head x e)) facts ≡ facts
-  scalar_stay x e is = reads_keep (Scalar_head x e) (head_reads h.typing own_law (object_at h.typing x).mode e is.0) facts
-
-  scalar_split : (x : ℕ) (e : TypedTree) → Scalar_actual x e → (ways : List Passing) (rest : TypedTree)
-      → actual_values h.typing (way_of h.typing own_law x ∷ ways) (More e rest) ≡ Scalar_head x e ++ actual_values h.typing ways rest
-  scalar_split x e is ways rest = head_values h.typing own_law (object_at h.typing x).mode e ways rest
-
-  all_scalar : (formals : List ℕ) (actuals : TypedTree) → AreActuals h.typing formals actuals → AreCopied h.typing formals actuals
-      → AllActual (way_of h.typing own_law) Scalar_actual Scalar_head scalar_one scalar_stay scalar_split formals actuals
-  all_scalar [] actuals stay copied = tt
-  all_scalar (x ∷ formals) (More e rest) stay copied = ((stay.0, copied.0), all_scalar formals rest stay.1 copied.1)
-  all_scalar (x ∷ formals) actuals stay copied = tt
-
-  pub all_on : (before on : List (List machine.Word)) (formals : List ℕ) (actuals : TypedTree) → AreActuals h.typing formals actuals → AreCopied h.typing formals actuals
-      → Takes (waiting actuals) before on → asks.calls (has_call actuals)
-      → Compares h.typing actuals → AllowsAll facts (acts (actual_values h.typing (map (way_of h.typing own_law) formals) actuals))
-      → (n' : Now) → SameNow h.typing (record { memory = m; waits = before }) n'
-      → SameTo h.typing (all_passed h (map (way_of h.typing own_law) formals) formals actuals (record { memory = m; waits = before }))
-      (all_passed h (map (way_of h.typing own_law) formals) formals actuals n')
-  all_on before on formals actuals stay copied takes calls compares allowed n' same =
-      all_by (way_of h.typing own_law) Scalar_actual Scalar_head scalar_one scalar_stay scalar_split before on formals actuals
-      (all_scalar formals actuals stay copied) takes calls compares allowed n' same

@@ -4,7 +4,7 @@ use Rattle.std.specs.List.{AllByRecursion}
 use Rattle.spark_base.specs.Lists.{Has}
 use Rattle.resolved_tree.specs.Trees.{Code, Incomplete, Private, TypeDecl, Subtype, ConstrainedSubtype, Objects, Numbers, Instance, SubDecl, SubBody, Package, PackageBody, NoMore, More}
 use Rattle.type_definitions.specs.Gathered.{in_visible, in_hidden, declared_number, declared_text}
-use Rattle.typed_tree.specs.Trees.{TypedTree, TypedCode, typed_code_list}
+use Rattle.typed_tree.specs.Trees.{TypedCode, typed_code_list}
 use Rattle.typed_tree.specs.Trees as typed
 use Rattle.typed_tree.specs.Expressions.{Site}
 use Rattle.typed_tree.specs.Statements.{scope_count, statements}

@@ -8,7 +8,6 @@ use Rattle.type_definitions.specs.declared.table.Shape.TheVariants as shape
 use Rattle.type_definitions.specs.Types.{shape_of, full, view_of as view_of_shape, is_owning, owns_of, is_scalar}
 use Rattle.typed_tree.specs.Trees.{TypedTree, TypedCode}
 use Rattle.typed_tree.specs.Trees as typed
-use Rattle.flow_paths.specs.Instructions.{Instruction}
 use Rattle.flow_paths.specs.Instructions as instruction
 use Rattle.flow_paths.specs.Objects.{Typing, object_at, is_anonymous, view_of}
 use Rattle.flow_paths.specs.Points.{Place, PointName, row_at, NamedPoint, point, entry}
@@ -37,10 +36,6 @@ module _ (s : Typing) (lasting : (x : ℕ) → is_temporary (object_at s x).kind
       alternatives_undeclaring rest (and_second (is_placed stmts && is_undeclaring stmts) (are_placed_alternatives rest) h)
   alternatives_undeclaring typed.NoMore h = refl
   alternatives_undeclaring _ h = cc
-
-  or_right : (a b : Bool) → b ≡ true → a || b ≡ true
-  or_right true b e = refl
-  or_right false b e = e
 
   mutual
     unfolding is_settled is_placed are_placed_branches is_placed_branch are_placed_alternatives is_placed_alternative parameters

@@ -1,4 +1,4 @@
-//! Which accepted programs are ready, by their resolved code: definitions and laws, for readers.
+//! Which accepted programs are in order, by their resolved code: definitions and laws, for readers.
 //!
 //! `specs/Written.antt` says when resolved code is as the grammar has it, and `specs/Orderly.antt`
 //! what is asked of a program beside what typing and the reports say. The typed bodies of such code
@@ -6,6 +6,6 @@
 //! since the parameter of each loop is of a scalar type (`Settled`). Where each declaration of an
 //! object has a number of its own, so have the objects of each subprogram (`Numbers`, `Parts`,
 //! `Units`). The initial values of package objects name nothing that owns (`Starting`, `Unmoved`).
-//! With that the subprograms are in order (`Whole`), and the runs of the program are sound
-//! (`Accepted`). docs/SOUNDNESS.md has what is open. Nothing here runs.
+//! With that the subprograms are in order (`Whole`, `Accepted`). docs/SOUNDNESS.md has what is open.
+//! Nothing here runs.
 #![tactic(auto)]

@@ -11,7 +11,7 @@ use Rattle.place_names.specs.Names.{Name, object, agrees, agree_along, agrees_wh
 use Rattle.place_names.proofs.Names.{both_parts, both_true}
 use Rattle.place_names.proofs.Rules.{any_breaks_O2}
 use Rattle.place_names.specs.declared.act.Act.{Act}
-use Rattle.place_names.specs.declared.act.Act.TheVariants.{Read, Look, Move, Write, Free, Borrow, Observe, Reborrow}
+use Rattle.place_names.specs.declared.act.Act.TheVariants.{Read, Look, Move, Write, Free, Borrow, Observe, Reborrow, Give}
 use Rattle.place_names.specs.declared.fact.Fact.{Fact}
 use Rattle.place_names.specs.declared.fact.Fact.TheVariants.{Moved, Lent}
 use Rattle.place_names.specs.Facts.{removes, effect}
@@ -179,4 +179,14 @@ reborrow_clears facts b u root allowed = (
   λ h n has over. refused (moved_or_lent (object b) (Lent Borrowed h n)) O7 (object b) (Lent Borrowed h n) (overlaps_object n (name_of u) b root over)
       (allowed (Lent Borrowed h n) has),
   λ n has over. refused (moved_or_lent (object b) (Moved n)) O7 (object b) (Moved n) (overlaps_object n (name_of u) b root over) (allowed (Moved n) has),
+)
+
+pub give_clears : (facts : List Fact) (borrows : Bool) (u : Way) → Allows facts (Give (name_of u) borrows) → Cleared facts u
+give_clears facts true u allowed = (
+  λ h n has over. refused (moved_or_lent (name_of u) (Lent Borrowed h n)) O5 (name_of u) (Lent Borrowed h n) over (allowed (Lent Borrowed h n) has),
+  λ n has over. refused (moved_or_lent (name_of u) (Moved n)) O5 (name_of u) (Moved n) over (allowed (Moved n) has),
+)
+give_clears facts false u allowed = (
+  λ h n has over. refused (moved_or_borrowed (name_of u) (Lent Borrowed h n)) O6 (name_of u) (Lent Borrowed h n) over (allowed (Lent Borrowed h n) has),
+  λ n has over. refused (moved_or_borrowed (name_of u) (Moved n)) O6 (name_of u) (Moved n) over (allowed (Moved n) has),
 )

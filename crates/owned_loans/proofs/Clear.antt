@@ -32,7 +32,7 @@ agree_longer (s ∷ a) q (t ∷ b) e =
     let parts = both_parts (is_equal s t) (agree_along (a ++ q) b) e in both_true (is_equal s t) (agree_along a b) parts.0 (agree_longer a q b parts.1)
 
 -- what overlaps a part overlaps the whole
-overlaps_whole : (m n : Name) (q : List Sel) → overlaps (extend m q) n ≡ true → overlaps n m ≡ true
+pub overlaps_whole : (m n : Name) (q : List Sel) → overlaps (extend m q) n ≡ true → overlaps n m ≡ true
 overlaps_whole m n q e =
     let parts = both_parts (m.root == n.root) (agree_along (m.sels ++ q) n.sels) e in
     overlaps-sym n m ∙ both_true (m.root == n.root) (agree_along m.sels n.sels) parts.0 (agree_longer m.sels q n.sels parts.1)

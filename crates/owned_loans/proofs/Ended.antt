@@ -1,5 +1,5 @@
 -- The end of a variable or of a hand keeps the ways of views that don't begin there.
-use Rattle.std.proofs.Common.{◌≡◌, refl, sym, ap, ◌∙◌, subst, ◌⊎◌, inl, inr, ℕ, Bool, true, false, not, ◌==◌, eqb-true, eq-eqb, List, [], ◌∷◌, suc, arith, Some, None}
+use Rattle.std.proofs.Common.{◌≡◌, refl, sym, ap, ◌∙◌, subst, ◌⊎◌, inl, inr, ℕ, Bool, true, false, not, ◌==◌, eqb-true, eq-eqb, List, [], ◌∷◌, ◌++◌, Some, None}
 use Rattle.std.specs.List.{filter}
 use Rattle.spark_base.specs.Lists.{Has}
 use Rattle.spark_base.proofs.Lists.{Has-append_cases, Has-filter, Has-filter_passes}
@@ -11,21 +11,26 @@ use Rattle.place_names.specs.declared.act.Act.TheVariants.{EndScope}
 use Rattle.place_names.specs.declared.fact.Fact.{Fact}
 use Rattle.place_names.specs.declared.fact.Fact.TheVariants.{Moved, Lent}
 use Rattle.place_names.specs.Facts.{belongs_to, effect}
-use Rattle.owned_ways.specs.Ways.{Step, Root, OfVariable, OfHand, Loc, OfRoot, OfCell, Way, Object, Lost, Into, All, View, along, Below, Reaches, Owned, IsDrop, base_of, number_of, name_of, Named, IsMoved, Excused, Sound}
-use Rattle.owned_ways.proofs.Locations.{reaches_along}
+use Rattle.owned_ways.specs.Ways.{Step, Root, OfVariable, OfHand, Loc, OfRoot, OfCell, Way, Object, Lost, Into, All, Empty, Held, View, part, along, Below, Reaches, Owned, IsDrop, base_of, number_of, name_of, Named, IsMoved, Excused, Sound}
+use Rattle.owned_ways.proofs.Locations.{same_loc, reaches_along}
 use Rattle.owned_ways.proofs.Unique.{one_way}
 use Rattle.owned_ways.proofs.Assigned.{kept_fact, is_false}
 use Rattle.owned_ways.proofs.Named.{longer}
 use Rattle.owned_ways.proofs.Dropped.{named_base, dropped, left}
 use Rattle.owned_loans.specs.Views.{Views, Around, expand, IsMovedBy, ExcusedBy, HasLoan, Viewed}
-use Rattle.owned_loans.proofs.Ways.{root_on, on_named, Lifted, lifts, lifted_root, lifted_way}
+use Rattle.owned_loans.proofs.Ways.{base_on, lifts, lifted_root, lifted_way}
 use Rattle.owned_loans.proofs.Clear.{before_or_new, clear_same}
-use Rattle.owned_loans.proofs.Meeting.{stands_named}
-use Rattle.owned_loans.proofs.Moves.{view_named, view_rooted, reached, view_on, as_sound, all_known}
+use Rattle.owned_loans.proofs.Moves.{view_rooted, reached, view_on, as_sound, all_known}
 
 along_base : (w : Way) (p : List Step) → base_of (along w p) ≡ base_of w
 along_base w [] = refl
 along_base w (i ∷ p) = along_base w p
+
+-- what has a number then had it before
+drop_held : (s t : View) (r : Root) → IsDrop s t r → (l : Loc) (c : ℕ) → t.word l ≡ Held c → s.word l ≡ Held c
+drop_held s t r d l c held =
+    let outside : Below (OfRoot r) l → ⊥ = λ b. (let is : Held c ≡ Empty = sym held ∙ ap t.word b.1 ∙ d.empty b.0 in cc) in
+    sym (d.off l outside) ∙ held
 
 -- a way that doesn't begin at a root that ends reaches what it reached
 drop_reaches : (s t : View) (r : Root) → Owned s → IsDrop s t r → (w : Way) (l : Loc) → Reaches s w l → (base_of w ≡ OfRoot r → ⊥) → Reaches t w l
@@ -65,9 +70,11 @@ module _ (home : ℕ → ℕ) (observer : ℕ → Bool) (other : Around home) (v
             (drop_reaches s t (OfHand h) viewed.owned d w (OfCell (v.cell x)) (reached home observer other v s facts x w view)
             (λ e. variable_hand root.0 root.1 h (sym root.2 ∙ e))));
         whole = viewed.whole;
+        past = viewed.past;
         lends = viewed.lends;
         far = λ w n keeps. (let root = other.begins w n keeps in
             drop_reaches s t (OfHand h) viewed.owned d w (OfCell n) (viewed.far w n keeps) (λ e. variable_hand root.0 root.1 h (sym root.2 ∙ e)));
+        bare = λ w l p bare q c held. viewed.bare w l p bare q c (drop_held s t (OfHand h) d (part l (q ++ p)) c held);
       }
 
   same_frame : (f g x y : ℕ) → OfRoot (OfVariable f x) ≡ OfRoot (OfVariable g y) → (f ≡ g) × (x ≡ y)
@@ -88,12 +95,23 @@ module _ (home : ℕ → ℕ) (observer : ℕ → Bool) (other : Around home) (v
   pub record Leaves (x : ℕ) (facts : List Fact) : Type 0 where
     pub none : v.way x ≡ None
     pub roots : (y : ℕ) (w : Way) → v.way y ≡ Some w → Named home w → number_of w ≡ x → ⊥
-    pub loans : (y : ℕ) (w : Way) → v.way y ≡ Some w → Named home w → observer y ≡ true → HasLoan observer true y facts (name_of (v.loan y))
+    pub loans : (y : ℕ) (w : Way) → v.way y ≡ Some w → Named home (v.up y) → observer y ≡ true → HasLoan observer true y facts (name_of (v.loan y))
     pub unlent : (l : Loan) (n : Name) → other.lent l n → n.root ≡ x → ⊥
+
+  abbrev variable : ℕ → Loc
+  variable x = OfRoot (OfVariable (home x) x)
 
   -- what is known of ways that the variable doesn't begin, or elsewhere
   abbrev Aside : ℕ → List Fact → Way → Type 0
-  Aside x facts w = ExcusedBy home v other facts w × ((number_of w ≡ x → ⊥) ⊎ other.gone w)
+  Aside x facts w = ExcusedBy home v other facts w × ((base_of w ≡ variable x → ⊥) ⊎ other.gone w)
+
+  -- a way that begins at a variable of the frame is named
+  begun : (x : ℕ) (w : Way) → base_of w ≡ variable x → Named home w × (number_of w ≡ x)
+  begun x (Object (OfVariable g y)) e = (let a : g ≡ home x = cc in let b : y ≡ x = cc in (a ∙ ap home (sym b), b))
+  begun x (Object (OfHand h)) e = cc
+  begun x (Lost n) e = cc
+  begun x (Into w i) e = begun x w e
+  begun x (All w) e = begun x w e
 
   split : (s : View) (facts : List Fact) (x : ℕ) → Viewed home observer other v s facts → v.way x ≡ None
       → ((y : ℕ) (w : Way) → v.way y ≡ Some w → Named home w → number_of w ≡ x → ⊥) → ((l : Loan) (n : Name) → other.lent l n → n.root ≡ x → ⊥)
@@ -101,30 +119,28 @@ module _ (home : ℕ → ℕ) (observer : ℕ → Bool) (other : Around home) (v
   split s facts x viewed none roots unlent = record {
     owned = viewed.owned;
     covered = viewed.covered;
-    known = λ w l n r h. by_root w (viewed.known w l n r h) (number_of w == x) refl;
+    known = λ w l n r h. elim (same_loc (base_of w) (variable x)) [
+      | inr off ↦ inr (viewed.known w l n r h, inl off)
+      | inl here ↦ by_root w (viewed.known w l n r h) here (begun x w here).0 (begun x w here).1
+    ];
   }
     where
-      -- a way that what was moved is rooted in is named
-      whole : (u : Way) (l : Lifted v u) → IsMoved home facts u → Named home l.way
-      whole u l moved =
-          let plain = viewed.clear.owned (name_of u) moved.1 in
-          on_named home l.way l.rest (subst (Named home) (lifted_way v u l)
-          (stands_named home observer v s facts viewed.views (suc (number_of u)) u (omega arith) (moved.0, plain)))
-
-      direct : (w : Way) → IsMovedBy home v facts w → number_of w ≡ x → IsMoved home facts w
-      direct w (u, moved, same) is = elim (lifts v u) [
+      direct : (w : Way) → IsMovedBy home v facts w → base_of w ≡ variable x → IsMoved home facts w
+      direct w (u, moved, same) here = elim (lifts v u) [
         | inl e ↦ subst (IsMoved home facts) (sym e ∙ same) moved
-        | inr l ↦ absurd (roots l.object l.way l.has (whole u l moved)
-            (sym (root_on l.way l.rest) ∙ ap number_of (sym (lifted_way v u l)) ∙ ap number_of same ∙ is))
+        | inr l ↦ (
+            let base : base_of l.way ≡ variable x =
+            sym (base_on l.way l.rest) ∙ ap base_of (sym (lifted_way v u l)) ∙ ap base_of same ∙ here in
+            let is = begun x l.way base in absurd (roots l.object l.way l.has is.0 is.1))
       ]
 
-      by_root : (w : Way) → ExcusedBy home v other facts w → (b : Bool) → (number_of w == x) ≡ b → Excused home (Aside x facts) (filter (belongs_to x) facts) w
-      by_root w known false e = inr (known, inl (λ same. (let is = eq-eqb (number_of w) x same in cc)))
-      by_root w known true e = elim known [
+      by_root : (w : Way) → ExcusedBy home v other facts w → base_of w ≡ variable x → Named home w → number_of w ≡ x
+          → Excused home (Aside x facts) (filter (belongs_to x) facts) w
+      by_root w known here named is = elim known [
         | inl (inr away) ↦ (let t = other.through w away in
-            absurd (unlent Borrowed (name_of t.0) t.3 (sym (longer t.0 w t.2).root ∙ eqb-true (number_of w) x e)))
-        | inl (inl moved) ↦ (let own = direct w moved (eqb-true (number_of w) x e) in
-            inl (own.0, Has-filter_passes (belongs_to x) facts (Moved (name_of w)) own.1 e))
+            absurd (unlent Borrowed (name_of t.0) t.3 (sym (longer t.0 w t.2).root ∙ is)))
+        | inl (inl moved) ↦ (let own = direct w moved here in
+            inl (own.0, Has-filter_passes (belongs_to x) facts (Moved (name_of w)) own.1 (eq-eqb (number_of w) x is)))
         | inr o ↦ inr (inr o, inr o)
       ]
 
@@ -162,7 +178,8 @@ module _ (home : ℕ → ℕ) (observer : ℕ → Bool) (other : Around home) (v
                   kept_fact act facts (Moved (name_of moved.0)) moved.1.1
                       (is_false (number_of moved.0 == x) (λ e. off (
                       let same = eqb-true (number_of moved.0) x e in
-                      ap number_of (sym moved.2 ∙ stands_itself moved.0 moved.1.0 (ap v.way same ∙ leaves.none)) ∙ same))),
+                      ap base_of (sym moved.2 ∙ stands_itself moved.0 moved.1.0 (ap v.way same ∙ leaves.none))
+                      ∙ named_base home moved.0 moved.1.0 ∙ ap variable same))),
                 ),
                 moved.2,
               ))
@@ -180,7 +197,7 @@ module _ (home : ℕ → ℕ) (observer : ℕ → Bool) (other : Around home) (v
                   foreign.3 (here.0 ∙ ap home (sym here.1)))
             ])) in
             elim view [
-              | inr passed ↦ inr (record { sees = passed.sees; foreign = passed.foreign; reaches = reaches })
+              | inr passed ↦ inr (record { foreign = passed.foreign; given = passed.given; alone = passed.alone; reaches = reaches })
               | inl own ↦ inl (record {
                 named = own.named;
                 leads = own.leads;
@@ -188,11 +205,12 @@ module _ (home : ℕ → ℕ) (observer : ℕ → Bool) (other : Around home) (v
                 deep = own.deep;
                 plain = own.plain;
                 older = own.older;
-                lent = own_loan y w has (view_named home observer other v s facts viewed.views y w own) (observer y) refl own.lent;
+                lent = own_loan y w has own.named (observer y) refl own.lent;
                 reaches = reaches;
               })
             ]);
         whole = viewed.whole;
+        past = viewed.past;
         lends = λ l n lent. (let old = viewed.lends l n lent in record {
           has = kept_fact act facts (Lent l n.root n) old.has
               (is_false (n.root == x) (λ same. leaves.unlent l n lent (eqb-true n.root x same)));
@@ -208,9 +226,10 @@ module _ (home : ℕ → ℕ) (observer : ℕ → Bool) (other : Around home) (v
                   let bases = sym (named_base home k named) ∙ sym (longer k w under).base ∙ e in
                   leaves.unlent l (name_of k) lent (same_variable (home (number_of k)) (home x) (number_of k) x bases))
             ])));
+        bare = λ w l p bare q c held. viewed.bare w l p bare q c (drop_held s t (OfVariable (home x) x) d (part l (q ++ p)) c held);
       }
     where
-      own_loan : (y : ℕ) (w : Way) → v.way y ≡ Some w → Named home w → (b : Bool) → observer y ≡ b → HasLoan observer (observer y) y facts (name_of (v.loan y))
+      own_loan : (y : ℕ) (w : Way) → v.way y ≡ Some w → Named home (v.up y) → (b : Bool) → observer y ≡ b → HasLoan observer (observer y) y facts (name_of (v.loan y))
           → HasLoan observer (observer y) y (effect (EndScope x borrower) facts) (name_of (v.loan y))
       own_loan y w has named true e loan = subst (λ z. HasLoan observer z y (effect (EndScope x borrower) facts) (name_of (v.loan y))) (sym e) (leaves.loans y w has named e)
       own_loan y w has named false e loan =

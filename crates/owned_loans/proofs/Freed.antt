@@ -1,24 +1,24 @@
 -- Freeing the cell that a name leads to keeps owners, what is known and the ways of views.
-use Rattle.std.proofs.Common.{◌≡◌, refl, sym, ap, ◌∙◌, subst, inl, inr, ℕ, Bool, false, List, [], ◌∷◌, suc, arith}
+use Rattle.std.proofs.Common.{◌≡◌, refl, sym, ap, ◌∙◌, subst, inl, inr, ℕ, Bool, false, List, [], ◌∷◌, ◌++◌}
 use Rattle.place_names.specs.Names.{covers}
 use Rattle.place_names.specs.declared.act.Act.{Act}
 use Rattle.place_names.specs.declared.act.Act.TheVariants.{Free}
 use Rattle.place_names.specs.declared.fact.Fact.{Fact}
 use Rattle.place_names.specs.declared.fact.Fact.TheVariants.{Moved}
 use Rattle.place_names.specs.Facts.{effect}
-use Rattle.owned_ways.specs.Ways.{Step, Loc, OfCell, Inside, Way, Object, Lost, Into, All, Empty, Gone, Held, View, part, along, Below, Reaches, IsRooted, Under, Past, Owned, IsRelease, name_of, number_of, Named, Allows}
+use Rattle.owned_ways.specs.Ways.{Step, OfVariable, OfHand, OfRoot, Sound, base_of, Loc, OfCell, Inside, Way, Object, Lost, Into, All, Empty, Gone, Held, View, part, along, Below, Reaches, IsRooted, Under, Past, Owned, IsRelease, name_of, number_of, Named, Allows}
 use Rattle.owned_ways.proofs.Locations.{past_under, under_along, under_itself, reaches_along}
 use Rattle.owned_ways.proofs.Unique.{one_location, one_way}
 use Rattle.owned_ways.proofs.Named.{covered_under}
 use Rattle.owned_ways.proofs.Assigned.{kept_fact, is_false}
 use Rattle.owned_ways.proofs.Released.{released}
 use Rattle.owned_loans.specs.Views.{Views, Around, expand, ExcusedBy, Viewed}
-use Rattle.owned_loans.proofs.Meeting.{IsPlain}
+use Rattle.owned_loans.proofs.Meeting.{IsPlain, stands_base}
 use Rattle.owned_loans.proofs.Clear.{clear_same}
 use Rattle.owned_loans.proofs.Safe.{off_view}
 use Rattle.owned_loans.proofs.Others.{off_kept}
 use Rattle.owned_loans.proofs.Allowed.{loan_kept, free_unlent}
-use Rattle.owned_loans.proofs.Moves.{IsPlace, expand_under, named_way, as_sound, reached, view_on, own_loan, lends_on}
+use Rattle.owned_loans.proofs.Moves.{IsPlace, expand_under, reached, view_on, own_loan, lends_on}
 
 -- ---- what a release leaves
 
@@ -84,11 +84,13 @@ module _ (s t : View) (at : Loc) (n : ℕ) (step : IsRelease s t at n) where
 -- ---- under its act
 
 module _ (home : ℕ → ℕ) (observer : ℕ → Bool) (other : Around home) (v : Views) where
-  rooted : (w : Way) → Named home w → IsRooted w
-  rooted (Object r) m = tt
-  rooted (Lost x) m = absurd m
-  rooted (Into w i) m = rooted w m
-  rooted (All w) m = rooted w m
+  -- a way is named where each object lives in the frame that it begins in
+  named_there : {f x : ℕ} (w : Way) → base_of w ≡ OfRoot (OfVariable f x) → Named (λ z. f) w
+  named_there (Object (OfVariable g y)) e = cc
+  named_there (Object (OfHand h)) e = cc
+  named_there (Lost n) e = cc
+  named_there (Into w i) e = named_there w e
+  named_there (All w) e = named_there w e
 
   pub freed : (s t : View) (k : Way) (at : Loc) (n : ℕ) (facts : List Fact) → Viewed home observer other v s facts → IsRelease s t at n
       → Named home k → observer (number_of k) ≡ false → IsPlace v k → Reaches s (expand v k) at → s.word at ≡ Held n
@@ -96,8 +98,10 @@ module _ (home : ℕ → ℕ) (observer : ℕ → Bool) (other : Around home) (v
   freed s t k at n facts viewed step named plain place target held allowed =
       let act : Act = Free (name_of k) in
       let name : IsPlain home observer v s facts viewed.views k = (named, plain) in
-      let whole = named_way home observer other v s facts viewed.views (suc (number_of k)) k (omega arith) name in
-      let sound = released home (ExcusedBy home v other facts) s t (expand v k) at n [] (as_sound home observer other v s facts viewed) step whole target held in
+      let base = stands_base home observer v s facts viewed.views k name in
+      let known : Sound (λ z. base.0) (ExcusedBy home v other facts) s [] =
+      record { owned = viewed.owned; covered = viewed.covered; known = λ w l n' r h. inr (viewed.known w l n' r h) } in
+      let sound = released (λ z. base.0) (ExcusedBy home v other facts) s t (expand v k) at n [] known step (named_there (expand v k) base.2) target held in
       record {
         owned = sound.owned;
         covered = sound.covered;
@@ -123,7 +127,9 @@ module _ (home : ℕ → ℕ) (observer : ℕ → Bool) (other : Around home) (v
             (reaches_on s t at n step (expand v k) w (OfCell (v.cell x)) viewed.owned held target (reached home observer other v s facts x w view)
             (λ past. off_view home observer v s facts viewed.views viewed.clear k x w name (free_unlent facts k allowed) has past)));
         whole = viewed.whole;
+        past = viewed.past;
         lends = λ l m lent. lends_on observer v facts (effect act facts) (loan_kept act facts (λ l h z. refl)) l m (viewed.lends l m lent);
         far = λ w n' keeps. reaches_on s t at n step (expand v k) w (OfCell n') viewed.owned held target (viewed.far w n' keeps)
-            (λ past. off_kept home observer other v s facts viewed k w n' name whole (free_unlent facts k allowed) keeps past);
+            (λ past. off_kept home observer other v s facts viewed k w n' name (free_unlent facts k allowed) keeps past);
+        bare = λ w l p bare q c h. viewed.bare w l p bare q c (held_before s t at n step (part l (q ++ p)) c h);
       }

@@ -6,8 +6,8 @@ use Rattle.place_names.specs.declared.fact.Fact.{Fact}
 use Rattle.owned_ways.specs.Ways.{OfVariable, OfRoot, Way, Object, All, View, Under, Named, base_of, number_of}
 use Rattle.owned_ways.proofs.Named.{longer}
 use Rattle.owned_ways.proofs.Dropped.{named_base}
-use Rattle.owned_loans.specs.Views.{on, Views, expand, IsView, IsForeign, AreViews}
-use Rattle.owned_loans.proofs.Ways.{Meet, beginnings, under_on, meets_on, root_on, on_under, named_on, on_named, expand_on, other_front, Lifted, lifts, lifted_root, lifted_way, next_of}
+use Rattle.owned_loans.specs.Views.{on, Views, expand, IsView, IsForeign, IsPassed, AreViews}
+use Rattle.owned_loans.proofs.Ways.{Meet, beginnings, under_on, base_on, meets_on, meet_base, root_on, on_under, named_on, on_named, expand_on, other_front, Lifted, lifts, lifted_root, lifted_way, next_of}
 
 order : (a b : ℕ) → (a ≡ b) ⊎ ((a < b) ⊎ (b < a))
 order a b = by_less (nat_lt a b) refl
@@ -30,21 +30,21 @@ module _ (home : ℕ → ℕ) (observer : ℕ → Bool) (v : Views) (s : View) (
   true_false : (b : Bool) → b ≡ true → b ≡ false → ⊥
   true_false b e f = cc
 
-  -- what isn't an observer has a loan of its own
-  pub own_view : (x : ℕ) (w : Way) → v.way x ≡ Some w → observer x ≡ false → IsView home observer v s facts x w
-  own_view x w has plain = elim (views x w has) [ inl view ↦ view | inr passed ↦ absurd (true_false (observer x) passed.sees plain) ]
-
-  -- a view whose way is named is one of the frame
-  pub named_view : (x : ℕ) (w : Way) → v.way x ≡ Some w → Named home w → IsView home observer v s facts x w
-  named_view x w has named = elim (views x w has) [
-    | inl view ↦ view
-    | inr passed ↦ absurd (
-        let same = variables (home (number_of w)) (number_of w) passed.foreign.0 passed.foreign.1 (sym (named_base home w named) ∙ passed.foreign.2) in
-        passed.foreign.3 (sym same.0 ∙ ap home same.1))
-  ]
+  -- a way of the frame doesn't begin where a foreign one does
+  pub not_foreign : (w z : Way) → Named home w → IsForeign home z → base_of w ≡ base_of z → ⊥
+  not_foreign w z named foreign base =
+      let same = variables (home (number_of w)) (number_of w) foreign.0 foreign.1 (sym (named_base home w named) ∙ base ∙ foreign.2) in
+      foreign.3 (sym same.0 ∙ ap home same.1)
     where
       variables : (f x g y : ℕ) → OfRoot (OfVariable f x) ≡ OfRoot (OfVariable g y) → (f ≡ g) × (x ≡ y)
       variables f x g y e = (cc, cc)
+
+  -- a view whose way is named, or that was taken from a name, is one of the frame
+  pub named_view : (x : ℕ) (w : Way) → v.way x ≡ Some w → Named home w → IsView home observer v s facts x w
+  named_view x w has named = elim (views x w has) [ inl view ↦ view | inr passed ↦ absurd (not_foreign w w named passed.foreign refl) ]
+
+  pub own_view : (x : ℕ) (w : Way) → v.way x ≡ Some w → Named home (v.up x) → IsView home observer v s facts x w
+  own_view x w has named = elim (views x w has) [ inl view ↦ view | inr passed ↦ absurd (passed.given named) ]
 
   -- one step from a view to what it was taken from
   pub next : (x : Way) (l : Lifted v x) → IsView home observer v s facts l.object l.way → Named home x → Next x (next_of v x l) l.object
@@ -61,53 +61,113 @@ module _ (home : ℕ → ℕ) (observer : ℕ → Bool) (v : Views) (s : View) (
   borrowed : (x : Way) (l : Lifted v x) → IsPlain x → observer l.object ≡ false
   borrowed x l plain = ap observer (sym (lifted_root v x l)) ∙ plain.1
 
-  pub next_plain : (x : Way) (l : Lifted v x) → IsPlain x → Next x (next_of v x l) l.object
-  next_plain x l plain = next x l (own_view l.object l.way l.has (borrowed x l plain)) plain.0
+  -- ---- where chains of views end
 
-  -- what a name stands for is rooted in an owner, which isn't younger
-  pub low : (n : ℕ) (x : Way) → number_of x < n → IsPlain x → number_of (expand v x) ≤ number_of x
-  low zero x less plain = absurd (omega arith)
-  low (suc n) x less plain = elim (lifts v x) [
-    | inl e ↦ (let same = ap number_of e in (omega arith))
-    | inr l ↦ (let on = next_plain x l plain in
-        let root = lifted_root v x l in
-        let down = on.less (borrowed x l plain) in
-        let rest = low n (next_of v x l) (omega arith) on.plain in
-        let same = ap number_of on.same in (omega arith))
+  -- What a name stands for is rooted in an owner, which isn't younger.
+  abbrev pub IsOwn : Way → Type 0
+  IsOwn x = Named home (expand v x) × (number_of (expand v x) ≤ number_of x)
+
+  -- What a name stands for is what a view was given that changes it.
+  pub record Held (x : Way) : Type 0 where
+    pub object : ℕ
+    pub way : Way
+    pub has : v.way object ≡ Some way
+    pub passed : IsPassed home observer v s object way
+    pub plain : observer object ≡ false
+    pub under : Under way (expand v x)
+    pub most : object ≤ number_of x
+
+  stands_from : (n : ℕ) (x : Way) → number_of x < n → IsPlain x → IsOwn x ⊎ Held x
+  stands_from zero x less plain = absurd (omega arith)
+  stands_from (suc n) x less plain = elim (lifts v x) [
+    | inl e ↦ inl (subst (Named home) (sym e) plain.0, (let same = ap number_of e in (omega arith)))
+    | inr l ↦ (let root = lifted_root v x l in elim (views l.object l.way l.has) [
+      | inl view ↦ (let on = next x l view plain.0 in
+          let down = on.less (borrowed x l plain) in
+          elim (stands_from n (next_of v x l) (omega arith) on.plain) [
+            | inl own ↦ inl (
+              subst (Named home) on.same own.0,
+              (let same = ap number_of on.same in let most = own.1 in (omega arith)),
+            )
+            | inr held ↦ inr (record {
+              object = held.object;
+              way = held.way;
+              has = held.has;
+              passed = held.passed;
+              plain = held.plain;
+              under = subst (Under held.way) on.same held.under;
+              most = (let most = held.most in (omega arith));
+            })
+          ])
+      | inr passed ↦ inr (record {
+        object = l.object;
+        way = l.way;
+        has = l.has;
+        passed = passed;
+        plain = borrowed x l plain;
+        under = subst (Under l.way) (sym (lifted_way v x l)) (on_under l.way l.rest);
+        most = (omega arith);
+      })
+    ])
   ]
 
-  -- and is named
-  pub stands_named : (n : ℕ) (x : Way) → number_of x < n → IsPlain x → Named home (expand v x)
-  stands_named zero x less plain = absurd (omega arith)
-  stands_named (suc n) x less plain = elim (lifts v x) [
-    | inl e ↦ subst (Named home) (sym e) plain.0
-    | inr l ↦ (let on = next_plain x l plain in
-        let root = lifted_root v x l in
-        let down = on.less (borrowed x l plain) in
-        subst (Named home) on.same (stands_named n (next_of v x l) (omega arith) on.plain))
+  pub stands : (x : Way) → IsPlain x → IsOwn x ⊎ Held x
+  stands x plain = stands_from (suc (number_of x)) x (omega arith) plain
+
+  -- it begins at a variable
+  pub stands_base : (x : Way) → IsPlain x → (f : ℕ) × (y : ℕ) × (base_of (expand v x) ≡ OfRoot (OfVariable f y))
+  stands_base x plain = elim (stands x plain) [
+    | inl own ↦ (home (number_of (expand v x)), number_of (expand v x), named_base home (expand v x) own.0)
+    | inr held ↦ (held.passed.foreign.0, held.passed.foreign.1, (longer held.way (expand v x) held.under).base ∙ held.passed.foreign.2)
   ]
 
-  -- so it isn't what belongs to another frame
-  pub not_foreign : (x w : Way) → IsPlain x → IsForeign home w → base_of (expand v x) ≡ base_of w → ⊥
-  not_foreign x w plain foreign base =
-      let named = named_base home (expand v x) (stands_named (suc (number_of x)) x (omega arith) plain) in
-      let same = variables (home (number_of (expand v x))) (number_of (expand v x)) foreign.0 foreign.1 (sym named ∙ base ∙ foreign.2) in
-      foreign.3 (sym same.0 ∙ ap home same.1)
-    where
-      variables : (f x g y : ℕ) → OfRoot (OfVariable f x) ≡ OfRoot (OfVariable g y) → (f ≡ g) × (x ≡ y)
-      variables f x g y e = (cc, cc)
+  -- a name that belongs to the frame isn't what a view was given
+  pub own_off : (x : Way) (w : Way) → IsOwn x → IsForeign home w → base_of (expand v x) ≡ base_of w → ⊥
+  own_off x w own foreign base = not_foreign (expand v x) w own.0 foreign base
 
-  pub lower : (x : Way) (l : Lifted v x) → IsPlain x → number_of (expand v x) < number_of x
-  lower x l plain =
-      let on = next_plain x l plain in
-      let root = lifted_root v x l in
-      let down = on.less (borrowed x l plain) in
-      let rest = low (suc (number_of (next_of v x l))) (next_of v x l) (omega arith) on.plain in
-      let same = ap number_of on.same in (omega arith)
+  held_off : (x : Way) (w : Way) → Held x → Named home w → base_of (expand v x) ≡ base_of w → ⊥
+  held_off x w held named base =
+      not_foreign w held.way named held.passed.foreign (sym base ∙ (longer held.way (expand v x) held.under).base)
 
-  -- A borrower with a value.
+  -- nothing plain goes by what a view sees that was given, but for names that are rooted in it
+  pub off_passed : (x : Way) → IsPlain x → (b : ℕ) (w : Way) → v.way b ≡ Some w → IsPassed home observer v s b w
+      → ((o : ℕ) → o ≤ number_of x → observer o ≡ false → o ≡ b → ⊥) → Meet (expand v x) w → ⊥
+  off_passed x plain b w has passed other meets = elim (stands x plain) [
+    | inl own ↦ own_off x w own passed.foreign (meet_base (expand v x) w meets)
+    | inr held ↦ held.passed.alone held.plain b w has (λ e. other held.object held.most held.plain (sym e)) passed.given
+        (meets_on held.way (expand v x) w held.under meets)
+  ]
+
+  pub off_seen : (x : Way) → IsPlain x → (b : ℕ) (w : Way) → v.way b ≡ Some w → IsPassed home observer v s b w → observer b ≡ true
+      → Meet (expand v x) w → ⊥
+  off_seen x plain b w has passed sees meets = off_passed x plain b w has passed (λ o most no e. true_false (observer b) sees (ap observer (sym e) ∙ no)) meets
+
+  off_younger : (x : Way) → IsPlain x → (b : ℕ) (w : Way) → v.way b ≡ Some w → IsPassed home observer v s b w → number_of x < b
+      → Meet (expand v x) w → ⊥
+  off_younger x plain b w has passed less meets = off_passed x plain b w has passed (λ o most no e. absurd (omega arith)) meets
+
+  -- a younger object that isn't lifted stands for nothing older
+  off_itself : (x y : Way) → IsPlain x → Named home y → number_of x < number_of y → base_of (expand v x) ≡ base_of y
+      → number_of (expand v x) ≡ number_of y → ⊥
+  off_itself x y plain named less base number = elim (stands x plain) [
+    | inl own ↦ (let most = own.1 in absurd (omega arith))
+    | inr held ↦ held_off x y held named base
+  ]
+
+  -- nor does a name through a view stand for the view
+  off_lifted : (x y : Way) (l : Lifted v x) → IsPlain x → Named home y → number_of x ≡ number_of y → base_of (expand v x) ≡ base_of y
+      → number_of (expand v x) ≡ number_of y → ⊥
+  off_lifted x y l plain named same base number = elim (views l.object l.way l.has) [
+    | inr passed ↦ not_foreign y l.way named passed.foreign (sym base ∙ ap base_of (lifted_way v x l) ∙ base_on l.way l.rest)
+    | inl view ↦ (let on = next x l view plain.0 in
+        let root = lifted_root v x l in
+        let down = on.less (borrowed x l plain) in
+        off_itself (next_of v x l) y on.plain named (omega arith) (ap base_of on.same ∙ base) (ap number_of on.same ∙ number))
+  ]
+
+  -- A borrower of the frame with a value.
   abbrev pub Lends : ℕ → Type 0
-  Lends b = (w : Way) × (v.way b ≡ Some w) × (observer b ≡ false)
+  Lends b = (w : Way) × (v.way b ≡ Some w) × (observer b ≡ false) × IsView home observer v s facts b w
 
   -- The place of a borrower's loan begins the lower name, and the upper name stands for something
   -- in between.
@@ -162,27 +222,29 @@ module _ (home : ℕ → ℕ) (observer : ℕ → Bool) (v : Views) (s : View) (
   pub one_root : (x y : Way) → IsPlain x → IsPlain y → number_of x ≡ number_of y → Under (expand v x) (expand v y) → Under x y
   one_root x y px py same u =
       let root = (longer (expand v x) (expand v y) u).root in
+      let base = (longer (expand v x) (expand v y) u).base in
       elim (lifts v x) [
         | inl e ↦ elim (lifts v y) [
           | inl f ↦ subst (λ z. Under z y) e (subst (Under (expand v x)) f u)
-          | inr b ↦ (let less = lower y b py in let is = ap number_of e in absurd (omega arith))
+          | inr b ↦ absurd (off_lifted y x b py px.0 (sym same) (base ∙ ap base_of e) (root ∙ ap number_of e))
         ]
         | inr a ↦ elim (lifts v y) [
-          | inl f ↦ (let less = lower x a px in let is = ap number_of f in absurd (omega arith))
+          | inl f ↦ absurd (off_lifted x y a px py.0 same (sym base ∙ ap base_of f) (sym root ∙ ap number_of f))
           | inr b ↦ both_lifted x y a b px.0 py.0 (sym (lifted_root v x a) ∙ same ∙ lifted_root v y b) u
         ]
       ]
 
-  lift_upper : (x y : Way) (l : Lifted v x) → IsPlain x → number_of y < number_of x → Meeting (next_of v x l) y → Meeting x y
-  lift_upper x y l px less m =
-      let on = next_plain x l px in
+  lift_upper : (x y : Way) (l : Lifted v x) → IsView home observer v s facts l.object l.way → IsPlain x → number_of y < number_of x
+      → Meeting (next_of v x l) y → Meeting x y
+  lift_upper x y l view px less m =
+      let on = next x l view px.0 in
       let root = lifted_root v x l in
       let is = borrowed x l px in
       let down = on.less is in
       elim m [
         | inl u ↦ inr (inl (record {
           object = l.object;
-          lends = (l.way, l.has, is);
+          lends = (l.way, l.has, is, view);
           within = (omega arith);
           name = next_of v x l;
           loan = on.loan;
@@ -203,7 +265,7 @@ module _ (home : ℕ → ℕ) (observer : ℕ → Bool) (v : Views) (s : View) (
             | inl b ↦ (let within = b.within in inr (inr (inr (record {
               one = l.object;
               two = b.object;
-              lends = (l.way, l.has, is);
+              lends = (l.way, l.has, is, view);
               lent = b.lends;
               differ = λ e. absurd (omega arith);
               meets = meets_on (v.loan l.object) (next_of v x l) (v.loan b.object) on.loan b.meets;
@@ -213,16 +275,17 @@ module _ (home : ℕ → ℕ) (observer : ℕ → Bool) (v : Views) (s : View) (
         ]
       ]
 
-  lift_lower : (x y : Way) (l : Lifted v y) → IsPlain y → number_of x < number_of y → Meeting x (next_of v y l) → Meeting x y
-  lift_lower x y l py less m =
-      let on = next_plain y l py in
+  lift_lower : (x y : Way) (l : Lifted v y) → IsView home observer v s facts l.object l.way → IsPlain y → number_of x < number_of y
+      → Meeting x (next_of v y l) → Meeting x y
+  lift_lower x y l view py less m =
+      let on = next y l view py.0 in
       let root = lifted_root v y l in
       let is = borrowed y l py in
       let down = on.less is in
       elim m [
         | inl u ↦ inr (inr (inl (record {
           object = l.object;
-          lends = (l.way, l.has, is);
+          lends = (l.way, l.has, is, view);
           within = (omega arith);
           meets = beginnings x (v.loan l.object) (next_of v y l) u on.loan;
         })))
@@ -231,7 +294,7 @@ module _ (home : ℕ → ℕ) (observer : ℕ → Bool) (v : Views) (s : View) (
             one = a.object;
             two = l.object;
             lends = a.lends;
-            lent = (l.way, l.has, is);
+            lent = (l.way, l.has, is, view);
             differ = λ e. absurd (omega arith);
             meets = beginnings (v.loan a.object) (v.loan l.object) (next_of v y l) (under_on (v.loan a.object) a.name (next_of v y l) a.loan a.begins) on.loan;
           }))))
@@ -251,25 +314,35 @@ module _ (home : ℕ → ℕ) (observer : ℕ → Bool) (v : Views) (s : View) (
   meeting_from zero x y less px py u = absurd (omega arith)
   meeting_from (suc n) x y less px py u =
       let root = (longer (expand v x) (expand v y) u).root in
+      let base = (longer (expand v x) (expand v y) u).base in
       elim (order (number_of x) (number_of y)) [
         | inl same ↦ inl (one_root x y px py same u)
         | inr z ↦ elim z [
           | inl more ↦ elim (lifts v y) [
-            | inl e ↦ (let is = ap number_of e in let most = low (suc (number_of x)) x (omega arith) px in absurd (omega arith))
-            | inr l ↦ (let on = next_plain y l py in
-                let down = on.less (borrowed y l py) in
-                let at = lifted_root v y l in
-                lift_lower x y l py more (meeting_from n x (next_of v y l) (omega arith) px on.plain (subst (Under (expand v x)) (sym on.same) u)))
+            | inl e ↦ absurd (off_itself x y px py.0 more (sym base ∙ ap base_of e) (sym root ∙ ap number_of e))
+            | inr l ↦ (let at = lifted_root v y l in elim (views l.object l.way l.has) [
+              | inl view ↦ (let on = next y l view py.0 in
+                  let down = on.less (borrowed y l py) in
+                  lift_lower x y l view py more (meeting_from n x (next_of v y l) (omega arith) px on.plain (subst (Under (expand v x)) (sym on.same) u)))
+              | inr passed ↦ absurd (off_younger x px l.object l.way l.has passed (omega arith)
+                  (beginnings (expand v x) l.way (expand v y) u (lifted_under y l)))
+            ])
           ]
           | inr more ↦ elim (lifts v x) [
-            | inl e ↦ (let is = ap number_of e in let most = low (suc (number_of y)) y (omega arith) py in absurd (omega arith))
-            | inr l ↦ (let on = next_plain x l px in
-                let down = on.less (borrowed x l px) in
-                let at = lifted_root v x l in
-                lift_upper x y l px more (meeting_from n (next_of v x l) y (omega arith) on.plain py (subst (λ z. Under z (expand v y)) (sym on.same) u)))
+            | inl e ↦ absurd (off_itself y x py px.0 more (base ∙ ap base_of e) (root ∙ ap number_of e))
+            | inr l ↦ (let at = lifted_root v x l in elim (views l.object l.way l.has) [
+              | inl view ↦ (let on = next x l view px.0 in
+                  let down = on.less (borrowed x l px) in
+                  lift_upper x y l view px more (meeting_from n (next_of v x l) y (omega arith) on.plain py (subst (λ z. Under z (expand v y)) (sym on.same) u)))
+              | inr passed ↦ absurd (off_younger y py l.object l.way l.has passed (omega arith)
+                  (inr (under_on l.way (expand v x) (expand v y) (lifted_under x l) u)))
+            ])
           ]
         ]
       ]
+    where
+      lifted_under : (x : Way) (l : Lifted v x) → Under l.way (expand v x)
+      lifted_under x l = subst (Under l.way) (sym (lifted_way v x l)) (on_under l.way l.rest)
 
   pub meeting : (x y : Way) → IsPlain x → IsPlain y → Under (expand v x) (expand v y) → Meeting x y
   meeting x y px py u = meeting_from (suc (number_of x + number_of y)) x y (omega arith) px py u

@@ -1,6 +1,6 @@
 -- A move keeps owners, what is known and the ways of views, where the facts allow its act on a name
 -- that may be rooted in a borrower. So does a cell that is made.
-use Rattle.std.proofs.Common.{◌≡◌, refl, sym, ap, ◌∙◌, subst, ◌⊎◌, inl, inr, ℕ, Bool, true, false, not, List, [], ◌∷◌, suc, ◌<◌, arith, Some, None}
+use Rattle.std.proofs.Common.{◌≡◌, refl, sym, ap, ◌∙◌, subst, ◌⊎◌, inl, inr, ℕ, Bool, true, false, not, List, [], ◌∷◌, ◌++◌, Some, None}
 use Rattle.std.specs.List.{filter}
 use Rattle.spark_base.specs.Lists.{Has}
 use Rattle.spark_base.proofs.Lists.{Has-append_right, Has-map}
@@ -14,18 +14,19 @@ use Rattle.place_names.specs.declared.fact.Fact.{Fact}
 use Rattle.place_names.specs.declared.fact.Fact.TheVariants.{Moved, Lent}
 use Rattle.place_names.specs.Facts.{adds, removes, effect}
 use Rattle.place_names.specs.Rules.{lent}
-use Rattle.owned_ways.specs.Ways.{Step, Root, OfVariable, OfHand, Loc, OfRoot, OfCell, Way, Object, Lost, Into, All, Gone, View, part, along, Reaches, IsRooted, Under, Past, Known, IsMove, IsFresh, IsSame, base_of, name_of, number_of, Named, Excused, Spares, Allows, Sound}
-use Rattle.owned_ways.proofs.Locations.{past_under}
+use Rattle.owned_ways.specs.Ways.{Step, Root, OfVariable, OfHand, Loc, OfRoot, OfCell, Way, Object, Lost, Into, All, Gone, Held, View, part, along, Reaches, IsRooted, Under, Past, Known, IsMove, IsFresh, IsSame, base_of, name_of, number_of, Named, Excused, Spares, Allows, Sound}
+use Rattle.owned_ways.proofs.Locations.{past_under, under_along, under_itself, reaches_along, same_loc}
+use Rattle.owned_ways.proofs.Unique.{one_way}
 use Rattle.owned_ways.proofs.Named.{longer, covered_under}
-use Rattle.owned_ways.proofs.Assigned.{kept_fact, is_false, Apart, given_apart, named_rooted, InHand, same_sound}
-use Rattle.owned_ways.proofs.Moving.{Given, keeps, owned_after, covered_after, known_after}
+use Rattle.owned_ways.proofs.Assigned.{kept_fact, is_false, Apart, given_apart, InHand, same_sound}
+use Rattle.owned_ways.proofs.Moving.{Given, owner_before, keeps, owned_after, covered_after, known_after}
 use Rattle.owned_ways.proofs.Released.{freshly, fresh_on}
 use Rattle.owned_ways.proofs.Dropped.{named_base}
 use Rattle.owned_loans.specs.Views.{on, Views, Around, way_at, expand, expand_root, IsMovedBy, IsAway, ExcusedBy, AreClear, HasLoan, IsView, IsForeign, IsPassed, AreViews, IsLentToOthers, Viewed}
-use Rattle.owned_loans.proofs.Meeting.{IsPlain, stands_named}
+use Rattle.owned_loans.proofs.Meeting.{IsPlain, stands, stands_base}
 use Rattle.owned_loans.proofs.Clear.{nothing_new, clear_move, clear_same}
 use Rattle.owned_loans.proofs.Safe.{off_view}
-use Rattle.owned_loans.proofs.Others.{off_kept, clean_away}
+use Rattle.owned_loans.proofs.Others.{off_kept, off_bare, clean_away}
 use Rattle.owned_loans.proofs.Allowed.{LoansStay, loan_kept, move_unlent, move_unmoved, write_unlent}
 
 -- ---- names and what they stand for
@@ -107,8 +108,8 @@ hand_rooted (Lost x) n = absurd n
 hand_rooted (Into w i) n = hand_rooted w n
 hand_rooted (All w) n = hand_rooted w n
 
-pub hand_apart : (home : ℕ → ℕ) (f k : Way) → Named home f → InHand k → base_of f ≡ base_of k → ⊥
-hand_apart home f k named inhand e = variable_hand (named_base home f named) (hand_base k inhand) e
+pub variable_apart : {g x : ℕ} (f k : Way) → base_of f ≡ OfRoot (OfVariable g x) → InHand k → base_of f ≡ base_of k → ⊥
+variable_apart f k base inhand e = variable_hand base (hand_base k inhand) e
   where
     variable_hand : {a b : Loc} {g x h : ℕ} → a ≡ OfRoot (OfVariable g x) → b ≡ OfRoot (OfHand h) → a ≡ b → ⊥
     variable_hand p q e = cc
@@ -119,6 +120,15 @@ hand_apart home f k named inhand e = variable_hand (named_base home f named) (ha
     hand_base (Lost n) i = absurd i
     hand_base (Into w i) n = hand_base w n
     hand_base (All w) n = hand_base w n
+
+pub hand_apart : (home : ℕ → ℕ) (f k : Way) → Named home f → InHand k → base_of f ≡ base_of k → ⊥
+hand_apart home f k named inhand e = variable_apart f k (named_base home f named) inhand e
+
+pub base_rooted : {f x : ℕ} (w : Way) → base_of w ≡ OfRoot (OfVariable f x) → IsRooted w
+base_rooted (Object r) e = tt
+base_rooted (Lost n) e = cc
+base_rooted (Into w i) e = base_rooted w e
+base_rooted (All w) e = base_rooted w e
 
 -- ---- where loans stay
 
@@ -168,7 +178,8 @@ module _ (home : ℕ → ℕ) (observer : ℕ → Bool) (other : Around home) (v
   pub view_on : (s t : View) (facts facts' : List Fact) (x : ℕ) (w : Way) → Either s facts x w
       → ((seen : Bool) (n : Name) → HasLoan observer seen x facts n → HasLoan observer seen x facts' n) → Reaches t w (OfCell (v.cell x)) → Either t facts' x w
   view_on s t facts facts' x w (inl view) loans reaches = inl (own_on s t facts facts' x w view loans reaches)
-  view_on s t facts facts' x w (inr passed) loans reaches = inr (record { sees = passed.sees; foreign = passed.foreign; reaches = reaches })
+  view_on s t facts facts' x w (inr passed) loans reaches =
+      inr (record { foreign = passed.foreign; given = passed.given; alone = passed.alone; reaches = reaches })
 
   -- No way of a view goes past a place.
   abbrev pub Off : Way → Type 0
@@ -178,14 +189,38 @@ module _ (home : ℕ → ℕ) (observer : ℕ → Bool) (other : Around home) (v
   abbrev pub OffFar : Way → Type 0
   OffFar f = (w : Way) (n : ℕ) → other.kept w n → Past f w → ⊥
 
+  -- Nothing that is bare is a part of a place, or has it for a part.
+  abbrev pub OffBare : Way → Type 0
+  OffBare f = (w : Way) (l : Loc) (p : List Step) → other.bare w l p → (q : List Step) → Under f (along w (q ++ p)) → ⊥
+
+  -- its way leads there
+  pub rests_there : (s : View) (facts : List Fact) → Viewed home observer other v s facts → (w : Way) (l : Loc) (p : List Step) → other.bare w l p → Reaches s w l
+  rests_there s facts viewed w l p bare = elim (other.rests w l p bare) [
+    | inl (n, kept, is) ↦ subst (Reaches s w) (sym is) (viewed.far w n kept)
+    | inr (r, is, at) ↦ subst (λ z. Reaches s z l) (sym is) at
+  ]
+
+  -- what is bare gets no number
+  pub bare_on : (s t : View) (k : Way) (from to : Loc) (facts : List Fact) → Viewed home observer other v s facts → IsMove s t from to → Reaches s k to → OffBare k
+      → (w : Way) (l : Loc) (p : List Step) → other.bare w l p → (q : List Step) (c : ℕ) → t.word (part l (q ++ p)) ≡ Held c → ⊥
+  bare_on s t k from to facts viewed move target off w l p bare q c held =
+      elim (owner_before s t from to move (part l (q ++ p)) c held) [
+        | inr stays ↦ viewed.bare w l p bare q c stays.word
+        | inl (r, is, before) ↦ (
+            let reach = rests_there s facts viewed w l p bare in
+            let same = one_way s viewed.owned (along w (q ++ p)) (along k r) (part l (q ++ p)) (reaches_along s w l (q ++ p) reach)
+            (subst (Reaches s (along k r)) (sym is) (reaches_along s k to r target)) in
+            off w l p bare q (subst (Under k) (sym same) (under_along k k r (under_itself k))))
+      ]
+
   pub moved_on : (s t : View) (f k : Way) (from to : Loc) (facts facts' : List Fact) → Given s t f k from to
       → Viewed home observer other v s facts → IsRooted f
       → ((w : Way) → Under f w → ExcusedBy home v other facts w → ⊥)
       → ((w : Way) → IsMovedBy home v facts w → (Under k w → ⊥) → IsMovedBy home v facts' w)
       → ((p : List Step) → t.word (part from p) ≡ Gone → ExcusedBy home v other facts' (along f p))
       → AreClear observer facts' → LoansStay facts facts'
-      → Off f → Off k → OffFar f → OffFar k → Viewed home observer other v t facts'
-  moved_on s t f k from to facts facts' given viewed rooted clean stays adds clear loans off away far_off far_away = record {
+      → Off f → Off k → OffFar f → OffFar k → OffBare k → Viewed home observer other v t facts'
+  moved_on s t f k from to facts facts' given viewed rooted clean stays adds clear loans off away far_off far_away off_bare = record {
     owned = owned_after s t f k from to given;
     covered = covered_after s t f k from to given viewed.covered;
     known = known_after s t f k from to (ExcusedBy home v other facts) (ExcusedBy home v other facts') given viewed.known rooted clean
@@ -195,24 +230,27 @@ module _ (home : ℕ → ℕ) (observer : ℕ → Bool) (other : Around home) (v
         view_on s t facts facts' x w view (λ seen n. own_loan observer facts facts' loans seen x n)
         (keeps s t f k from to given w (OfCell (v.cell x)) (reached s facts x w view) (λ p. off x w has p) (λ p. away x w has p)));
     whole = viewed.whole;
+    past = viewed.past;
     lends = λ l n lent. lends_on observer v facts facts' loans l n (viewed.lends l n lent);
     far = λ w n held. keeps s t f k from to given w (OfCell n) (viewed.far w n held) (λ p. far_off w n held p) (λ p. far_away w n held p);
+    bare = bare_on s t k from to facts viewed given.move given.target off_bare;
   }
 
-  -- what a name stands for is named
-  pub named_way : (s : View) (facts : List Fact) (views : AreViews home observer v s facts) (n : ℕ) (u : Way) → number_of u < n
-      → IsPlain home observer v s facts views u → Named home (expand v u)
-  named_way s facts views n u less plain = stands_named home observer v s facts views n u less plain
-
-  pub view_named : (s : View) (facts : List Fact) (views : AreViews home observer v s facts) (x : ℕ) (w : Way) → IsView home observer v s facts x w → Named home w
-  view_named s facts views x w view =
-      subst (Named home) view.leads (named_way s facts views (suc (number_of (v.up x))) (v.up x) (omega arith) (view.named, view.plain))
+  -- what a name stands for begins at a variable
+  pub rooted_way : (s : View) (facts : List Fact) (views : AreViews home observer v s facts) (u : Way) → IsPlain home observer v s facts views u → IsRooted (expand v u)
+  rooted_way s facts views u plain = (let base = stands_base home observer v s facts views u plain in base_rooted (expand v u) base.2)
 
   -- the way of each view begins at a variable
   pub view_rooted : (s : View) (facts : List Fact) (views : AreViews home observer v s facts) (x : ℕ) (w : Way) → v.way x ≡ Some w
       → (f : ℕ) × (y : ℕ) × (base_of w ≡ OfRoot (OfVariable f y)) × (Named home w ⊎ IsForeign home w)
   view_rooted s facts views x w has = elim (views x w has) [
-    | inl view ↦ (let named = view_named s facts views x w view in (home (number_of w), number_of w, named_base home w named, inl named))
+    | inl view ↦ elim (stands home observer v s facts views (v.up x) (view.named, view.plain)) [
+      | inl own ↦ (let named = subst (Named home) view.leads own.0 in (home (number_of w), number_of w, named_base home w named, inl named))
+      | inr held ↦ (
+          let foreign = held.passed.foreign in
+          let base : base_of w ≡ OfRoot (OfVariable foreign.0 foreign.1) = ap base_of (sym view.leads) ∙ (longer held.way (expand v (v.up x)) held.under).base ∙ foreign.2 in
+          (foreign.0, foreign.1, base, inr (foreign.0, foreign.1, base, foreign.3)))
+    ]
     | inr passed ↦ (passed.foreign.0, passed.foreign.1, passed.foreign.2, inr passed.foreign)
   ]
 
@@ -223,15 +261,19 @@ module _ (home : ℕ → ℕ) (observer : ℕ → Bool) (other : Around home) (v
   hand_far : (f : Way) → InHand f → OffFar f
   hand_far f inhand w n keeps past = far_hand home other f w n inhand keeps past
 
+  pub hand_bare : (f : Way) → InHand f → OffBare f
+  hand_bare f inhand w l p bare q under =
+      let root = other.bares w l p bare in
+      no_hand_base (along w (q ++ p)) (hand_under f (along w (q ++ p)) inhand under) ((longer w (along w (q ++ p)) (under_along w w (q ++ p) (under_itself w))).base ∙ root.2)
+
   -- what is moved by a fact is no hand
   pub no_hand : (s : View) (facts : List Fact) → Viewed home observer other v s facts → (f w : Way) → InHand f → Under f w → IsAway home v other facts w → ⊥
   no_hand s facts viewed f w inhand under (inr away) =
       let t = other.through w away in
       hand_apart home t.0 f t.1 inhand (sym (longer t.0 w t.2).base ∙ (longer f w under).base)
   no_hand s facts viewed f w inhand under (inl (u, moved, same)) =
-      unnamed home w (hand_under f w inhand under)
-      (subst (Named home) same
-      (named_way s facts viewed.views (suc (number_of u)) u (omega arith) (moved.0, viewed.clear.owned (name_of u) moved.1)))
+      (let base = stands_base home observer v s facts viewed.views u (moved.0, viewed.clear.owned (name_of u) moved.1) in
+      no_hand_base w (hand_under f w inhand under) (ap base_of (sym same) ∙ base.2))
 
   -- ---- taking into a hand, or a part of one
 
@@ -244,12 +286,12 @@ module _ (home : ℕ → ℕ) (observer : ℕ → Bool) (other : Around home) (v
   taken s t u k from to parts facts viewed move named plain spares source inhand target allowed marks =
       let act : Act = Move (name_of u) parts in
       let name : IsPlain home observer v s facts viewed.views u = (named, plain) in
-      let whole = named_way s facts viewed.views (suc (number_of u)) u (omega arith) name in
+      let base = stands_base home observer v s facts viewed.views u name in
       let unlent = move_unlent facts u parts allowed in
       let unmoved = move_unmoved facts u parts allowed in
       moved_on s t (expand v u) k from to facts (effect act facts)
-      (given_apart s t (expand v u) k from to viewed.owned move source target (hand_apart home (expand v u) k whole inhand)) viewed
-      (named_rooted home (expand v u) whole)
+      (given_apart s t (expand v u) k from to viewed.owned move source target (variable_apart (expand v u) k base.2 inhand)) viewed
+      (base_rooted (expand v u) base.2)
       (λ w under known. elim known [
         | inl h ↦ clean_away home observer other v s facts viewed u w name (λ h n. unlent Borrowed h n) unmoved under h
         | inr o ↦ spares w under o
@@ -267,18 +309,18 @@ module _ (home : ℕ → ℕ) (observer : ℕ → Bool) (other : Around home) (v
       (clear_move observer facts viewed.clear (name_of u) parts plain allowed)
       (loan_kept act facts (λ l h m. refl))
       (λ x w has past. off_view home observer v s facts viewed.views viewed.clear u x w name unlent has past)
-      (hand_off s facts viewed.views k inhand) (λ w n keeps past. off_kept home observer other v s facts viewed u w n name whole unlent keeps past) (hand_far k inhand)
+      (hand_off s facts viewed.views k inhand) (λ w n keeps past. off_kept home observer other v s facts viewed u w n name unlent keeps past) (hand_far k inhand) (hand_bare k inhand)
 
   -- ---- from a hand to where no view's way goes: to another hand, or to a new variable or cell
 
   pub handed : (s t : View) (f k : Way) (from to : Loc) (facts : List Fact) → Viewed home observer other v s facts → IsMove s t from to
-      → InHand f → Off k → OffFar k → Spares other.gone f → Reaches s f from → Reaches s k to → Apart f k
+      → InHand f → Off k → OffFar k → OffBare k → Spares other.gone f → Reaches s f from → Reaches s k to → Apart f k
       → ((p : List Step) → t.word (part from p) ≡ Gone → ⊥) → Viewed home observer other v t facts
-  handed s t f k from to facts viewed move inhand away far_away spares source target apart empty =
+  handed s t f k from to facts viewed move inhand away far_away bare_away spares source target apart empty =
       moved_on s t f k from to facts facts (given_apart s t f k from to viewed.owned move source target apart) viewed (hand_rooted f inhand)
       (λ w under known. elim known [ inl h ↦ no_hand s facts viewed f w inhand under h | inr o ↦ spares w under o ])
       (λ w moved off. moved) (λ p gone. absurd (empty p gone)) viewed.clear (λ l h n has. has)
-      (hand_off s facts viewed.views f inhand) away (hand_far f inhand) far_away
+      (hand_off s facts viewed.views f inhand) away (hand_far f inhand) far_away bare_away
 
   -- ---- putting at a target
 
@@ -289,9 +331,9 @@ module _ (home : ℕ → ℕ) (observer : ℕ → Bool) (other : Around home) (v
   put s t f k from to facts viewed move inhand spares source named plain place target allowed empty =
       let act : Act = Write (name_of k) in
       let name : IsPlain home observer v s facts viewed.views k = (named, plain) in
-      let whole = named_way s facts viewed.views (suc (number_of k)) k (omega arith) name in
+      let base = stands_base home observer v s facts viewed.views k name in
       moved_on s t f (expand v k) from to facts (effect act facts)
-      (given_apart s t f (expand v k) from to viewed.owned move source target (λ e. hand_apart home (expand v k) f whole inhand (sym e))) viewed
+      (given_apart s t f (expand v k) from to viewed.owned move source target (λ e. variable_apart (expand v k) f base.2 inhand (sym e))) viewed
       (hand_rooted f inhand)
       (λ w under known. elim known [ inl h ↦ no_hand s facts viewed f w inhand under h | inr o ↦ spares w under o ])
       (λ w moved off. (
@@ -309,7 +351,8 @@ module _ (home : ℕ → ℕ) (observer : ℕ → Bool) (other : Around home) (v
       (loan_kept act facts (λ l h m. refl))
       (hand_off s facts viewed.views f inhand)
       (λ x w has past. off_view home observer v s facts viewed.views viewed.clear k x w name (write_unlent facts k allowed) has past)
-      (hand_far f inhand) (λ w n keeps past. off_kept home observer other v s facts viewed k w n name whole (write_unlent facts k allowed) keeps past)
+      (hand_far f inhand) (λ w n keeps past. off_kept home observer other v s facts viewed k w n name (write_unlent facts k allowed) keeps past)
+      (λ w l p bare q under. off_bare home observer other v s facts viewed k w l p q name (write_unlent facts k allowed) bare under)
 
   -- ---- a new cell, and nothing
 
@@ -321,18 +364,26 @@ module _ (home : ℕ → ℕ) (observer : ℕ → Bool) (other : Around home) (v
   all_known s facts known w l n r h = elim (known w l n r h) [ inl m ↦ absurd m.1 | inr o ↦ o ]
 
   pub freshly_viewed : (s t : View) (k : Way) (at : Loc) (facts : List Fact) → Viewed home observer other v s facts → Reaches s k at
-      → IsFresh s t at → Viewed home observer other v t facts
-  freshly_viewed s t k at facts viewed there fresh =
+      → OffBare k → IsFresh s t at → Viewed home observer other v t facts
+  freshly_viewed s t k at facts viewed there off fresh =
       let sound = freshly home (ExcusedBy home v other facts) s t k at [] (as_sound s facts viewed) there fresh in record {
         owned = sound.owned;
         covered = sound.covered;
         known = all_known t facts sound.known;
         clear = viewed.clear;
         whole = viewed.whole;
+        past = viewed.past;
         lends = viewed.lends;
         views = λ x w has. (let view = viewed.views x w has in
             view_on s t facts facts x w view (λ seen n has. has) (fresh_on s t at fresh w (OfCell (v.cell x)) (reached s facts x w view)));
         far = λ w n keeps. fresh_on s t at fresh w (OfCell n) (viewed.far w n keeps);
+        bare = λ w l p bare q c held. elim (same_loc (part l (q ++ p)) at) [
+          | inr other_one ↦ viewed.bare w l p bare q c (sym (fresh.off (part l (q ++ p)) other_one) ∙ held)
+          | inl same ↦ (
+              let reach = reaches_along s w l (q ++ p) (rests_there s facts viewed w l p bare) in
+              let one = one_way s viewed.owned k (along w (q ++ p)) at there (subst (Reaches s (along w (q ++ p))) same reach) in
+              off w l p bare q (subst (Under k) one (under_itself k)))
+        ];
       }
 
   pub same_viewed : (s t : View) (facts : List Fact) → IsSame s t → Viewed home observer other v s facts → Viewed home observer other v t facts
@@ -343,10 +394,12 @@ module _ (home : ℕ → ℕ) (observer : ℕ → Bool) (other : Around home) (v
         known = all_known t facts sound.known;
         clear = viewed.clear;
         whole = viewed.whole;
+        past = viewed.past;
         lends = viewed.lends;
         views = λ x w has. (let view = viewed.views x w has in
             view_on s t facts facts x w view (λ seen n has. has) (same_reaches s t same w (OfCell (v.cell x)) (reached s facts x w view)));
         far = λ w n keeps. same_reaches s t same w (OfCell n) (viewed.far w n keeps);
+        bare = λ w l p bare q c held. viewed.bare w l p bare q c (sym (same.word (part l (q ++ p))) ∙ held);
       }
 
   -- an act that ends no fact and adds none
@@ -364,6 +417,8 @@ module _ (home : ℕ → ℕ) (observer : ℕ → Bool) (other : Around home) (v
     views = λ x w has. (let view = viewed.views x w has in
         view_on s s facts facts' x w view (λ seen n. own_loan observer facts facts' (λ l h m. on (Lent l h m)) seen x n) (reached s facts x w view));
     whole = viewed.whole;
+    past = viewed.past;
     lends = λ l n lent. lends_on observer v facts facts' (λ k h m. on (Lent k h m)) l n (viewed.lends l n lent);
     far = viewed.far;
+    bare = viewed.bare;
   }

@@ -1,19 +1,19 @@
 -- What is lent to others, where the facts allow an act: its name meets no place that others have
 -- borrowed, and what is changed lies on no way of their views.
-use Rattle.std.proofs.Common.{◌≡◌, sym, ap, ◌∙◌, subst, ◌⊎◌, inl, inr, ℕ, Bool, true, List, [], length, ◌<◌, arith, Some, None}
+use Rattle.std.proofs.Common.{◌≡◌, refl, sym, ap, ◌∙◌, subst, ◌⊎◌, inl, inr, ℕ, Bool, true, List, [], ◌∷◌, ◌++◌, length, ◌<◌, arith, Some, None}
 use Rattle.spark_base.specs.Lists.{Has}
 use Rattle.place_names.specs.declared.rule.Loan.{Loan}
 use Rattle.place_names.specs.declared.rule.Loan.TheVariants.{Borrowed, Observed}
 use Rattle.place_names.specs.declared.fact.Fact.{Fact}
 use Rattle.place_names.specs.declared.fact.Fact.TheVariants.{Lent}
 use Rattle.place_names.specs.Names.{overlaps}
-use Rattle.owned_ways.specs.Ways.{OfVariable, OfRoot, Way, View, Under, Past, Named, base_of, name_of, number_of, sels_of}
-use Rattle.owned_ways.proofs.Locations.{past_under, not_past, under_itself}
+use Rattle.owned_ways.specs.Ways.{Step, Loc, OfVariable, OfRoot, Way, Object, Lost, Into, All, View, Under, Past, Named, along, base_of, name_of, number_of, sels_of}
+use Rattle.owned_ways.proofs.Locations.{past_under, not_past, under_itself, under_along}
 use Rattle.owned_ways.proofs.Named.{longer, under_leads}
 use Rattle.owned_ways.proofs.Dropped.{named_base}
 use Rattle.owned_loans.specs.Views.{Around, Views, expand, HasLoan, IsAway, IsView, IsLentToOthers, Viewed}
 use Rattle.owned_loans.proofs.Ways.{Meet, base_on, lifted_way, flip, meets_on, beginnings, under_on, meet_overlaps, Lifted, next_of, lifts, lifted_root}
-use Rattle.owned_loans.proofs.Meeting.{IsPlain, next, Lends, Both, meeting}
+use Rattle.owned_loans.proofs.Meeting.{IsPlain, stands, not_foreign, next, Lends, Both, meeting}
 use Rattle.owned_loans.proofs.Safe.{under_shorter, Open, OpenWhole, Unlent, Unborrowed, Unmoved, loan_of, no_both, open_way, open_above, seen_above, seen_way, clean_below, seen_below}
 
 -- what a way begins with doesn't go past it
@@ -29,8 +29,19 @@ past_front k w under past = elim (under_shorter w k (past_under w k past)) [
     not_past_itself : (w k : Way) → w ≡ k → Past w k → ⊥
     not_past_itself w k e past = not_past w [] (subst (Past w) (sym e) past)
 
+-- what goes past a way goes past what begins it
+pub under_past : (a b w : Way) → Under a b → Past b w → Past a w
+under_past a b (Object r) u p = p
+under_past a b (Lost n) u p = p
+under_past a b (Into w i) u p = under_past a b w u p
+under_past a b (All w) u p = under_on a b w u p
+
 root_variable : (f x g y : ℕ) → OfRoot (OfVariable f x) ≡ OfRoot (OfVariable g y) → (f ≡ g) × (x ≡ y)
 root_variable f x g y e = (cc, cc)
+
+along_more : (w : Way) (p q : List Step) → along (along w p) q ≡ along w (q ++ p)
+along_more w p [] = refl
+along_more w p (i ∷ q) = ap (λ z. Into z i) (along_more w p q)
 
 module _ (home : ℕ → ℕ) (observer : ℕ → Bool) (other : Around home) (v : Views) (s : View) (facts : List Fact)
     (viewed : Viewed home observer other v s facts) where
@@ -204,15 +215,40 @@ module _ (home : ℕ → ℕ) (observer : ℕ → Bool) (other : Around home) (v
   -- ---- all of it
 
   -- what is changed lies above no way of others
-  pub off_kept : (u w : Way) (n : ℕ) → IsName u → Named home (expand v u) → Unlent facts u → other.kept w n → Past (expand v u) w → ⊥
-  off_kept u w n name whole unlent keeps past =
-      let root = other.begins w n keeps in
-      elim root.3 [
-        | inl away ↦ (
-            let base = sym root.2 ∙ (longer (expand v u) w (past_under (expand v u) w past)).base ∙ named_base home (expand v u) whole in
-            let same = root_variable root.0 root.1 (home (number_of (expand v u))) (number_of (expand v u)) base in
-            away (same.0 ∙ ap home (sym same.1)))
-        | inr (l, (k, named, under, lent)) ↦ off_through l k named lent u w name unlent under past
+  pub off_kept : (u w : Way) (n : ℕ) → IsName u → Unlent facts u → other.kept w n → Past (expand v u) w → ⊥
+  off_kept u w n name unlent keeps past =
+      elim (stands home observer v s facts viewed.views u name) [
+        | inr held ↦ viewed.past held.object held.way held.has held.passed.given held.plain w n keeps
+            (under_past held.way (expand v u) w held.under past)
+        | inl own ↦ (let root = other.begins w n keeps in elim root.3 [
+          | inl away ↦ (
+              let base = sym root.2 ∙ (longer (expand v u) w (past_under (expand v u) w past)).base ∙ named_base home (expand v u) own.0 in
+              let same = root_variable root.0 root.1 (home (number_of (expand v u))) (number_of (expand v u)) base in
+              away (same.0 ∙ ap home (sym same.1)))
+          | inr (l, (k, named, under, lent)) ↦ off_through l k named lent u w name unlent under past
+        ])
+      ]
+
+  -- nor is it above what is bare, or below it
+  pub off_bare : (u w : Way) (l : Loc) (p q : List Step) → IsName u → Unlent facts u → other.bare w l p → Under (expand v u) (along w (q ++ p)) → ⊥
+  off_bare u w l p q name unlent bare under =
+      let z : Way = along w (q ++ p) in
+      elim (stands home observer v s facts viewed.views u name) [
+        | inr held ↦ elim (other.emptied w l p bare q) [
+          | inl gone ↦ viewed.whole held.object held.way z held.has held.passed.foreign gone (inr (under_on held.way (expand v u) z held.under under))
+          | inr away ↦ (let t = other.through z away in
+              not_foreign home observer v s facts viewed.views t.0 held.way t.1 held.passed.foreign
+              (sym (longer t.0 z t.2).base ∙ (longer held.way z (under_on held.way (expand v u) z held.under under)).base))
+        ]
+        | inl own ↦ (let root = other.bares w l p bare in elim root.3 [
+          | inl away ↦ (
+              let base = sym root.2 ∙ sym (longer w z (under_along w w (q ++ p) (under_itself w))).base ∙ (longer (expand v u) z under).base ∙ named_base home (expand v u) own.0 in
+              let same = root_variable root.0 root.1 (home (number_of (expand v u))) (number_of (expand v u)) base in
+              away (same.0 ∙ ap home (sym same.1)))
+          | inr (loan, (k, named, below, lent)) ↦
+              unmet loan k named lent u name (λ h n. unlent Borrowed h n) (unlent loan (number_of k) (name_of k) (viewed.lends loan (name_of k) lent).has)
+              (beginnings (expand v u) k z under (subst (Under k) (along_more w p q) (under_along k (along w p) q below)))
+        ])
       ]
 
   -- nothing that is away lies above a name that is open

@@ -1,6 +1,6 @@
 -- What a name through views meets, where the facts allow its act: nothing gone on its way, and for
 -- what is changed, no way of a view.
-use Rattle.std.proofs.Common.{◌≡◌, refl, sym, ap, ◌∙◌, subst, ◌⊎◌, inl, inr, ℕ, Bool, true, false, List, [], ◌∷◌, ◌++◌, length, suc, ◌<◌, ◌≤◌, ◌+◌, arith, Some}
+use Rattle.std.proofs.Common.{◌≡◌, refl, sym, ap, ◌∙◌, subst, ◌⊎◌, inl, inr, ℕ, Bool, true, false, List, [], ◌∷◌, ◌++◌, length, ◌<◌, ◌≤◌, ◌+◌, arith, Some}
 use Rattle.std.proofs.lemmas.List.{length-append}
 use Rattle.spark_base.specs.Lists.{Has}
 use Rattle.place_names.specs.declared.selector.Sel.TheVariants.{Deref}
@@ -9,12 +9,14 @@ use Rattle.place_names.specs.declared.rule.Loan.TheVariants.{Borrowed, Observed}
 use Rattle.place_names.specs.declared.fact.Fact.{Fact}
 use Rattle.place_names.specs.declared.fact.Fact.TheVariants.{Moved, Lent}
 use Rattle.place_names.specs.Names.{Name, overlaps, leads_to}
-use Rattle.owned_ways.specs.Ways.{OfVariable, Way, Object, Lost, Into, All, View, Under, Past, Named, IsMoved, base_of, name_of, number_of, sels_of, sel_of}
+use Rattle.place_names.proofs.Names.{overlaps-sym}
+use Rattle.owned_ways.specs.Ways.{OfVariable, OfRoot, Way, Object, Lost, Into, All, View, Under, Past, Named, IsMoved, base_of, name_of, number_of, sels_of, sel_of}
 use Rattle.owned_ways.proofs.Locations.{past_under, not_past, under_itself}
 use Rattle.owned_ways.proofs.Named.{longer, under_leads}
-use Rattle.owned_loans.specs.Views.{Views, expand, expand_root, IsMovedBy, AreClear, HasLoan, IsView, IsForeign, AreViews}
-use Rattle.owned_loans.proofs.Ways.{Meet, base_on, lifted_way, meets_on, beginnings, under_on, meet_overlaps, Lifted, next_of}
-use Rattle.owned_loans.proofs.Meeting.{IsPlain, own_view, next, not_foreign, low, Lends, Beside, Both, meeting}
+use Rattle.owned_loans.specs.Views.{Views, expand, expand_root, IsMovedBy, AreClear, HasLoan, IsView, IsPassed, AreViews}
+use Rattle.owned_loans.proofs.Clear.{overlaps_whole}
+use Rattle.owned_loans.proofs.Ways.{Meet, lifted_way, on_under, meets_on, meets_front, beginnings, under_on, meet_overlaps, Lifted, next_of}
+use Rattle.owned_loans.proofs.Meeting.{IsPlain, next, not_foreign, off_seen, stands, Lends, Beside, Both, meeting}
 
 -- what begins a way and isn't the way has a shorter name
 pub under_shorter : (t w : Way) → Under t w → (t ≡ w) ⊎ (length (sels_of t) < length (sels_of w))
@@ -61,6 +63,24 @@ Unborrowed facts u = (h : ℕ) (n : Name) → Has facts (Lent Borrowed h n) → 
 abbrev pub Unmoved : List Fact → Way → Type 0
 Unmoved facts u = (n : Name) → Has facts (Moved n) → overlaps n (name_of u) ≡ true → ⊥
 
+-- What overlaps what a name designates overlaps the name.
+pub designated_over : (n : Name) (u : Way) → overlaps n (name_of (All u)) ≡ true → overlaps n (name_of u) ≡ true
+designated_over n u e = overlaps_whole (name_of u) n (Deref ∷ []) (overlaps-sym (name_of (All u)) n ∙ e)
+
+pub unlent_below : (facts : List Fact) (u : Way) → Unlent facts u → Unlent facts (All u)
+unlent_below facts u unlent l h n has over = unlent l h n has (designated_over n u over)
+
+pub unborrowed_below : (facts : List Fact) (u : Way) → Unborrowed facts u → Unborrowed facts (All u)
+unborrowed_below facts u unborrowed h n has over = unborrowed h n has (designated_over n u over)
+
+pub unmoved_below : (facts : List Fact) (u : Way) → Unmoved facts u → Unmoved facts (All u)
+unmoved_below facts u unmoved n has over = unmoved n has (designated_over n u over)
+
+pub over_below : (u y : Way) → overlaps (name_of (All u)) (name_of (All y)) ≡ true → overlaps (name_of u) (name_of y) ≡ true
+over_below u y e =
+    overlaps-sym (name_of u) (name_of y)
+    ∙ designated_over (name_of y) u (overlaps-sym (name_of y) (name_of (All u)) ∙ designated_over (name_of (All u)) y e)
+
 module _ (home : ℕ → ℕ) (observer : ℕ → Bool) (v : Views) (s : View) (facts : List Fact) (views : AreViews home observer v s facts)
     (clear : AreClear observer facts) where
   abbrev IsName : Way → Type 0
@@ -68,7 +88,7 @@ module _ (home : ℕ → ℕ) (observer : ℕ → Bool) (v : Views) (s : View) (
 
   -- the loan of a borrower
   pub loan_of : (b : ℕ) → Lends home observer v s facts views b → Has facts (Lent Borrowed b (name_of (v.loan b)))
-  loan_of b l = subst (λ z. HasLoan observer z b facts (name_of (v.loan b))) l.2 (own_view home observer v s facts views b l.0 l.1 l.2).lent
+  loan_of b l = subst (λ z. HasLoan observer z b facts (name_of (v.loan b))) l.2 l.3.lent
 
   pub no_both : Both home observer v s facts views → ⊥
   no_both b =
@@ -127,12 +147,14 @@ module _ (home : ℕ → ℕ) (observer : ℕ → Bool) (v : Views) (s : View) (
   pub open_itself : (u : Way) → IsName u → OpenWhole facts u → IsMovedBy home v facts (expand v u) → ⊥
   open_itself u plain free moved = open_above u (expand v u) plain free (under_itself (expand v u)) moved
 
-  -- what was moved isn't what a name through a view of another frame's stands for, nor does one begin
+  -- what was moved isn't what a name through a formal that is only seen stands for, nor does one begin
   -- the other
-  foreign_off : (u w : Way) (l : Lifted v u) → IsForeign home l.way → base_of w ≡ base_of (expand v u) → IsMovedBy home v facts w → ⊥
-  foreign_off u w l foreign base (m, moved, same) =
-      not_foreign home observer v s facts views m l.way (moved_plain m moved) foreign
-      (ap base_of same ∙ base ∙ ap base_of (lifted_way v u l) ∙ base_on l.way l.rest)
+  foreign_off : (u w : Way) (l : Lifted v u) → IsPassed home observer v s l.object l.way → observer l.object ≡ true → Meet w (expand v u)
+      → IsMovedBy home v facts w → ⊥
+  foreign_off u w l passed is meets (m, moved, same) =
+      off_seen home observer v s facts views m (moved_plain m moved) l.object l.way l.has passed is
+      (meets_front l.way (expand v u) (expand v m) (subst (Under l.way) (sym (lifted_way v u l)) (on_under l.way l.rest))
+      (subst (λ z. Meet z (expand v u)) (sym same) meets))
 
   seen_way_own : (u w : Way) (l : Lifted v u) → IsView home observer v s facts l.object l.way → Named home u → observer l.object ≡ true → Under w (expand v u)
       → IsMovedBy home v facts w → ⊥
@@ -156,17 +178,17 @@ module _ (home : ℕ → ℕ) (observer : ℕ → Bool) (v : Views) (s : View) (
   pub seen_above : (u w : Way) (l : Lifted v u) → Named home u → observer l.object ≡ true → Under w (expand v u) → IsMovedBy home v facts w → ⊥
   seen_above u w l named is above moved = elim (views l.object l.way l.has) [
     | inl view ↦ seen_way_own u w l view named is above moved
-    | inr passed ↦ foreign_off u w l passed.foreign (sym (longer w (expand v u) above).base) moved
+    | inr passed ↦ foreign_off u w l passed is (inl above) moved
   ]
 
   pub seen_way : (u w : Way) (l : Lifted v u) → Named home u → observer l.object ≡ true → Past w (expand v u) → IsMovedBy home v facts w → ⊥
   seen_way u w l named is past moved = seen_above u w l named is (past_under w (expand v u) past) moved
 
-  -- nothing that was moved is, or lies in, a name that overlaps nothing moved or borrowed
-  pub clean_below : (u w : Way) → IsName u → Unborrowed facts u → Unmoved facts u → Under (expand v u) w → IsMovedBy home v facts w → ⊥
-  clean_below u w plain unborrowed unmoved under (m, moved, same) =
-      elim (meeting home observer v s facts views u m plain (moved_plain m moved) (subst (Under (expand v u)) (sym same) under)) [
-        | inl below ↦ unmoved (name_of m) moved.1 (meet_overlaps m u (inr below))
+  -- what a moved name stands for lies in what a name that overlaps nothing borrowed does only if the one begins the other
+  pub clean_name : (u m : Way) → IsName u → Unborrowed facts u → IsMoved home facts m → (Under u m → ⊥) → Under (expand v u) (expand v m) → ⊥
+  clean_name u m plain unborrowed moved off under =
+      elim (meeting home observer v s facts views u m plain (moved_plain m moved) under) [
+        | inl below ↦ off below
         | inr more ↦ elim more [
           | inl a ↦ unmoved_loan m Borrowed a.object (v.loan a.object) moved (loan_of a.object a.lends)
               (inr (under_on (v.loan a.object) a.name m a.loan a.begins))
@@ -179,6 +201,11 @@ module _ (home : ℕ → ℕ) (observer : ℕ → Bool) (v : Views) (s : View) (
     where
       flipped : (a b : Way) → Meet a b → Meet b a
       flipped a b m = elim m [ inl u ↦ inr u | inr u ↦ inl u ]
+
+  -- nothing that was moved is, or lies in, a name that overlaps nothing moved or borrowed
+  pub clean_below : (u w : Way) → IsName u → Unborrowed facts u → Unmoved facts u → Under (expand v u) w → IsMovedBy home v facts w → ⊥
+  clean_below u w plain unborrowed unmoved under (m, moved, same) =
+      clean_name u m plain unborrowed moved (λ below. unmoved (name_of m) moved.1 (meet_overlaps m u (inr below))) (subst (Under (expand v u)) (sym same) under)
 
   seen_below_own : (u w : Way) (l : Lifted v u) → IsView home observer v s facts l.object l.way → Named home u → observer l.object ≡ true → Under (expand v u) w
       → IsMovedBy home v facts w → ⊥
@@ -208,19 +235,63 @@ module _ (home : ℕ → ℕ) (observer : ℕ → Bool) (v : Views) (s : View) (
   pub seen_below : (u w : Way) (l : Lifted v u) → Named home u → observer l.object ≡ true → Under (expand v u) w → IsMovedBy home v facts w → ⊥
   seen_below u w l named is under moved = elim (views l.object l.way l.has) [
     | inl view ↦ seen_below_own u w l view named is under moved
-    | inr passed ↦ foreign_off u w l passed.foreign (longer (expand v u) w under).base moved
+    | inr passed ↦ foreign_off u w l passed is (inr under) moved
   ]
+
+  -- names that don't overlap, of which no part is borrowed, stand for ways that don't meet
+  apart_above : (u y : Way) → IsName u → IsName y → Unborrowed facts u → Unborrowed facts y → (overlaps (name_of u) (name_of y) ≡ true → ⊥)
+      → Under (expand v u) (expand v y) → ⊥
+  apart_above u y pu py free_u free_y apart under =
+      elim (meeting home observer v s facts views u y pu py under) [
+        | inl above ↦ apart (meet_overlaps u y (inl above))
+        | inr more ↦ elim more [
+          | inl a ↦ free_y a.object (name_of (v.loan a.object)) (loan_of a.object a.lends)
+              (meet_overlaps (v.loan a.object) y (inl (under_on (v.loan a.object) a.name y a.loan a.begins)))
+          | inr more ↦ elim more [
+            | inl b ↦ free_u b.object (name_of (v.loan b.object)) (loan_of b.object b.lends)
+                (meet_overlaps (v.loan b.object) u (elim b.meets [ inl z ↦ inr z | inr z ↦ inl z ]))
+            | inr c ↦ no_both c
+          ]
+        ]
+      ]
+
+  pub apart_names : (u y : Way) → IsName u → IsName y → Unborrowed facts u → Unborrowed facts y → (overlaps (name_of u) (name_of y) ≡ true → ⊥)
+      → Meet (expand v u) (expand v y) → ⊥
+  apart_names u y pu py free_u free_y apart (inl under) = apart_above u y pu py free_u free_y apart under
+  apart_names u y pu py free_u free_y apart (inr under) =
+      apart_above y u py pu free_y free_u (λ over. apart (overlaps-sym (name_of u) (name_of y) ∙ over)) under
 
   abbrev own_name : ℕ → Way
   own_name x = All (Object (OfVariable (home x) x))
 
-  -- the way of a borrower is rooted in an older object
-  pub root_before : (x : ℕ) (w : Way) → v.way x ≡ Some w → observer x ≡ false → number_of w < x
-  root_before x w has is =
-      let view = own_view home observer v s facts views x w has is in
-      let less = view.older is in
-      let most = low home observer v s facts views (suc (number_of (v.up x))) (v.up x) (omega arith) (view.named, view.plain) in
-      let same = ap number_of view.leads in (omega arith)
+  -- the way of a borrower doesn't begin at the borrower
+  not_itself : (x : ℕ) (w : Way) → v.way x ≡ Some w → observer x ≡ false → base_of w ≡ OfRoot (OfVariable (home x) x) → number_of w ≡ x → ⊥
+  not_itself x w has is base number = elim (views x w has) [
+    | inr passed ↦ not_foreign home observer v s facts views (Object (OfVariable (home x) x)) w refl passed.foreign (sym base)
+    | inl view ↦ (
+        let plain : IsName (v.up x) = (view.named, view.plain) in
+        let less = view.older is in
+        let same = ap number_of view.leads in
+        elim (stands home observer v s facts views (v.up x) plain) [
+          | inl own ↦ (let most = own.1 in absurd (omega arith))
+          | inr held ↦ not_foreign home observer v s facts views (Object (OfVariable (home x) x)) held.way refl held.passed.foreign
+              (sym base ∙ ap base_of (sym view.leads) ∙ (longer held.way (expand v (v.up x)) held.under).base)
+        ])
+  ]
+
+  -- the way of a borrower of the frame whose way is named is rooted in an older object
+  pub root_before : (x : ℕ) (w : Way) → v.way x ≡ Some w → observer x ≡ false → Named home w → number_of w < x
+  root_before x w has is named = elim (views x w has) [
+    | inr passed ↦ absurd (not_foreign home observer v s facts views w w named passed.foreign refl)
+    | inl view ↦ (
+        let less = view.older is in
+        let same = ap number_of view.leads in
+        elim (stands home observer v s facts views (v.up x) (view.named, view.plain)) [
+          | inl own ↦ (let most = own.1 in (omega arith))
+          | inr held ↦ absurd (not_foreign home observer v s facts views w held.way named held.passed.foreign
+              (ap base_of (sym view.leads) ∙ (longer held.way (expand v (v.up x)) held.under).base))
+        ])
+  ]
 
   -- a name that overlaps no loan isn't above the way of a view
   off_borrower : (u : Way) (x : ℕ) (w : Way) → IsName u → Unlent facts u → v.way x ≡ Some w → observer x ≡ false → Past (expand v u) w → ⊥
@@ -246,9 +317,8 @@ module _ (home : ℕ → ℕ) (observer : ℕ → Bool) (v : Views) (s : View) (
             not_past w [] (subst (λ z. Past z w) (sym same ∙ ap (expand v) e ∙ leads) past))
         | inr e ↦ (
             let is_object : expand v u ≡ Object (OfVariable (home x) x) = sym same ∙ ap (expand v) e in
-            let root = (longer (expand v u) w (past_under (expand v u) w past)).root in
-            let number : number_of (expand v u) ≡ x = ap number_of is_object in
-            let less = root_before x w has is in absurd (omega arith))
+            let long = longer (expand v u) w (past_under (expand v u) w past) in
+            not_itself x w has is (long.base ∙ ap base_of is_object) (long.root ∙ ap number_of is_object))
       ]
 
   off_observer : (u : Way) (x : ℕ) (w : Way) → IsName u → Unlent facts u → IsView home observer v s facts x w → observer x ≡ true → Past (expand v u) w → ⊥
@@ -276,6 +346,6 @@ module _ (home : ℕ → ℕ) (observer : ℕ → Bool) (v : Views) (s : View) (
       by_kind : (b : Bool) → observer x ≡ b → ⊥
       by_kind true e = elim (views x w has) [
         | inl view ↦ off_observer u x w plain unlent view e past
-        | inr passed ↦ not_foreign home observer v s facts views u w plain passed.foreign (sym (longer (expand v u) w (past_under (expand v u) w past)).base)
+        | inr passed ↦ off_seen home observer v s facts views u plain x w has passed e (inl (past_under (expand v u) w past))
       ]
       by_kind false e = off_borrower u x w plain unlent has e past

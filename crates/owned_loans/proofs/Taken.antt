@@ -14,16 +14,16 @@ use Rattle.place_names.specs.declared.fact.Fact.{Fact}
 use Rattle.place_names.specs.declared.fact.Fact.TheVariants.{Moved, Lent}
 use Rattle.place_names.specs.Facts.{removes, effect}
 use Rattle.place_names.specs.Rules.{moved_or_lent}
-use Rattle.owned_ways.specs.Ways.{OfVariable, OfHand, OfCell, base_of, Way, Object, Lost, Into, All, View, Reaches, Under, Named, number_of, name_of, Allows}
+use Rattle.owned_ways.specs.Ways.{OfVariable, OfHand, OfCell, base_of, Way, Object, Lost, Into, All, View, Reaches, Under, Past, Named, number_of, name_of, Allows}
 use Rattle.owned_ways.proofs.Named.{longer}
 use Rattle.owned_ways.proofs.Assigned.{kept_fact}
 use Rattle.owned_ways.proofs.Locations.{under_itself}
-use Rattle.owned_loans.specs.Views.{Views, Around, expand_root, expand, IsObject, AreClear, HasLoan, IsView, Viewed, Becomes, with_view, Unused, on, IsForeign, IsPassed, AreViews}
-use Rattle.owned_loans.proofs.Ways.{beginnings, under_on, on_under, base_on, on_deep, Lifted, lifted_way, next_of}
-use Rattle.owned_loans.proofs.Meeting.{own_view, named_view, next, not_foreign}
+use Rattle.owned_loans.specs.Views.{Go, Views, Around, expand_root, expand, IsObject, AreClear, HasLoan, IsView, Viewed, Becomes, with_view, Unused, on, IsForeign, IsPassed}
+use Rattle.owned_loans.proofs.Ways.{under_on, on_under, on_named, base_on, root_on, named_on, meets_front, on_deep, Lifted, lifted_way, next_of}
+use Rattle.owned_loans.proofs.Meeting.{stands, own_off, own_view, next}
 use Rattle.owned_loans.proofs.Clear.{refused, clear_borrow, clear_observe, clear_same}
 use Rattle.owned_loans.proofs.Allowed.{LoansStay, loan_kept}
-use Rattle.owned_loans.proofs.Moves.{own_loan, view_named}
+use Rattle.owned_loans.proofs.Moves.{own_loan}
 
 -- names that aren't rooted in the view stand for what they stood for
 expand_other : (v t : Views) (b : ℕ) (o : Option Way) (loan up : Way) (n : ℕ) → Becomes v t b o loan up n → (u : Way) → (number_of u ≡ b → ⊥) → expand t u ≡ expand v u
@@ -81,27 +81,50 @@ module _ (home : ℕ → ℕ) (observer : ℕ → Bool) (other : Around home) (v
     reaches = subst (λ z. Reaches s w (OfCell z)) (sym (becomes.cells x off)) view.reaches;
   }
 
-  old_either : (s : View) (facts facts' : List Fact) (x : ℕ) (w : Way) → (x ≡ b → ⊥) → (Named home w → number_of (v.up x) ≡ b → ⊥)
-      → AreViews home observer v s facts → IsView home observer v s facts x w ⊎ IsPassed home observer v s x w → LoansStay facts facts'
-      → IsView home observer t s facts' x w ⊎ IsPassed home observer t s x w
-  old_either s facts facts' x w off unused views (inl view) loans =
-      inl (old_view s facts facts' x w off (unused (view_named home observer other v s facts views x w view)) view loans)
-  old_either s facts facts' x w off unused views (inr passed) loans = inr (record {
-    sees = passed.sees;
-    foreign = passed.foreign;
-    reaches = subst (λ z. Reaches s w (OfCell z)) (sym (becomes.cells x off)) passed.reaches;
-  })
-
-  -- What is asked of the way that an observer gets from what belongs to another frame.
+  -- What is asked of the way that an observer gets from what the frame was given.
   pub record FitsPassed (s : View) (w : Way) : Type 0 where
     pub sees : observer b ≡ true
     pub foreign : IsForeign home w
+    pub given : Named home up → ⊥
+    pub alone : (x : ℕ) (z : Way) → v.way x ≡ Some z → observer x ≡ false → (Named home (v.up x) → ⊥) → Under z w ⊎ Under w z → ⊥
     pub reaches : Reaches s w (OfCell n)
     pub whole : (z : Way) → other.gone z → Under z w ⊎ Under w z → ⊥
 
+  abbrev FitsEither : View → List Fact → Way → Type 0
+  FitsEither s facts w = Fits home observer v s facts b loan up n w ⊎ FitsPassed s w
+
+  -- another view that was given is so still, and is alone
+  old_given : (x : ℕ) → (x ≡ b → ⊥) → (Named home (v.up x) → ⊥) → Named home (t.up x) → ⊥
+  old_given x off given named = given (subst (Named home) (becomes.ups x off) named)
+
+  old_alone : (s : View) (facts : List Fact) → ((w : Way) → o ≡ Some w → FitsEither s facts w) → (x : ℕ) (w : Way) → (x ≡ b → ⊥) → v.way x ≡ Some w
+      → IsPassed home observer v s x w → observer x ≡ false → (y : ℕ) (u : Way) → t.way y ≡ Some u → (y ≡ x → ⊥) → (Named home (t.up y) → ⊥)
+      → Under w u ⊎ Under u w → (c : Bool) → (y == b) ≡ c → ⊥
+  old_alone s facts fits x w off has passed plain y u there differs given meets false e =
+      let other_one : y ≡ b → ⊥ = λ same. (let is = eq-eqb y b same in cc) in
+      passed.alone plain y u (sym (becomes.ways y other_one) ∙ there) differs (λ named. given (subst (Named home) (sym (becomes.ups y other_one)) named)) meets
+  old_alone s facts fits x w off has passed plain y u there differs given meets true e =
+      let same = eqb-true y b e in
+      by_fit (fits u (sym becomes.way_is ∙ ap t.way (sym same) ∙ there))
+    where
+      by_fit : FitsEither s facts u → ⊥
+      by_fit (inl own) = given (subst (Named home) (sym (ap t.up (eqb-true y b e) ∙ becomes.up_is)) own.named)
+      by_fit (inr passed_u) = passed_u.alone x w has plain passed.given meets
+
+  old_either : (s : View) (facts facts' : List Fact) → ((w : Way) → o ≡ Some w → FitsEither s facts' w) → (x : ℕ) (w : Way) → (x ≡ b → ⊥) → v.way x ≡ Some w
+      → (Named home (v.up x) → number_of (v.up x) ≡ b → ⊥) → IsView home observer v s facts x w ⊎ IsPassed home observer v s x w → LoansStay facts facts'
+      → IsView home observer t s facts' x w ⊎ IsPassed home observer t s x w
+  old_either s facts facts' fits x w off has unused (inl view) loans = inl (old_view s facts facts' x w off (unused view.named) view loans)
+  old_either s facts facts' fits x w off has unused (inr passed) loans = inr (record {
+    foreign = passed.foreign;
+    given = old_given x off passed.given;
+    alone = λ plain y u there differs given meets. old_alone s facts' fits x w off has passed plain y u there differs given meets (y == b) refl;
+    reaches = subst (λ z. Reaches s w (OfCell z)) (sym (becomes.cells x off)) passed.reaches;
+  })
+
   pub rebound_any : (s : View) (facts facts' : List Fact) → Viewed home observer other v s facts → Unused home other.lent v facts b
       → ((m : Name) → Has facts (Moved m) → Has facts' (Moved m)) → LoansStay facts facts' → AreClear observer facts'
-      → ((w : Way) → o ≡ Some w → Fits home observer v s facts' b loan up n w ⊎ FitsPassed s w) → Viewed home observer other t s facts'
+      → ((w : Way) → o ≡ Some w → FitsEither s facts' w) → Viewed home observer other t s facts'
   rebound_any s facts facts' viewed unused stays loans clear fits = record {
     owned = viewed.owned;
     covered = viewed.covered;
@@ -117,26 +140,47 @@ module _ (home : ℕ → ℕ) (observer : ℕ → Bool) (other : Around home) (v
     clear = clear;
     views = λ x w has. by_object x w has (x == b) refl;
     whole = λ x w z has foreign gone meets. by_root x w z has foreign gone meets (x == b) refl;
+    past = λ x w has given plain k m keeps goes. not_past x w has given plain k m keeps goes (x == b) refl;
     lends = λ l m lent. (let old = viewed.lends l m lent in record {
       has = loans l m.root m old.has;
       none = becomes.ways m.root (unused.unlent l m lent) ∙ old.none;
       plain = old.plain;
     });
     far = viewed.far;
+    bare = viewed.bare;
   }
     where
-      fit : (w : Way) → Fits home observer v s facts' b loan up n w ⊎ FitsPassed s w → IsView home observer t s facts' b w ⊎ IsPassed home observer t s b w
+      true_false : (c : Bool) → c ≡ true → c ≡ false → ⊥
+      true_false c e f = cc
+
+      fit : (w : Way) → FitsEither s facts' w → IsView home observer t s facts' b w ⊎ IsPassed home observer t s b w
       fit w (inl own) = inl (new_view s facts' w own)
       fit w (inr passed) = inr (record {
-        sees = passed.sees;
         foreign = passed.foreign;
+        given = λ named. passed.given (subst (Named home) becomes.up_is named);
+        alone = λ plain. absurd (true_false (observer b) passed.sees plain);
         reaches = subst (λ z. Reaches s w (OfCell z)) (sym becomes.cell_is) passed.reaches;
       })
 
-      fit_whole : (w z : Way) → Fits home observer v s facts' b loan up n w ⊎ FitsPassed s w → IsForeign home w → other.gone z → Under z w ⊎ Under w z → ⊥
+      -- what is taken from a view that was given is as whole
+      fit_whole : (w z : Way) → FitsEither s facts' w → IsForeign home w → other.gone z → Under z w ⊎ Under w z → ⊥
       fit_whole w z (inr passed) foreign gone meets = passed.whole z gone meets
-      fit_whole w z (inl own) foreign gone meets =
-          not_foreign home observer v s facts viewed.views up w (own.named, own.plain) foreign (ap base_of own.leads)
+      fit_whole w z (inl own) foreign gone meets = elim (stands home observer v s facts viewed.views up (own.named, own.plain)) [
+        | inl mine ↦ own_off home observer v s facts viewed.views up w mine foreign (ap base_of own.leads)
+        | inr held ↦ viewed.whole held.object held.way z held.has held.passed.foreign gone
+            (meets_front held.way w z (subst (Under held.way) own.leads held.under) meets)
+      ]
+
+      not_past : (x : ℕ) (w : Way) → t.way x ≡ Some w → (Named home (t.up x) → ⊥) → observer x ≡ false → (k : Way) (m : ℕ) → other.kept k m → Past w k
+          → (c : Bool) → (x == b) ≡ c → ⊥
+      not_past x w has given plain k m keeps goes false e =
+          let off : x ≡ b → ⊥ = λ same. (let is = eq-eqb x b same in cc) in
+          viewed.past x w (sym (becomes.ways x off) ∙ has) (λ named. given (subst (Named home) (sym (becomes.ups x off)) named)) plain k m keeps goes
+      not_past x w has given plain k m keeps goes true e = by_fit (fits w (sym becomes.way_is ∙ ap t.way (sym (eqb-true x b e)) ∙ has))
+        where
+          by_fit : FitsEither s facts' w → ⊥
+          by_fit (inl own) = given (subst (Named home) (sym (ap t.up (eqb-true x b e) ∙ becomes.up_is)) own.named)
+          by_fit (inr passed) = true_false (observer b) passed.sees (ap observer (sym (eqb-true x b e)) ∙ plain)
 
       by_root : (x : ℕ) (w z : Way) → t.way x ≡ Some w → IsForeign home w → other.gone z → Under z w ⊎ Under w z → (c : Bool) → (x == b) ≡ c → ⊥
       by_root x w z has foreign gone meets true e =
@@ -152,7 +196,7 @@ module _ (home : ℕ → ℕ) (observer : ℕ → Bool) (other : Around home) (v
       by_object x w has false e =
           let off : x ≡ b → ⊥ = λ same. (let is = eq-eqb x b same in cc) in
           let old = sym (becomes.ways x off) ∙ has in
-          old_either s facts facts' x w off (λ named. unused.untaken x w old named off) viewed.views (viewed.views x w old) loans
+          old_either s facts facts' fits x w off old (λ named. unused.untaken x w old named off) (viewed.views x w old) loans
 
   pub rebound : (s : View) (facts facts' : List Fact) → Viewed home observer other v s facts → Unused home other.lent v facts b
       → ((m : Name) → Has facts (Moved m) → Has facts' (Moved m)) → LoansStay facts facts' → AreClear observer facts'
@@ -172,8 +216,8 @@ module _ (home : ℕ → ℕ) (observer : ℕ → Bool) (other : Around home) (v
   true_false : (c : Bool) → c ≡ true → c ≡ false → ⊥
   true_false c e f = cc
 
-  own_of : (x : ℕ) (w : Way) → v.way x ≡ Some w → Named home w → IsView home observer v s facts x w
-  own_of = named_view home observer v s facts viewed.views
+  own_of : (x : ℕ) (w : Way) → v.way x ≡ Some w → Named home (v.up x) → IsView home observer v s facts x w
+  own_of = own_view home observer v s facts viewed.views
 
   -- nothing is rooted in an observer but names that are looked at
   pub observer_unused : (b : ℕ) → observer b ≡ true → Unused home other.lent v facts b
@@ -183,88 +227,95 @@ module _ (home : ℕ → ℕ) (observer : ℕ → Bool) (other : Around home) (v
     untaken = λ x w has named off e. true_false (observer b) is (ap observer (sym e) ∙ (own_of x w has named).plain);
   }
 
-  -- The way to what a name designates, if it designates a cell.
-  abbrev pub Designates : Option Way → Way → ℕ → Type 0
-  Designates o u n = (w : Way) → o ≡ Some w → (w ≡ expand v (All u)) × Reaches s w (OfCell n)
+  -- The way that a name stands for, if it leads to a cell.
+  abbrev pub LeadsTo : Option Way → Way → ℕ → Type 0
+  LeadsTo o k n = (w : Way) → o ≡ Some w → (w ≡ expand v k) × Reaches s w (OfCell n)
 
-  pub borrowed : (b : ℕ) (o : Option Way) (u : Way) (n : ℕ) → Becomes v t b o u (All u) n → Unused home other.lent v facts b → observer b ≡ false
-      → Named home u → observer (number_of u) ≡ false → number_of u < b → Designates o u n → Allows facts (Borrow b (name_of u))
+  -- The place that is lent is what a name designates, or a part of that.
+  designated_begins : (u : Way) (r : List Go) → Under u (on (All u) r)
+  designated_begins u r = under_on u (All u) (on (All u) r) (inr (under_itself u)) (on_under (All u) r)
+
+  pub borrowed : (b : ℕ) (o : Option Way) (u : Way) (r : List Go) (n : ℕ) → Becomes v t b o u (on (All u) r) n → Unused home other.lent v facts b → observer b ≡ false
+      → Named home u → observer (number_of u) ≡ false → number_of u < b → LeadsTo o (on (All u) r) n → Allows facts (Borrow b (name_of u))
       → Viewed home observer other t s (effect (Borrow b (name_of u)) facts)
-  borrowed b o u n becomes unused borrows named plain less designates allowed =
+  borrowed b o u r n becomes unused borrows named plain less designates allowed =
       let act : Act = Borrow b (name_of u) in
-      rebound home observer other v t b o u (All u) n becomes s facts (effect act facts) viewed unused
+      rebound home observer other v t b o u (on (All u) r) n becomes s facts (effect act facts) viewed unused
       (stays act (λ m. refl)) (loan_kept act facts (λ l h k. refl))
       (clear_borrow observer facts viewed.clear b (name_of u) allowed)
       (λ w e. record {
-        named = named;
+        named = named_on home (All u) r named;
         leads = sym (designates w e).0;
-        begins = inr (under_itself u);
-        deep = λ d. d;
-        plain = plain;
-        older = λ is. less;
+        begins = designated_begins u r;
+        deep = on_deep (All u) r (λ d. d);
+        plain = ap observer (root_on (All u) r) ∙ plain;
+        older = λ is. subst (λ z. z < b) (sym (root_on (All u) r)) less;
         lent = subst (λ z. HasLoan observer z b (effect act facts) (name_of u)) (sym borrows)
             (Has-append_right (filter (λ g. not (removes act g)) facts) (Lent Borrowed b (name_of u) ∷ []) (Lent Borrowed b (name_of u)) (inl refl));
         reaches = (designates w e).1;
       })
 
-  pub observed : (b : ℕ) (o : Option Way) (u : Way) (n : ℕ) → Becomes v t b o u (All u) n → observer b ≡ true
-      → Named home u → observer (number_of u) ≡ false → Designates o u n → Allows facts (Observe b (name_of u) false)
+  pub observed : (b : ℕ) (o : Option Way) (u : Way) (r : List Go) (n : ℕ) → Becomes v t b o u (on (All u) r) n → observer b ≡ true
+      → Named home u → observer (number_of u) ≡ false → LeadsTo o (on (All u) r) n → Allows facts (Observe b (name_of u) false)
       → Viewed home observer other t s (effect (Observe b (name_of u) false) facts)
-  observed b o u n becomes observes named plain designates allowed =
+  observed b o u r n becomes observes named plain designates allowed =
       let act : Act = Observe b (name_of u) false in
-      rebound home observer other v t b o u (All u) n becomes s facts (effect act facts) viewed (observer_unused b observes)
+      rebound home observer other v t b o u (on (All u) r) n becomes s facts (effect act facts) viewed (observer_unused b observes)
       (stays act (λ m. refl)) (loan_kept act facts (λ l h k. refl))
       (clear_observe observer facts viewed.clear b (name_of u) false allowed)
       (λ w e. record {
-        named = named;
+        named = named_on home (All u) r named;
         leads = sym (designates w e).0;
-        begins = inr (under_itself u);
-        deep = λ d. d;
-        plain = plain;
+        begins = designated_begins u r;
+        deep = on_deep (All u) r (λ d. d);
+        plain = ap observer (root_on (All u) r) ∙ plain;
         older = λ is. absurd (true_false (observer b) observes is);
         lent = subst (λ z. HasLoan observer z b (effect act facts) (name_of u)) (sym observes)
             (b, Has-append_right (filter (λ g. not (removes act g)) facts) (Lent Observed b (name_of u) ∷ []) (Lent Observed b (name_of u)) (inl refl), observes);
         reaches = (designates w e).1;
       })
 
-  -- what an observer sees that belongs to another frame
-  passed_on : (b : ℕ) (o : Option Way) (u : Way) (n : ℕ) (l : Lifted v (All u)) → IsPassed home observer v s l.object l.way → (loan up : Way)
-      (becomes : Becomes v t b o loan up n) → observer b ≡ true → Designates o u n → (w : Way) → o ≡ Some w → FitsPassed home observer other v t b o loan up n becomes s w
-  passed_on b o u n l passed loan up becomes observes designates w e =
-      let stands : w ≡ on l.way l.rest = (designates w e).0 ∙ lifted_way v (All u) l in
+  -- what an observer sees that the frame was given
+  passed_on : (b : ℕ) (o : Option Way) (k : Way) (n : ℕ) (l : Lifted v k) → IsPassed home observer v s l.object l.way → observer l.object ≡ true
+      → (becomes : Becomes v t b o (v.loan l.object) (next_of v k l) n) → observer b ≡ true → LeadsTo o k n → (w : Way) → o ≡ Some w
+      → FitsPassed home observer other v t b o (v.loan l.object) (next_of v k l) n becomes s w
+  passed_on b o k n l passed sees becomes observes designates w e =
+      let stands : w ≡ on l.way l.rest = (designates w e).0 ∙ lifted_way v k l in
+      let under : Under l.way w = subst (Under l.way) (sym stands) (on_under l.way l.rest) in
       record {
         sees = observes;
         foreign = (passed.foreign.0, passed.foreign.1, ap base_of stands ∙ base_on l.way l.rest ∙ passed.foreign.2, passed.foreign.3);
+        given = λ named. passed.given (on_named home (v.up l.object) l.rest named);
+        alone = λ x z has plain given meets. elim (viewed.views x z has) [
+          | inl view ↦ given view.named
+          | inr first ↦ first.alone plain l.object l.way l.has (λ same. true_false (observer l.object) sees (ap observer same ∙ plain)) passed.given
+              (meets_front l.way w z under meets)
+        ];
         reaches = (designates w e).1;
-        whole = λ z gone meets. viewed.whole l.object l.way z l.has passed.foreign gone
-            (nearer z (subst (λ k. Under z k ⊎ Under k z) stands meets));
+        whole = λ z gone meets. viewed.whole l.object l.way z l.has passed.foreign gone (meets_front l.way w z under meets);
       }
-    where
-      nearer : (z : Way) → Under z (on l.way l.rest) ⊎ Under (on l.way l.rest) z → Under z l.way ⊎ Under l.way z
-      nearer z (inl above) = beginnings z l.way (on l.way l.rest) above (on_under l.way l.rest)
-      nearer z (inr below) = inr (under_on l.way (on l.way l.rest) z (on_under l.way l.rest) below)
 
-  -- an observer of what another frame's belongs to takes a loan, which serves for nothing
-  pub observed_passed : (b : ℕ) (o : Option Way) (u loan up : Way) (n : ℕ) (l : Lifted v (All u)) → IsPassed home observer v s l.object l.way
-      → Becomes v t b o loan up n → observer b ≡ true → Designates o u n → (seen : Bool) → Allows facts (Observe b (name_of u) seen)
-      → Viewed home observer other t s (effect (Observe b (name_of u) seen) facts)
-  observed_passed b o u loan up n l passed becomes observes designates seen allowed =
-      let act : Act = Observe b (name_of u) seen in
-      rebound_any home observer other v t b o loan up n becomes s facts (effect act facts) viewed (observer_unused b observes)
-      (stays act (λ m. refl)) (loan_kept act facts (λ k h z. refl)) (clear_observe observer facts viewed.clear b (name_of u) seen allowed)
-      (λ w e. inr (passed_on b o u n l passed loan up becomes observes designates w e))
+  -- an observer of what the frame was given takes a loan, which serves for nothing
+  pub observed_passed : (b : ℕ) (o : Option Way) (m : Name) (k : Way) (n : ℕ) (l : Lifted v k) → IsPassed home observer v s l.object l.way → observer l.object ≡ true
+      → Becomes v t b o (v.loan l.object) (next_of v k l) n → observer b ≡ true → LeadsTo o k n → (seen : Bool) → Allows facts (Observe b m seen)
+      → Viewed home observer other t s (effect (Observe b m seen) facts)
+  observed_passed b o m k n l passed sees becomes observes designates seen allowed =
+      let act : Act = Observe b m seen in
+      rebound_any home observer other v t b o (v.loan l.object) (next_of v k l) n becomes s facts (effect act facts) viewed (observer_unused b observes)
+      (stays act (λ z. refl)) (loan_kept act facts (λ l h z. refl)) (clear_observe observer facts viewed.clear b m seen allowed)
+      (λ w e. inr (passed_on b o k n l passed sees becomes observes designates w e))
 
   -- what another observer sees: its loan serves
-  own_again : (b : ℕ) (o : Option Way) (u : Way) (n : ℕ) (l : Lifted v (All u)) → IsView home observer v s facts l.object l.way → observer l.object ≡ true
-      → Becomes v t b o (v.loan l.object) (next_of v (All u) l) n → observer b ≡ true → Named home u → Designates o u n
-      → (seen : Bool) → Allows facts (Observe b (name_of u) seen) → Viewed home observer other t s (effect (Observe b (name_of u) seen) facts)
-  own_again b o u n l view sees becomes observes named designates seen allowed =
-      let act : Act = Observe b (name_of u) seen in
-      let on = next home observer v s facts viewed.views (All u) l view named in
+  own_again : (b : ℕ) (o : Option Way) (m : Name) (k : Way) (n : ℕ) (l : Lifted v k) → IsView home observer v s facts l.object l.way → observer l.object ≡ true
+      → Becomes v t b o (v.loan l.object) (next_of v k l) n → observer b ≡ true → Named home k → LeadsTo o k n
+      → (seen : Bool) → Allows facts (Observe b m seen) → Viewed home observer other t s (effect (Observe b m seen) facts)
+  own_again b o m k n l view sees becomes observes named designates seen allowed =
+      let act : Act = Observe b m seen in
+      let on = next home observer v s facts viewed.views k l view named in
       let loan = subst (λ z. HasLoan observer z l.object facts (name_of (v.loan l.object))) sees view.lent in
-      rebound home observer other v t b o (v.loan l.object) (next_of v (All u) l) n becomes s facts (effect act facts) viewed (observer_unused b observes)
-      (stays act (λ m. refl)) (loan_kept act facts (λ k h z. refl))
-      (clear_observe observer facts viewed.clear b (name_of u) seen allowed)
+      rebound home observer other v t b o (v.loan l.object) (next_of v k l) n becomes s facts (effect act facts) viewed (observer_unused b observes)
+      (stays act (λ z. refl)) (loan_kept act facts (λ l h z. refl))
+      (clear_observe observer facts viewed.clear b m seen allowed)
       (λ w e. record {
         named = on.plain.0;
         leads = on.same ∙ sym (designates w e).0;
@@ -277,12 +328,12 @@ module _ (home : ℕ → ℕ) (observer : ℕ → Bool) (other : Around home) (v
         reaches = (designates w e).1;
       })
 
-  pub observed_again : (b : ℕ) (o : Option Way) (u : Way) (n : ℕ) (l : Lifted v (All u)) → observer l.object ≡ true
-      → Becomes v t b o (v.loan l.object) (next_of v (All u) l) n → observer b ≡ true → Named home u → Designates o u n
-      → (seen : Bool) → Allows facts (Observe b (name_of u) seen) → Viewed home observer other t s (effect (Observe b (name_of u) seen) facts)
-  observed_again b o u n l sees becomes observes named designates seen allowed = elim (viewed.views l.object l.way l.has) [
-    | inl view ↦ own_again b o u n l view sees becomes observes named designates seen allowed
-    | inr passed ↦ observed_passed b o u (v.loan l.object) (next_of v (All u) l) n l passed becomes observes designates seen allowed
+  pub observed_again : (b : ℕ) (o : Option Way) (m : Name) (k : Way) (n : ℕ) (l : Lifted v k) → observer l.object ≡ true
+      → Becomes v t b o (v.loan l.object) (next_of v k l) n → observer b ≡ true → Named home k → LeadsTo o k n
+      → (seen : Bool) → Allows facts (Observe b m seen) → Viewed home observer other t s (effect (Observe b m seen) facts)
+  observed_again b o m k n l sees becomes observes named designates seen allowed = elim (viewed.views l.object l.way l.has) [
+    | inl view ↦ own_again b o m k n l view sees becomes observes named designates seen allowed
+    | inr passed ↦ observed_passed b o m k n l passed sees becomes observes designates seen allowed
   ]
 
   -- no name that is rooted in an object that is reborrowed was moved, or is lent
@@ -311,18 +362,18 @@ module _ (home : ℕ → ℕ) (observer : ℕ → Bool) (other : Around home) (v
           (allowed (Lent Borrowed x (name_of loan)) has)
 
   -- a borrower goes on from where it is
-  pub reborrowed : (b : ℕ) (o : Option Way) (u : Way) (n : ℕ) (l : Lifted v (All u)) → l.object ≡ b
-      → Becomes v t b o (v.loan l.object) (next_of v (All u) l) n → observer b ≡ false → Named home u → Designates o u n
-      → Allows facts (Reborrow b (name_of u)) → Viewed home observer other t s (effect (Reborrow b (name_of u)) facts)
-  reborrowed b o u n l same becomes borrows named designates allowed =
-      let act : Act = Reborrow b (name_of u) in
+  pub reborrowed : (b : ℕ) (o : Option Way) (m : Name) (k : Way) (n : ℕ) (l : Lifted v k) → l.object ≡ b
+      → Becomes v t b o (v.loan l.object) (next_of v k l) n → observer b ≡ false → Named home (v.up l.object) → Named home k → LeadsTo o k n
+      → Allows facts (Reborrow b m) → Viewed home observer other t s (effect (Reborrow b m) facts)
+  reborrowed b o m k n l same becomes borrows own named designates allowed =
+      let act : Act = Reborrow b m in
       let is : observer l.object ≡ false = ap observer same ∙ borrows in
-      let view = own_view home observer v s facts viewed.views l.object l.way l.has is in
-      let on = next home observer v s facts viewed.views (All u) l view named in
+      let view = own_of l.object l.way l.has own in
+      let on = next home observer v s facts viewed.views k l view named in
       let loan = subst (λ z. HasLoan observer z l.object facts (name_of (v.loan l.object))) is view.lent in
-      rebound home observer other v t b o (v.loan l.object) (next_of v (All u) l) n becomes s facts (effect act facts) viewed
-      (reborrow_unused b (name_of u) allowed)
-      (stays act (λ m. refl)) (loan_kept act facts (λ k h z. refl))
+      rebound home observer other v t b o (v.loan l.object) (next_of v k l) n becomes s facts (effect act facts) viewed
+      (reborrow_unused b m allowed)
+      (stays act (λ z. refl)) (loan_kept act facts (λ l h z. refl))
       (clear_same observer facts viewed.clear act refl)
       (λ w e. record {
         named = on.plain.0;
@@ -330,7 +381,7 @@ module _ (home : ℕ → ℕ) (observer : ℕ → Bool) (other : Around home) (v
         begins = on.loan;
         deep = on_deep (v.up l.object) l.rest view.deep;
         plain = on.plain.1;
-        older = λ z. subst (λ y. number_of (next_of v (All u) l) < y) same (on.less is);
+        older = λ z. subst (λ y. number_of (next_of v k l) < y) same (on.less is);
         lent = subst (λ z. HasLoan observer z b (effect act facts) (name_of (v.loan l.object))) (sym borrows)
             (subst (λ z. Has (effect act facts) (Lent Borrowed z (name_of (v.loan l.object)))) same
             (kept_fact act facts (Lent Borrowed l.object (name_of (v.loan l.object))) loan refl));

@@ -3,7 +3,7 @@ use Rattle.std.proofs.Common.{◌≡◌, refl, sym, ap, ◌∙◌, subst, ◌⊎
 use Rattle.place_names.specs.Names.{overlaps}
 use Rattle.owned_ways.specs.Ways.{Root, OfVariable, OfHand, Way, Object, Lost, Into, All, Under, Named, base_of, number_of, name_of}
 use Rattle.owned_ways.proofs.Locations.{depth, under_depth, under_itself}
-use Rattle.owned_ways.proofs.Named.{under_overlaps, under_front}
+use Rattle.owned_ways.proofs.Named.{longer, under_overlaps, under_front}
 use Rattle.owned_loans.specs.Views.{Go, Part, Down, go, on, Views, expand_root, way_at, expand, IsObject}
 
 -- ---- beginnings of ways
@@ -37,6 +37,14 @@ under_on a b (All c) u w = elim w [ inl e ↦ subst (Under a) e u | inr w ↦ in
 -- what begins one way meets what the way meets
 pub meets_on : (a x b : Way) → Under a x → Meet x b → Meet a b
 meets_on a x b u m = elim m [ inl w ↦ inl (under_on a x b u w) | inr w ↦ beginnings a b x u w ]
+
+-- what meets a way meets what begins it
+pub meets_front : (a w z : Way) → Under a w → Meet z w → Meet z a
+meets_front a w z u m = elim m [ inl above ↦ beginnings z a w above u | inr below ↦ inr (under_on a w z u below) ]
+
+-- ways that meet begin at one root
+pub meet_base : (a b : Way) → Meet a b → base_of a ≡ base_of b
+meet_base a b m = elim m [ inl u ↦ sym (longer a b u).base | inr u ↦ (longer b a u).base ]
 
 -- ways that meet have names that overlap
 pub meet_overlaps : (a b : Way) → Meet a b → overlaps (name_of a) (name_of b) ≡ true

@@ -1,13 +1,13 @@
 -- Borrowers and observers of a frame, the ways of owners that their names stand for, and what holds
 -- of them between two acts.
-use Rattle.std.specs.Prelude.{◌≡◌, ◌⊎◌, ◌<◌, ℕ, ◌==◌, Bool, true, false, List, [], ◌∷◌, Option, Some, None, if◌then◌else◌}
+use Rattle.std.specs.Prelude.{◌≡◌, ◌⊎◌, ◌<◌, ℕ, ◌==◌, Bool, true, false, List, [], ◌∷◌, Option, Some, None, if◌then◌else◌, ◌++◌}
 use Rattle.spark_base.specs.Lists.{Has}
 use Rattle.place_names.specs.declared.fact.Fact.{Fact}
 use Rattle.place_names.specs.declared.fact.Fact.TheVariants.{Moved, Lent}
 use Rattle.place_names.specs.declared.rule.Loan.{Loan}
 use Rattle.place_names.specs.declared.rule.Loan.TheVariants.{Borrowed, Observed}
 use Rattle.place_names.specs.Names.{Name, overlaps}
-use Rattle.owned_ways.specs.Ways.{Step, Root, OfVariable, OfHand, OfRoot, OfCell, Way, Object, Lost, Into, All, View, Reaches, Under, Owned, Covered, Known, Named, IsMoved, name_of, number_of, base_of}
+use Rattle.owned_ways.specs.Ways.{Step, Loc, Root, OfVariable, OfHand, OfRoot, OfCell, Way, Object, Lost, Into, All, View, Reaches, Under, Past, Owned, Covered, Known, Named, IsMoved, name_of, number_of, base_of, Held, part, along}
 
 -- ---- how a way goes on
 
@@ -71,7 +71,7 @@ IsThrough home lent l w = (k : Way) × Named home k × Under k w × lent l (name
 -- What concerns a frame of others: which places that it may name are lent to them, which ways are
 -- gone for them, and those of them that go on from a place that they have borrowed, and the ways of
 -- their views with the cells that they lead to. These begin at variables of others, or go on from a
--- place that is lent.
+-- place that is lent. Parts of those cells, and of variables, are bare: what they had was taken.
 pub record Around (home : ℕ → ℕ) : Type 1 where
   pub lent : Loan → Name → Type 0
   pub gone : Way → Type 0
@@ -80,6 +80,11 @@ pub record Around (home : ℕ → ℕ) : Type 1 where
   pub kept : Way → ℕ → Type 0
   pub begins : (w : Way) (n : ℕ) → kept w n
       → (f : ℕ) × (x : ℕ) × (base_of w ≡ OfRoot (OfVariable f x)) × ((f ≡ home x → ⊥) ⊎ ((l : Loan) × IsThrough home lent l w))
+  pub bare : Way → Loc → List Step → Type 0
+  pub rests : (w : Way) (l : Loc) (p : List Step) → bare w l p → ((n : ℕ) × kept w n × (l ≡ OfCell n)) ⊎ ((r : Root) × (w ≡ Object r) × (l ≡ OfRoot r))
+  pub bares : (w : Way) (l : Loc) (p : List Step) → bare w l p
+      → (f : ℕ) × (x : ℕ) × (base_of w ≡ OfRoot (OfVariable f x)) × ((f ≡ home x → ⊥) ⊎ ((k : Loan) × IsThrough home lent k (along w p)))
+  pub emptied : (w : Way) (l : Loc) (p : List Step) → bare w l p → (q : List Step) → gone (along w (q ++ p)) ⊎ away (along w (q ++ p))
 
 -- Others have no views.
 abbrev pub known_gone : (home : ℕ → ℕ) → (Way → Type 0) → Around home
@@ -90,6 +95,10 @@ known_gone home gone = record {
   through = λ w none. absurd none;
   kept = λ w n. ⊥;
   begins = λ w n none. absurd none;
+  bare = λ w l p. ⊥;
+  rests = λ w l p none. absurd none;
+  bares = λ w l p none. absurd none;
+  emptied = λ w l p none q. absurd none;
 }
 
 -- A way is moved by a fact, or is gone for others that have borrowed the place that it goes on from.
@@ -130,11 +139,14 @@ pub record IsView (home : ℕ → ℕ) (observer : ℕ → Bool) (v : Views) (s 
 abbrev pub IsForeign : (ℕ → ℕ) → Way → Type 0
 IsForeign home w = (f : ℕ) × (y : ℕ) × (base_of w ≡ OfRoot (OfVariable f y)) × (f ≡ home y → ⊥)
 
--- A view that sees what belongs to another frame: a formal that nothing is changed through, or what
--- was taken from one. It needs no loan of its own frame.
+-- A view that the frame was given, of what belongs to another frame: a formal that owns nothing, or
+-- what was observed through one. It needs no loan of its own frame. What it designates is changed
+-- through it alone, and no other view that was given meets its way; or nothing is changed through it.
 pub record IsPassed (home : ℕ → ℕ) (observer : ℕ → Bool) (v : Views) (s : View) (x : ℕ) (w : Way) : Type 0 where
-  pub sees : observer x ≡ true
   pub foreign : IsForeign home w
+  pub given : Named home (v.up x) → ⊥
+  pub alone : observer x ≡ false
+      → (y : ℕ) (u : Way) → v.way y ≡ Some u → (y ≡ x → ⊥) → (Named home (v.up y) → ⊥) → Under w u ⊎ Under u w → ⊥
   pub reaches : Reaches s w (OfCell (v.cell x))
 
 abbrev pub AreViews : (ℕ → ℕ) → (ℕ → Bool) → Views → View → List Fact → Type 0
@@ -157,8 +169,13 @@ pub record Viewed (home : ℕ → ℕ) (observer : ℕ → Bool) (other : Around
   pub views : AreViews home observer v s facts
   -- nothing that is gone for others meets what a view of theirs sees
   pub whole : (x : ℕ) (w z : Way) → v.way x ≡ Some w → IsForeign home w → other.gone z → Under z w ⊎ Under w z → ⊥
+  -- no view of others goes by what is changed through a view that was given
+  pub past : (x : ℕ) (w : Way) → v.way x ≡ Some w → (Named home (v.up x) → ⊥) → observer x ≡ false
+      → (k : Way) (n : ℕ) → other.kept k n → Past w k → ⊥
   pub lends : (l : Loan) (n : Name) → other.lent l n → IsLentToOthers observer v facts l n
   pub far : (w : Way) (n : ℕ) → other.kept w n → Reaches s w (OfCell n)
+  -- no number stands in what is bare
+  pub bare : (w : Way) (l : Loc) (p : List Step) → other.bare w l p → (q : List Step) (c : ℕ) → s.word (part l (q ++ p)) ≡ Held c → ⊥
 
 -- ---- a view gets a value
 
@@ -186,4 +203,4 @@ with_view v b way loan up cell = record {
 pub record Unused (home : ℕ → ℕ) (lent : Loan → Name → Type 0) (v : Views) (facts : List Fact) (b : ℕ) : Type 0 where
   pub unmoved : (n : Name) → Has facts (Moved n) → n.root ≡ b → ⊥
   pub unlent : (l : Loan) (n : Name) → lent l n → n.root ≡ b → ⊥
-  pub untaken : (x : ℕ) (w : Way) → v.way x ≡ Some w → Named home w → (x ≡ b → ⊥) → number_of (v.up x) ≡ b → ⊥
+  pub untaken : (x : ℕ) (w : Way) → v.way x ≡ Some w → Named home (v.up x) → (x ≡ b → ⊥) → number_of (v.up x) ≡ b → ⊥

@@ -1,6 +1,6 @@
 -- The actuals of typed calls stay within what they name; and where no object is a formal, there is
 -- nothing to ask.
-use Rattle.std.proofs.Common.{◌≡◌, refl, sym, ap, ◌∙◌, subst, inl, inr, ℕ, Bool, true, false, List, [], ◌∷◌}
+use Rattle.std.proofs.Common.{◌≡◌, refl, ap, ◌∙◌, subst, inl, inr, ℕ, Bool, true, List, [], ◌∷◌}
 use Rattle.spark_base.specs.Lists.{Has}
 use Rattle.place_names.specs.declared.act.Mode.{Mode}
 use Rattle.place_names.specs.declared.act.Mode.TheVariants as mode
@@ -9,7 +9,7 @@ use Rattle.type_definitions.specs.declared.table.Shape.TheVariants as shape
 use Rattle.type_definitions.specs.Entries.{integer, boolean}
 use Rattle.type_definitions.specs.Types.{shape_of, words, words_of, full, view_of, is_scalar}
 use Rattle.typed_tree.specs.Trees.{TypedTree, Name, Call, Parens, More}
-use Rattle.flow_paths.specs.Objects.{Typing, Signature, object_at, sub_at, is_formal}
+use Rattle.flow_paths.specs.Objects.{Typing, Signature, object_at, sub_at}
 use Rattle.flow_paths.specs.Laid.{FlowProgram, flow_typing}
 use Rattle.machine.specs.States.{sub_of}
 use Rattle.typed_laws.specs.Fine.{Agree, counts, lists}
@@ -66,9 +66,6 @@ module _ (y : Typing) (whole : counts (shape_of y.table integer) ≡ true) (list
   actuals_stay (x ∷ formals) actuals plain taken = absurd taken
 
 module _ (program : FlowProgram) where
-  abbrev s : Typing
-  s = flow_typing program
-
   -- where typing finds no fault
   pub typed_passed : counts (shape_of program.table integer) ≡ true → lists (shape_of program.table boolean) ≡ true
       → ((t : ℕ) → words program.table t ≡ words_of (words program.table) (shape_of program.table t)) → AreTyped program → ArePassed program
@@ -78,11 +75,3 @@ module _ (program : FlowProgram) where
       subst (λ fs. AreActuals (flow_typing program) fs actuals) same
       (actuals_stay (flow_typing program) whole listed word_law (sub_at (flow_typing program) n).formals actuals
       (λ x formal. plain x (subst (λ fs. Has fs x) same formal)) call.0)
-
-  -- where there are no formals
-  pub formless_passed : ((x : ℕ) → is_formal (flow_typing program) x ≡ false) → ArePassed program
-  formless_passed none sub has p there n actuals result is known plain = by_formals (sub_of program n).formals known
-    where
-      by_formals : (formals : List ℕ) → ((x : ℕ) → Has formals x → is_formal (flow_typing program) x ≡ true) → AreActuals (flow_typing program) formals actuals
-      by_formals [] known = tt
-      by_formals (x ∷ formals) known = absurd (let no : true ≡ false = sym (known x (inl refl)) ∙ none x in cc)

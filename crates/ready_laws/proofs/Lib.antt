@@ -1,8 +1,6 @@
-pub mod Temporaries
-pub mod Moves
-pub mod Facts
 pub mod Elaborated
 pub mod Subs
+pub mod Silent
 pub mod Returned
 pub mod Actuals
 pub mod Ready

@@ -1,15 +1,12 @@
--- An accepted program of the third class whose subprograms are in order is ready; so is one of the second class.
+-- What the layout of an accepted program has to say, if its subprograms are in order: scopes, the package objects,
+-- returns, and what is called.
 use Rattle.std.proofs.Common.{◌≡◌, refl, sym, ap, ◌∙◌, subst, ◌⊎◌, inl, inr, ℕ, zero, suc, ◌≤◌, ◌<◌, Bool, true, false, ◌||◌, List, [], ◌∷◌, ◌++◌, map, drop, length, get_or, arith, Option, None, Some, is_some}
 use Rattle.std.specs.Prelude.{reverse}
 use Rattle.std.specs.List.{AllByRecursion}
 use Rattle.std.proofs.lemmas.List.{length-map}
 use Rattle.spark_base.specs.Lists.{Has}
 use Rattle.spark_base.proofs.Lists.{Has-append_right, Has-map, Has-map_from}
-use Rattle.place_names.specs.declared.act.Placed.{Placed}
-use Rattle.place_names.specs.declared.fact.Fact.TheVariants.{Moved}
-use Rattle.place_names.specs.Facts.{adds}
-use Rattle.place_names.specs.Names.{Name as PlaceName}
-use Rattle.type_definitions.specs.Types.{Table, full, is_scalar, is_owning}
+use Rattle.type_definitions.specs.Types.{Table}
 use Rattle.typed_tree.specs.Trees.{TypedTree, Name}
 use Rattle.typed_tree.specs.declared.object.Object.{Object}
 use Rattle.typed_tree.specs.Programs.{TypedSub, TypedProgram, text_io}
@@ -17,21 +14,21 @@ use Rattle.flow_paths.specs.declared.report.Effects.{Effects}
 use Rattle.flow_paths.specs.Instructions.{Instruction, Declare, Assign, Call, Input, Release, Evaluate, EndScope, Finish}
 use Rattle.flow_paths.specs.Objects.{Typing, object_at, is_formal, is_package_object}
 use Rattle.flow_paths.specs.Points.{NamedPoint, FlowPoint}
-use Rattle.flow_paths.specs.Laid.{Temporary, temporary_object, FlowSub, FlowProgram, NamedSub, unnumbered, named_sub, named_subs, elaborated, all_named, sub_temporaries, kept_roots, sub_facts, sub_points, elaboration_points, number_in, flow_sub, typing_of, flow_typing, flow_program, flow_named}
-use Rattle.flow_paths.specs.Paths.{ControlPath, facts_before}
+use Rattle.flow_paths.specs.Laid.{Temporary, temporary_object, FlowSub, FlowProgram, NamedSub, unnumbered, named_sub, named_subs, elaborated, all_named, sub_temporaries, sub_points, elaboration_points, number_in, flow_sub, typing_of, flow_typing, flow_program, flow_named}
+use Rattle.flow_paths.specs.Paths.{ControlPath}
 use Rattle.machine.specs.Run.{no_point}
 use Rattle.flow_paths.specs.Effects.{path_points}
 use Rattle.flow_paths.specs.Scopes.{is_within, is_ready, is_settled, is_temporary, taken}
 use Rattle.machine.specs.States.{sub_of}
 use Rattle.machine.specs.Typed.{successors}
 use Rattle.soundness.specs.Typed.{OwnsByShape}
-use Rattle.soundness.specs.Sound.{Accepted, IsProcedureClass, IsFunctionClass, IsNamedSub, IsProcedure, IsNoCall, calls_procedures, IsRunnable, IsEntered, is_temporary_object, temporaries_in, returns_value, has_returned}
-use Rattle.soundness.specs.Ready.{root_of, stored_at, AreScoped, AreNew, AreElaborated, AreCalled, IsReady, Fills, IsSupplied, AreReturning}
-use Rattle.soundness.proofs.Points.{IsLaid, flow_at, typing_same, sub_there, named_has}
-use Rattle.soundness.proofs.Typings.{Agree, flow_agrees, package_same, formal_same, instruction_same}
-use Rattle.soundness.proofs.Passing.{plain_type}
+use Rattle.soundness.specs.Sound.{Accepted, IsNamedSub, IsProcedure, calls_procedures, IsRunnable, IsEntered, is_temporary_object, temporaries_in, returns_value, has_returned}
+use Rattle.soundness.specs.Ready.{root_of, stored_at, AreScoped, Fills, IsSupplied, AreReturning}
+use Rattle.soundness.proofs.Points.{IsLaid, flow_at, sub_there, named_has}
+use Rattle.soundness.proofs.Typings.{Agree, flow_agrees, package_same, formal_same}
 use Rattle.scope_laws.specs.Code.{objects_of, roots, are_seen}
 use Rattle.scope_laws.specs.Order.{IsCounted, IsOrdered, named_in, IsSeen}
+use Rattle.scope_laws.specs.Returning.{IsClosing}
 use Rattle.scope_laws.proofs.Lists.{and_first, and_second, all_has, has_reverse, within_has}
 use Rattle.scope_laws.proofs.Successors.{sub_counted, has_first}
 use Rattle.scope_laws.proofs.Ordered.{sub_ordered, package_ordered}
@@ -42,14 +39,11 @@ use Rattle.scope_laws.proofs.Left.{sub_left}
 use Rattle.scope_laws.proofs.Filled.{temporaries_of}
 use Rattle.scope_laws.proofs.Temporaries.{named_supplied, named_goes}
 use Rattle.scope_laws.proofs.Returning.{function_stands, function_zero}
-use Rattle.ready_laws.specs.InOrder.{IsSub, IsInOrder, AreCallees, AreAnswered, AreStill, ArePassed}
-use Rattle.ready_laws.proofs.Temporaries.{few_temporaries}
-use Rattle.ready_laws.proofs.Moves.{instruction_owned}
-use Rattle.ready_laws.proofs.Facts.{AreScalarCalls, new_there}
-use Rattle.ready_laws.proofs.Returned.{valued, returned_once}
-use Rattle.ready_laws.proofs.Elaborated.{Declares, package_declares, owns_none}
+use Rattle.ready_laws.specs.InOrder.{IsSub, IsInOrder, AreAnswered, AreStill, ArePassed}
+use Rattle.ready_laws.proofs.Returned.{valued, returned_once, closing_after}
+use Rattle.ready_laws.proofs.Elaborated.{Declares, package_declares}
 use Rattle.ready_laws.proofs.Subs.{setting_from, IsOfBody, named_cases, body_at, one_named}
-use Rattle.soundness.proofs.Successors.{third_class, no_temporary, not_true}
+use Rattle.soundness.proofs.Successors.{not_true}
 use Rattle.flow_paths.specs.Names.{has_call}
 
 -- ---- what instructions name
@@ -60,7 +54,7 @@ root_in (Name p y steps t) x (inl e) = inl e
 root_in (Name p y steps t) x (inr never) = absurd never
 root_in _ x has = absurd has
 
-stored_named : (i : Instruction) (x : ℕ) → Has (stored_at i) x → Has (named_in i) x
+pub stored_named : (i : Instruction) (x : ℕ) → Has (stored_at i) x → Has (named_in i) x
 stored_named (Assign target e) x has = Has-append_right (roots e) (roots target) x (root_in target x has)
 stored_named (Input target) x has = root_in target x has
 stored_named (Release e) x has = root_in e x has
@@ -368,21 +362,11 @@ module _ (table : Table) (typed : TypedProgram) (effects : Effects) (accepted : 
         ap (λ m. is_some (sub_of program m).result) found.2 ∙ (ap is_some (result_at found.0 found.1 found.3) ∙ found.4),
       )
 
+  pub main_result : (sub_of program (suc order.number)).result ≡ None
+  main_result = result_at order.number order.main order.stands ∙ order.procedure
+
   pub text_io_there : is_package_object s 0 ≡ false
   text_io_there = package_same s own alike 0 ∙ order.text_io
-
-  pub are_called : ((x : ℕ) → is_formal s x ≡ true → is_scalar (full s.table (object_at s x).of) ≡ true) → AreCalled table typed
-  are_called plain sub has p there n actuals result is =
-      let found = answered sub has p there n actuals result is in
-      let known = formals_known sub has p there n actuals result is in
-      record {
-        runs = subst (IsRunnable table typed) (sym found.2)
-            (is_runnable found.0 found.1 found.3 (inr (sub, has, p, there, actuals, result, is ∙ ap (λ m. Call m actuals result) found.2)));
-        answers = ap (λ m. is_some (sub_of program m).result) found.2 ∙ (ap is_some (result_at found.0 found.1 found.3) ∙ found.4);
-        formals = known;
-        actuals_stay = passed sub has p there n actuals result is known (λ x formal. plain x (known x formal));
-        text_io = package_same s own alike 0 ∙ order.text_io;
-      }
 
   pub main_is : program.main ≡ Some (suc order.number)
   unfolding flow_program
@@ -411,7 +395,26 @@ module _ (table : Table) (typed : TypedProgram) (effects : Effects) (accepted : 
       (accepted.fine (flow_sub own named) (in_program named here) (flow_at own named p) (Has-map (λ (q : NamedPoint). flow_at own named q) named.points p there)))
       before last (subst (λ (z : FlowSub). ControlPath (path_points program effects z) before last) is path))
 
-  entered_body : (k : ℕ) → IsEntered program k → (j : ℕ) × (sub : TypedSub) × (k ≡ suc j) × IsSub order.rest j sub
+  abbrev IsClosed : ℕ → Type 0
+  IsClosed k =
+      is_some (sub_of program k).result ≡ true → (before : List ℕ) (last : ℕ) → ControlPath (path_points program effects (sub_of program k)) before last
+      → has_returned (sub_of program k) before ≡ true → IsClosing (get_or (sub_of program k).points last no_point).instr
+
+  -- and after a return it only ends
+  body_closed : (k : ℕ) (sub : TypedSub) → IsSub order.rest k sub → IsClosed (suc k)
+  body_closed k sub is_sub some before last path =
+      let named : NamedSub = body_named k sub is_sub in
+      let here : Has (flow_named table typed) named = named_has (flow_named table typed) (suc k) named (body_stands k sub is_sub) in
+      let is : sub_of program (suc k) ≡ flow_sub own named = is_there k sub is_sub in
+      let function : is_some sub.result ≡ true = sym (ap is_some (result_at k sub is_sub)) ∙ some in
+      let setting = setting_from own (at_number k sub is_sub).0 sub in
+      subst (λ (z : FlowSub). has_returned z before ≡ true → IsClosing (get_or z.points last no_point).instr) (sym is)
+      (closing_after table typed effects s named (laid named here) (function_stands setting sub function) (function_zero setting sub function)
+      (λ p there. valued s sub.result p.instr function
+      (accepted.fine (flow_sub own named) (in_program named here) (flow_at own named p) (Has-map (λ (q : NamedPoint). flow_at own named q) named.points p there)))
+      before last (subst (λ (z : FlowSub). ControlPath (path_points program effects z) before last) is path))
+
+  pub entered_body : (k : ℕ) → IsEntered program k → (j : ℕ) × (sub : TypedSub) × (k ≡ suc j) × IsSub order.rest j sub
   entered_body k (inl main) =
       let same_number : Some k ≡ Some (suc order.number) = sym main ∙ main_is in
       let number : k ≡ suc order.number = cc in
@@ -423,6 +426,11 @@ module _ (table : Table) (typed : TypedProgram) (effects : Effects) (accepted : 
   are_returning k entered =
       let body = entered_body k entered in
       subst IsReturning (sym body.2) (body_returning body.0 body.1 body.3)
+
+  pub are_closed : (k : ℕ) → IsEntered program k → IsClosed k
+  are_closed k entered =
+      let body = entered_body k entered in
+      subst IsClosed (sym body.2) (body_closed body.0 body.1 body.3)
 
   -- ---- the package objects and the main procedure
 
@@ -441,9 +449,6 @@ module _ (table : Table) (typed : TypedProgram) (effects : Effects) (accepted : 
       Has-map_from (λ (q : NamedPoint). flow_at own packages q) packages.points p
       (subst (λ (z : FlowSub). Has z.points p) (sub_there table typed 0 packages packages_stand) has)
 
-  no_call_here : (x : ℕ) (v : TypedTree) (n : ℕ) (actuals : TypedTree) (result : Option ℕ) → Declare x v ≡ Call n actuals result → ⊥
-  no_call_here x v n actuals result e = cc
-
   -- Each point of the package objects declares one, without a call.
   pub declared_there : (p : FlowPoint) → Has (sub_of program 0).points p → (x : ℕ) × (v : TypedTree) × (p.instr ≡ Declare x v) × (has_call v ≡ false)
   declared_there p has =
@@ -461,108 +466,3 @@ module _ (table : Table) (typed : TypedProgram) (effects : Effects) (accepted : 
   pub object_or : (x : ℕ) → (object_at s x ≡ object_at own x) ⊎ (is_temporary_object s x ≡ true)
   unfolding flow_program
   object_or x = after_or typed.objects (temporaries_of (flow_named table typed)) x
-
-  module _ (class : IsFunctionClass (flow_program table typed)) where
-    plainly : AreScalarCalls program owns
-    plainly sub has p there n actuals result is =
-        let known = formals_known sub has p there n actuals result is in
-        record {
-          known = known;
-          formals = λ x formal. class.formals x (known x formal);
-          actuals_stay = passed sub has p there n actuals result is known (λ x formal. class.formals x (known x formal));
-        }
-
-    abbrev IsNewIn : FlowSub → Type 0
-    IsNewIn sub =
-        (before : List ℕ) (last : ℕ) → ControlPath (path_points program effects sub) before last
-        → (x : ℕ) (v : TypedTree) → (get_or sub.points last no_point).instr ≡ Declare x v → (name : PlaceName) → name.root ≡ x
-        → (Has (facts_before (path_points program effects sub) before) (Moved name) → ⊥)
-        × (Has (facts_before (path_points program effects sub) (last ∷ before)) (Moved name) → ⊥)
-
-    owning_same : (x : ℕ) → is_owning s.table (object_at s x).of ≡ true → is_owning own.table (object_at own x).of ≡ true
-    owning_same x owning = elim (object_or x) [
-      | inl same ↦ (λ j. is_owning (sym alike.table j) (sym same j).of) ∙ owning
-      | inr held ↦ (let never : true ≡ false = sym owning ∙ plain_type s owns (object_at s x).of (class.temporaries x held) in cc)
-    ]
-
-    -- the initial values of package objects name nothing that owns
-    names_none : (named : NamedSub) → Elaborates named → (p : NamedPoint) → Has named.points p → (x : ℕ)
-        → Has (named_in p.instr) x → is_owning s.table (object_at s x).of ≡ true → ⊥
-    names_none named e p there x names owning =
-        let declared = declares named e p there (still_there named e p there) in
-        owns_none own (roots declared.1) x declared.3 (subst (λ i. Has (named_in i) x) declared.2 names) (owning_same x owning)
-
-    new_in : (named : NamedSub) → Has (flow_named table typed) named → IsNewIn (flow_sub own named)
-    new_in named has = elim (cases named has) [
-      | inl e ↦ new_there table typed effects class owns accepted.fine accepted.effects_are plainly named has (laid named has) (λ p there. (supplied_there named has p there).0) IsNumbered (λ x. ⊥) (reverse order.first.formals)
-          (λ x what out. out) (package_is_ordered named e) (λ p there x names owning. absurd (names_none named e p there x names owning))
-      | inr b ↦ new_there table typed effects class owns accepted.fine accepted.effects_are plainly named has (laid named has) (λ p there. (supplied_there named has p there).0) IsOwn (λ x. is_package_object own x ≡ true)
-          (reverse (b.0).formals) (λ x what out. (let both : false ≡ true = sym what.1 ∙ out in cc)) (body_is_ordered named b)
-          (λ p there x names owning. seen_has (is_package_object own) p.scope (named_in p.instr) x (body_is_seen named b p there) names)
-    ]
-
-    pub are_new : AreNew program effects
-    unfolding flow_program
-    are_new sub has =
-        let named = Has-map_from (flow_sub own) (flow_named table typed) sub has in subst IsNewIn named.2 (new_in named.0 named.1)
-
-    unmoved_there : (p : FlowPoint) → Has (sub_of program 0).points p → (a : Placed) → Has p.acts a → (name : PlaceName) → Has (adds a.act) (Moved name) → ⊥
-    unmoved_there p has a acts name moved =
-        let q = package_point p has in
-        let kept : List ℕ = kept_roots own 0 own.objects (sub_facts own order.first packages.points) in
-        let fine = accepted.fine (flow_sub own packages) (in_program packages packages_in) (flow_at own packages q.0)
-        (Has-map (λ (z : NamedPoint). flow_at own packages z) packages.points q.0 q.1) in
-        let declared = declares packages refl q.0 q.1 (still_there packages refl q.0 q.1) in
-        let no_call : IsNoCall (q.0).instr = (λ n actuals result is. no_call_here declared.0 declared.1 n actuals result (sym declared.2 ∙ is)) in
-        let found = instruction_owned s owns class.all_named order.first.result kept (q.0).pos (q.0).instr fine no_call a
-        (subst (λ z. Has z a) (sym (instruction_same s own alike order.first.result kept (q.0).pos (q.0).instr (λ n actuals result is. absurd (no_call n actuals result is))))
-        (subst (λ (z : FlowPoint). Has z.acts a) (sym q.2) acts)) name moved in
-        names_none packages refl q.0 q.1 name.root found.0 found.1
-
-    pub are_elaborated : AreElaborated program
-    are_elaborated = record { declared = declared_there; unmoved = unmoved_there }
-
-    pub functions_ready : IsReady table typed effects
-    functions_ready = record {
-      accepted = accepted;
-      owns = owns;
-      class = class;
-      scoped = are_scoped;
-      new = are_new;
-      elaborated = are_elaborated;
-      packages = packages;
-      stands = packages_stand;
-      called = are_called class.formals;
-      returning = are_returning;
-      main = suc order.number;
-      is_main = main_is;
-      main_there = has_main;
-    }
-
--- So is a program of the second class: no object of it is a temporary.
-module _ (table : Table) (typed : TypedProgram) (effects : Effects) (accepted : Accepted table typed effects)
-    (owns : OwnsByShape (flow_program table typed).table) (class : IsProcedureClass (flow_program table typed)) (order : IsInOrder table typed)
-    (callees : AreCallees table typed order.rest) (passed : ArePassed (flow_program table typed)) where
-  lasts : (x : ℕ) → is_temporary_object (flow_typing (flow_program table typed)) x ≡ false
-  lasts x = ap (λ z. is_temporary_object z x) (typing_same table typed (few_temporaries table typed class.calls)) ∙ order.lasting x
-
-  procedures_answered : AreAnswered table typed order.rest
-  procedures_answered sub has p there n actuals result is =
-      let found = callees sub has p there n actuals result is in
-      let none : result ≡ None = no_temporary n actuals result (sym (ap calls_procedures is) ∙ class.calls sub has p there) in
-      (found.0, found.1, found.2, found.3, ap is_some found.4 ∙ sym (ap is_some none))
-
-  first_named : Has (flow_named table typed) (elaborated (typing_of table typed) order.first)
-  first_named = subst (λ subs. Has (all_named (typing_of table typed) subs) (elaborated (typing_of table typed) order.first)) (sym order.subs) (inl refl)
-
-  procedures_still : AreStill table typed order.first
-  unfolding flow_program
-  procedures_still p there =
-      let own : Typing = typing_of table typed in
-      let packages : NamedSub = elaborated own order.first in
-      class.calls (flow_sub own packages) (Has-map (flow_sub own) (flow_named table typed) packages first_named) (flow_at own packages p)
-      (Has-map (λ (q : NamedPoint). flow_at own packages q) packages.points p there)
-
-  pub is_ready_program : IsReady table typed effects
-  is_ready_program =
-      functions_ready table typed effects accepted owns order procedures_answered passed procedures_still (third_class (flow_program table typed) lasts class)

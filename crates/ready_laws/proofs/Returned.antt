@@ -8,7 +8,7 @@ use Rattle.spark_base.specs.Lists.{Has}
 use Rattle.type_definitions.specs.Types.{Table}
 use Rattle.typed_tree.specs.Programs.{TypedProgram}
 use Rattle.flow_paths.specs.declared.report.Effects.{Effects}
-use Rattle.flow_paths.specs.Instructions.{Instruction, Hold, Finish}
+use Rattle.flow_paths.specs.Instructions.{Instruction, Hold, EndScope, Finish}
 use Rattle.flow_paths.specs.Objects.{Typing}
 use Rattle.flow_paths.specs.Points.{PointName, same_place, same_point, NamedPoint, FlowPoint}
 use Rattle.flow_paths.specs.Laid.{FlowSub, FlowProgram, NamedSub, number_in, flow_sub, typing_of, flow_program}
@@ -19,7 +19,7 @@ use Rattle.machine.specs.Run.{no_point}
 use Rattle.soundness.specs.Needed.{IsFine}
 use Rattle.soundness.specs.Sound.{IsAtPoint, returns_value, has_returned}
 use Rattle.soundness.proofs.Points.{IsLaid, flow_at, point_has, point_there, path_there}
-use Rattle.scope_laws.specs.Returning.{is_return, is_finish, IsReturned, IsOpen, Stands, StartsAtZero, returns, closes, goes}
+use Rattle.scope_laws.specs.Returning.{is_return, is_finish, IsClosing, IsReturned, IsOpen, Stands, StartsAtZero, returns, closes, goes}
 use Rattle.scope_laws.proofs.Lists.{all_has}
 
 -- ---- the number of a name
@@ -83,6 +83,10 @@ valued s (Some t) i some fine is = cc
 is_a_return : (i : Instruction) → returns_value i ≡ true → is_return i ≡ true
 is_a_return (Hold v) is = refl
 is_a_return i is = cc
+
+no_return : (i : Instruction) → IsClosing i → is_return i ≡ false
+no_return i (inl (x, is)) = ap is_return is
+no_return i (inr is) = ap is_return is
 
 no_value : (i : Instruction) → is_return i ≡ false → returns_value i ≡ false
 no_value (Hold v) none = cc
@@ -191,7 +195,7 @@ module _ (table : Table) (typed : TypedProgram) (effects : Effects) (s : Typing)
       none_yet : (p : NamedPoint) (before : List ℕ) → Along before p.name → Stands named.points p → is_return p.instr ≡ true → has_returned sub before ≡ false
       none_yet p before (inr (none, opened)) stand is = none
       none_yet p before (inl (done, (low, first))) (returns ret row on) is = absurd (omega (arith, low, row))
-      none_yet p before (inl (done, returned)) (closes none here on) is = absurd (not_both (is_return p.instr) is none)
+      none_yet p before (inl (done, returned)) (closes closing here on) is = absurd (not_both (is_return p.instr) is (no_return p.instr closing))
       none_yet p before (inl (done, returned)) (goes none going here on) is = absurd (not_both (is_return p.instr) is none)
 
       one_then : (p : NamedPoint) (before : List ℕ) → Along before p.name → Stands named.points p → p.instr ≡ Finish → has_returned sub before ≡ true
@@ -199,3 +203,19 @@ module _ (table : Table) (typed : TypedProgram) (effects : Effects) (s : Typing)
       one_then p before (inr (none, opened)) (returns ret row on) finish = absurd (not_both false (sym (ap is_return finish) ∙ ret) refl)
       one_then p before (inr (none, opened)) (closes other here on) finish = absurd (apart p.name here opened)
       one_then p before (inr (none, opened)) (goes other going here on) finish = absurd (not_both true refl (sym (ap is_finish finish) ∙ going))
+
+  -- After a return, only ends of scopes and the end of the call follow.
+  pub closing_after : (before : List ℕ) (last : ℕ) → ControlPath points before last → has_returned sub before ≡ true
+      → IsClosing (get_or sub.points last no_point).instr
+  closing_after before last path done =
+      let here = standing before last path in
+      let p : NamedPoint = here.0 in
+      let stand = all_has (Stands named.points) named.points p stands (point_has named.points last p here.1) in
+      let is : get_or sub.points last no_point ≡ flow_at own named p = point_there own named last p here.1 in
+      subst (λ (q : FlowPoint). IsClosing q.instr) (sym is) (closing p before here.2 stand done)
+    where
+      closing : (p : NamedPoint) (before : List ℕ) → Along before p.name → Stands named.points p → has_returned sub before ≡ true → IsClosing p.instr
+      closing p before (inr (none, opened)) stand done = absurd (not_both (has_returned sub before) done none)
+      closing p before (inl (is, (low, first))) (returns ret row on) done = absurd (omega (arith, low, row))
+      closing p before (inl (is, returned)) (closes close here on) done = close
+      closing p before (inl (is, returned)) (goes none going here on) done = absurd (apart p.name returned here)

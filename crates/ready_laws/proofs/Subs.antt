@@ -17,7 +17,7 @@ abbrev pub IsOfBody : Typing → List TypedSub → NamedSub → Type 0
 IsOfBody s subs named =
     (sub : TypedSub) × Has subs sub × (n : ℕ) × (length s.objects ≤ n) × (named_sub s n (sub_temporaries s sub) sub ≡ named)
 
-subs_of : (s : Typing) (n : ℕ) (subs : List TypedSub) (named : NamedSub) → length s.objects ≤ n → Has (named_subs s n subs) named → IsOfBody s subs named
+pub subs_of : (s : Typing) (n : ℕ) (subs : List TypedSub) (named : NamedSub) → length s.objects ≤ n → Has (named_subs s n subs) named → IsOfBody s subs named
 subs_of s n [] named above has = absurd has
 subs_of s n (sub ∷ rest) named above (inl e) = (sub, inl refl, n, above, e)
 subs_of s n (sub ∷ rest) named above (inr has) =

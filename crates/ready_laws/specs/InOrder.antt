@@ -76,12 +76,6 @@ pub record IsInOrder (table : Table) (program : TypedProgram) : Type 0 where
   -- object 0 is Ada.Text_IO
   pub text_io : is_package_object (typing_of table program) 0 ≡ false
 
--- What is called is a procedure with a body in the text.
-abbrev pub AreCallees : Table → TypedProgram → List TypedSub → Type 0
-AreCallees table program rest =
-    (sub : FlowSub) → Has (flow_program table program).subs sub → (p : FlowPoint) → Has sub.points p → (n : ℕ) (actuals : TypedTree) (result : Option ℕ)
-    → p.instr ≡ Call n actuals result → (k : ℕ) × (callee : TypedSub) × (n ≡ suc k) × IsSub rest k callee × (callee.result ≡ None)
-
 -- What is called has a body in the text, and is a function where the call has a result.
 abbrev pub AreAnswered : Table → TypedProgram → List TypedSub → Type 0
 AreAnswered table program rest =

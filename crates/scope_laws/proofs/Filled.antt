@@ -21,14 +21,14 @@ use Rattle.flow_paths.specs.Scopes.{is_temporary}
 use Rattle.scope_laws.specs.Supplied.{FillsOne, IsFilling}
 use Rattle.scope_laws.proofs.Lists.{all_both}
 
--- A point fills the temporary of its place.
-abbrev Owned : Setting → Place → Instruction → Type 0
-Owned z at (Call sub actuals (Some t)) = t ≡ z.temporary at
-Owned z at (Evaluate t e (Some op)) = t ≡ z.temporary at
+-- A point fills the temporary of its place, and is in row 0 then.
+abbrev pub Owned : Setting → PointName → Instruction → Type 0
+Owned z at (Call sub actuals (Some t)) = (t ≡ z.temporary at.place) × (at.row ≡ 0)
+Owned z at (Evaluate t e (Some op)) = (t ≡ z.temporary at.place) × (at.row ≡ 0)
 Owned z at i = Unit {0}
 
-abbrev IsOwn : Setting → NamedPoint → Type 0
-IsOwn z p = Owned z p.name.place p.instr
+abbrev pub IsOwn : Setting → NamedPoint → Type 0
+IsOwn z p = Owned z p.name p.instr
 
 -- ---- points that are laid out by two settings
 
@@ -39,9 +39,9 @@ module _ (t : Typing) (z u : Setting) where
       ap (λ xs. filled t p.name.place p.instr ++ xs) (temporaries_both ps qs) ∙ sym (append_assoc (filled t p.name.place p.instr) (temporaries t ps) (temporaries t qs))
 
   -- They fill temporaries of the same places, and those of the first one their own.
-  record Walk (ps qs : List NamedPoint) : Type 0 where
-    same : temporaries t ps ≡ temporaries t qs
-    own : AllByRecursion (IsOwn z) ps
+  pub record Walk (ps qs : List NamedPoint) : Type 0 where
+    pub same : temporaries t ps ≡ temporaries t qs
+    pub own : AllByRecursion (IsOwn z) ps
 
   joined : (ps qs rs vs : List NamedPoint) → Walk ps rs → Walk qs vs → Walk (ps ++ qs) (rs ++ vs)
   joined ps qs rs vs h g = record {
@@ -67,12 +67,12 @@ module _ (t : Typing) (z u : Setting) where
   unfolding prep
   prep_walk (typed.Call p sub actuals) at scope scope' k k' =
       joined (prep z actuals (0 ∷ at) scope (row_at at 0 ∷ [])) _ (prep u actuals (0 ∷ at) scope' (row_at at 0 ∷ [])) _
-      (prep_walk actuals (0 ∷ at) scope scope' (row_at at 0 ∷ []) (row_at at 0 ∷ [])) (one _ _ refl refl)
+      (prep_walk actuals (0 ∷ at) scope scope' (row_at at 0 ∷ []) (row_at at 0 ∷ [])) (one _ _ refl (refl, refl))
   prep_walk (Short op p a q b) at scope scope' k k' =
       either (has_call b) _ _ _ _
       (joined (prep z a (0 ∷ at) scope (row_at at 0 ∷ [])) _ (prep u a (0 ∷ at) scope' (row_at at 0 ∷ [])) _
       (prep_walk a (0 ∷ at) scope scope' (row_at at 0 ∷ []) (row_at at 0 ∷ []))
-      (following _ _ _ _ refl refl
+      (following _ _ _ _ refl (refl, refl)
       (joined (prep z b (1 ∷ at) (z.temporary at ∷ scope) (row_at at 1 ∷ [])) _ (prep u b (1 ∷ at) (u.temporary at ∷ scope') (row_at at 1 ∷ [])) _
       (prep_walk b (1 ∷ at) (z.temporary at ∷ scope) (u.temporary at ∷ scope') (row_at at 1 ∷ []) (row_at at 1 ∷ [])) (one _ _ refl tt))))
       (joined (prep z a (0 ∷ at) scope _) _ (prep u a (0 ∷ at) scope' _) _ (prep_walk a (0 ∷ at) scope scope' _ _) (prep_walk b (1 ∷ at) _ _ k k'))
@@ -94,7 +94,7 @@ module _ (t : Typing) (z u : Setting) where
   prep_walk (New t e) at scope scope' k k' = prep_walk e (0 ∷ at) scope scope' k k'
   prep_walk _ at scope scope' k k' = nothing
 
-  uses_walk : (at : Place) (p : Pos) (e : TypedTree) (i : Instruction) (w v : Around) (next next' : List PointName) → Owned z at i → Walk (uses z at p e i w next) (uses u at p e i v next')
+  uses_walk : (at : Place) (p : Pos) (e : TypedTree) (i : Instruction) (w v : Around) (next next' : List PointName) → Owned z (row_at at 0) i → Walk (uses z at p e i w next) (uses u at p e i v next')
   uses_walk at p e i w v next next' own =
       joined (prep z e (0 ∷ at) w.scope (row_at at 0 ∷ [])) _ (prep u e (0 ∷ at) v.scope (row_at at 0 ∷ [])) _
       (prep_walk e (0 ∷ at) w.scope v.scope (row_at at 0 ∷ []) (row_at at 0 ∷ [])) (one _ _ refl own)
@@ -181,7 +181,7 @@ module _ (t : Typing) (z u : Setting) where
       joined (ends [] 0 sub.end (ending z sub.body) (scope_at_end sub) _) _ (ends [] 0 sub.end (ending u sub.body) (scope_at_end sub) _) _
       (ends_walk [] 0 sub.end (ending z sub.body) (ending u sub.body) (scope_at_end sub) (scope_at_end sub) _ _) (one _ _ refl tt)
 
-  sub_walk : (sub : TypedSub) → Walk (sub_points z sub) (sub_points u sub)
+  pub sub_walk : (sub : TypedSub) → Walk (sub_points z sub) (sub_points u sub)
   sub_walk sub =
       joined (laid z sub.body (0 ∷ []) (around_body z sub) _) _ (laid u sub.body (0 ∷ []) (around_body u sub) _) _
       (laid_walk sub.body (0 ∷ []) (around_body z sub) (around_body u sub) _ _) (end_walk sub (is_some sub.result))
@@ -196,7 +196,7 @@ same_self (n ∷ at) = both (n == n) (same_place at at) (eq-eqb n n refl) (same_
     both true b h g = g
     both false b h g = h
 
-placed : (all : List Temporary) (r : Temporary) → Has all r → position_or_len (λ (t : Temporary). same_place r.place t.place) all < length all
+pub placed : (all : List Temporary) (r : Temporary) → Has all r → position_or_len (λ (t : Temporary). same_place r.place t.place) all < length all
 placed [] r has = absurd has
 placed (t ∷ all) r has = by (same_place r.place t.place) refl (λ more. placed all r more)
   where
@@ -222,17 +222,17 @@ module _ (t : Typing) (test : ℕ → Bool) (n : ℕ) (all : List Temporary) (he
   one_filled : (x : ℕ) (r : Temporary) → x ≡ numbers_from n all r.place → Has all r → test x ≡ true
   one_filled x r is has = (let less = placed all r has in held x (omega (arith, is)) (omega (arith, is, less)))
 
-  point_filled : (at : Place) (i : Instruction) → Owned z at i → AllIn (filled t at i) → FillsOne test i
-  point_filled at (Call sub actuals (Some x)) own within = one_filled x (record { place = at; of = _ }) own (within _ (inl refl))
+  point_filled : (at : PointName) (i : Instruction) → Owned z at i → AllIn (filled t at.place i) → FillsOne test i
+  point_filled at (Call sub actuals (Some x)) own within = one_filled x (record { place = at.place; of = _ }) own.0 (within _ (inl refl))
   point_filled at (Call sub actuals None) own within = tt
-  point_filled at (Evaluate x e (Some op)) own within = one_filled x (record { place = at; of = _ }) own (within _ (inl refl))
+  point_filled at (Evaluate x e (Some op)) own within = one_filled x (record { place = at.place; of = _ }) own.0 (within _ (inl refl))
   point_filled at (Evaluate x e None) own within = tt
   point_filled at i own within = tt
 
   points_filled : (ps : List NamedPoint) → AllByRecursion (IsOwn z) ps → AllIn (temporaries t ps) → AllByRecursion (IsFilling test) ps
   points_filled [] own within = tt
   points_filled (p ∷ ps) own within = (
-    point_filled p.name.place p.instr own.0 (λ r has. within r (Has-append_left (filled t p.name.place p.instr) (temporaries t ps) r has)),
+    point_filled p.name p.instr own.0 (λ r has. within r (Has-append_left (filled t p.name.place p.instr) (temporaries t ps) r has)),
     points_filled ps own.1 (λ r has. within r (Has-append_right (filled t p.name.place p.instr) (temporaries t ps) r has)),
   )
 

@@ -1,7 +1,7 @@
 -- A point that takes what a function gave, alone: the last temporary in scope is that of the call, which another point of
 -- the subprogram fills.
 use Rattle.std.proofs.Common.{◌≡◌, refl, sym, ap, ◌∙◌, subst, ◌⊎◌, inl, inr, ℕ, suc, Bool, true, false, ◌||◌, List, [], ◌∷◌, ◌++◌, drop, Some, None, if◌then◌else◌}
-use Rattle.std.specs.Prelude.{flat_map, is_some, reverse}
+use Rattle.std.specs.Prelude.{flat_map, is_some}
 use Rattle.spark_base.specs.declared.position.Pos.{Pos}
 use Rattle.spark_base.specs.Lists.{Has}
 use Rattle.spark_base.proofs.Lists.{Has-append_left, Has-append_right, Has-append_cases}
@@ -13,7 +13,7 @@ use Rattle.flow_paths.specs.Instructions as instruction
 use Rattle.flow_paths.specs.Names.{has_call}
 use Rattle.flow_paths.specs.Points.{Place, PointName, row_at, NamedPoint, point, entry}
 use Rattle.flow_paths.specs.Prep.{Setting, held, with_held, prep}
-use Rattle.flow_paths.specs.Layout.{Around, within_loop, within_block, with_scope, declared, from, ending, ends, closing, uses, uses_both, uses_second_first, laid, laid_branches, laid_branch, laid_whens, laid_when}
+use Rattle.flow_paths.specs.Layout.{Around, within_loop, within_block, with_scope, declared, from, ending, ends, uses, uses_both, uses_second_first, laid, laid_branches, laid_branch, laid_whens, laid_when}
 use Rattle.flow_paths.specs.Laid.{around_body, scope_at_end, procedure_end, function_end, sub_points}
 
 -- An object is declared with this alone, or it is assigned or returned.
@@ -37,7 +37,7 @@ abbrev AreOthers : List NamedPoint → Type 0
 AreOthers ps = (p : NamedPoint) → Has ps p → (e : TypedTree) → Takes p.instr e → ⊥
 
 -- an expression without calls holds nothing
-none_held : (s : Setting) (e : TypedTree) (at : Place) → has_call e ≡ false → held s e at ≡ []
+pub none_held : (s : Setting) (e : TypedTree) (at : Place) → has_call e ≡ false → held s e at ≡ []
 unfolding held has_call
 none_held s (typed.Call p sub actuals) at none = cc
 none_held s (Short op p a q b) at none =
@@ -77,6 +77,55 @@ none_held s (typed.More e rest) at none =
     neither true b e = cc
     neither false b e = (refl, e)
 none_held s _ at none = refl
+
+second_none : (c : Bool) (ps qs : List NamedPoint) → c ≡ false → qs ≡ [] → (if c then ps else qs) ≡ []
+second_none true ps qs is none = cc
+second_none false ps qs is none = none
+
+-- nor has it points of its own
+pub none_before : (s : Setting) (e : TypedTree) (at : Place) (scope : List ℕ) (k : List PointName) → has_call e ≡ false → prep s e at scope k ≡ []
+unfolding prep has_call
+none_before s (typed.Call p sub actuals) at scope k none = cc
+none_before s (Short op p a q b) at scope k none =
+    let two = neither (has_call a) (has_call b) none in
+    second_none (has_call b) _ _ two.1
+    (λ j. none_before s a (0 ∷ at) scope (entry (prep s b (1 ∷ at) (with_held s a (0 ∷ at) scope) k) k) two.0 j ++ none_before s b (1 ∷ at) (with_held s a (0 ∷ at) scope) k two.1 j)
+  where
+    neither : (a b : Bool) → a || b ≡ false → (a ≡ false) × (b ≡ false)
+    neither true b e = cc
+    neither false b e = (refl, e)
+none_before s (Name p x e t) at scope k none = none_before s e (0 ∷ at) scope k none
+none_before s (Component i e) at scope k none = none_before s e (0 ∷ at) scope k none
+none_before s (Designated e) at scope k none = none_before s e (0 ∷ at) scope k none
+none_before s (Element a low high b) at scope k none =
+    (let two = neither (has_call a) (has_call b) none in
+    (λ j. none_before s a (0 ∷ at) scope (entry (prep s b (1 ∷ at) (with_held s a (0 ∷ at) scope) k) k) two.0 j ++ none_before s b (1 ∷ at) (with_held s a (0 ∷ at) scope) k two.1 j))
+  where
+    neither : (a b : Bool) → a || b ≡ false → (a ≡ false) × (b ≡ false)
+    neither true b e = cc
+    neither false b e = (refl, e)
+none_before s (Image t e) at scope k none = none_before s e (0 ∷ at) scope k none
+none_before s (Parens e) at scope k none = none_before s e (0 ∷ at) scope k none
+none_before s (Unary op e) at scope k none = none_before s e (0 ∷ at) scope k none
+none_before s (Binary op a b) at scope k none =
+    (let two = neither (has_call a) (has_call b) none in
+    (λ j. none_before s a (0 ∷ at) scope (entry (prep s b (1 ∷ at) (with_held s a (0 ∷ at) scope) k) k) two.0 j ++ none_before s b (1 ∷ at) (with_held s a (0 ∷ at) scope) k two.1 j))
+  where
+    neither : (a b : Bool) → a || b ≡ false → (a ≡ false) × (b ≡ false)
+    neither true b e = cc
+    neither false b e = (refl, e)
+none_before s (IsNull equal e) at scope k none = none_before s e (0 ∷ at) scope k none
+none_before s (Aggregate t e) at scope k none = none_before s e (0 ∷ at) scope k none
+none_before s (Alike t e) at scope k none = none_before s e (0 ∷ at) scope k none
+none_before s (New t e) at scope k none = none_before s e (0 ∷ at) scope k none
+none_before s (typed.More a b) at scope k none =
+    (let two = neither (has_call a) (has_call b) none in
+    (λ j. none_before s a (0 ∷ at) scope (entry (prep s b (1 ∷ at) (with_held s a (0 ∷ at) scope) k) k) two.0 j ++ none_before s b (1 ∷ at) (with_held s a (0 ∷ at) scope) k two.1 j))
+  where
+    neither : (a b : Bool) → a || b ≡ false → (a ≡ false) × (b ≡ false)
+    neither true b e = cc
+    neither false b e = (refl, e)
+none_before s _ at scope k none = refl
 
 module _ (s : Setting) where
   -- ---- points that take nothing so

@@ -4,6 +4,8 @@ pub mod Lists
 pub mod Successors
 -- objects and scopes
 pub mod Ordered
+-- what is in scope
+pub mod Within
 pub mod Seen
 -- temporaries in scope, and what is so beside them
 pub mod Supplied
@@ -14,3 +16,7 @@ pub mod Temporaries
 -- what follows a return
 pub mod Returning
 pub mod Given
+pub mod Results
+pub mod Alone
+pub mod Followed
+pub mod Begun

@@ -271,9 +271,9 @@ module _ (W : List NamedPoint) where
 
     closing_stands : (at : Place) → ((row : ℕ) → 1 ≤ row → IsReturned W (row_at at row)) → (row : ℕ) → 1 ≤ row → (p : Pos) (xs scope formals : List ℕ) (finish : ℕ) → 1 ≤ finish
         → Standing (ends at row p xs scope (row_at at finish ∷ []) ++ point (row_at at finish) p Finish formals [] ∷ [])
-    closing_stands at is row low p [] scope formals finish more = (closes refl (is finish more) (no_name (IsReturned W)), tt)
+    closing_stands at is row low p [] scope formals finish more = (closes (inr refl) (is finish more) (no_name (IsReturned W)), tt)
     closing_stands at is row low p (x ∷ xs) scope formals finish more = (
-      closes refl (is row low) (names_returned at is (suc row) (omega arith) p xs (drop 1 (from x scope)) finish more),
+      closes (inl (x, refl)) (is row low) (names_returned at is (suc row) (omega arith) p xs (drop 1 (from x scope)) finish more),
       closing_stands at is (suc row) (omega arith) p xs (drop 1 (from x scope)) formals finish more,
     )
 

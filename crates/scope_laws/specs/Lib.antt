@@ -2,3 +2,4 @@ pub mod Code
 pub mod Order
 pub mod Supplied
 pub mod Returning
+pub mod Alone

@@ -1,7 +1,7 @@
 -- What follows a return: the ends of scopes and the end of the call, and nothing else leads there.
-use Rattle.std.specs.Prelude.{◌≡◌, ◌⊎◌, ◌≤◌, Bool, true, false, List, [], ◌∷◌}
+use Rattle.std.specs.Prelude.{◌≡◌, ◌⊎◌, ℕ, ◌≤◌, Bool, true, false, List, [], ◌∷◌}
 use Rattle.spark_base.specs.Lists.{Has}
-use Rattle.flow_paths.specs.Instructions.{Instruction, Hold, Finish}
+use Rattle.flow_paths.specs.Instructions.{Instruction, Hold, EndScope, Finish}
 use Rattle.flow_paths.specs.Points.{PointName, row_at, NamedPoint}
 
 abbrev pub is_return : Instruction → Bool
@@ -11,6 +11,10 @@ is_return _ = false
 abbrev pub is_finish : Instruction → Bool
 is_finish Finish = true
 is_finish _ = false
+
+-- The end of a scope, or of the call.
+abbrev pub IsClosing : Instruction → Type 0
+IsClosing i = ((x : ℕ) × (i ≡ EndScope x)) ⊎ (i ≡ Finish)
 
 -- Some points begin with the first one of a construct.
 abbrev pub StartsAtZero : List NamedPoint → Type 0
@@ -34,5 +38,5 @@ All P names = (n : PointName) → Has names n → P n
 -- A return leads to what follows it, that leads on so, and everything else leads to other points.
 pub data Stands (points : List NamedPoint) (p : NamedPoint) : Type 0 where
   returns : is_return p.instr ≡ true → p.name.row ≡ 0 → All (IsReturned points) p.next → Stands points p
-  closes : is_return p.instr ≡ false → IsReturned points p.name → All (IsReturned points) p.next → Stands points p
+  closes : IsClosing p.instr → IsReturned points p.name → All (IsReturned points) p.next → Stands points p
   goes : is_return p.instr ≡ false → is_finish p.instr ≡ false → IsOpen points p.name → All (IsOpen points) p.next → Stands points p

@@ -1,12 +1,11 @@
 -- What the third class says of the program as it is laid out.
-use Rattle.std.proofs.Common.{◌≡◌, refl, sym, ap, ◌∙◌, subst, ◌⊎◌, inl, inr, ℕ, zero, suc, true, false, List, [], ◌∷◌, ◌++◌, map, length, get_or, Option, Some, None, is_some}
+use Rattle.std.proofs.Common.{◌≡◌, refl, sym, ap, ◌∙◌, subst, ◌⊎◌, inl, inr, ℕ, zero, suc, true, false, List, [], ◌∷◌, ◌++◌, map, length, get_or, Some, None, is_some}
 use Rattle.std.specs.Prelude.{flat_map}
 use Rattle.std.specs.List.{AllByRecursion}
 use Rattle.spark_base.specs.Lists.{Has}
 use Rattle.place_names.specs.declared.act.Mode.TheVariants as mode
 use Rattle.resolved_tree.specs.Trees.{Code, Program}
 use Rattle.type_definitions.specs.Types.{Table, full, is_scalar}
-use Rattle.type_definitions.specs.Entries.{integer, boolean}
 use Rattle.type_definitions.specs.Whole.{known_of}
 use Rattle.typed_tree.specs.declared.object.Object.{Object}
 use Rattle.typed_tree.specs.declared.object.ObjectKind.TheVariants as object_kind
@@ -14,28 +13,24 @@ use Rattle.typed_tree.specs.Trees.{TypedTree, More}
 use Rattle.typed_tree.specs.Expressions.{sub_number}
 use Rattle.typed_tree.specs.Programs.{TypedSub, site_of, text_io, typed_program}
 use Rattle.flow_paths.specs.Instructions.{Call}
-use Rattle.flow_paths.specs.Objects.{Typing, Signature, object_at, sub_at, is_formal_kind}
+use Rattle.flow_paths.specs.Objects.{Typing, Signature, object_at, sub_at}
 use Rattle.flow_paths.specs.Points.{FlowPoint}
 use Rattle.flow_paths.specs.Laid.{Temporary, temporary_object, NamedSub, FlowSub, FlowProgram, signature, flow_typing, flow_named, flow_program}
-use Rattle.flow_paths.specs.Scopes.{is_temporary}
 use Rattle.machine.specs.States.{no_sub, sub_of}
 use Rattle.machine.specs.Owners.{is_in}
 use Rattle.machine.specs.Run.{no_point}
-use Rattle.soundness.specs.Sound.{calls_procedures, AreCopied, is_temporary_object, ArePlainResults}
-use Rattle.soundness.proofs.Points.{flow_table, typing_same}
-use Rattle.soundness.proofs.Temporaries.{few_temporaries}
+use Rattle.soundness.specs.Sound.{AreCopied}
 use Rattle.soundness.proofs.Passing.{signature_is}
 use Rattle.soundness.proofs.Typings.{flow_agrees}
 use Rattle.called_subs.specs.Called.{PointCalls, CodeCalls, HaveBodies}
 use Rattle.called_subs.proofs.Main.{points_asked_at}
 use Rattle.called_subs.proofs.Statements.{IsFineSub, all_subs_fine}
 use Rattle.typed_steps.specs.Steps.{IsTypedStep, AreTyped}
-use Rattle.ready_laws.specs.InOrder.{IsSub, AreCallees, AreAnswered}
+use Rattle.ready_laws.specs.InOrder.{IsSub, AreAnswered}
 use Rattle.scope_laws.proofs.Lists.{all_has}
 use Rattle.meant_files.specs.Formless.{IsFormless}
 use Rattle.order_laws.specs.Orderly.{typed_of, typing_in, bodies_of}
-use Rattle.sound_files.specs.Class.{CallsProcedures, HasNoFunction, HasScalarFormals, CopiesToVariables, FormalsAreScalar, ResultsAreScalar, CopyToVariables}
-use Rattle.sound_files.proofs.Temporaries.{plain_temporaries}
+use Rattle.sound_files.specs.Class.{HasNoFunction, CopiesToVariables, FormalsAreScalar, ResultsAreScalar, CopyToVariables}
 use Rattle.sound_files.proofs.Formless.{subs_none}
 use Rattle.sound_files.proofs.Formals.{no_formals}
 use Rattle.sound_files.proofs.Called.{at_number, called_body}
@@ -83,14 +78,7 @@ module _ (p : Program) where
   abbrev all_temporaries : List Temporary
   all_temporaries = flat_map temporaries_of (flow_named table (typed_of p))
 
-  pub scalar_formals : FormalsAreScalar p → HasScalarFormals flow
-  unfolding flow_program
-  scalar_formals all x is = elim (object_there (typed_of p).objects all_temporaries x) [
-    | inl same ↦ subst (λ (o : Object). is_scalar (full table o.of) ≡ true) (sym same) (all x (subst (λ (o : Object). is_formal_kind o.kind ≡ true) same is))
-    | inr (kind, mode, none) ↦ absurd (let no : false ≡ true = sym (ap is_formal_kind kind) ∙ is in cc)
-  ]
-
-  mode_same : (x : ℕ) → (object_at (flow_typing flow) x).mode ≡ (object_at own x).mode
+  pub mode_same : (x : ℕ) → (object_at (flow_typing flow) x).mode ≡ (object_at own x).mode
   unfolding flow_program
   mode_same x = elim (object_there (typed_of p).objects all_temporaries x) [
     | inl same ↦ ap (λ (o : Object). o.mode) same
@@ -171,17 +159,6 @@ module _ (p : Program) where
         sym (ap is_some (result_there found.0 found.1 found.3)) ∙ sym (ap (λ m. is_some (sub_at (flow_typing flow) m).result) found.2) ∙ step.2,
       )
 
-  -- So it is a procedure where no call has a result.
-  pub are_callees : HaveBodies p → AreTyped flow → CallsProcedures flow → AreCallees table (typed_of p) (bodies_of p)
-  are_callees bodies typed calls sub has q there n actuals result is =
-      let found = are_answered bodies typed sub has q there n actuals result is in
-      (found.0, found.1, found.2, found.3, no_result found.1.result result found.4 (sym (ap calls_procedures is) ∙ calls sub has q there))
-    where
-      no_result : (r result : Option ℕ) → is_some r ≡ is_some result → calls_procedures (Call n actuals result) ≡ true → r ≡ None
-      no_result None result same procedure = refl
-      no_result (Some t) None same procedure = cc
-      no_result (Some t) (Some u) same procedure = cc
-
   -- ---- the other classes
 
   -- Where no subprogram with a body is a function, nothing is asked of results.
@@ -204,31 +181,3 @@ module _ (p : Program) where
     -- and nothing of actuals.
     pub formless_copied : CopyToVariables p
     formless_copied = called_alike (λ n actuals. subst (λ formals. AreCopied own formals actuals) (sym (none_there n)) tt)
-
-  -- ---- results and temporaries
-
-  module _ (results : CallsProcedures (flow_program (known_of p).table (typed_of p)) ⊎ ResultsAreScalar p) (truths : is_scalar (full (known_of p).table boolean) ≡ true) where
-    same_table : table ≡ flow.table
-    same_table = sym (flow_table table (typed_of p))
-
-    -- Functions give values of scalar types, or procedures alone are called.
-    pub plain_results : CallsProcedures flow ⊎ ArePlainResults (flow_typing flow)
-    plain_results = elim results [
-      | inl procedures ↦ inl procedures
-      | inr scalar ↦ inr (
-        λ n t is.
-            subst (λ (rows : Table). is_scalar (full rows t) ≡ true) same_table (scalar_results scalar n t (sym (ap (λ (z : Signature). z.result) (signature_same n)) ∙ is)),
-        subst (λ (rows : Table). is_scalar (full rows boolean) ≡ true) same_table truths,
-      )
-    ]
-
-    -- Temporaries are of scalar types, and there is none where no function is called.
-    pub temporaries_plain : is_scalar (full (known_of p).table integer) ≡ true → ((x : ℕ) → is_temporary (object_at (typing_in p) x).kind ≡ false) → (x : ℕ)
-        → is_temporary_object (flow_typing (flow_program (known_of p).table (typed_of p))) x ≡ true
-        → is_scalar (full (flow_program (known_of p).table (typed_of p)).table (object_at (flow_typing (flow_program (known_of p).table (typed_of p))) x).of) ≡ true
-    temporaries_plain integers lasts x is = elim results [
-      | inl procedures ↦ absurd (
-          let none : false ≡ true =
-          sym (lasts x) ∙ sym (ap (λ (z : Typing). is_temporary_object z x) (typing_same table (typed_of p) (few_temporaries table (typed_of p) procedures))) ∙ is in cc)
-      | inr scalar ↦ plain_temporaries table (typed_of p) integers truths (scalar_results scalar) lasts x is
-    ]

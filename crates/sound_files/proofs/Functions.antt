@@ -1,5 +1,4 @@
--- The formals of functions are of mode `in`, so they are of scalar types where formals of other modes alone are of
--- others.
+-- The formals of functions are of mode `in`.
 use Rattle.std.proofs.Common.{◌≡◌, refl, sym, ap, ◌∙◌, subst, inl, inr, ℕ, suc, ◌+◌, Bool, true, false, not, ◌&&◌, List, [], ◌∷◌, ◌++◌, map, flat_map, get_or, nat_eq, arith, Option, Some, None, is_some}
 use Rattle.std.specs.List.{position_or_len}
 use Rattle.spark_base.specs.Lists.{Has}
@@ -20,13 +19,12 @@ use Rattle.typed_tree.specs.declared.object.Object.{Object}
 use Rattle.typed_tree.specs.Expressions.{Site, object_number}
 use Rattle.typed_tree.specs.Statements.{scope_count}
 use Rattle.typed_tree.specs.Programs.{TypedSub, DeclaredObject, Home, object_of, objects_of, formals_of, objects_in, program_objects, text_io, local, in_package, package_text, front_formals, formal_numbers, placed, subs_in, over_units, site_of, typed_program}
-use Rattle.flow_paths.specs.Objects.{object_at, is_formal}
+use Rattle.flow_paths.specs.Objects.{object_at}
 use Rattle.scope_laws.proofs.Lists.{and_second}
 use Rattle.scope_laws.specs.Code.{Once}
 use Rattle.order_laws.specs.Orderly.{typing_in, bodies_of}
 use Rattle.order_laws.proofs.Mains.{nothing_left, nothing_right, demanded}
 use Rattle.order_laws.proofs.Parts.{object_there}
-use Rattle.sound_files.specs.Class.{IsScalarAt, FormalsAreKinds}
 use Rattle.sound_files.proofs.Mains.{front_agrees}
 
 -- It is one of these objects, of mode `in`.
@@ -131,10 +129,9 @@ units_taken all h a n s (u ∷ rest) sub t x none among is has = elim (Has-appen
 
 -- ---- the program
 
--- Formals of functions are of scalar types.
-abbrev pub FunctionsTakeScalars : Program → Type 0
-FunctionsTakeScalars p =
-    (sub : TypedSub) → Has (bodies_of p) sub → (t : ℕ) → sub.result ≡ Some t → (x : ℕ) → Has sub.formals x → is_formal (typing_in p) x ≡ true → IsScalarAt (typing_in p) x
+-- Formals of functions are of mode `in`.
+abbrev pub FunctionsTakeIn : Program → Type 0
+FunctionsTakeIn p = (sub : TypedSub) → Has (bodies_of p) sub → (t : ℕ) → sub.result ≡ Some t → (x : ℕ) → Has sub.formals x → (object_at (typing_in p) x).mode ≡ mode.In
 
 module _ (p : Program) (none : (u : Code) → Has p.units u → code_faults (outside (known_of p)) u ≡ [])
     (once : Once (map (λ (o : DeclaredObject). o.number) (program_objects (known_of p) p.units))) where
@@ -151,14 +148,8 @@ module _ (p : Program) (none : (u : Code) → Has p.units u → code_faults (out
       let next : suc at ≡ at + 1 = omega arith in
       subst (λ i. get_or (text_io ∷ map (λ (z : DeclaredObject). z.object) objects) i text_io ≡ o.object) next (object_there objects o once has)
 
-  -- They are of mode `in`.
-  pub functions_in : (sub : TypedSub) → Has (bodies_of p) sub → (t : ℕ) → sub.result ≡ Some t → (x : ℕ) → Has sub.formals x → (object_at (typing_in p) x).mode ≡ mode.In
+  -- They are.
+  pub functions_in : FunctionsTakeIn p
   functions_in sub among t is x has =
       let found = units_taken p.units (record { known = known_of p; identifier = None }) 0 1 site p.units sub t x none among is has in
       ap (λ y. (object_at (typing_in p) y).mode) found.1 ∙ ap (λ (z : Object). z.mode) (object_is found.0 found.2) ∙ found.3
-
-  pub functions_scalar : FormalsAreKinds p → FunctionsTakeScalars p
-  functions_scalar kinds sub among t is x has formal = elim (kinds x formal) [
-    | inl plain ↦ plain
-    | inr (back, named) ↦ absurd (let no : mode.In ≡ mode.InOut = sym (functions_in sub among t is x has) ∙ back in cc)
-  ]

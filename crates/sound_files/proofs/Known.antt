@@ -90,7 +90,7 @@ units_found made s n c (u ∷ rest) sub x typed among has = elim (Has-append_cas
 
 -- ---- objects by number
 
-kind_at : (known : Known) (d : ℕ) (os : List DeclaredObject) → AreKinded known os → Has (map (λ (o : DeclaredObject). o.number) os) d
+pub kind_at : (known : Known) (d : ℕ) (os : List DeclaredObject) → AreKinded known os → Has (map (λ (o : DeclaredObject). o.number) os) d
     → (get_or (map (λ (o : DeclaredObject). o.object) os) (position_or_len (nat_eq d) (map (λ (o : DeclaredObject). o.number) os)) text_io).kind ≡ entry_kind (entry_of known d)
 kind_at known d [] all has = absurd has
 kind_at known d (o ∷ os) all has = by (nat_eq d o.number) refl (λ more. kind_at known d os all.1 more)

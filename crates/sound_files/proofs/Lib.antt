@@ -2,20 +2,19 @@ pub mod Whole
 pub mod Written
 pub mod Once
 pub mod Formless
-pub mod Access
 pub mod Kinded
 pub mod Formals
 pub mod Known
-pub mod First
+pub mod Declared
 pub mod Flat
 pub mod Laws
 pub mod Main
 -- what is called
 pub mod Called
 -- what the third class says as it is laid out
-pub mod Temporaries
 pub mod Classes
+pub mod Results
 pub mod Mains
 pub mod Functions
+pub mod Weaker
 pub mod Owners
-pub mod Examples

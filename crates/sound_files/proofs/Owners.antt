@@ -1,18 +1,22 @@
 -- What the class with formals that own says of the program as it is laid out, and that the third class is a part of it.
 use Rattle.std.proofs.Common.{◌≡◌, sym, ap, ◌∙◌, subst, ◌⊎◌, inl, inr, ℕ, suc, true, false, not, ◌&&◌, List, [], ◌∷◌, get_or, Option, Some, None, is_some}
 use Rattle.spark_base.specs.Lists.{Has}
+use Rattle.place_names.specs.declared.act.Mode.{Mode}
 use Rattle.place_names.specs.declared.act.Mode.TheVariants as mode
 use Rattle.resolved_tree.specs.Trees.{Program}
-use Rattle.type_definitions.specs.Types.{Table, full, is_scalar}
+use Rattle.type_definitions.specs.Types.{Table, full, is_scalar, is_owning}
 use Rattle.type_definitions.specs.Whole.{known_of}
 use Rattle.typed_tree.specs.declared.object.Object.{Object}
 use Rattle.typed_tree.specs.Trees.{TypedTree, More}
 use Rattle.typed_tree.specs.Programs.{TypedSub, typed_program}
 use Rattle.flow_paths.specs.Instructions.{Call}
-use Rattle.flow_paths.specs.Objects.{Typing, Signature, object_at, sub_at, is_formal_kind, is_formal, is_state, is_anonymous, is_package_object, view_of}
+use Rattle.flow_paths.specs.Objects.{Typing, Signature, object_at, sub_at, is_formal_kind, is_formal, is_state, is_anonymous, is_named_access, is_package_object, view_of}
 use Rattle.flow_paths.specs.Points.{FlowPoint}
 use Rattle.flow_paths.specs.Laid.{FlowSub, FlowProgram, flow_typing, flow_program}
 use Rattle.machine.specs.States.{no_sub, sub_of}
+use Rattle.machine.specs.Owners.{is_in}
+use Rattle.soundness.specs.Seen.{is_view_formal}
+use Rattle.soundness.specs.Sound.{goes_through_none, AreCopied}
 use Rattle.machine.specs.Run.{no_point}
 use Rattle.soundness.proofs.Passing.{signature_is}
 use Rattle.soundness.proofs.Typings.{Agree, flow_agrees}
@@ -21,10 +25,12 @@ use Rattle.called_subs.proofs.Main.{points_asked_at}
 use Rattle.called_subs.proofs.Statements.{IsFineSub}
 use Rattle.ready_laws.specs.InOrder.{IsSub}
 use Rattle.order_laws.specs.Orderly.{typed_of, typing_in, bodies_of}
-use Rattle.sound_files.specs.Class.{IsScalarAt, AreOwnActuals, FormalsAreScalar, FormalsAreKinds, PassOwnObjects, CallsFunctions, CallsWithOwners}
-use Rattle.sound_files.proofs.Functions.{FunctionsTakeScalars}
+use Rattle.sound_files.specs.Class.{IsScalarAt, IsShownAt, IsOwnlessAt, IsFitActual, AreFitActuals, FormalsAreScalar, FormalsAreKinds, CopyToVariables, PassFitActuals, CallsFunctions, CallsWithOwners}
+use Rattle.sound_files.proofs.Functions.{FunctionsTakeIn}
+use Rattle.sound_files.proofs.Weaker.{code_weaker}
 use Rattle.sound_files.proofs.Called.{at_number}
-use Rattle.sound_files.proofs.Classes.{all_of, signature_at, signature_same, signature_there, all_called}
+use Rattle.sound_files.proofs.Results.{results_fit}
+use Rattle.sound_files.proofs.Classes.{all_of, signature_at, signature_same, signature_there, mode_same}
 
 module _ (p : Program) where
   abbrev table : Table
@@ -64,32 +70,51 @@ module _ (p : Program) where
   scalar_wide : (x : ℕ) → is_formal wide x ≡ true → IsScalarAt own x → IsScalarAt wide x
   scalar_wide x is plain = scalar_there x is ∙ plain
 
+  view_formal_there : (x : ℕ) → is_view_formal wide x ≡ is_view_formal own x
+  view_formal_there x = elim (alike.object x) [
+    | inl same ↦ (λ j. (is_formal_kind (same j).kind && is_in (same j).mode) && is_owning (alike.table j) (same j).of)
+    | inr (a, b) ↦ ap (λ f. (f && is_in (object_at wide x).mode) && is_owning wide.table (object_at wide x).of) a.1
+        ∙ sym (ap (λ f. (f && is_in (object_at own x).mode) && is_owning own.table (object_at own x).of) b.1)
+  ]
+
   -- ---- formals
 
   pub kinds_there : FormalsAreKinds p → (x : ℕ) → is_formal wide x ≡ true
-      → IsScalarAt wide x ⊎ (((object_at wide x).mode ≡ mode.InOut) × (is_anonymous (view_of wide x) ≡ false))
+      → IsScalarAt wide x
+      ⊎ ((((object_at wide x).mode ≡ mode.In → ⊥) × (is_anonymous (view_of wide x) ≡ false)) ⊎ (IsShownAt wide x ⊎ IsOwnlessAt wide x))
   kinds_there all x is = elim (all x (formal_own x is)) [
     | inl plain ↦ inl (scalar_wide x is plain)
-    | inr (back, named) ↦ inr (
-      ap (λ (o : Object). o.mode) (formal_there x is) ∙ back,
+    | inr (inl (back, named)) ↦ inr (inl (
+      (λ in_mode. back (sym (ap (λ (o : Object). o.mode) (formal_there x is)) ∙ in_mode)),
       ap (λ (rows : Table). is_anonymous (full rows (object_at wide x).of)) alike.table ∙ ap (λ (o : Object). is_anonymous (full own.table o.of)) (formal_there x is) ∙ named,
-    )
+    ))
+    | inr (inr (inl (shown, access))) ↦ inr (inr (inl (
+      view_formal_there x ∙ shown,
+      ap (λ (rows : Table). is_named_access (full rows (object_at wide x).of)) alike.table ∙ ap (λ (o : Object). is_named_access (full own.table o.of)) (formal_there x is) ∙ access,
+    )))
+    | inr (inr (inr (in_mode, none, named))) ↦ inr (inr (inr (
+      ap (λ (o : Object). o.mode) (formal_there x is) ∙ in_mode,
+      ap (λ (rows : Table). is_owning rows (object_at wide x).of) alike.table ∙ ap (λ (o : Object). is_owning own.table o.of) (formal_there x is) ∙ none,
+      ap (λ (rows : Table). is_anonymous (full rows (object_at wide x).of)) alike.table ∙ ap (λ (o : Object). is_anonymous (full own.table o.of)) (formal_there x is) ∙ named,
+    )))
   ]
 
-  functions_own : FunctionsTakeScalars p → (n t x : ℕ) → (sub_at own n).result ≡ Some t → Has (sub_at own n).formals x → is_formal own x ≡ true → IsScalarAt own x
+  -- Those of functions are of mode `in`.
+  modes_own : FunctionsTakeIn p → (n t x : ℕ) → (sub_at own n).result ≡ Some t → Has (sub_at own n).formals x → (object_at own x).mode ≡ mode.In
   unfolding typed_program
-  functions_own all n t x result has is = elim (signature_at (typed_of p).subs n) [
+  modes_own all n t x result has = elim (signature_at (typed_of p).subs n) [
     | inl none ↦ absurd (let no : None ≡ Some t = sym (ap (λ (z : Signature). z.result) none) ∙ result in cc)
     | inr (sub, inl first, at) ↦ absurd (let no : None ≡ Some t = ap (λ (z : TypedSub). z.result) first ∙ sym (ap (λ (z : Signature). z.result) at) ∙ result in cc)
-    | inr (sub, inr there, at) ↦ all sub there t (sym (ap (λ (z : Signature). z.result) at) ∙ result) x (subst (λ (z : Signature). Has z.formals x) at has) is
+    | inr (sub, inr there, at) ↦ all sub there t (sym (ap (λ (z : Signature). z.result) at) ∙ result) x (subst (λ (z : Signature). Has z.formals x) at has)
   ]
 
-  pub functions_there : FunctionsTakeScalars p → (n t : ℕ) → (sub_at wide n).result ≡ Some t → (x : ℕ) → Has (sub_at wide n).formals x → is_formal wide x ≡ true
-      → IsScalarAt wide x
-  functions_there all n t result x has is =
-      scalar_wide x is
-      (functions_own all n t x (sym (ap (λ (z : Signature). z.result) (signature_same p n)) ∙ result)
-      (subst (λ (z : Signature). Has z.formals x) (signature_same p n) has) (formal_own x is))
+  mode_there : (x : ℕ) → (object_at wide x).mode ≡ (object_at own x).mode
+  mode_there x = mode_same p x
+
+  pub modes_there : FunctionsTakeIn p → (n t : ℕ) → (sub_at wide n).result ≡ Some t → (x : ℕ) → Has (sub_at wide n).formals x → (object_at wide x).mode ≡ mode.In
+  modes_there all n t result x has =
+      mode_there x
+      ∙ modes_own all n t x (sym (ap (λ (z : Signature). z.result) (signature_same p n)) ∙ result) (subst (λ (z : Signature). Has z.formals x) (signature_same p n) has)
 
   -- The main procedure has none.
   pub main_there : (n : ℕ) (sub : TypedSub) → IsSub (bodies_of p) n sub → sub.formals ≡ [] → (x : ℕ) → Has (sub_at wide (suc n)).formals x → IsScalarAt wide x
@@ -98,38 +123,42 @@ module _ (p : Program) where
   -- ---- actuals
 
   abbrev Passed : ℕ → TypedTree → Type 0
-  Passed n actuals = AreOwnActuals own (sub_at own n).formals actuals
+  Passed n actuals = AreFitActuals wide (sub_at wide n).formals actuals
 
-  passed_same : (formals : List ℕ) (actuals : TypedTree) → AreOwnActuals own formals actuals → AreOwnActuals wide formals actuals
-  passed_same (x ∷ formals) (More e rest) h =
-      ((λ is owns y has. package_there y ∙ h.0 (formal_own x is) (sym (scalar_there x is) ∙ owns) y has), passed_same formals rest h.1)
-  passed_same formals actuals h = tt
-
-  pub passed_there : PassOwnObjects p → (sub : FlowSub) → Has flow.subs sub → (q : FlowPoint) → Has sub.points q → (n : ℕ) (actuals : TypedTree) (result : Option ℕ)
-      → q.instr ≡ Call n actuals result → AreOwnActuals wide (sub_of flow n).formals actuals
+  pub passed_there : PassFitActuals p → (sub : FlowSub) → Has flow.subs sub → (q : FlowPoint) → Has sub.points q → (n : ℕ) (actuals : TypedTree) (result : Option ℕ)
+      → q.instr ≡ Call n actuals result → AreFitActuals wide (sub_of flow n).formals actuals
   passed_there all sub has q there n actuals result is =
       let i = at_number flow.subs sub no_sub has in
       let k = at_number sub.points q no_point there in
       let same : (get_or (sub_of flow i.0).points k.0 no_point).instr ≡ Call n actuals result
       = ap (λ (z : FlowSub). (get_or z.points k.0 no_point).instr) i.1 ∙ ap (λ (z : FlowPoint). z.instr) k.1 ∙ is in
-      let formals : (sub_at own n).formals ≡ (sub_of flow n).formals
-      = sym (ap (λ (z : Signature). z.formals) (signature_same p n)) ∙ ap (λ (z : Signature). z.formals) (signature_is flow n) in
-      subst (λ fs. AreOwnActuals wide fs actuals) formals
-      (passed_same (sub_at own n).formals actuals
-      (subst (PointCalls Passed) same (points_asked_at Passed table (typed_of p) (all_of (IsFineSub Passed) (typed_of p).subs all) i.0 k.0)))
+      subst (λ fs. AreFitActuals wide fs actuals) (ap (λ (z : Signature). z.formals) (signature_is flow n))
+      (subst (PointCalls Passed) same (points_asked_at Passed table (typed_of p) (all_of (IsFineSub Passed) (typed_of p).subs all) i.0 k.0))
 
   -- ---- the third class
 
-  scalar_passed : FormalsAreScalar p → (formals : List ℕ) (actuals : TypedTree) → AreOwnActuals own formals actuals
-  scalar_passed all (x ∷ formals) (More e rest) =
-      ((λ is owns y has. absurd (let no : true ≡ false = sym (all x is) ∙ owns in cc)), scalar_passed all formals rest)
-  scalar_passed all formals actuals = tt
+  back_kept : (m : Mode) (x : ℕ) (e : TypedTree) → (object_at own x).mode ≡ m → (is_in (object_at own x).mode ≡ false → goes_through_none e ≡ true) → IsScalarAt wide x
+      → IsFitActual wide x m e
+  back_kept mode.In x e is none plain = inl plain
+  back_kept mode.Out x e is none plain = inl (plain, inl (none (ap is_in is)))
+  back_kept mode.InOut x e is none plain = inl (plain, inl (none (ap is_in is)))
+
+  scalar_passed : FormalsAreScalar p → (formals : List ℕ) (actuals : TypedTree) → AreCopied own formals actuals → AreFitActuals wide formals actuals
+  scalar_passed all (x ∷ formals) (More e rest) copied =
+      ((λ is. back_kept (object_at wide x).mode x e (sym (mode_there x)) copied.0 (scalar_wide x is (all x (formal_own x is)))), scalar_passed all formals rest copied.1)
+  scalar_passed all formals actuals copied = tt
+
+  code_passed : FormalsAreScalar p → CopyToVariables p → PassFitActuals p
+  code_passed all copied sub has =
+      code_weaker (λ n actuals. AreCopied own (sub_at own n).formals actuals) Passed
+      (λ n actuals h. subst (λ (z : Signature). AreFitActuals wide z.formals actuals) (sym (signature_same p n)) (scalar_passed all (sub_at own n).formals actuals h))
+      sub.body (copied sub has)
 
   -- It is a part of this one.
   pub calls_functions : CallsFunctions p → CallsWithOwners p
   calls_functions calls = record {
-    results = calls.results;
+    results = results_fit p calls.results;
     formals = λ x is. inl (calls.formals x is);
-    copied = calls.copied;
-    passed = all_called p Passed (λ n actuals. scalar_passed calls.formals (sub_at own n).formals actuals);
+    seen = λ n t x result has is. inl (scalar_wide x is (calls.formals x (formal_own x is)));
+    passed = code_passed calls.formals calls.copied;
   }

@@ -1,22 +1,27 @@
 -- Programs with a main procedure and without anonymous access types, by their text: those without formals and
 -- calls, those that call procedures alone, whose formals are of scalar types, and those that call functions, too,
--- whose results are. And programs with formals of types that own.
+-- whose results are. And programs with formals of types that own, and results that stand alone.
 use Rattle.std.specs.Prelude.{◌≡◌, ◌⊎◌, ℕ, true, false, List, ◌∷◌, Option, Some, None}
 use Rattle.spark_base.specs.Lists.{Has}
+use Rattle.place_names.specs.declared.act.Mode.{Mode}
 use Rattle.place_names.specs.declared.act.Mode.TheVariants as mode
 use Rattle.resolved_tree.specs.Trees.{Code, Program}
-use Rattle.type_definitions.specs.Types.{full, is_scalar}
+use Rattle.type_definitions.specs.Types.{full, is_scalar, is_owning, shape_of}
 use Rattle.type_definitions.specs.Whole.{known_of}
-use Rattle.typed_tree.specs.Trees.{TypedTree, More}
+use Rattle.typed_tree.specs.Trees.{TypedTree, Name, More}
+use Rattle.typed_tree.specs.Trees as typed
 use Rattle.typed_tree.specs.Programs.{TypedSub}
 use Rattle.flow_paths.specs.Instructions.{Call}
-use Rattle.flow_paths.specs.Objects.{Typing, object_at, sub_at, is_formal, is_anonymous, is_package_object, view_of}
+use Rattle.flow_paths.specs.Objects.{Typing, object_at, sub_at, is_formal, is_anonymous, is_named_access, is_package_object, view_of}
 use Rattle.flow_paths.specs.Points.{FlowPoint}
 use Rattle.flow_paths.specs.Laid.{FlowSub, FlowProgram, flow_typing, flow_program}
 use Rattle.machine.specs.States.{sub_of}
-use Rattle.soundness.specs.Sound.{calls_nothing, calls_procedures, AreCopied}
+use Rattle.soundness.specs.Seen.{is_view_formal}
+use Rattle.soundness.specs.Sound.{calls_nothing, calls_procedures, goes_through_none, AreCopied}
 use Rattle.soundness.specs.Ready.{root_of}
 use Rattle.gathered_laws.specs.Named.{IsNamed}
+use Rattle.viewed_soundness.specs.Holds.{is_exclusive, sees_only}
+use Rattle.scope_laws.specs.Alone.{ResultsFit}
 use Rattle.called_subs.specs.Called.{CodeCalls}
 use Rattle.order_laws.specs.Orderly.{typed_of, typing_in, bodies_of}
 use Rattle.meant_files.specs.Formless.{IsFormless}
@@ -48,10 +53,6 @@ CallsProcedures program = (sub : FlowSub) → Has program.subs sub → (p : Flow
 -- No subprogram with a body is a function.
 abbrev pub HasNoFunction : Program → Type 0
 HasNoFunction p = (sub : TypedSub) → Has (bodies_of p) sub → sub.result ≡ None
-
--- Formals are of scalar types.
-abbrev pub HasScalarFormals : FlowProgram → Type 0
-HasScalarFormals program = (x : ℕ) → is_formal (flow_typing program) x ≡ true → is_scalar (full program.table (object_at (flow_typing program) x).of) ≡ true
 
 -- Actuals of modes `out` and `in out` go through no access value.
 abbrev pub CopiesToVariables : FlowProgram → Type 0
@@ -86,27 +87,74 @@ pub record CallsFunctions (p : Program) : Type 0 where
 abbrev pub IsScalarAt : Typing → ℕ → Type 0
 IsScalarAt s x = is_scalar (full s.table (object_at s x).of) ≡ true
 
--- A formal is of a scalar type, or of mode `in out` and of no anonymous access type.
+-- A formal is of a scalar type; or of mode `out` or `in out`, or of mode `in` and of a type that owns nothing, and of no
+-- anonymous access type; or of mode `in` and of a named access type that owns.
+abbrev pub IsShownAt : Typing → ℕ → Type 0
+IsShownAt s x = (is_view_formal s x ≡ true) × (is_named_access (view_of s x) ≡ true)
+
+abbrev pub IsOwnlessAt : Typing → ℕ → Type 0
+IsOwnlessAt s x = ((object_at s x).mode ≡ mode.In) × (is_owning s.table (object_at s x).of ≡ false) × (is_anonymous (view_of s x) ≡ false)
+
 abbrev pub FormalsAreKinds : Program → Type 0
 FormalsAreKinds p =
     (x : ℕ) → is_formal (typing_in p) x ≡ true
-    → IsScalarAt (typing_in p) x ⊎ (((object_at (typing_in p) x).mode ≡ mode.InOut) × (is_anonymous (view_of (typing_in p) x) ≡ false))
+    → IsScalarAt (typing_in p) x
+    ⊎ ((((object_at (typing_in p) x).mode ≡ mode.In → ⊥) × (is_anonymous (view_of (typing_in p) x) ≡ false))
+    ⊎ (IsShownAt (typing_in p) x ⊎ IsOwnlessAt (typing_in p) x))
 
--- An actual for a formal that isn't of a scalar type is rooted in an object that belongs to no package.
-abbrev pub AreOwnActuals : Typing → List ℕ → TypedTree → Type 0
-AreOwnActuals s (x ∷ formals) (More e rest) =
-    (is_formal s x ≡ true → is_scalar (full s.table (object_at s x).of) ≡ false → (y : ℕ) → Has (root_of e) y → is_package_object s y ≡ false)
-    × AreOwnActuals s formals rest
-AreOwnActuals s formals actuals = Unit {0}
+-- The objects as the program is laid out.
+abbrev pub laid_in : Program → Typing
+laid_in p = flow_typing (flow_program (known_of p).table (typed_of p))
 
-abbrev pub PassOwnObjects : Program → Type 0
-PassOwnObjects p =
-    (sub : TypedSub) → Has (typed_of p).subs sub → CodeCalls (λ n actuals. AreOwnActuals (typing_in p) (sub_at (typing_in p) n).formals actuals) sub.body
+-- Through such formals of functions nothing is changed.
+abbrev pub FunctionsSee : Program → Type 0
+FunctionsSee p =
+    (n t x : ℕ) → (sub_at (laid_in p) n).result ≡ Some t → Has (sub_at (laid_in p) n).formals x → is_formal (laid_in p) x ≡ true
+    → IsScalarAt (laid_in p) x ⊎ (is_view_formal (laid_in p) x ≡ true → is_exclusive (laid_in p) x ≡ false)
+
+-- An actual for one of a named access type is null, or a name of its type that is rooted in a variable of a subprogram, but
+-- no borrower or observer, or in such a formal.
+abbrev pub IsShownRoot : Typing → ℕ → Type 0
+IsShownRoot s y = (is_package_object s y ≡ false) × (is_anonymous (view_of s y) ≡ false)
+
+abbrev pub IsShownActual : Typing → ℕ → TypedTree → Type 0
+IsShownActual s x typed.Null = Unit {0}
+IsShownActual s x (Name p y path u) = (shape_of s.table u ≡ shape_of s.table (object_at s x).of) × IsShownRoot s y
+IsShownActual s x e = ⊥
+
+-- One for a formal of mode `in` whose type owns nothing is a name of its type.
+abbrev pub IsCopiedActual : Typing → ℕ → TypedTree → Type 0
+IsCopiedActual s x (Name p y path u) = shape_of s.table u ≡ shape_of s.table (object_at s x).of
+IsCopiedActual s x e = ⊥
+
+-- One that is copied back to goes through no access value, and isn't rooted in a formal of mode `in` that owns; or the formal
+-- is of a scalar type, and it is rooted in an object that belongs to no package, or goes through none.
+abbrev pub IsKeptActual : Typing → ℕ → TypedTree → Type 0
+IsKeptActual s x e =
+    (IsScalarAt s x × ((goes_through_none e ≡ true) ⊎ ((y : ℕ) → Has (root_of e) y → is_package_object s y ≡ false)))
+    ⊎ ((goes_through_none e ≡ true) × ((y : ℕ) → Has (root_of e) y → is_view_formal s y ≡ false))
+
+abbrev pub IsFitActual : Typing → ℕ → Mode → TypedTree → Type 0
+IsFitActual s x mode.In e =
+    IsScalarAt s x
+    ⊎ (((is_owning s.table (object_at s x).of ≡ true) × IsShownActual s x e) ⊎ ((is_owning s.table (object_at s x).of ≡ false) × IsCopiedActual s x e))
+IsFitActual s x m e = IsKeptActual s x e
+
+abbrev pub AreFitActuals : Typing → List ℕ → TypedTree → Type 0
+AreFitActuals s (x ∷ formals) (More e rest) = (is_formal s x ≡ true → IsFitActual s x (object_at s x).mode e) × AreFitActuals s formals rest
+AreFitActuals s formals actuals = Unit {0}
+
+abbrev pub PassFitActuals : Program → Type 0
+PassFitActuals p =
+    (sub : TypedSub) → Has (typed_of p).subs sub → CodeCalls (λ n actuals. AreFitActuals (laid_in p) (sub_at (laid_in p) n).formals actuals) sub.body
+
+-- What a function gives is of a scalar type; or it stands alone, and is of no anonymous access type: an object is declared
+-- with it, or it is assigned or returned.
+abbrev pub AllResultsFit : Program → Type 0
+AllResultsFit p = (sub : TypedSub) → Has (bodies_of p) sub → ResultsFit (typing_in p) sub.body
 
 pub record CallsWithOwners (p : Program) : Type 0 where
-  -- results are of scalar types; or procedures alone are called
-  pub results : CallsProcedures (flow_program (known_of p).table (typed_of p)) ⊎ ResultsAreScalar p
+  pub results : AllResultsFit p
   pub formals : FormalsAreKinds p
-  -- actuals of modes `out` and `in out` go through no access value
-  pub copied : CopyToVariables p
-  pub passed : PassOwnObjects p
+  pub seen : FunctionsSee p
+  pub passed : PassFitActuals p

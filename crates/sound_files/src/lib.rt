@@ -7,8 +7,7 @@
 //! (`Written`); and each declaration of an object has a number of its own (`Once`). That what names
 //! denote is in scope stands in `seen_files`. Files are meant (`meant_files`): packages are units alone
 //! (`Flat`), so types that are read while declarations are gathered are those that are read at last
-//! (`steady_types`), and the table of types is as typed expressions ask (`Laws`). `Main` joins this, and
-//! `Examples` has a program whose code is orderly.
+//! (`steady_types`), and the table of types is as typed expressions ask (`Laws`). `Main` joins this.
 //!
 //! The classes of programs stand in `specs/Class.antt`. Of what they ask of the typed program, laws on
 //! runs ask of the one that is laid out (`proofs/Classes.antt`, and `Owners` with formals that own).

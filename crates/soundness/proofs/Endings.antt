@@ -2,25 +2,13 @@
 -- main procedure.
 use Rattle.std.proofs.Common.{◌≡◌, refl, sym, ap, ◌∙◌, subst, ◌⊎◌, inl, inr, ℕ, ◌<◌, Bool, true, false, not, ◌&&◌, ◌==◌, List, [], ◌∷◌, cond, eqb-true, if◌then◌else◌}
 use Rattle.std.specs.Prelude.{filter}
-use Rattle.spark_base.specs.Lists.{Has}
-use Rattle.place_names.specs.declared.fact.Fact.{Fact}
-use Rattle.place_names.specs.declared.fact.Fact.TheVariants.{Moved}
-use Rattle.place_names.specs.Names.{Name}
-use Rattle.type_definitions.specs.declared.table.Shape.TheVariants as shape
-use Rattle.type_definitions.specs.Types.{shape_of}
 use Rattle.flow_paths.specs.Objects.{Typing, object_at}
-use Rattle.flow_paths.specs.Laid.{FlowProgram}
-use Rattle.flow_paths.specs.Points.{FlowPoint}
 use Rattle.machine.specs.Words.{default}
 use Rattle.machine.specs.Memory.{Memory, Variable, fresh, is_variable, variable_slots, without_frame}
-use Rattle.machine.specs.States.{Waiting, Frame, Leak, State}
-use Rattle.machine.specs.Step.{Turn, typing}
-use Rattle.machine.specs.Owners.{waiting_in}
-use Rattle.owned_ways.specs.Ways.{Step, OfVariable, OfHand, Loc, OfRoot, OfCell, Inside, Way, Object, Lost, Into, All, Held, View, Reaches, Owned, Covered, Sound, name_of}
+use Rattle.machine.specs.States.{Waiting, Leak}
+use Rattle.owned_ways.specs.Ways.{Step, OfVariable, OfHand, Loc, OfRoot, OfCell, Inside, Way, Object, Lost, Into, All, Held, View, Reaches, Owned, Covered}
 use Rattle.owned_ways.proofs.Locations.{both_parts, same_loc}
-use Rattle.part_offsets.specs.Parts.{IsSettled}
-use Rattle.soundness.specs.Seen.{content, trunk, steps_in, word_in, seen, home, IsNear, is_view_formal}
-use Rattle.soundness.specs.Typed.{OwnsByShape}
+use Rattle.soundness.specs.Seen.{content, trunk, steps_in, word_in, seen, is_view_formal}
 use Rattle.soundness.proofs.Joined.{trunk_trunk, not_inside}
 use Rattle.soundness.proofs.Contents.{bool_cases}
 use Rattle.soundness.proofs.Defaults.{none_default, blank_word}
@@ -133,30 +121,3 @@ module _ (s : Typing) (m : Memory) (f : ℕ) (hands : List Waiting) (leaks : Lis
     freed = λ n. refl;
     leaked = λ n. refl;
   }
-
--- The main procedure with which the run began ends. Nothing waits, and its variables own nothing.
-module _ (program : FlowProgram) (input : List ℕ) (point : FlowPoint) (state : State) (frame below : Frame) where
-  abbrev ending : Turn
-  ending = record { program = program; input = input; point = point; state = state; frame = frame; outer = below ∷ [] }
-
-  module _ (settled : IsSettled (typing ending).table) (own_law : OwnsByShape (typing ending).table) (other : Way → Type 0)
-      (alone : (w : Way) → IsNear 1 w → other w → ⊥) (no_formals : (x : ℕ) → is_view_formal (typing ending) x ≡ false)
-      (all_named : (u d : ℕ) (c n : Bool) → shape_of (typing ending).table u ≡ shape.Access d c n → n ≡ true)
-      (frames : state.frames ≡ frame ∷ below ∷ []) (no_returns : frame.returns ≡ []) (no_waits : frame.waits ≡ []) where
-    abbrev s : Typing
-    s = typing ending
-
-    abbrev hands : List Waiting
-    hands = waiting_in state
-
--- ---- the main procedure begins
-
--- Where the package objects are declared and nothing is moved, nothing is gone, and the main
--- procedure begins without facts.
-pub main_begins : (s : Typing) (other others : Way → Type 0) (view : View) (facts : List Fact) → Sound (home s 0) other view facts
-    → ((w : Way) → other w → ⊥) → ((name : Name) → Has facts (Moved name) → ⊥) → Sound (home s 1) others view []
-main_begins s other others view facts sound alone none = record {
-  owned = sound.owned;
-  covered = sound.covered;
-  known = λ w l rooted r gone. absurd (elim (sound.known w l rooted r gone) [ inl moved ↦ none (name_of w) moved.1 | inr elsewhere ↦ alone w elsewhere ]);
-}

@@ -1,29 +1,21 @@
 -- Words of a scalar type that are put at a place: owners don't see it, and words stay typed.
-use Rattle.std.proofs.Common.{◌≡◌, refl, sym, ap, ◌∙◌, subst, inl, inr, ℕ, suc, ◌+◌, ◌<◌, ◌≤◌, true, false, ◌&&◌, ◌⊎◌, List, ◌∷◌, ◌++◌, length, get_or, arith, append-nil, if◌then◌else◌}
+use Rattle.std.proofs.Common.{◌≡◌, refl, sym, ap, ◌∙◌, subst, inl, inr, ℕ, suc, ◌+◌, ◌<◌, ◌≤◌, true, false, ◌&&◌, ◌⊎◌, List, ◌++◌, length, get_or, arith, append-nil, if◌then◌else◌}
 use Rattle.std.proofs.lemmas.List.{length-map}
-use Rattle.place_names.specs.declared.fact.Fact.{Fact}
 use Rattle.type_definitions.specs.Types.{shape_of, words, full, view_of, is_scalar}
 use Rattle.flow_paths.specs.Objects.{Typing, object_at}
-use Rattle.machine.specs.Words.{access_offsets, offsets}
-use Rattle.machine.specs.Words as machine
-use Rattle.machine.specs.Memory.{Memory, Place, Slot, no_slot, slots_of, words_of, fresh, with_slots, stored, gone_at, moved_out}
+use Rattle.machine.specs.Memory.{Memory, Place, Slot, no_slot, slots_of, words_of, with_slots}
 use Rattle.machine.specs.States.{Waiting, Leak}
-use Rattle.owned_ways.specs.Ways.{Step, Loc, OfRoot, Way, IsSame, Sound, part}
+use Rattle.owned_ways.specs.Ways.{Step, Loc, OfRoot, IsSame, part}
 use Rattle.owned_ways.specs.Ways as ways
 use Rattle.owned_ways.proofs.Locations.{same_loc}
-use Rattle.owned_ways.proofs.Assigned.{same_sound}
 use Rattle.part_offsets.specs.Parts.{type_in, offset_in, has_part, is_leaf, IsSettled}
 use Rattle.part_offsets.proofs.Ranges.{leaf_outside}
 use Rattle.soundness.specs.Seen.{Content, content, owner_word, trunk, steps_in, word_in, seen}
 use Rattle.soundness.specs.Changes.{Put}
-use Rattle.soundness.specs.Typed.{Matches, OwnsByShape, Kept, Spot, IsFixed, IsMade, loc_of}
-use Rattle.soundness.specs.Sound.{AreSameWords}
+use Rattle.soundness.specs.Typed.{Matches, Kept, Spot, IsFixed, IsMade, loc_of}
 use Rattle.soundness.proofs.Joined.{trunk_trunk, trunk_part, steps_part, leaf_join}
 use Rattle.soundness.proofs.Contents.{bool_cases, word_no}
-use Rattle.soundness.proofs.Memories.{marked_length}
 use Rattle.soundness.proofs.Steps.{plain_shape, no_leaf, put_at, put_off, put_count, put_freed, room, taken_slots}
-use Rattle.soundness.proofs.Keeping.{scalar}
-use Rattle.soundness.proofs.Lasting.{keeps, less_kept, put_away}
 
 pub matches_scalar : (s : Typing) (t u : ℕ) → Matches s.table t u → is_scalar (full s.table t) ≡ true → is_scalar (full s.table u) ≡ true
 matches_scalar s t u (inl e) plain = ap (λ z. is_scalar (view_of z)) (sym e) ∙ plain
@@ -126,66 +118,3 @@ module _ (s : Typing) (settled : IsSettled s.table) where
       length-map (slots_of s m k) (λ (x : Slot). x.word)
       ∙ (taken_slots s settled m k (room s settled m hands kept k (fixed_at k fixed) (fixed_spot k fixed m hands))).0
       ∙ plain_word k.of fixed.scalar
-
-  marks_long : (k : Place) → IsFixed s k → (m : Memory) (hands : List Waiting) → Kept s m hands
-      → length (gone_at (access_offsets s.table k.of) (slots_of s m k)) ≡ words s.table k.of
-  marks_long k fixed m hands kept =
-      marked_length (access_offsets s.table k.of) (slots_of s m k)
-      ∙ (taken_slots s settled m k (room s settled m hands kept k (fixed_at k fixed) (fixed_spot k fixed m hands))).0
-
-  fresh_long : (k : Place) → IsFixed s k → (ws : List machine.Word) → length ws ≡ 1 → length (fresh ws) ≡ words s.table k.of
-  fresh_long k fixed ws one = length-map ws (λ w. record { word = w; gone = false }) ∙ one ∙ sym (plain_word k.of fixed.scalar)
-
-  -- Owners see what they saw in all variables and cells.
-  abbrev pub HoldSame : Memory → Memory → Type 0
-  HoldSame m n = AreSameWords s (λ f. Unit {0}) m n
-
-  module _ (own_law : OwnsByShape s.table) (hands : List Waiting) (leaks : List Leak) (at_home : ℕ → ℕ) (other : Way → Type 0) (facts : List Fact) where
-    -- What doesn't change: a sound state with typed words.
-    abbrev pub Good : Memory → Type 0
-    Good m = Sound at_home other (seen s m hands leaks) facts × Kept s m hands
-
-    -- from one memory to the next
-    abbrev pub LeadsTo : Memory → Memory → Type 0
-    LeadsTo m n = Good n × HoldSame m n
-
-    pub moved_good : (k : Place) → IsFixed s k → (m : Memory) → Good m → LeadsTo m (moved_out s k m)
-    moved_good k fixed m (sound, kept) =
-        let l : Loc = fixed_at k fixed in
-        let spot : Spot s m hands k l = fixed_spot k fixed m hands in
-        let marks : List Slot = gone_at (access_offsets s.table k.of) (slots_of s m k) in
-        let long = marks_long k fixed m hands kept in (
-          (
-            same_sound at_home other (seen s m hands leaks) (seen s (with_slots s k marks m) hands leaks) facts
-                (put_same_view s settled m hands k l spot kept fixed.scalar marks long leaks) sound,
-            less_kept s settled (moved_out s k m) (record { of = k.of; words = words_of s m k }) hands ((keeps s settled own_law).moved m hands k l spot kept),
-          ),
-          (
-            λ g y p any. put_word s settled m hands k l spot kept fixed.scalar marks long (OfRoot (ways.OfVariable g y)) p refl,
-            λ c p. put_word s settled m hands k l spot kept fixed.scalar marks long (ways.OfCell c) p refl,
-          ),
-        )
-
-    pub stored_good : (k : Place) → IsFixed s k → (ws : List machine.Word) → length ws ≡ 1 → (m : Memory) → Good m → LeadsTo m (stored s k ws m)
-    stored_good k fixed ws one m (sound, kept) =
-        let l : Loc = fixed_at k fixed in
-        let v : Waiting = record { of = k.of; words = ws } in
-        let spot : Spot s m hands k l = fixed_spot k fixed m hands in
-        let long = fresh_long k fixed ws one in (
-          (
-            same_sound at_home other (seen s m hands leaks) (seen s (with_slots s k (fresh ws) m) hands leaks) facts
-                (put_same_view s settled m hands k l spot kept fixed.scalar (fresh ws) long leaks) sound,
-            put_away s settled m v hands k l (scalar s settled m v hands fixed.scalar kept) (fixed_spot k fixed m (v ∷ hands))
-                (one ∙ sym (plain_word k.of fixed.scalar)) (inl refl),
-          ),
-          (
-            λ g y p any. put_word s settled m hands k l spot kept fixed.scalar (fresh ws) long (OfRoot (ways.OfVariable g y)) p refl,
-            λ c p. put_word s settled m hands k l spot kept fixed.scalar (fresh ws) long (ways.OfCell c) p refl,
-          ),
-        )
-
-    pub leads_on : (a b c : Memory) → LeadsTo a b → LeadsTo b c → LeadsTo a c
-    leads_on a b c first second = (
-      second.0,
-      (λ g y p any. second.1.0 g y p any ∙ first.1.0 g y p any, λ n p. second.1.1 n p ∙ first.1.1 n p),
-    )

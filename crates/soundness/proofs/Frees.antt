@@ -1,17 +1,13 @@
 -- A cell is freed, and its name becomes null.
 use Rattle.std.proofs.Common.{◌≡◌, refl, sym, ap, ◌∙◌, subst, ◌⊎◌, inl, inr, ℕ, zero, suc, ◌+◌, ◌≤◌, true, false, not, List, [], ◌∷◌, ◌++◌, take, drop, length, arith}
-use Rattle.place_names.specs.declared.act.Act.TheVariants.{Free}
-use Rattle.place_names.specs.declared.fact.Fact.{Fact}
-use Rattle.place_names.specs.Facts.{effect}
 use Rattle.type_definitions.specs.Types.{shape_of, words}
 use Rattle.flow_paths.specs.Objects.{Typing}
 use Rattle.machine.specs.Words as machine
 use Rattle.machine.specs.Memory.{Slot, Memory, Place, HeapCell, fresh, cell, no_cell, slots_at, freed, as_freed, with_cell, stored}
 use Rattle.machine.specs.Memory as memory
 use Rattle.machine.specs.States.{Waiting, Leak}
-use Rattle.owned_ways.specs.Ways.{Step, OfVariable, OfHand, Loc, OfRoot, OfCell, Inside, Way, Empty, Held, Reaches, Below, IsRelease, Sound, Named, name_of}
+use Rattle.owned_ways.specs.Ways.{Step, OfVariable, OfHand, Loc, OfRoot, OfCell, Inside, Empty, Below, IsRelease}
 use Rattle.owned_ways.proofs.Locations.{same_loc}
-use Rattle.owned_ways.proofs.Released.{released}
 use Rattle.part_offsets.specs.Parts.{type_in, offset_in, has_part, owns_one, is_leaf, IsSettled}
 use Rattle.part_offsets.proofs.Ranges.{both_parts, leaf_end, leaf_part, leaf_words}
 use Rattle.soundness.specs.Seen.{Content, content, trunk, steps_in, word_in, seen}
@@ -216,10 +212,3 @@ module _ (s : Typing) (settled : IsSettled s.table) (m : Memory) (hands : List W
       | inr y ↦ inr (y.0, word_part s.table (content s m hands) (OfCell n) y.0 ∙ y.1)
     ];
   }
-
-  -- under the act Free
-  pub released_sound : (at_home : ℕ → ℕ) (other : Way → Type 0) (w : Way) (facts : List Fact) → Sound at_home other (seen s m hands leaks) facts
-      → Named at_home w → Reaches (seen s m hands leaks) w l → (seen s m hands leaks).word l ≡ Held n
-      → Sound at_home other (seen s after_free hands leaks') (effect (Free (name_of w)) facts)
-  released_sound at_home other w facts sound named reaches held =
-      released at_home other (seen s m hands leaks) (seen s after_free hands leaks') w l n facts sound releases named reaches held

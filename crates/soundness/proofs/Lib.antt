@@ -22,7 +22,6 @@ pub mod Joining
 pub mod Filling
 pub mod Evaluated
 -- an assignment; what evaluations leave as it is; what a step that raises leaves
-pub mod Stored
 pub mod Fading
 pub mod Raised
 -- words stay typed
@@ -33,7 +32,6 @@ pub mod Paths
 -- sound states are well owned; instructions
 pub mod Owners
 pub mod Freeing
-pub mod Instructions
 pub mod Loops
 pub mod Operands
 pub mod Eased
@@ -50,19 +48,10 @@ pub mod Waited
 pub mod Temporaries
 -- calls: facts of the frames around, acts on package objects, formals, the ends of calls
 pub mod Inherited
-pub mod Opened
 pub mod Used
 pub mod Around
 pub mod Fixed
 pub mod Passing
 pub mod Returning
--- the state before the first step; each step; the run
+-- before the first step
 pub mod Beginning
-pub mod Standing
-pub mod Packages
-pub mod Innermost
-pub mod EachInstruction
-pub mod CallEnds
-pub mod Calling
-pub mod Stepping
-pub mod Main

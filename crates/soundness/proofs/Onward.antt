@@ -13,7 +13,7 @@ use Rattle.machine.specs.Words.{default, fits_type}
 use Rattle.machine.specs.Words as machine
 use Rattle.machine.specs.Memory.{Memory, Base, Place, fresh, no_slot, variable_slots, cell, words_of, stored, declared, undeclared, freed}
 use Rattle.machine.specs.Memory as memory
-use Rattle.machine.specs.Evaluate.{Here, Now, AsValue, AsView, Evaluated, Done, Raises, Traps, Twice, followed_by, initial, checked, value, viewed, place_of, cell_place, variable_place, walked, steps_of, text_of}
+use Rattle.machine.specs.Evaluate.{Now, AsValue, AsView, Evaluated, Done, Raises, Traps, Twice, followed_by, initial, checked, value, viewed, place_of, cell_place, variable_place, walked, steps_of, text_of}
 use Rattle.machine.specs.Evaluate as run
 use Rattle.machine.specs.Calls.{checks_at}
 use Rattle.machine.specs.States.{Waiting, Loop, Frame, Leak, State, Outcome, Goes, Ends}

@@ -1,38 +1,26 @@
 -- The points of a subprogram by their numbers: a number finds its point, and scopes go on to
 -- successors.
-use Rattle.std.proofs.Common.{◌≡◌, refl, sym, ap, ◌∙◌, subst, ◌⊎◌, inl, inr, ℕ, ◌<◌, suc, ◌+◌, Bool, true, false, cond, not, ◌&&◌, ◌||◌, ◌==◌, eqb-true, eq-eqb, List, [], ◌∷◌, ◌++◌, map, length, get_or, arith}
+use Rattle.std.proofs.Common.{◌≡◌, refl, sym, ap, ◌∙◌, subst, inl, inr, ℕ, ◌<◌, suc, ◌+◌, Bool, true, false, cond, not, ◌&&◌, ◌==◌, eqb-true, eq-eqb, List, [], ◌∷◌, ◌++◌, map, length, get_or, arith}
 use Rattle.std.specs.Bool.{Decides}
 use Rattle.std.specs.List.{AllByRecursion, position_or_len}
 use Rattle.std.specs.Cmp.Lexicographic.{pointwise_decides}
 use Rattle.std.proofs.lemmas.Bool.Decides.{Decides-eqb}
-use Rattle.std.proofs.lemmas.List.Folds.{list_any-append}
 use Rattle.std.proofs.lemmas.List.{length-map}
 use Rattle.spark_base.specs.Lists.{Has}
 use Rattle.spark_base.proofs.Lists.{Has-append_right, Has-map}
-use Rattle.type_definitions.specs.declared.table.Shape.TheVariants as shape
-use Rattle.type_definitions.specs.Types.{Table, shape_of, is_owning}
+use Rattle.type_definitions.specs.Types.{Table}
 use Rattle.typed_tree.specs.Programs.{TypedSub, TypedProgram}
 use Rattle.flow_paths.specs.declared.report.Effects.{Effects}
 use Rattle.flow_paths.specs.Acts as flow
-use Rattle.flow_paths.specs.Objects.{Signature, Typing, object_at, is_anonymous, view_of, has_scope_end}
+use Rattle.flow_paths.specs.Objects.{Signature, Typing}
 use Rattle.flow_paths.specs.Points.{PointName, same_place, same_point, NamedPoint, FlowPoint, flow_point}
-use Rattle.flow_paths.specs.Laid.{FlowSub, FlowProgram, NamedSub, number_in, numbers_from, unnumbered, signature, frame_of, kept_roots, sub_facts, flow_sub, typing_of, flow_typing, flow_program, flow_named, named_subs, sub_temporaries, all_named}
-use Rattle.flow_paths.specs.Prep.{Setting}
+use Rattle.flow_paths.specs.Laid.{FlowSub, FlowProgram, NamedSub, number_in, signature, frame_of, kept_roots, sub_facts, flow_sub, typing_of, flow_typing, flow_program, flow_named, named_subs, sub_temporaries, all_named}
 use Rattle.flow_paths.specs.Paths.{PathPoint, path_point}
 use Rattle.flow_paths.specs.Effects.{all_acts, path_points}
-use Rattle.flow_paths.specs.Scopes.{Differ, ScopesHold, Leads, Silent, is_within, is_temporary, is_settled, scope_behind}
-use Rattle.flow_paths.proofs.PointsDiffer.{points_differ, package_points_differ}
-use Rattle.flow_paths.proofs.ScopesHold.{scopes_hold, package_scopes_hold}
-use Rattle.machine.specs.Memory.{Memory}
+use Rattle.flow_paths.specs.Scopes.{Differ, ScopesHold, Leads, scope_behind}
 use Rattle.machine.specs.States.{no_sub, sub_of}
 use Rattle.machine.specs.Run.{no_point}
-use Rattle.owned_ways.specs.Ways.{Step, OfRoot, Held}
-use Rattle.owned_ways.specs.Ways as ways
-use Rattle.soundness.specs.Seen.{content}
-use Rattle.soundness.specs.Typed.{OwnsByShape}
-use Rattle.soundness.specs.Sound.{InScope, IsNamedSub, IsAtPoint}
-use Rattle.soundness.proofs.Contents.{word_no}
-use Rattle.soundness.proofs.Lasting.{ownerless}
+use Rattle.soundness.specs.Sound.{IsNamedSub, IsAtPoint}
 
 -- ---- lists
 
@@ -58,6 +46,21 @@ all_has P [] x all has = absurd has
 all_has P (y ∷ xs) x all (inl e) = subst P e all.0
 all_has P (y ∷ xs) x all (inr has) = all_has P xs x all.1 has
 
+abbrev head_or : {A : Type 0} → A → List A → A
+head_or d [] = d
+head_or d (x ∷ xs) = x
+
+abbrev tail_of : {A : Type 0} → List A → List A
+tail_of [] = []
+tail_of (x ∷ xs) = xs
+
+at_one : {A : Type 0} (front front' : List A) (x y : A) (rest rest' : List A) → front ++ x ∷ rest ≡ front' ++ y ∷ rest' → length front ≡ length front' → x ≡ y
+at_one [] [] x y rest rest' same long = ap (λ z. head_or x z) same
+at_one [] (b ∷ front') x y rest rest' same long = absurd (omega (arith, long))
+at_one (a ∷ front) [] x y rest rest' same long = absurd (omega (arith, long))
+at_one (a ∷ front) (b ∷ front') x y rest rest' same long =
+    at_one front front' x y rest rest' (ap (λ z. tail_of z) same) (omega (arith, long))
+
 -- ---- subprograms and points by number
 
 -- a point, as far as paths go
@@ -79,6 +82,12 @@ named_has subs k named (front, rest, is, long) = subst (λ z. Has z named) (sym 
 
 pub point_has : (points : List NamedPoint) (n : ℕ) (p : NamedPoint) → IsAtPoint points n p → Has points p
 point_has points n p (front, rest, is, long) = subst (λ z. Has z p) (sym is) (in_middle front p rest)
+
+pub one_named : (subs : List NamedSub) (k : ℕ) (a b : NamedSub) → IsNamedSub subs k a → IsNamedSub subs k b → a ≡ b
+one_named subs k a b (front, rest, is, long) (front', rest', is', long') = at_one front front' a b rest rest' (sym is ∙ is') (long ∙ sym long')
+
+pub one_point : (points : List NamedPoint) (n : ℕ) (p q : NamedPoint) → IsAtPoint points n p → IsAtPoint points n q → p ≡ q
+one_point points n p q (front, rest, is, long) (front', rest', is', long') = at_one front front' p q rest rest' (sym is ∙ is') (long ∙ sym long')
 
 pub sub_there : (table : Table) (typed : TypedProgram) (k : ℕ) (named : NamedSub) → IsNamedSub (flow_named table typed) k named
     → sub_of (flow_program table typed) k ≡ flow_sub (typing_of table typed) named
@@ -196,22 +205,6 @@ number_there (p ∷ rest) q (apart, differ) (inr has) =
 abbrev pub IsLaid : Typing → NamedSub → Type 0
 IsLaid s named = Differ named.points × ScopesHold s named.points
 
-subs_laid : (s : Typing) (n : ℕ) (subs : List TypedSub) → ((sub : TypedSub) → Has subs sub → is_settled s sub.body ≡ true)
-    → (named : NamedSub) → Has (named_subs s n subs) named → IsLaid s named
-subs_laid s n [] settled named has = absurd has
-subs_laid s n (sub ∷ rest) settled named (inl e) =
-    let setting : Setting = record { typing = s; temporary = numbers_from n (sub_temporaries s sub) } in
-    subst (IsLaid s) e (points_differ setting sub, scopes_hold setting sub (settled sub (inl refl)))
-subs_laid s n (sub ∷ rest) settled named (inr has) =
-    subs_laid s (n + length (sub_temporaries s sub)) rest (λ sub has. settled sub (inr has)) named has
-
-pub all_laid : (s : Typing) (subs : List TypedSub) → ((sub : TypedSub) → Has subs sub → is_settled s sub.body ≡ true)
-    → (named : NamedSub) → Has (all_named s subs) named → IsLaid s named
-all_laid s [] settled named has = absurd has
-all_laid s (sub ∷ rest) settled named (inl e) =
-    subst (IsLaid s) e (package_points_differ (unnumbered s) sub, package_scopes_hold (unnumbered s) sub (settled sub (inl refl)))
-all_laid s (sub ∷ rest) settled named (inr has) = subs_laid s (length s.objects) rest (λ sub has. settled sub (inr has)) named has
-
 -- The successor with a number is a point, and what is in scope there was in scope after the
 -- instruction.
 pub next_there : (s : Typing) (named : NamedSub) → IsLaid s named → (p : NamedPoint) → Has named.points p → (n : ℕ) → Has (map (number_in named.points) p.next) n
@@ -225,44 +218,3 @@ next_there s named (differ, holds) p has n next =
     named_by [] has = absurd has
     named_by (m ∷ names) (inl e) = (m, inl refl, e)
     named_by (m ∷ names) (inr has) = (let later = named_by names has in (later.0, inr later.1, later.2))
-
--- ---- what leaves scope silently owns nothing
-
-module _ (s : Typing) (own_law : OwnsByShape s.table)
-    (all_named : (u d : ℕ) (c n : Bool) → shape_of s.table u ≡ shape.Access d c n → n ≡ true) where
-  not_and : (a b : Bool) → not a && b ≡ true → a ≡ false
-  not_and true b e = cc
-  not_and false b e = refl
-
-  not_or : (a b : Bool) → a || b ≡ false → a ≡ false
-  not_or true b e = cc
-  not_or false b e = refl
-
-  silent_plain : (x : ℕ) → Silent s x → is_owning s.table (object_at s x).of ≡ false
-  silent_plain x silent =
-      not_or (is_owning s.table (object_at s x).of) (is_anonymous (view_of s x)) (not_and (has_scope_end s x) (not (is_temporary (object_at s x).kind)) silent)
-
-  any_either : (a b : Bool) → a || b ≡ true → (a ≡ true) ⊎ (b ≡ true)
-  any_either true b e = inl refl
-  any_either false b e = inr e
-
-  silent_in : (x : ℕ) (gone : List ℕ) → AllByRecursion (Silent s) gone → is_within x gone ≡ true → Silent s x
-  silent_in x [] all e = cc
-  silent_in x (y ∷ gone) all e = elim (any_either (x == y) (is_within x gone) e) [
-    | inl same ↦ subst (Silent s) (sym (eqb-true x y same)) all.0
-    | inr later ↦ silent_in x gone all.1 later
-  ]
-
-  -- what is in scope at a successor has all that owns
-  pub scope_next : (m : Memory) (depth : ℕ) (a b : List ℕ) → InScope s m depth a → Leads s a b → InScope s m depth b
-  scope_next m depth a b within (gone, silent, is) f x p n held = elim (within f x p n held) [
-    | inl older ↦ inl older
-    | inr mine ↦ elim (any_either (is_within x gone) (is_within x b)
-        (sym (list_any-append (λ y. x == y) gone b) ∙ ap (is_within x) (sym is) ∙ mine.1)) [
-          | inr there ↦ inr (mine.0, there)
-          | inl left ↦ (
-              let none = word_no s.table (content s m [] (OfRoot (ways.OfVariable f x))) p
-              (ownerless s.table own_law (object_at s x).of (silent_plain x (silent_in x gone silent left)) p) in
-              let no_number = sym none ∙ held in cc)
-        ]
-  ]

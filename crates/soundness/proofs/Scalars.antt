@@ -1,20 +1,13 @@
--- Scalar expressions, and the indexes of names: they change nothing, and touch no freed cell.
-use Rattle.std.proofs.Common.{◌≡◌, refl, ap, ℕ, false, not, ◌||◌, List, [], ◌∷◌, ◌++◌, map, filter}
+-- Facts after acts, one list after the other, and the ways of names along steps.
+use Rattle.std.proofs.Common.{◌≡◌, refl, ap, ℕ, false, not, List, [], ◌∷◌, ◌++◌, map, filter}
 use Rattle.place_names.specs.declared.act.Act.{Act}
 use Rattle.place_names.specs.declared.act.Act.TheVariants as act
 use Rattle.place_names.specs.declared.act.Placed.{Placed}
 use Rattle.place_names.specs.declared.fact.Fact.{Fact}
-use Rattle.place_names.specs.declared.fact.Fact.TheVariants.{Moved}
-use Rattle.place_names.specs.declared.rule.Rule.TheVariants.{O1, O2}
-use Rattle.place_names.specs.declared.rule.State.TheVariants as state
-use Rattle.place_names.specs.Names.{Name as PlaceName, overlaps, leads_to}
+use Rattle.place_names.specs.Names.{Name as PlaceName}
 use Rattle.place_names.specs.Facts.{effect}
-use Rattle.place_names.specs.Rules.{Forbidden}
-use Rattle.owned_ways.specs.Ways.{Way, Into, All, Past, Named, IsMoved, Allows, after, AllowsAll, number_of, name_of}
+use Rattle.owned_ways.specs.Ways.{Way, Into, All, Named, after, AllowsAll, number_of}
 use Rattle.owned_ways.specs.Ways as ways
-use Rattle.owned_ways.proofs.Locations.{past_under}
-use Rattle.owned_ways.proofs.Named.{under_front, under_leads}
-use Rattle.owned_ways.proofs.Assigned.{test_fails, either_left}
 use Rattle.machine.specs.Evaluate as run
 use Rattle.soundness.proofs.Walks.{way_along}
 
@@ -44,18 +37,6 @@ read_effect m facts = keep_all facts
 
 pub look_effect : (m : PlaceName) (facts : List Fact) → effect (act.Look m) facts ≡ facts
 look_effect m facts = keep_all facts
-
--- ---- reads and looks
-
-pub read_way : (at_home : ℕ → ℕ) (facts : List Fact) (w : Way) → Allows facts (act.Read (name_of w)) → (v : Way) → Past v w → IsMoved at_home facts v → ⊥
-read_way at_home facts w allowed v p h =
-    test_fails Forbidden (record { rule = O1; name = name_of w; word = state.Moved }) (overlaps (name_of v) (name_of w))
-    (under_front v w (past_under v w p)) (allowed (Moved (name_of v)) h.1)
-
-pub look_way : (at_home : ℕ → ℕ) (facts : List Fact) (w : Way) → Allows facts (act.Look (name_of w)) → (v : Way) → Past v w → IsMoved at_home facts v → ⊥
-look_way at_home facts w allowed v p h =
-    test_fails Forbidden (record { rule = O2; name = name_of w; word = state.Moved }) (leads_to (name_of v) (name_of w) || false)
-    (either_left (leads_to (name_of v) (name_of w)) false (under_leads v w (past_under v w p))) (allowed (Moved (name_of v)) h.1)
 
 -- ---- ways along steps
 

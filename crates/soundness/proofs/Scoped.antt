@@ -5,10 +5,10 @@ use Rattle.flow_paths.specs.Objects.{Typing, object_at, designated}
 use Rattle.flow_paths.specs.Scopes.{is_within, is_last}
 use Rattle.machine.specs.Words as machine
 use Rattle.machine.specs.Memory.{Slot, Memory, Base, OfVariable, OfCell, Place, fresh, no_slot, variable_slots, slots_at, cell, words_of, put, stored, declared, undeclared, freed}
-use Rattle.machine.specs.Evaluate.{Now, Evaluated, Done, Raises, Traps, followed_by, walked, designated_place, cell_place, component_place, element_place, ConstraintError, Touched}
+use Rattle.machine.specs.Evaluate.{Now, Evaluated, Done, Raises, Traps, followed_by, walked, designated_place, cell_place, component_place, element_place, Touched}
 use Rattle.machine.specs.Evaluate as run
 use Rattle.machine.specs.Owners.{owned}
-use Rattle.owned_ways.specs.Ways.{Step, Loc, OfRoot, Word, Empty, Held}
+use Rattle.owned_ways.specs.Ways.{Step, OfRoot, Word, Empty, Held}
 use Rattle.owned_ways.specs.Ways as ways
 use Rattle.owned_ways.proofs.Locations.{same_loc}
 use Rattle.part_offsets.specs.Parts.{offset_in, is_leaf}

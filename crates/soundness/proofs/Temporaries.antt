@@ -19,8 +19,7 @@ use Rattle.flow_paths.specs.Points.{Place, PointName, row_at, NamedPoint, point,
 use Rattle.flow_paths.specs.Prep.{Setting, prep}
 use Rattle.flow_paths.specs.Layout.{Around, within_loop, within_block, with_scope, declared, from, ending, ends, closing, laid, laid_branches, laid_branch, laid_whens, laid_when}
 use Rattle.flow_paths.specs.Laid.{Temporary, temporary_object, filled, temporaries, numbers_from, unnumbered, around_body, scope_at_end, procedure_end, function_end, sub_points, sub_temporaries, NamedSub, named_sub, named_subs, all_named, frame_of, kept_roots, sub_facts, FlowSub, flow_sub, typing_of, flow_program, flow_named, number_in}
-use Rattle.soundness.specs.Sound.{calls_nothing, calls_procedures}
-use Rattle.soundness.proofs.Successors.{nothing_procedures}
+use Rattle.soundness.specs.Sound.{calls_procedures}
 use Rattle.flow_paths.proofs.Slots.{each_both as all_both}
 
 -- ---- lists
@@ -253,9 +252,3 @@ few_temporaries table typed calm =
   where
     nothing_more : (xs : List Object) → xs ++ [] ≡ xs
     nothing_more xs = grind (arith, common_steps)
-
--- So it is where nothing is called.
-pub no_temporaries : (table : Table) (typed : TypedProgram)
-    → ((sub : FlowSub) → Has (flow_program table typed).subs sub → (p : FlowPoint) → Has sub.points p → calls_nothing p.instr ≡ true)
-    → (flow_program table typed).objects ≡ typed.objects
-no_temporaries table typed calm = few_temporaries table typed (λ sub has p there. nothing_procedures p.instr (calm sub has p there))

@@ -1,30 +1,24 @@
 -- What subprograms use of package objects, by what their points do; and that a call which ends has
 -- moved no part of one.
-use Rattle.std.proofs.Common.{◌≡◌, refl, sym, ap, ◌∙◌, subst, ◌⊎◌, inl, inr, ℕ, zero, suc, ◌+◌, ◌<◌, ◌≤◌, Bool, true, false, not, ◌&&◌, ◌||◌, ◌==◌, eq-eqb, eqb-true, List, [], ◌∷◌, map, drop, length, arith, IsTrue, Option, None, if◌then◌else◌}
-use Rattle.std.specs.Prelude.{filter, flat_map}
+use Rattle.std.proofs.Common.{◌≡◌, refl, sym, ap, ◌∙◌, subst, ◌⊎◌, inl, inr, ℕ, zero, suc, ◌+◌, ◌<◌, ◌≤◌, Bool, true, false, not, ◌&&◌, ◌||◌, ◌==◌, eq-eqb, eqb-true, List, [], ◌∷◌, map, drop, length, arith, IsTrue, Option}
+use Rattle.std.specs.Prelude.{filter}
 use Rattle.std.specs.List.{list_any}
 use Rattle.spark_base.specs.Lists.{Has}
 use Rattle.spark_base.specs.declared.position.Pos.{Pos}
-use Rattle.spark_base.proofs.Lists.{Has-append_left, Has-append_right, Has-append_cases, Has-filter, Has-filter_passes, Has-map, Has-map_from}
+use Rattle.spark_base.proofs.Lists.{Has-append_left, Has-append_right, Has-append_cases, Has-filter, Has-map_from}
 use Rattle.place_names.specs.declared.act.Act.{Act}
 use Rattle.place_names.specs.declared.act.Act.TheVariants as act
 use Rattle.place_names.specs.declared.act.Placed.{Placed}
 use Rattle.place_names.specs.declared.fact.Fact.{Fact}
-use Rattle.place_names.specs.declared.fact.Fact.TheVariants.{Moved}
-use Rattle.place_names.specs.Names.{Name as PlaceName}
-use Rattle.place_names.specs.Facts.{place, adds, removes, effect, is_same_fact}
-use Rattle.place_names.specs.declared.rule.Rule.TheVariants.{O9}
-use Rattle.place_names.specs.Rules.{forbidden_if, forbids, moved_in}
-use Rattle.place_names.proofs.Facts.{is_same_fact-decides}
+use Rattle.place_names.specs.Facts.{adds, removes, effect}
 use Rattle.typed_tree.specs.declared.object.Object.{Object}
 use Rattle.typed_tree.specs.Trees.{TypedTree}
-use Rattle.typed_tree.specs.Programs.{TypedSub}
 use Rattle.flow_paths.specs.declared.report.Effects.{Effects}
 use Rattle.flow_paths.specs.Instructions.{Instruction, Skip, Declare, Assign, Call, Output, Input, Release, Test, Choose, Start, Next, Evaluate, LeaveLoop, Hold, EndScope, Finish, Fall}
-use Rattle.flow_paths.specs.Objects.{Typing, is_formal, is_package_object}
-use Rattle.flow_paths.specs.Acts.{placed, acts_of}
-use Rattle.flow_paths.specs.Points.{NamedPoint, FlowPoint}
-use Rattle.flow_paths.specs.Laid.{FlowSub, FlowProgram, NamedSub, distinct, frame_of, kept_roots, point_acts, sub_facts, flow_sub, flow_typing}
+use Rattle.flow_paths.specs.Objects.{Typing, is_package_object}
+use Rattle.flow_paths.specs.Acts.{placed}
+use Rattle.flow_paths.specs.Points.{FlowPoint}
+use Rattle.flow_paths.specs.Laid.{FlowSub, FlowProgram, flow_typing}
 use Rattle.flow_paths.specs.Paths.{path_point, acts_at, facts_before}
 use Rattle.flow_paths.specs.Effects.{is_in, act_writes, act_reads, writes_text, reads_text, point_writes, point_reads, is_global, own_writes, own_reads, calls, sub_calls, flow_sub_at, ends, calls_on, AreEffects, read_by, written_by, global_act, globals_from, globals_of, called_acts, all_acts, path_points}
 use Rattle.owned_ways.specs.Ways.{after}
@@ -32,7 +26,7 @@ use Rattle.soundness.specs.Sound.{Uses}
 use Rattle.soundness.proofs.Contents.{bool_cases}
 use Rattle.soundness.proofs.Scalars.{acts}
 use Rattle.soundness.proofs.Paths.{facts_next}
-use Rattle.soundness.proofs.Points.{path_of, flow_at}
+use Rattle.soundness.proofs.Points.{path_of}
 use Rattle.soundness.proofs.Inherited.{AreGlobal}
 use Rattle.soundness.proofs.Waits.{drop_none}
 
@@ -235,123 +229,3 @@ module _ (program : FlowProgram) (effects : Effects) (are : AreEffects program e
               | inr called ↦ absurd (called_add_none (point.0).pos (point.0).instr from.0 f called adds_it)
             ])
       ]
-
--- ---- the end of a call
-
-distinct_has : (facts : List Fact) (x : Fact) → Has facts x → Has (distinct facts) x
-unfolding distinct
-distinct_has [] x h = absurd h
-distinct_has (f ∷ rest) x h = elim h [
-  | inl e ↦ inl e
-  | inr later ↦ from (is_same_fact f x) refl (distinct_has rest x later)
-]
-  where
-    from : (b : Bool) → is_same_fact f x ≡ b → Has (distinct rest) x → Has (f ∷ filter (λ g. not (is_same_fact f g)) (distinct rest)) x
-    from true is has = inl ((is_same_fact-decides f x).0 is)
-    from false is has = inr (Has-filter_passes (λ g. not (is_same_fact f g)) (distinct rest) x has (ap not is))
-
-flat_has : {A B : Type 0} (f : A → List B) (xs : List A) (x : A) (y : B) → Has xs x → Has (f x) y → Has (flat_map f xs) y
-flat_has f [] x y h k = absurd h
-flat_has f (z ∷ xs) x y h k = elim h [
-  | inl e ↦ Has-append_left (f z) (flat_map f xs) y (subst (λ w. Has (f w) y) (sym e) k)
-  | inr later ↦ Has-append_right (f z) (flat_map f xs) y (flat_has f xs x y later k)
-]
-
--- what the end of a call looks at changes no other act
-other_roots : (s : Typing) (sub : TypedSub) (roots : List ℕ) (p : Pos) (i : Instruction) (a : Placed) (f : Fact)
-    → Has (acts_of (frame_of s sub roots) p i) a → Has (adds a.act) f → Has (acts_of (frame_of s sub []) p i) a
-other_roots s sub roots p Skip a f h new = h
-other_roots s sub roots p (Declare x v) a f h new = h
-other_roots s sub roots p (Assign target e) a f h new = h
-other_roots s sub roots p (Call q actuals result) a f h new = h
-other_roots s sub roots p (Output text line) a f h new = h
-other_roots s sub roots p (Input target) a f h new = h
-other_roots s sub roots p (Release m) a f h new = h
-other_roots s sub roots p (Test e) a f h new = h
-other_roots s sub roots p (Choose e choices) a f h new = h
-other_roots s sub roots p (Start x reversed low high) a f h new = h
-other_roots s sub roots p (Next x reversed low high) a f h new = h
-other_roots s sub roots p (Evaluate t e left) a f h new = h
-other_roots s sub roots p (LeaveLoop e) a f h new = h
-other_roots s sub roots p (Hold v) a f h new = h
-other_roots s sub roots p (EndScope x) a f h new = h
-other_roots s sub roots p Finish a f h new = elim h [
-  | inl e ↦ absurd (subst (λ (b : Placed). Has (adds b.act) f) (sym e) new)
-  | inr none ↦ absurd none
-]
-other_roots s sub roots p Fall a f h new = h
-
-module _ (s : Typing) (facts : List Fact) (x : ℕ) (shared : is_package_object s x ≡ true) (f : Fact) (has : Has facts f) (root : (place f).root ≡ x) where
-  rooted : list_any (λ (g : Fact). (place g).root == x) facts ≡ true
-  rooted = any_has (λ (g : Fact). (place g).root == x) facts f has (eq-eqb (place f).root x root)
-
-  abbrev is_kept : ℕ → Bool
-  is_kept n = (is_formal s n || is_package_object s n) && list_any (λ (g : Fact). (place g).root == n) facts
-
-  kept_there : is_kept x ≡ true
-  kept_there = both (is_formal s x || is_package_object s x) _ (or_second (is_formal s x) (is_package_object s x) shared) rooted
-
-  kept_has : (n : ℕ) (objects : List Object) → n ≤ x → x < n + length objects → Has (kept_roots s n objects facts) x
-  kept_has n [] low high = absurd (omega (arith, low, high))
-  kept_has n (o ∷ objects) low high = by_test (is_kept n) refl (λ less. kept_has (suc n) objects less (omega (arith, high)))
-    where
-      by_test : (b : Bool) → is_kept n ≡ b → (suc n ≤ x → Has (kept_roots s (suc n) objects facts) x)
-          → Has (if b then n ∷ kept_roots s (suc n) objects facts else kept_roots s (suc n) objects facts) x
-      by_test b is more = elim (bool_cases (n == x)) [
-        | inl e ↦ (
-            let yes : true ≡ b = sym kept_there ∙ sym (ap is_kept (eqb-true n x e)) ∙ is in
-            subst (λ z. Has (if z then n ∷ kept_roots s (suc n) objects facts else kept_roots s (suc n) objects facts) x) yes (inl (eqb-true n x e)))
-        | inr e ↦ later b (more (past n x low (λ same. (let yes : true ≡ false = sym (eq-eqb n x same) ∙ e in cc))))
-      ]
-        where
-          later : (b : Bool) → Has (kept_roots s (suc n) objects facts) x → Has (if b then n ∷ kept_roots s (suc n) objects facts else kept_roots s (suc n) objects facts) x
-          later true h = inr h
-          later false h = h
-
-          past : (a b : ℕ) → a ≤ b → (a ≡ b → ⊥) → suc a ≤ b
-          past zero zero l ne = absurd (ne refl)
-          past zero (suc b) l ne = omega arith
-          past (suc a) zero l ne = absurd (omega (arith, l))
-          past (suc a) (suc b) l ne = (let less = past a b (omega (arith, l)) (λ e. ne (ap suc e)) in omega (arith, less))
-
--- A call that may end has moved no part of a package object.
-module _ (program : FlowProgram) (effects : Effects) (are : AreEffects program effects) (own : Typing) (named : NamedSub) where
-  abbrev sub : FlowSub
-  sub = flow_sub own named
-
-  abbrev roots : List ℕ
-  roots = kept_roots own 0 own.objects (sub_facts own named.sub named.points)
-
-  in_facts : (before : List ℕ) (f : Fact) → Has (facts_before (path_points program effects sub) before) f → Has (sub_facts own named.sub named.points) f
-  in_facts before f has =
-      let from = fact_added program effects are sub before f has in
-      let point = Has-map_from (λ (q : NamedPoint). flow_at own named q) named.points from.0 from.2 in
-      let act_there : Has (acts_of (frame_of own named.sub roots) (point.0).pos (point.0).instr) from.1 =
-      subst (λ (q : FlowPoint). Has q.acts from.1) (sym point.2) from.3 in
-      let other = other_roots own named.sub roots (point.0).pos (point.0).instr from.1 f act_there from.4 in
-      let all : List Act = flat_map (point_acts (frame_of own named.sub [])) named.points in
-      distinct_has (flat_map adds all) f
-      (flat_has adds all (from.1).act f
-      (flat_has (point_acts (frame_of own named.sub [])) named.points point.0 (from.1).act point.1
-      (Has-map (λ (b : Placed). b.act) (acts_of (frame_of own named.sub []) (point.0).pos (point.0).instr) from.1 other)) from.4)
-
-  own_less : (objects : List Object) (x : ℕ) → is_package_object (record own { objects = objects }) x ≡ true → x < length objects
-  own_less [] x shared = cc
-  own_less (o ∷ objects) zero shared = omega arith
-  own_less (o ∷ objects) (suc x) shared = (let less = own_less objects x shared in omega (arith, less))
-
-  abbrev pub MayReturn : List ℕ → Type 0
-  MayReturn before = (f : Fact) → Has (facts_before (path_points program effects sub) before) f → forbids (act.Return roots) f ≡ None
-
-  pub returns_whole : (before : List ℕ) → MayReturn before → (name : PlaceName)
-      → Has (facts_before (path_points program effects sub) before) (Moved name) → is_package_object own name.root ≡ true → ⊥
-  returns_whole before allowed name has shared =
-      let kept : Has roots name.root =
-      kept_has own (sub_facts own named.sub named.points) name.root shared (Moved name) (in_facts before (Moved name) has) refl 0 own.objects (omega arith)
-      (let less = own_less own.objects name.root shared in omega (arith, less)) in
-      let broken : moved_in roots (Moved name) ≡ true = any_has (λ x. x == name.root) roots name.root kept (eq-eqb name.root name.root refl) in
-      spared (moved_in roots (Moved name)) broken (allowed (Moved name) has)
-    where
-      spared : (b : Bool) → b ≡ true → forbidden_if b O9 name (Moved name) ≡ None → ⊥
-      spared true e none = cc
-      spared false e none = cc

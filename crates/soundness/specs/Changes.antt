@@ -9,7 +9,7 @@ use Rattle.machine.specs.Memory.{Slot, Memory, Place, fresh, no_slot, slots_at}
 use Rattle.machine.specs.Calls.{checked_at}
 use Rattle.machine.specs.States.{Waiting, Leak}
 use Rattle.machine.specs.Owners.{no_value}
-use Rattle.owned_ways.specs.Ways.{Step, Root, OfHand, Loc, OfRoot, Held}
+use Rattle.owned_ways.specs.Ways.{Step, OfHand, Loc, OfRoot, Held}
 use Rattle.part_offsets.specs.Parts.{type_in, offset_in, has_part, is_leaf}
 use Rattle.soundness.specs.Seen.{Content, in_hand, word_in, trunk, steps_in}
 
@@ -75,9 +75,3 @@ pub record Takes (table : Table) (a b : Loc → Content) (h : ℕ) (v : Waiting)
       ≡ record { word = (get_or (a (trunk from)).slots (offset_in table (a (trunk from)).of (p ++ steps_in from)) no_slot).word; gone = false }
   pub alike : Alike table v.of (type_in table (a (trunk from)).of (steps_in from))
   pub apart : trunk from ≡ hand h → ⊥
-
--- A variable or a hand ends, and has nothing that owns.
-pub record Drops (table : Table) (a b : Loc → Content) (r : Root) : Type 0 where
-  pub other : (k : Loc) → trunk k ≡ k → (k ≡ OfRoot r → ⊥) → b k ≡ a k
-  pub empty : (p : List Step) (n : ℕ) → word_in table (b (OfRoot r)) p ≡ Held n → ⊥
-  pub whole : (p : List Step) → (get_or (b (OfRoot r)).slots (offset_in table (b (OfRoot r)).of p) no_slot).gone ≡ false

@@ -1,6 +1,6 @@
--- What is asked of an accepted program so that its runs are sound: what typing, the layout and the
+-- Of what is asked of an accepted program so that its runs are sound: what typing, the layout and the
 -- rules see to. Nothing here speaks of a run.
-use Rattle.std.specs.Prelude.{◌≡◌, ◌⊎◌, ℕ, true, false, List, [], ◌∷◌, take, drop, get_or, Option, Some, None, is_some}
+use Rattle.std.specs.Prelude.{◌≡◌, ◌⊎◌, ℕ, true, false, List, [], ◌∷◌, take, drop, get_or, Some, None, is_some}
 use Rattle.spark_base.specs.Lists.{Has}
 use Rattle.place_names.specs.declared.act.Mode.{Mode}
 use Rattle.place_names.specs.declared.act.Mode.TheVariants as mode
@@ -23,8 +23,7 @@ use Rattle.flow_paths.specs.Scopes.{taken, is_ready, is_within, Differ, ScopesHo
 use Rattle.machine.specs.States.{sub_of}
 use Rattle.machine.specs.Run.{no_point}
 use Rattle.typed_laws.specs.Needed.{Stays, IsPlace}
-use Rattle.soundness.specs.Typed.{OwnsByShape}
-use Rattle.soundness.specs.Sound.{Accepted, IsFunctionClass, IsNamedSub, IsProcedure, IsRunnable, IsEntered, is_temporary_object, temporaries_in, returns_value, has_returned}
+use Rattle.soundness.specs.Sound.{IsEntered, is_temporary_object, temporaries_in, returns_value, has_returned}
 
 -- ---- scopes
 
@@ -104,20 +103,6 @@ abbrev pub AreActuals : Typing → List ℕ → TypedTree → Type 0
 AreActuals s (x ∷ formals) (More e rest) = IsActualBy s (object_at s x).mode e × AreActuals s formals rest
 AreActuals s formals actuals = Unit {0}
 
--- A subprogram that is called can run; it is a function where the call has a result. (Where none is
--- called, nothing is asked of object 0, which is Ada.Text_IO.)
-pub record IsCalled (table : Table) (typed : TypedProgram) (n : ℕ) (actuals : TypedTree) (result : Option ℕ) : Type 0 where
-  pub runs : IsRunnable table typed n
-  pub answers : is_some (sub_of (flow_program table typed) n).result ≡ is_some result
-  pub formals : (x : ℕ) → Has (sub_of (flow_program table typed) n).formals x → is_formal (flow_typing (flow_program table typed)) x ≡ true
-  pub actuals_stay : AreActuals (flow_typing (flow_program table typed)) (sub_of (flow_program table typed) n).formals actuals
-  pub text_io : is_package_object (flow_typing (flow_program table typed)) 0 ≡ false
-
-abbrev pub AreCalled : Table → TypedProgram → Type 0
-AreCalled table typed =
-    (sub : FlowSub) → Has (flow_program table typed).subs sub → (p : FlowPoint) → Has sub.points p
-    → (n : ℕ) (actuals : TypedTree) (result : Option ℕ) → p.instr ≡ Call n actuals result → IsCalled table typed n actuals result
-
 -- On each control path of a subprogram that may run and gives a result: no return with a value comes
 -- after another one, and the end of the call comes after one.
 abbrev pub AreReturning : FlowProgram → Effects → Type 0
@@ -126,21 +111,3 @@ AreReturning program effects =
     → ControlPath (path_points program effects (sub_of program k)) before last
     → (returns_value (get_or (sub_of program k).points last no_point).instr ≡ true → has_returned (sub_of program k) before ≡ false)
     × ((get_or (sub_of program k).points last no_point).instr ≡ Finish → has_returned (sub_of program k) before ≡ true)
-
--- ---- all of it
-
--- An accepted program of the third class, of which this holds.
-pub record IsReady (table : Table) (typed : TypedProgram) (effects : Effects) : Type 0 where
-  pub accepted : Accepted table typed effects
-  pub owns : OwnsByShape (flow_program table typed).table
-  pub class : IsFunctionClass (flow_program table typed)
-  pub scoped : AreScoped table typed
-  pub new : AreNew (flow_program table typed) effects
-  pub elaborated : AreElaborated (flow_program table typed)
-  pub packages : NamedSub
-  pub stands : IsNamedSub (flow_named table typed) 0 packages
-  pub called : AreCalled table typed
-  pub returning : AreReturning (flow_program table typed) effects
-  pub main : ℕ
-  pub is_main : (flow_program table typed).main ≡ Some main
-  pub main_there : IsProcedure table typed main

@@ -24,22 +24,22 @@ use Rattle.typed_tree.specs.Trees.{TypedTree, Number, Literal, Text, Name, Compo
 use Rattle.typed_tree.specs.Trees as typed
 use Rattle.flow_paths.specs.Instructions.{Instruction, Skip, Declare, Assign, Output, Input, Release, Test, Choose, Start, Next, Evaluate, LeaveLoop, Hold, EndScope, Finish, Fall}
 use Rattle.flow_paths.specs.Instructions as instruction
-use Rattle.flow_paths.specs.Objects as objects
-use Rattle.flow_paths.specs.Objects.{Typing, ByValue, passing_by, is_named_access, object_at, is_variable, is_borrower, is_observer, is_borrowing, is_observing, is_anonymous, view_of, traverses}
+use Rattle.flow_paths.specs.Objects.{Typing, passing_by, is_named_access, object_at, is_formal, is_variable, is_borrower, is_observer, is_borrowing, is_observing, is_anonymous, view_of, traverses}
 use Rattle.flow_paths.specs.Names.{Written, name_of, selectors, written, first, source, whole, has_call}
 use Rattle.flow_paths.specs.Acts.{acts_in, acts_of, used, placed, naming, observe, reborrow, target_pos, index_acts, source_acts, assigned_to, stored_acts, declared_acts, returned_acts, gives_variable, actual_act, actual_acts}
-use Rattle.flow_paths.specs.Views.{changes}
+use Rattle.flow_paths.specs.Views.{changes, lends}
 use Rattle.machine.specs.Words.{component_type, element_of, no_component}
+use Rattle.machine.specs.Owners.{is_in, is_in_formal}
 use Rattle.soundness.specs.Typed.{OwnsByShape}
 use Rattle.soundness.specs.Sound.{IsNoCall}
 use Rattle.soundness.proofs.Passing.{IsRead, AreReads}
 use Rattle.typed_laws.specs.Needed.{Matches, Stays, Leads, Gives, GivesParts, GivesFirst, Writes, FirstWrites, Source, FirstSource, IsPlace, FirstStays, Returns, IsFine}
 use Rattle.viewed_soundness.specs.Holds.{IsNamed, PartsAreNamed}
 use Rattle.viewed_soundness.proofs.Evaluated.{matches_named}
-use Rattle.viewed_steps.specs.Sound.{IsKindOfFormal}
+use Rattle.viewed_steps.specs.Sound.{IsCopiedBack, IsKindOfFormal}
 use Rattle.viewed_steps.specs.Ready.{IsActualTo, AreActualsTo}
 use Rattle.viewed_steps.proofs.Read.{scalar_named}
-use Rattle.viewed_steps.proofs.Called.{way_to, in_plain}
+use Rattle.viewed_steps.proofs.Called.{way_to}
 use Rattle.scope_laws.specs.Code.{roots}
 use Rattle.scope_laws.specs.Order.{named_in}
 use Rattle.view_laws.specs.InOrder.{is_call, NamesSource}
@@ -232,27 +232,29 @@ module _ (s : Typing) (own_law : OwnsByShape s.table) (parts_named : PartsAreNam
   abbrev IsOnOne : List ℕ → Fact → Type 0
   IsOnOne xs f = Has xs (place f).root × Lasts s (object_at s (place f).root).of
 
-  -- The facts that an act adds are so; and if it changes a whole object, that is no observer.
+  -- The facts that an act adds are so; what it changes is rooted in one of these objects, which is no observer if it changes it
+  -- as a whole; and so is what it lends for writing.
   abbrev pub IsGood : List ℕ → Act → Type 0
   IsGood xs a =
       ((f : Fact) → Has (adds a) f → IsOnOne xs f)
-      × ((m : PlaceName) → changes a ≡ Some m → m.sels ≡ [] → is_observer s m.root ≡ false)
+      × ((m : PlaceName) → changes a ≡ Some m → Has xs m.root × (m.sels ≡ [] → is_observer s m.root ≡ false))
+      × ((m : PlaceName) → lends a ≡ Some m → Has xs m.root)
 
   abbrev pub AreGood : List Placed → List ℕ → Type 0
   AreGood acts xs = (a : Placed) → Has acts a → IsGood xs a.act
 
-  -- An act that adds no fact and changes nothing.
+  -- An act that adds no fact, and changes and lends nothing.
   abbrev IsQuiet : Act → Type 0
-  IsQuiet a = ((f : Fact) → Has (adds a) f → ⊥) × ((m : PlaceName) → changes a ≡ Some m → ⊥)
+  IsQuiet a = ((f : Fact) → Has (adds a) f → ⊥) × ((m : PlaceName) → changes a ≡ Some m → ⊥) × ((m : PlaceName) → lends a ≡ Some m → ⊥)
 
   good_quiet : (xs : List ℕ) (a : Act) → IsQuiet a → IsGood xs a
-  good_quiet xs a h = ((λ f new. absurd (h.0 f new)), (λ m e none. absurd (h.1 m e)))
+  good_quiet xs a h = ((λ f new. absurd (h.0 f new)), (λ m e. absurd (h.1 m e)), (λ m e. absurd (h.2 m e)))
 
   good_none : (xs : List ℕ) → AreGood [] xs
   good_none xs a has = absurd has
 
   good_more : (ps : List Placed) (xs ys : List ℕ) → ((x : ℕ) → Has xs x → Has ys x) → AreGood ps xs → AreGood ps ys
-  good_more ps xs ys part h a has = ((λ f new. (let found = (h a has).0 f new in (part (place f).root found.0, found.1))), (h a has).1)
+  good_more ps xs ys part h a has = ((λ f new. (let found = (h a has).0 f new in (part (place f).root found.0, found.1))), λ m e. (let changed = (h a has).1 m e in (part m.root changed.0, changed.1)), λ m e. part m.root ((h a has).2 m e))
 
   good_append : (ps qs : List Placed) (xs : List ℕ) → AreGood ps xs → AreGood qs xs → AreGood (ps ++ qs) xs
   good_append ps qs xs h g a has = elim (Has-append_cases ps qs a has) [ inl l ↦ h a l | inr r ↦ g a r ]
@@ -299,9 +301,10 @@ module _ (s : Typing) (own_law : OwnsByShape s.table) (parts_named : PartsAreNam
               subst (λ z. Lasts s (object_at s z).of) root
                   (leads_lasts (object_at s x).of steps t leads (or_left (is_owning s.table t) (is_anonymous (full s.table t)) owns)),
             ),
-        λ m e none. changed_whole x steps t m leads (owning_plain t owns) (let same : name_of x steps ≡ m = cc in same) none,
+        λ m e. (let same : name_of x steps ≡ m = cc in (inl (ap (λ (z : PlaceName). z.root) same), λ none. changed_whole x steps t m leads (owning_plain t owns) same none)),
+        λ m e. cc,
       )
-      by false owns = good_quiet (x ∷ roots steps) (act.Read (name_of x steps)) ((λ name none. none), (λ m e. cc))
+      by false owns = good_quiet (x ∷ roots steps) (act.Read (name_of x steps)) ((λ name none. none), (λ m e. cc), (λ m e. cc))
 
   name_good : (p : Pos) (x : ℕ) (steps : TypedTree) (t : ℕ) → Leads s (object_at s x).of steps t → AreGood (acts_in s steps) (roots steps)
       → AreGood (acts_in s steps ++ placed p (used s (name_of x steps) t) ∷ []) (x ∷ roots steps)
@@ -324,7 +327,7 @@ module _ (s : Typing) (own_law : OwnsByShape s.table) (parts_named : PartsAreNam
     stays_good (IsNull equal (Name p x steps t)) stays =
         good_end (acts_in s steps) (placed p (act.Look (name_of x steps))) (x ∷ roots steps)
         (good_root (acts_in s steps) x (roots steps) (leads_good (object_at s x).of steps t stays))
-        (good_quiet (x ∷ roots steps) (act.Look (name_of x steps)) ((λ name none. none), (λ m e. cc)))
+        (good_quiet (x ∷ roots steps) (act.Look (name_of x steps)) ((λ name none. none), (λ m e. cc), (λ m e. cc)))
     stays_good (IsNull equal (Call p sub actuals)) stays = good_none (roots actuals)
     stays_good (Number v) stays = good_none []
     stays_good (Literal v) stays = good_none []
@@ -468,18 +471,20 @@ module _ (s : Typing) (own_law : OwnsByShape s.table) (parts_named : PartsAreNam
       | inr none ↦ absurd none
     ],
     λ k e. cc,
+    λ k e. subst (Has xs) (ap (λ (z : PlaceName). z.root) (let same : m ≡ k = cc in same)) has,
   )
 
   observe_lends : (h : ℕ) → IsLending (observe s h)
   observe_lends h m xs has lasts = by (is_observer s m.root)
     where
       by : (b : Bool) → IsGood xs (act.Observe h m b)
-      by true = ((λ f none. absurd none), (λ k e. cc))
+      by true = ((λ f none. absurd none), (λ k e. cc), (λ k e. cc))
       by false = (
         λ f new. elim new [
           | inl e ↦ subst (IsOnOne xs) e (has, lasts)
           | inr none ↦ absurd none
         ],
+        λ k e. cc,
         λ k e. cc,
       )
 
@@ -499,10 +504,10 @@ module _ (s : Typing) (own_law : OwnsByShape s.table) (parts_named : PartsAreNam
   first_lent want _ a lends anonymous silent fine = absurd fine
 
   give_quiet : (b : Bool) (m : PlaceName) → IsQuiet (act.Give m b)
-  give_quiet b m = ((λ name none. none), (λ k e. cc))
+  give_quiet b m = ((λ name none. none), (λ k e. cc), (λ k e. cc))
 
   reborrow_quiet : (h : ℕ) (m : PlaceName) → IsQuiet (act.Reborrow h m)
-  reborrow_quiet h m = ((λ name none. none), (λ k e. cc))
+  reborrow_quiet h m = ((λ name none. none), (λ k e. cc), (λ k e. cc))
 
   reborrow_good : (p : Pos) (h : ℕ) (w : Option Written) (xs : List ℕ) → AreGood (reborrow p h w) xs
   reborrow_good p h None xs = good_none xs
@@ -544,8 +549,13 @@ module _ (s : Typing) (own_law : OwnsByShape s.table) (parts_named : PartsAreNam
     stored_good p x steps t u e leads gives plain =
         good_end (acts_in s e ++ acts_in s steps) (placed p (act.Write (name_of x steps))) (roots e ++ (x ∷ roots steps))
         (good_both (acts_in s e) (acts_in s steps) (roots e) (x ∷ roots steps) (gives_good u e gives)
-        (good_root (acts_in s steps) x (roots steps) (leads_good (object_at s x).of steps t leads)))
-        ((λ name none. absurd none), (λ m same none. plain m (let is : name_of x steps ≡ m = cc in is) none))
+        (good_root (acts_in s steps) x (roots steps) (leads_good (object_at s x).of steps t leads))) (
+          (λ name none. absurd none),
+          λ m same. (
+              let is : name_of x steps ≡ m = cc in
+              (Has-append_right (roots e) (x ∷ roots steps) m.root (inl (ap (λ (z : PlaceName). z.root) is)), λ none. plain m is none)),
+          λ m e. cc,
+        )
 
     in_source : (e target : TypedTree) (ps : List Placed) → AreGood ps (roots e) → AreGood ps (roots e ++ roots target)
     in_source e target ps h = good_more ps (roots e) (roots e ++ roots target) (λ x has. Has-append_left (roots e) (roots target) x has) h
@@ -599,16 +609,19 @@ module _ (s : Typing) (own_law : OwnsByShape s.table) (parts_named : PartsAreNam
 
     -- The place of a name, with an act that changes it and moves nothing.
     place_good : (target : TypedTree) (u : ℕ) → IsPlace s target u → is_anonymous (full s.table u) ≡ false → (a : PlaceName → Act)
-        → ((m : PlaceName) (f : Fact) → Has (adds (a m)) f → ⊥) → ((m k : PlaceName) → changes (a m) ≡ Some k → m ≡ k)
+        → ((m : PlaceName) (f : Fact) → Has (adds (a m)) f → ⊥) → ((m k : PlaceName) → changes (a m) ≡ Some k → m ≡ k) → ((m k : PlaceName) → lends (a m) ≡ Some k → m ≡ k)
         → AreGood (source_acts s target a) (roots target)
     unfolding roots
-    place_good (Name p x steps t) u there plain a none of =
+    place_good (Name p x steps t) u there plain a none of lent =
         good_end (acts_in s steps) (placed p (a (name_of x steps))) (x ∷ roots steps)
         (good_root (acts_in s steps) x (roots steps) (leads_good (object_at s x).of steps t there.0)) (
           (λ f new. absurd (none (name_of x steps) f new)),
-          (λ m e empty. changed_whole x steps t m there.0 (ap (λ z. is_anonymous (full s.table z)) there.1 ∙ plain) (of (name_of x steps) m e) empty),
+          (λ m e. (
+              let same : name_of x steps ≡ m = of (name_of x steps) m e in
+              (inl (ap (λ (z : PlaceName). z.root) same), λ empty. changed_whole x steps t m there.0 (ap (λ z. is_anonymous (full s.table z)) there.1 ∙ plain) same empty))),
+          (λ m e. inl (ap (λ (z : PlaceName). z.root) (lent (name_of x steps) m e))),
         )
-    place_good _ u there plain a none of = absurd there
+    place_good _ u there plain a none of lent = absurd there
 
     returned_good : (result : Option ℕ) (v : TypedTree) → Returns s result v → AreGood (returned_acts s result v) (roots v)
     returned_good None v fine = subst (λ z. AreGood (acts_in s z) (roots z)) (sym fine) nothing
@@ -632,9 +645,9 @@ module _ (s : Typing) (own_law : OwnsByShape s.table) (parts_named : PartsAreNam
     instruction_good result kept pos (Output text line) fine no_call names = first_writes text fine
     instruction_good result kept pos (Input target) fine no_call names =
         place_good target fine.0 fine.1 (scalar_plain fine.0 fine.2) (λ m. act.Actual m mode.Out false false) (λ m name none. none)
-        (λ m k e. (let same : m ≡ k = cc in same))
+        (λ m k e. (let same : m ≡ k = cc in same)) (λ m k e. cc)
     instruction_good result kept pos (Release e) fine no_call names =
-        place_good e fine.0 fine.2 (ap (λ z. is_anonymous (view_of_shape z)) fine.3) act.Free (λ m name none. none) (λ m k e. (let same : m ≡ k = cc in same))
+        place_good e fine.0 fine.2 (ap (λ z. is_anonymous (view_of_shape z)) fine.3) act.Free (λ m name none. none) (λ m k e. (let same : m ≡ k = cc in same)) (λ m k e. cc)
     instruction_good result kept pos (Test e) fine no_call names = stays_good e fine
     instruction_good result kept pos (Choose e choices) fine no_call names = stays_good e fine
     instruction_good result kept pos (Start x reversed low high) fine no_call names =
@@ -644,9 +657,9 @@ module _ (s : Typing) (own_law : OwnsByShape s.table) (parts_named : PartsAreNam
     instruction_good result kept pos (LeaveLoop e) fine no_call names = first_stays e fine
     instruction_good result kept pos (Hold v) fine no_call names = returned_good result v fine
     instruction_good result kept pos (EndScope x) fine no_call names =
-        good_one (placed pos (act.EndScope x (is_borrower s x))) [] (good_quiet [] (act.EndScope x (is_borrower s x)) ((λ name none. none), (λ m e. cc)))
+        good_one (placed pos (act.EndScope x (is_borrower s x))) [] (good_quiet [] (act.EndScope x (is_borrower s x)) ((λ name none. none), (λ m e. cc), (λ m e. cc)))
     instruction_good result kept pos Finish fine no_call names =
-        good_one (placed pos (act.Return kept)) [] (good_quiet [] (act.Return kept) ((λ name none. none), (λ m e. cc)))
+        good_one (placed pos (act.Return kept)) [] (good_quiet [] (act.Return kept) ((λ name none. none), (λ m e. cc), (λ m e. cc)))
     instruction_good result kept pos Fall fine no_call names = good_none []
 
   -- What reads moves and changes nothing.
@@ -654,48 +667,85 @@ module _ (s : Typing) (own_law : OwnsByShape s.table) (parts_named : PartsAreNam
   reads_good acts xs reads a has = by a (reads a has)
     where
       by : (a : Placed) → IsRead a → IsGood xs a.act
-      by a (m, inl e) = subst (IsGood xs) (sym e) (good_quiet xs (act.Read m) ((λ name none. none), (λ k f. cc)))
-      by a (m, inr e) = subst (IsGood xs) (sym e) (good_quiet xs (act.Look m) ((λ name none. none), (λ k f. cc)))
+      by a (m, inl e) = subst (IsGood xs) (sym e) (good_quiet xs (act.Read m) ((λ name none. none), (λ k f. cc), (λ k f. cc)))
+      by a (m, inr e) = subst (IsGood xs) (sym e) (good_quiet xs (act.Look m) ((λ name none. none), (λ k f. cc), (λ k f. cc)))
 
   -- A place that is copied back to: nothing is moved, and no observer is changed.
   place_acted : (m : Mode) (owning access : Bool) (p : Pos) (x u t : ℕ) (steps : TypedTree) (xs : List ℕ) → ((k : PlaceName) → adds (act.Actual k m owning access) ≡ [])
-      → ((k n : PlaceName) → changes (act.Actual k m owning access) ≡ Some n → k ≡ n)
-      → IsPlace s (Name p x steps t) u → is_anonymous (full s.table u) ≡ false
+      → ((k n : PlaceName) → changes (act.Actual k m owning access) ≡ Some n → k ≡ n) → ((k n : PlaceName) → lends (act.Actual k m owning access) ≡ Some n → ⊥)
+      → IsPlace s (Name p x steps t) u → is_anonymous (full s.table u) ≡ false → Has xs x
       → AreGood (placed p (act.Actual (name_of x steps) m owning access) ∷ []) xs
-  place_acted m owning access p x u t steps xs none same there plain =
+  place_acted m owning access p x u t steps xs none same lent there plain named =
       good_one (placed p (act.Actual (name_of x steps) m owning access)) xs (
         (λ f new. absurd (subst (λ z. Has z f) (none (name_of x steps)) new)),
-        (λ n e empty. changed_whole x steps t n there.0 (ap (λ z. is_anonymous (full s.table z)) there.1 ∙ plain) (same (name_of x steps) n e) empty),
+        (λ n e. (
+            let is : name_of x steps ≡ n = same (name_of x steps) n e in
+            (subst (Has xs) (ap (λ (z : PlaceName). z.root) is) named, λ empty. changed_whole x steps t n there.0 (ap (λ z. is_anonymous (full s.table z)) there.1 ∙ plain) is empty))),
+        (λ n e. absurd (lent (name_of x steps) n e)),
       )
 
-  -- by the mode
-  copied_good : (x : ℕ) (m : Mode) (owning access : Bool) (e : TypedTree) (xs : List ℕ) → (m ≡ mode.In → owning ≡ false) → IsKindOfFormal s x → IsActualTo s x m e
-      → AreGood (actual_act (passing_by m owning access) e) xs
-  copied_good x mode.In owning access e xs fits kind actual =
-      subst (λ b. AreGood (actual_act (if b then objects.Place mode.In b access else ByValue) e) xs) (sym (fits refl)) (λ a has. absurd has)
-  copied_good x mode.Out owning access (Name p y steps t) xs fits kind (u, there, plain) =
-      place_acted mode.Out owning access p y u t steps xs (λ k. refl) (λ k n e. (let same : k ≡ n = cc in same)) there (scalar_plain u plain)
-  copied_good x mode.Out owning access e xs fits kind (u, never, plain) = absurd never
-  copied_good x mode.InOut owning access (Name p y steps t) xs fits kind (u, there, matches, which) =
-      place_acted mode.InOut owning access p y u t steps xs (λ k. refl) (λ k n e. (let same : k ≡ n = cc in same)) there
-      (named_plain s.table u (matches_named s.table (object_at s x).of u (flipped u (object_at s x).of matches) (named_kind kind)))
+  -- a place of the type of a formal that is copied back to is of no anonymous type
+  place_plain : (x u : ℕ) → IsCopiedBack s x → Matches s.table u (object_at s x).of → IsKindOfFormal s x → is_anonymous (full s.table u) ≡ false
+  place_plain x u copied matches kind =
+      named_plain s.table u (matches_named s.table (object_at s x).of u (flipped u (object_at s x).of matches) (named_kind kind))
     where
       flipped : (a b : ℕ) → Matches s.table a b → Matches s.table b a
       flipped a b (inl e) = inl (sym e)
       flipped a b (inr (e, f)) = inr (f, e)
 
+      in_mode : (m : Mode) → (m ≡ mode.In → ⊥) → is_in m ≡ true → ⊥
+      in_mode mode.In back e = back refl
+      in_mode mode.Out back e = cc
+      in_mode mode.InOut back e = cc
+
       named_kind : IsKindOfFormal s x → IsNamed s.table (object_at s x).of
       named_kind (inl scalar) = scalar_named s.table (object_at s x).of scalar
-      named_kind (inr (in_out, own)) = own
-  copied_good x mode.InOut owning access e xs fits kind (u, never, matches, which) = absurd never
+      named_kind (inr (inl (back, own))) = own
+      named_kind (inr (inr (inr plain))) = plain.2
+      named_kind (inr (inr (inl (shown, access)))) =
+          absurd (in_mode (object_at s x).mode copied (both_second (is_formal s x) (is_in (object_at s x).mode)
+          (both_first (is_in_formal s x) (is_owning s.table (object_at s x).of) shown)))
+
+  -- what a formal is shown is read, or lent
+  shown_good : (owning access : Bool) (e : TypedTree) (xs : List ℕ) → ((y : ℕ) → Has (roots e) y → Has xs y) → AreGood (actual_act (passing_by mode.In owning access) e) xs
+  unfolding roots
+  shown_good false access e xs named = λ a has. absurd has
+  shown_good true access (Name p y steps t) xs named =
+      good_one (placed p (act.Actual (name_of y steps) mode.In true access)) xs ((λ f none. absurd none), (λ m e. cc), lent access)
+    where
+      lent : (access : Bool) (m : PlaceName) → lends (act.Actual (name_of y steps) mode.In true access) ≡ Some m → Has xs m.root
+      lent true m e = subst (Has xs) (ap (λ (z : PlaceName). z.root) (let same : name_of y steps ≡ m = cc in same)) (named y (inl refl))
+      lent false m e = cc
+  shown_good true access e xs named = λ a has. absurd has
+
+  -- by the mode
+  copied_good : (x : ℕ) (m : Mode) → (object_at s x).mode ≡ m → (owning access : Bool) (e : TypedTree) (xs : List ℕ) → IsKindOfFormal s x → IsActualTo s x m e
+      → ((y : ℕ) → Has (roots e) y → Has xs y) → AreGood (actual_act (passing_by m owning access) e) xs
+  unfolding roots
+  copied_good x mode.In is owning access e xs kind actual named = shown_good owning access e xs named
+  copied_good x mode.Out is owning access (Name p y steps t) xs kind (u, there, matches, which) named =
+      place_acted mode.Out owning access p y u t steps xs (λ k. refl) (λ k n e. (let same : k ≡ n = cc in same)) (λ k n e. cc) there
+      (place_plain x u (λ back. out_in (sym is ∙ back)) matches kind) (named y (inl refl))
+    where
+      out_in : mode.Out ≡ mode.In → ⊥
+      out_in e = cc
+  copied_good x mode.Out is owning access e xs kind (u, never, matches, which) named = absurd never
+  copied_good x mode.InOut is owning access (Name p y steps t) xs kind (u, there, matches, which) named =
+      place_acted mode.InOut owning access p y u t steps xs (λ k. refl) (λ k n e. (let same : k ≡ n = cc in same)) (λ k n e. cc) there
+      (place_plain x u (λ back. both_in (sym is ∙ back)) matches kind) (named y (inl refl))
+    where
+      both_in : mode.InOut ≡ mode.In → ⊥
+      both_in e = cc
+  copied_good x mode.InOut is owning access e xs kind (u, never, matches, which) named = absurd never
 
   pub copies_good : (procedure : Bool) (formals : List ℕ) (actuals : TypedTree) (xs : List ℕ) → ((x : ℕ) → Has formals x → IsKindOfFormal s x) → AreActualsTo s formals actuals
-      → AreGood (actual_acts (map (way_to s own_law procedure) formals) actuals) xs
-  copies_good procedure [] actuals xs kinds stay a has = absurd has
-  copies_good procedure (x ∷ formals) (More e rest) xs kinds stay a has =
+      → ((y : ℕ) → Has (roots actuals) y → Has xs y) → AreGood (actual_acts (map (way_to s own_law procedure) formals) actuals) xs
+  unfolding roots
+  copies_good procedure [] actuals xs kinds stay named a has = absurd has
+  copies_good procedure (x ∷ formals) (More e rest) xs kinds stay named a has =
       elim (Has-append_cases (actual_act (way_to s own_law procedure x) e) (actual_acts (map (way_to s own_law procedure) formals) rest) a has) [
-        | inl mine ↦ copied_good x (object_at s x).mode (is_owning s.table (object_at s x).of) (procedure && is_named_access (view_of s x)) e xs
-            (in_plain s own_law procedure x (kinds x (inl refl))) (kinds x (inl refl)) stay.0 a mine
-        | inr others ↦ copies_good procedure formals rest xs (λ y there. kinds y (inr there)) stay.1 a others
+        | inl mine ↦ copied_good x (object_at s x).mode refl (is_owning s.table (object_at s x).of) (procedure && is_named_access (view_of s x)) e xs
+            (kinds x (inl refl)) stay.0 (λ y there. named y (Has-append_left (roots e) (roots rest) y there)) a mine
+        | inr others ↦ copies_good procedure formals rest xs (λ y there. kinds y (inr there)) stay.1 (λ y there. named y (Has-append_right (roots e) (roots rest) y there)) a others
       ]
-  copies_good procedure (x ∷ formals) actuals xs kinds stay a has = absurd has
+  copies_good procedure (x ∷ formals) actuals xs kinds stay named a has = absurd has

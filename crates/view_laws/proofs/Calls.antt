@@ -15,6 +15,7 @@ use Rattle.soundness.specs.Typed.{OwnsByShape}
 use Rattle.soundness.proofs.Successors.{call_or}
 use Rattle.typed_laws.specs.Needed.{IsFine}
 use Rattle.viewed_soundness.specs.Holds.{PartsAreNamed}
+use Rattle.scope_laws.specs.Code.{roots}
 use Rattle.scope_laws.specs.Order.{named_in}
 use Rattle.viewed_steps.specs.Sound.{IsKindOfFormal}
 use Rattle.viewed_steps.specs.Ready.{AreActualsTo}
@@ -38,8 +39,8 @@ AreViewCalls program owns =
 module _ (program : FlowProgram) (owns : OwnsByShape program.table) (parts_named : PartsAreNamed program.table) where
   -- A call reads what its actuals name, and what is copied back to is no observer.
   call_good : (result : Option ℕ) (kept xs : List ℕ) (pos : Pos) (n : ℕ) (actuals : TypedTree) (t : Option ℕ) → IsViewCall program owns n actuals
-      → AreGood (flow_typing program) owns parts_named (acts_of (record { typing = flow_typing program; result = result; roots = kept }) pos (Call n actuals t)) xs
-  call_good result kept xs pos n actuals t call =
+      → ((y : ℕ) → Has (roots actuals) y → Has xs y) → AreGood (flow_typing program) owns parts_named (acts_of (record { typing = flow_typing program; result = result; roots = kept }) pos (Call n actuals t)) xs
+  call_good result kept xs pos n actuals t call named =
       let formals : List ℕ = (sub_of program n).formals in
       let procedure : Bool = not (is_some (sub_of program n).result) in
       let values : List Placed = actual_values (flow_typing program) (map (way_to (flow_typing program) owns procedure) formals) actuals in
@@ -48,8 +49,8 @@ module _ (program : FlowProgram) (owns : OwnsByShape program.table) (parts_named
       (sym (ap (λ ways. actual_values (flow_typing program) ways actuals ++ actual_acts ways actuals) (passes_to program n call.no_traversal)))
       (λ a has. elim (Has-append_cases values copies a has) [
         | inl value ↦ reads_good (flow_typing program) owns parts_named values xs
-            (values_are_read (flow_typing program) owns procedure formals actuals call.kinds call.actuals_stay) a value
-        | inr copy ↦ copies_good (flow_typing program) owns parts_named procedure formals actuals xs call.kinds call.actuals_stay a copy
+            (values_are_read (flow_typing program) owns procedure formals actuals call.actuals_stay) a value
+        | inr copy ↦ copies_good (flow_typing program) owns parts_named procedure formals actuals xs call.kinds call.actuals_stay named a copy
       ])
 
   pub point_good : ((x : ℕ) → is_anonymous (view_of (flow_typing program) x) ≡ true → is_variable (object_at (flow_typing program) x).kind ≡ true)
@@ -59,5 +60,5 @@ module _ (program : FlowProgram) (owns : OwnsByShape program.table) (parts_named
   point_good local result kept pos i fine calls names = elim (call_or i) [
     | inr no_call ↦ instruction_good (flow_typing program) owns parts_named local result kept pos i fine no_call names
     | inl call ↦ subst (λ j. AreGood (flow_typing program) owns parts_named (acts_of (record { typing = flow_typing program; result = result; roots = kept }) pos j) (named_in i))
-        (sym call.3) (call_good result kept (named_in i) pos call.0 call.1 call.2 (calls call.0 call.1 call.2 call.3))
+        (sym call.3) (call_good result kept (named_in i) pos call.0 call.1 call.2 (calls call.0 call.1 call.2 call.3) (λ y has. subst (λ j. Has (named_in j) y) (sym call.3) has))
   ]

@@ -13,7 +13,7 @@ use Rattle.place_names.specs.declared.fact.Fact.{Fact}
 use Rattle.place_names.specs.declared.fact.Fact.TheVariants.{Moved}
 use Rattle.place_names.specs.Facts.{adds, removes, effect}
 use Rattle.place_names.specs.Names.{Name as PlaceName}
-use Rattle.type_definitions.specs.Types.{Table, full, is_owning, is_scalar}
+use Rattle.type_definitions.specs.Types.{Table}
 use Rattle.typed_tree.specs.Trees.{TypedTree}
 use Rattle.typed_tree.specs.Programs.{TypedProgram}
 use Rattle.flow_paths.specs.declared.report.Effects.{Effects}
@@ -35,13 +35,13 @@ use Rattle.soundness.proofs.Paths.{facts_next}
 use Rattle.soundness.proofs.Points.{IsLaid, flow_at, point_has, point_there, path_there, next_there}
 use Rattle.soundness.proofs.Typings.{flow_agrees, instruction_same}
 use Rattle.soundness.proofs.Waited.{within_left}
-use Rattle.soundness.proofs.Passing.{plain_type, signature_there}
+use Rattle.soundness.proofs.Passing.{signature_there}
 use Rattle.soundness.proofs.Used.{called_add_none}
 use Rattle.soundness.proofs.Waits.{drop_none}
 use Rattle.scope_laws.specs.Order.{IsOrdered, named_in}
 use Rattle.viewed_soundness.specs.Holds.{PartsAreNamed}
+use Rattle.viewed_steps.specs.Awaited.{is_held}
 use Rattle.view_laws.specs.InOrder.{NamesSource}
-use Rattle.view_laws.proofs.Acts.{no_anonymous}
 use Rattle.view_laws.proofs.Calls.{AreViewCalls, point_good}
 
 -- ---- scopes
@@ -134,8 +134,6 @@ module _ (table : Table) (typed : TypedProgram) (effects : Effects) (owns : Owns
     (effects_are : AreEffects (flow_program table typed) effects)
     (local : (x : ℕ) → is_anonymous (view_of (flow_typing (flow_program table typed)) x) ≡ true
     → is_variable (object_at (flow_typing (flow_program table typed)) x).kind ≡ true)
-    (temporaries : (x : ℕ) → is_temporary_object (flow_typing (flow_program table typed)) x ≡ true
-    → is_scalar (full (flow_program table typed).table (object_at (flow_typing (flow_program table typed)) x).of) ≡ true)
     (sources : (sub : FlowSub) → Has (flow_program table typed).subs sub → (p : FlowPoint) → Has sub.points p
     → NamesSource (flow_typing (flow_program table typed)) p.instr)
     (plainly : AreViewCalls (flow_program table typed) owns) where
@@ -148,18 +146,14 @@ module _ (table : Table) (typed : TypedProgram) (effects : Effects) (owns : Owns
   abbrev own : Typing
   own = typing_of table typed
 
-  -- the scope of a temporary ends at no point of its own
-  lasting : (x : ℕ) → has_scope_end s x ≡ true → is_temporary_object s x ≡ true → ⊥
-  lasting x lasts held =
-      let scalar = temporaries x held in
-      elim (any_either (is_owning s.table (object_at s x).of) (is_anonymous (view_of s x)) lasts) [
-        | inl owning ↦ not_both (is_owning s.table (object_at s x).of) owning (plain_type s owns (object_at s x).of scalar)
-        | inr anonymous ↦ not_both (is_anonymous (view_of s x)) anonymous (no_anonymous (view_of s x) scalar)
-      ]
+  -- the scope of what is named ends at a point of its own, or it is no temporary
+  lasting : (x : ℕ) → has_scope_end s x ≡ true → is_held s x ≡ false → is_temporary_object s x ≡ true → ⊥
+  lasting x lasts unheld held = not_both (is_temporary_object s x) (has_scope_end s x) held lasts unheld
     where
-      not_both : (b : Bool) → b ≡ true → b ≡ false → ⊥
-      not_both true e f = cc
-      not_both false e f = cc
+      not_both : (a b : Bool) → a ≡ true → b ≡ true → a && b ≡ false → ⊥
+      not_both true true e f h = cc
+      not_both true false e f h = cc
+      not_both false b e f h = cc
 
   -- One subprogram, in which what has an end of its scope and is named is in scope, or in an object from
   -- outside.
@@ -168,7 +162,8 @@ module _ (table : Table) (typed : TypedProgram) (effects : Effects) (owns : Owns
       (is outer : ℕ → Type 0) (formals : List ℕ) (not_outer : (x : ℕ) → is x → outer x → ⊥)
       (ordered : (p : NamedPoint) → Has named.points p → IsOrdered is formals p)
       (seen : (p : NamedPoint) → Has named.points p → (x : ℕ) → Has (named_in p.instr) x → has_scope_end s x ≡ true
-      → outer x ⊎ (is_within x p.scope ≡ true)) where
+      → outer x ⊎ (is_within x p.scope ≡ true))
+      (unheld : (p : NamedPoint) → Has named.points p → (x : ℕ) → Has (named_in p.instr) x → is_held s x ≡ false) where
     abbrev points : List PathPoint
     points = path_points program effects (flow_sub own named)
 
@@ -180,7 +175,7 @@ module _ (table : Table) (typed : TypedProgram) (effects : Effects) (owns : Owns
     in_program = Has-map (flow_sub own) (flow_named table typed) named has_sub
 
     abbrev Known : NamedPoint → ℕ → Type 0
-    Known p x = (has_scope_end s x ≡ true) × (outer x ⊎ (is_within x p.scope ≡ true))
+    Known p x = (has_scope_end s x ≡ true) × (is_held s x ≡ false) × (outer x ⊎ (is_within x p.scope ≡ true))
 
     abbrev AreKnown : List ℕ → NamedPoint → Type 0
     AreKnown before p = (name : PlaceName) → Has (facts_before points before) (Moved name) → Known p name.root
@@ -204,7 +199,7 @@ module _ (table : Table) (typed : TypedProgram) (effects : Effects) (owns : Owns
       own_known a has name moved =
           let found = (point_good program owns parts_named local named.sub.result kept p.pos p.instr fine_there
           (plainly (flow_sub own named) in_program (flow_at own named p) in_sub) (sources (flow_sub own named) in_program (flow_at own named p) in_sub) a has).0 (Moved name) moved in
-          (found.1, seen p there name.root found.0 found.1)
+          (found.1, unheld p there name.root found.0, seen p there name.root found.0 found.1)
 
       moves_known : (a : Act) → Has (acts (whole_acts p.instr)) a → (name : PlaceName) → Has (adds a) (Moved name) → Known p name.root
       moves_known a has name moved =
@@ -241,10 +236,10 @@ module _ (table : Table) (typed : TypedProgram) (effects : Effects) (owns : Owns
         left = drop (taken p.instr) p.scope
 
         -- what they know is in scope after the instruction
-        within_behind : (before : List ℕ) (name : PlaceName) → Has (facts_before points (n ∷ before)) (Moved name) → has_scope_end s name.root ≡ true
+        within_behind : (before : List ℕ) (name : PlaceName) → Has (facts_before points (n ∷ before)) (Moved name) → has_scope_end s name.root ≡ true → is_held s name.root ≡ false
             → is_within name.root p.scope ≡ true → is_within name.root (scope_behind p) ≡ true
-        within_behind before name has lasts within = elim (within_left s (taken p.instr) p.scope (supplied p there) name.root within) [
-          | inl held ↦ absurd (lasting name.root lasts held)
+        within_behind before name has lasts none within = elim (within_left s (taken p.instr) p.scope (supplied p there) name.root within) [
+          | inl held ↦ absurd (lasting name.root lasts none held)
           | inr there_left ↦
               behind_within p.instr left name.root
               (λ x e. last_out x name.root left
@@ -271,9 +266,10 @@ module _ (table : Table) (typed : TypedProgram) (effects : Effects) (owns : Owns
           on.1,
           λ name has. (let known = known_on p there a here.1 old here.2 name has in (
             known.0,
-            elim known.1 [
+            known.1,
+            elim known.2 [
               | inl out ↦ inl out
-              | inr within ↦ inr (leads_within s name.root (scope_behind p) (on.0).scope on.2 known.0 (within_behind p there a here.1 old name has known.0 within))
+              | inr within ↦ inr (leads_within s name.root (scope_behind p) (on.0).scope on.2 known.0 (within_behind p there a here.1 old name has known.0 known.1 within))
             ],
           )),
         )
@@ -288,8 +284,8 @@ module _ (table : Table) (typed : TypedProgram) (effects : Effects) (owns : Owns
         let there : Has named.points p = point_has named.points last p here.1 in
         let declares : p.instr ≡ Declare x v = sym (ap (λ (q : FlowPoint). q.instr) (point_there own named last p here.1)) ∙ e in
         let known = known_on p there last here.1 before here.2 in (
-          λ has. unknown p there declares (here.2 name has).1,
-          λ has. unknown p there declares (known name has).1,
+          λ has. unknown p there declares (here.2 name has).2,
+          λ has. unknown p there declares (known name has).2,
         )
       where
         not_both : (b : Bool) → b ≡ true → not b ≡ true → ⊥

@@ -8,7 +8,9 @@ pub mod Packages
 pub mod Facts
 pub mod Formals
 pub mod Passing
-pub mod Scoped
 pub mod Valued
+pub mod Scoped
+pub mod Own
+pub mod Fixed
 pub mod Points
 pub mod Ready

@@ -1,20 +1,25 @@
--- What package objects are declared with names no view, at the points either.
-use Rattle.std.proofs.Common.{◌≡◌, subst, inl, inr, ℕ, Bool, true, false, not, ◌&&◌, List, [], ◌∷◌, ◌++◌, ap, ◌∙◌}
+-- What package objects are declared with names no view, at the points either; and what it names is by the text what it is in
+-- the layout.
+use Rattle.std.proofs.Common.{◌≡◌, refl, subst, ◌⊎◌, inl, inr, ℕ, Bool, true, false, not, ◌&&◌, ◌||◌, List, [], ◌∷◌, ◌++◌, ap, ◌∙◌}
+use Rattle.std.specs.Prelude.{reverse}
 use Rattle.std.specs.List.{AllByRecursion}
 use Rattle.spark_base.specs.Lists.{Has}
+use Rattle.spark_base.proofs.Lists.{Has-append_left, Has-append_right, Has-append_cases}
+use Rattle.type_definitions.specs.Types.{is_owning}
 use Rattle.typed_tree.specs.Trees.{TypedTree, Name, Component, Designated, Element, Image, Parens, Unary, Binary, Short, IsNull, Aggregate, Alike, New, TypedCode}
 use Rattle.typed_tree.specs.Trees as typed
 use Rattle.typed_tree.specs.Programs.{TypedSub}
 use Rattle.flow_paths.specs.Instructions.{Declare}
-use Rattle.flow_paths.specs.Objects.{Typing, is_anonymous, view_of}
+use Rattle.flow_paths.specs.Objects.{Typing, object_at, is_anonymous, view_of}
 use Rattle.flow_paths.specs.Names.{has_call}
 use Rattle.flow_paths.specs.Points.{Place, PointName, row_at, NamedPoint, point, entry}
 use Rattle.flow_paths.specs.Prep.{Setting, with_held, prep}
 use Rattle.flow_paths.specs.Layout.{Around, with_scope, declared, laid}
-use Rattle.flow_paths.specs.Laid.{around_body, elaboration_points}
-use Rattle.scope_laws.specs.Code.{roots}
-use Rattle.scope_laws.proofs.Lists.{and_first, and_second, all_both, all_one, all_if, all_has}
-use Rattle.ready_laws.specs.InOrder.{declares_only}
+use Rattle.flow_paths.specs.Laid.{declared_within, around_body, elaboration_points}
+use Rattle.flow_paths.specs.Scopes.{is_within}
+use Rattle.scope_laws.specs.Code.{roots, are_seen, is_seen}
+use Rattle.scope_laws.proofs.Lists.{and_first, and_second, all_both, all_one, all_if, all_has, has_reverse, within_has}
+use Rattle.ready_laws.specs.InOrder.{declares_only, own_nothing, names_no_owner}
 use Rattle.view_laws.specs.InOrder.{no_views, names_no_view}
 
 -- What is declared at a point is no view, and is declared with a value that names none.
@@ -99,3 +104,58 @@ no_view t (y ∷ xs) x none (inl e) anonymous =
     refused true e h = cc
     refused false e h = cc
 no_view t (y ∷ xs) x none (inr has) anonymous = no_view t xs x (and_second (not (is_anonymous (view_of t y))) (no_views t xs) none) has anonymous
+
+-- ---- what is named in them
+
+either : (a b : Bool) → a || b ≡ true → (a ≡ true) ⊎ (b ≡ true)
+either true b e = inl refl
+either false b e = inr e
+
+both_true : (a b : Bool) → a ≡ true → b ≡ true → a && b ≡ true
+both_true true b e f = f
+both_true false b e f = cc
+
+declared_there : (c : TypedCode) (x : ℕ) → Has (declared c) x → Has (declared_within c) x
+unfolding declared declared_within
+declared_there (typed.Declare p y v) x has = has
+declared_there (typed.More a rest) x has = elim (Has-append_cases (declared a) (declared rest) x has) [
+  | inl here ↦ Has-append_left (declared_within a) (declared_within rest) x (declared_there a x here)
+  | inr more ↦ Has-append_right (declared_within a) (declared_within rest) x (declared_there rest x more)
+]
+declared_there c x has = absurd has
+
+-- Where two typings agree on what code declares, and on what is outside of it, it names no owner in the one if it names none
+-- in the other.
+module _ (t u : Typing) (same_table : t.table ≡ u.table) (outer : ℕ → Bool) (shared : (x : ℕ) → outer x ≡ true → object_at t x ≡ object_at u x) where
+  abbrev AreSame : List ℕ → Type 0
+  AreSame xs = (x : ℕ) → Has xs x → object_at t x ≡ object_at u x
+
+  none_same : (scope xs : List ℕ) → AreSame scope → are_seen outer scope xs ≡ true → own_nothing u xs ≡ true → own_nothing t xs ≡ true
+  none_same scope [] same seen none = refl
+  none_same scope (x ∷ xs) same seen none =
+      both_true (not (is_owning t.table (object_at t x).of)) (own_nothing t xs)
+      ((λ j. not (is_owning (same_table j) (is (either (is_within x scope) (outer x) (and_first (is_within x scope || outer x) (are_seen outer scope xs) seen)) j).of))
+      ∙ and_first (not (is_owning u.table (object_at u x).of)) (own_nothing u xs) none)
+      (none_same scope xs same (and_second (is_within x scope || outer x) (are_seen outer scope xs) seen)
+      (and_second (not (is_owning u.table (object_at u x).of)) (own_nothing u xs) none))
+    where
+      is : (is_within x scope ≡ true) ⊎ (outer x ≡ true) → object_at t x ≡ object_at u x
+      is (inl within) = same x (within_has x scope within)
+      is (inr out) = shared x out
+
+  pub owners_same : (c : TypedCode) (scope : List ℕ) → declares_only c ≡ true → is_seen outer scope c ≡ true → AreSame scope → AreSame (declared_within c)
+      → names_no_owner u c ≡ true → names_no_owner t c ≡ true
+  unfolding declares_only is_seen names_no_owner declared declared_within
+  owners_same (typed.Declare p x v) scope only seen same own none = none_same scope (roots v) same seen none
+  owners_same (typed.More a rest) scope only seen same own none =
+      both_true (names_no_owner t a) (names_no_owner t rest)
+      (owners_same a scope (and_first (declares_only a) (declares_only rest) only) (and_first (is_seen outer scope a) (is_seen outer (reverse (declared a) ++ scope) rest) seen) same
+      (λ x has. own x (Has-append_left (declared_within a) (declared_within rest) x has)) (and_first (names_no_owner u a) (names_no_owner u rest) none))
+      (owners_same rest (reverse (declared a) ++ scope) (and_second (declares_only a) (declares_only rest) only)
+      (and_second (is_seen outer scope a) (is_seen outer (reverse (declared a) ++ scope) rest) seen)
+      (λ x has. elim (Has-append_cases (reverse (declared a)) scope x has) [
+        | inl now ↦ own x (Has-append_left (declared_within a) (declared_within rest) x (declared_there a x (has_reverse (declared a) x now)))
+        | inr before ↦ same x before
+      ]) (λ x has. own x (Has-append_right (declared_within a) (declared_within rest) x has)) (and_second (names_no_owner u a) (names_no_owner u rest) none))
+  owners_same typed.NoMore scope only seen same own none = refl
+  owners_same _ scope only seen same own none = cc

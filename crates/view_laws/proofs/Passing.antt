@@ -7,7 +7,7 @@ use Rattle.spark_base.proofs.Lists.{Has-append_left, Has-append_right}
 use Rattle.place_names.specs.declared.act.Mode.{Mode}
 use Rattle.place_names.specs.declared.act.Mode.TheVariants as mode
 use Rattle.type_definitions.specs.Types.{Table, full, is_scalar, is_owning}
-use Rattle.typed_tree.specs.Trees.{TypedTree, More}
+use Rattle.typed_tree.specs.Trees.{TypedTree, Name, More}
 use Rattle.typed_tree.specs.Programs.{TypedSub, TypedProgram}
 use Rattle.flow_paths.specs.declared.report.Effects.{Effects}
 use Rattle.flow_paths.specs.Instructions.{Instruction, Declare, Call, Finish}
@@ -15,13 +15,13 @@ use Rattle.flow_paths.specs.Objects.{Typing, Signature, object_at, sub_at, is_fo
 use Rattle.flow_paths.specs.Laid.{FlowSub, FlowProgram, NamedSub, all_named, named_sub, sub_temporaries, declared_within, typing_of, flow_typing, flow_program, flow_named}
 use Rattle.flow_paths.specs.Scopes.{taken, is_within}
 use Rattle.machine.specs.States.{sub_of}
-use Rattle.typed_laws.specs.Needed.{Matches}
+use Rattle.typed_laws.specs.Needed.{Matches, Stays}
 use Rattle.soundness.specs.Typed.{OwnsByShape}
 use Rattle.soundness.specs.Sound.{Accepted, IsNamedSub, IsRunnable}
 use Rattle.soundness.specs.Ready.{IsActualBy, AreActuals}
 use Rattle.soundness.proofs.Fixed.{matches_scalar}
 use Rattle.soundness.proofs.Points.{sub_there}
-use Rattle.soundness.proofs.Passing.{signature_is}
+use Rattle.soundness.proofs.Passing.{plain_type, signature_is}
 use Rattle.soundness.proofs.Typings.{Agree, flow_agrees, package_same, formal_same, formal_object}
 use Rattle.scope_laws.specs.Code.{objects_of}
 use Rattle.scope_laws.specs.Order.{named_in}
@@ -32,7 +32,7 @@ use Rattle.ready_laws.proofs.Subs.{setting_from, body_at, one_named}
 use Rattle.ready_laws.proofs.Ready as ordered
 use Rattle.ready_laws.proofs.Ready.{seen_has}
 use Rattle.viewed_steps.specs.Sound.{IsScalarObject}
-use Rattle.viewed_steps.specs.Ready.{AreDifferent, ArePassed, IsActualTo, AreActualsTo, IsCalled, AreCalled}
+use Rattle.viewed_steps.specs.Ready.{AreDifferent, ArePassed, IsCopyOf, IsActualTo, AreActualsTo, IsCalled, AreCalled}
 use Rattle.viewed_steps.proofs.Placed.{within_on}
 use Rattle.view_laws.specs.Program.{PassActuals}
 use Rattle.view_laws.proofs.Formals.{first_scope, has_within, has_reversed, once_different, passed_named}
@@ -40,28 +40,36 @@ use Rattle.view_laws.proofs.Formals.{first_scope, has_within, has_reversed, once
 -- ---- actuals of scalar types
 
 module _ (s : Typing) where
-  plain_actual : (x : ℕ) (m : Mode) (e : TypedTree) → IsScalarObject s x → IsActualTo s x m e → IsActualBy s m e
-  plain_actual x mode.In e plain actual = actual
-  plain_actual x mode.Out e plain actual = actual
-  plain_actual x mode.InOut e plain (t, place, fits, which) = (t, place, scalar_type t (object_at s x).of fits plain)
-    where
-      scalar_type : (t u : ℕ) → Matches s.table t u → is_scalar (full s.table u) ≡ true → is_scalar (full s.table t) ≡ true
-      scalar_type t u (inl e) plain = matches_scalar s u t (inl (sym e)) plain
-      scalar_type t u (inr both) plain = both.0
+  scalar_back : (t u : ℕ) → Matches s.table t u → is_scalar (full s.table u) ≡ true → is_scalar (full s.table t) ≡ true
+  scalar_back t u (inl e) plain = matches_scalar s u t (inl (sym e)) plain
+  scalar_back t u (inr both) plain = both.0
 
-  pub plain_actuals : (formals : List ℕ) (actuals : TypedTree) → ((x : ℕ) → Has formals x → IsScalarObject s x) → AreActualsTo s formals actuals
+  plain_place : (x : ℕ) (e : TypedTree) → IsScalarObject s x → IsActualTo s x mode.InOut e → IsActualBy s mode.InOut e
+  plain_place x e plain (t, place, fits, which) = (t, place, scalar_back t (object_at s x).of fits plain)
+
+  copy_stays : (x : ℕ) (e : TypedTree) → IsScalarObject s x → IsCopyOf s x e → Stays s e
+  unfolding Stays
+  copy_stays x (Name p y path u) plain (leads, fits) = (leads, scalar_back u (object_at s x).of fits plain)
+  copy_stays x e plain never = absurd never
+
+  plain_actual : OwnsByShape s.table → (x : ℕ) (m : Mode) (e : TypedTree) → IsScalarObject s x → IsActualTo s x m e → IsActualBy s m e
+  plain_actual owns x mode.In e plain actual = elim (actual.0 (plain_type s owns (object_at s x).of plain)) [ inl value ↦ value.1 | inr copy ↦ copy_stays x e plain copy.1 ]
+  plain_actual owns x mode.Out e plain actual = plain_place x e plain actual
+  plain_actual owns x mode.InOut e plain actual = plain_place x e plain actual
+
+  pub plain_actuals : OwnsByShape s.table → (formals : List ℕ) (actuals : TypedTree) → ((x : ℕ) → Has formals x → IsScalarObject s x) → AreActualsTo s formals actuals
       → AreActuals s formals actuals
-  plain_actuals [] actuals plain are = tt
-  plain_actuals (x ∷ formals) (More e rest) plain are =
-      (plain_actual x (object_at s x).mode e (plain x (inl refl)) are.0, plain_actuals formals rest (λ y has. plain y (inr has)) are.1)
-  plain_actuals (x ∷ formals) actuals plain are = tt
+  plain_actuals owns [] actuals plain are = tt
+  plain_actuals owns (x ∷ formals) (More e rest) plain are =
+      (plain_actual owns x (object_at s x).mode e (plain x (inl refl)) are.0, plain_actuals owns formals rest (λ y has. plain y (inr has)) are.1)
+  plain_actuals owns (x ∷ formals) actuals plain are = tt
 
 -- ---- the program
 
 -- where formals are of scalar types, actuals are such as they are asked for there
-pub weakly_passed : (program : FlowProgram) → PassActuals program → in_order.ArePassed program
-weakly_passed program passes sub has p there n actuals result is known plain =
-    plain_actuals (flow_typing program) (sub_of program n).formals actuals plain (passes sub has p there n actuals result is known)
+pub weakly_passed : (program : FlowProgram) → OwnsByShape program.table → PassActuals program → in_order.ArePassed program
+weakly_passed program owns passes sub has p there n actuals result is known plain =
+    plain_actuals (flow_typing program) owns (sub_of program n).formals actuals plain (passes sub has p there n actuals result is known)
 
 sub_in : (subs : List TypedSub) (k : ℕ) (sub : TypedSub) → IsSub subs k sub → Has subs sub
 sub_in subs k sub (front, rest, is, long) = subst (λ z. Has z sub) (sym is) (Has-append_right front (sub ∷ rest) sub (inl refl))

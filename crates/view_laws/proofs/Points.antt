@@ -9,49 +9,48 @@ use Rattle.std.proofs.lemmas.Bool.{ltb-true}
 use Rattle.std.proofs.lemmas.Bool.Decides.{Decides-eqb}
 use Rattle.std.proofs.lemmas.List.Folds.{list_any-append}
 use Rattle.spark_base.specs.Lists.{Has}
-use Rattle.spark_base.proofs.Lists.{Has-append_right, Has-map, Has-map_from}
+use Rattle.spark_base.proofs.Lists.{Has-append_right, Has-map}
 use Rattle.spark_base.specs.declared.position.Pos.{Pos}
-use Rattle.place_names.specs.declared.act.Act.{Act}
 use Rattle.place_names.specs.declared.act.Act.TheVariants as act
-use Rattle.place_names.specs.declared.act.Mode.TheVariants as mode
 use Rattle.place_names.specs.declared.act.Placed.{Placed}
-use Rattle.place_names.specs.declared.selector.Sel.{Sel}
-use Rattle.place_names.specs.Names.{Name as PlaceName}
 use Rattle.type_definitions.specs.declared.judgement.View.{View}
 use Rattle.type_definitions.specs.declared.judgement.View.TheVariants as view
-use Rattle.type_definitions.specs.Types.{Table, is_nil, full}
-use Rattle.typed_tree.specs.Trees.{TypedTree, Name, NoMore, More}
-use Rattle.typed_tree.specs.Programs.{TypedSub, TypedProgram}
+use Rattle.type_definitions.specs.Types.{Table, full, is_owning}
+use Rattle.typed_tree.specs.Trees.{TypedTree, Name, Call, NoMore, More}
+use Rattle.typed_tree.specs.Programs.{TypedProgram}
 use Rattle.flow_paths.specs.declared.report.Effects.{Effects}
-use Rattle.flow_paths.specs.Instructions.{Instruction, Declare, Assign, Input, EndScope}
+use Rattle.flow_paths.specs.Instructions.{Instruction, Declare, Assign, EndScope}
 use Rattle.flow_paths.specs.Objects.{Typing, object_at, is_variable, is_borrower, is_observer, is_borrowing, is_observing, is_anonymous, is_formal, is_package_object, has_scope_end, view_of}
 use Rattle.flow_paths.specs.Names.{first, name_of, written, source}
 use Rattle.flow_paths.specs.Acts.{placed, observe, reborrow, target_pos, index_acts, source_acts, assigned_to, stored_acts, declared_acts, acts_in, acts_of}
 use Rattle.flow_paths.specs.Points.{PointName, same_place, same_point, NamedPoint, FlowPoint}
-use Rattle.flow_paths.specs.Laid.{FlowSub, FlowProgram, NamedSub, number_in, kept_roots, sub_facts, flow_sub, typing_of, flow_typing, flow_program, flow_named}
+use Rattle.flow_paths.specs.Laid.{FlowSub, FlowProgram, NamedSub, unnumbered, number_in, kept_roots, sub_facts, flow_sub, typing_of, flow_typing, flow_program, flow_named}
 use Rattle.flow_paths.specs.Scopes.{Differ, is_last, is_within, is_ready, brought, scope_behind, taken}
-use Rattle.flow_paths.specs.Views.{changes, encloses, scope_of, is_assignment}
+use Rattle.flow_paths.specs.Views.{encloses, scope_of, is_assignment}
 use Rattle.soundness.specs.Sound.{IsAtPoint}
 use Rattle.soundness.proofs.Points.{flow_at, next_there}
 use Rattle.soundness.proofs.Typings.{package_same, formal_same}
 use Rattle.soundness.proofs.Waits.{drop_none}
 use Rattle.typed_laws.specs.Needed.{Leads, IsFine}
-use Rattle.viewed_soundness.specs.Holds.{KeepsObserved, AllKeep}
+use Rattle.viewed_soundness.specs.Holds.{sees_only}
+use Rattle.machine.specs.Owners.{is_in, is_in_formal}
+use Rattle.soundness.specs.Seen.{is_view_formal}
+use Rattle.scope_laws.proofs.Begun.{Begins, sub_begun, package_begun}
 use Rattle.scope_laws.specs.Order.{named_in}
 use Rattle.scope_laws.specs.Code.{roots}
 use Rattle.scope_laws.proofs.Lists.{all_has, within_has, and_first, and_second}
 use Rattle.layered_scopes.specs.Layered.{is_older}
-use Rattle.layered_scopes.specs.Points.{IsAbove, GoesOn, AreFading}
-use Rattle.layered_scopes.proofs.Layered.{sub_good}
-use Rattle.ready_laws.proofs.Subs.{setting_from}
+use Rattle.layered_scopes.specs.Points.{GoesOn, AreFading}
 use Rattle.ready_laws.proofs.Ready.{seen_has}
-use Rattle.view_laws.specs.InOrder.{is_name_of, is_list_end, is_one_name_of, is_any, is_call, NamesSource, fits}
+use Rattle.ready_laws.proofs.Subs.{setting_from}
+use Rattle.viewed_steps.specs.Traversals.{IsSourceName}
+use Rattle.view_laws.specs.InOrder.{is_name_of, is_list_end, is_one_name_of, is_any, is_call, gives_view, NamesSource, fits}
 use Rattle.view_laws.specs.Program.{IsViewProgram}
 use Rattle.view_laws.proofs.Acts.{source_lasts}
-use Rattle.view_laws.proofs.Calls.{point_good}
-use Rattle.view_laws.proofs.Reports.{unchanged, not_observed, observed_encloses, reborrowed_own}
+use Rattle.view_laws.proofs.Reports.{observed_encloses, reborrowed_own}
 use Rattle.view_laws.proofs.Enclosing.{enclosing_less}
 use Rattle.view_laws.proofs.Scoped as scoped
+use Rattle.view_laws.proofs.Fixed as fixed
 use Rattle.view_laws.proofs.Valued as valued
 use Rattle.viewed_steps.specs.Awaited.{is_held}
 use Rattle.view_laws.proofs.Same as same
@@ -90,10 +89,6 @@ or_first false false none e = cc
 both_second : (a b : Bool) → a && b ≡ true → b ≡ true
 both_second true b e = e
 both_second false b e = cc
-
-nil_is : (xs : List Sel) → is_nil xs ≡ true → xs ≡ []
-nil_is [] e = refl
-nil_is (x ∷ xs) e = cc
 
 -- a view is a borrower or an observer
 one_kind : (v : View) → is_observing v ≡ true → is_borrowing v ≡ false
@@ -244,16 +239,10 @@ fading_at s (a ∷ rest) fading p (inr has) z y is there sees same =
     let found = fading_at s rest fading.1 p has z y is there sees same in
     (found.0, inr found.1, found.2, found.3, found.4, found.5)
 
-all_keep : (observer : ℕ → Bool) (acts : List Placed) → ((a : Placed) → Has acts a → (m : PlaceName) → changes a.act ≡ Some m → observer m.root ≡ false)
-    → AllKeep observer (map (λ (a : Placed). a.act) acts)
-all_keep observer [] h = tt
-all_keep observer (a ∷ acts) h = (one a.act (λ m e. h a (inl refl) m e), all_keep observer acts (λ b has. h b (inr has)))
-  where
-    one : (a : Act) → ((m : PlaceName) → changes a ≡ Some m → observer m.root ≡ false) → KeepsObserved observer a
-    one (act.Move m parts) h = h m refl
-    one (act.Write m) h = h m refl
-    one (act.Free m) h = h m refl
-    one _ h = tt
+-- what is no call is no view that a function gives
+no_view : (s : Typing) (e : TypedTree) → is_call e ≡ false → gives_view s e ≡ false
+no_view s (Call p sub actuals) none = cc
+no_view s e none = refl
 
 -- ---- programs
 
@@ -271,13 +260,13 @@ module _ (table : Table) (typed : TypedProgram) (effects : Effects) (given : IsV
   text_local x anonymous = (given.views.local x anonymous).0
 
   anonymous_same : (x : ℕ) → is_anonymous (view_of s x) ≡ is_anonymous (view_of own x)
-  anonymous_same = same.anonymous_same table typed given.temporaries text_local
+  anonymous_same = same.anonymous_same table typed (valued.temporaries_named table typed effects given) text_local
 
   observer_same : (x : ℕ) → is_observer s x ≡ is_observer own x
-  observer_same = same.observer_same table typed given.temporaries text_local
+  observer_same = same.observer_same table typed (valued.temporaries_named table typed effects given) text_local
 
   scope_same : (x : ℕ) → scope_of s x ≡ scope_of own x
-  scope_same = same.scope_same table typed given.temporaries text_local
+  scope_same = same.scope_same table typed (valued.temporaries_named table typed effects given) text_local
 
   scopes_same : program.scopes ≡ typed.scopes
   unfolding flow_program
@@ -338,35 +327,14 @@ module _ (table : Table) (typed : TypedProgram) (effects : Effects) (given : IsV
     act_there : (a : Placed) → Has (acts_here s) a → Has at.acts a
     act_there a h = subst (λ ps. Has ps a) (scoped.acts_same table typed effects given named has p there named.sub.result kept) h
 
-    pub changed_plain : (a : Placed) → Has at.acts a → (m : PlaceName) → changes a.act ≡ Some m → is_observer s m.root ≡ false
-    changed_plain a h m e = elim (bool_cases (is_nil m.sels)) [
-      | inl empty ↦ (point_good program given.owns given.parts_named (λ x anonymous. (local x anonymous).0) named.sub.result kept p.pos p.instr fine_there
-          (scoped.plainly table typed effects given sub in_program at in_sub) source_there a
-          (subst (λ ps. Has ps a) (sym (scoped.acts_same table typed effects given named has p there named.sub.result kept)) h)).1 m e (nil_is m.sels empty)
-      | inr some ↦ unchanged program effects given.accepted.no_reports sub in_program at in_sub a h m e (ap not some)
-    ]
-
-    pub read_plain : (q : Pos) (x w : ℕ) (path : TypedTree) → p.instr ≡ Input (Name q x path w) → is_observer s x ≡ false
-    read_plain q x w path is =
-        let a : Placed = placed q (act.Actual (name_of x path) mode.Out false false) in
-        let h : Has (acts_here s) a =
-        subst (λ i. Has (acts_of (record { typing = s; result = named.sub.result; roots = kept }) p.pos i) a) (sym is)
-        (Has-append_right (acts_in s path) (a ∷ []) a (inl refl)) in
-        changed_plain a (act_there a h) (name_of x path) refl
-
   -- ---- bodies
 
   module _ (named : NamedSub) (has : Has (flow_named table typed) named) (body : scoped.OfBody table typed effects given named) where
     abbrev Above : NamedPoint → Type 0
-    Above p = IsAbove (is_older own typed.scopes) (fits own) p
+    Above p = scoped.Above table typed effects given p
 
     good : AllByRecursion Above named.points × AreFading own named.points
-    good =
-        let text : TypedSub = body.0 in
-        let layered = given.views.layered text body.1 in
-        subst (λ (z : NamedSub). AllByRecursion Above z.points × AreFading own z.points) body.4
-        (sub_good (setting_from own body.2 text) (is_older own typed.scopes) (fits own) layered.0 text
-        (given.order.bodies text (scoped.in_subs table typed effects given text body.1)).settled layered.1)
+    good = scoped.body_good table typed effects given named body
 
     formals_known : (x : ℕ) → Has named.sub.formals x → is_formal s x ≡ true
     formals_known x there =
@@ -391,7 +359,7 @@ module _ (table : Table) (typed : TypedProgram) (effects : Effects) (given : IsV
           → (is_within y left ≡ true → encloses program.scopes (scope_of s y) (scope_of s x) ≡ true) → Outlives p.scope y x
       outlives y x names lasts around = elim (seen_there y names) [
         | inl shared ↦ inl shared
-        | inr within ↦ inr (within_whole y (taken p.instr) p.scope within, lasts, around within, valued.unheld table typed effects given y)
+        | inr within ↦ inr (within_whole y (taken p.instr) p.scope within, lasts, around within, scoped.named_unheld table typed effects given named has p there y names)
       ]
 
       older_encloses : (y x : ℕ) → is_older own typed.scopes x y ≡ true → encloses program.scopes (scope_of s y) (scope_of s x) ≡ true
@@ -415,25 +383,25 @@ module _ (table : Table) (typed : TypedProgram) (effects : Effects) (given : IsV
 
       -- what a borrower is declared with
       older_there : (x : ℕ) (q : Pos) (y : ℕ) (path : TypedTree) (u : ℕ) → is_anonymous (view_of s x) ≡ true → is_observer own x || nat_lt y x ≡ true
-          → p.instr ≡ Declare x (More (Name q y path u) NoMore) → is_observer s x ≡ false → (is_observer s y ≡ false) × (y < x)
+          → p.instr ≡ Declare x (More (Name q y path u) NoMore) → is_observer s x ≡ false → (sees_only s y ≡ false) × (y < x)
       older_there x q y path u anonymous test is none = (
-        not_observed program effects given.accepted.no_reports (flow_sub own named) (in_program named has p there) formals_known here (in_sub named has p there)
-            (placed q (act.Borrow x (name_of y path)))
+        fixed.lendable table typed effects given named has p there formals_known x (name_of y path) q
             (act_has (Declare x (More (Name q y path u) NoMore)) is (placed q (act.Borrow x (name_of y path))) (borrow_there s x q y path u (borrows x anonymous none)))
-            x (name_of y path) refl,
+            (subst (λ i. Has (named_in i) y) (sym is) (first_root q y path u NoMore)),
         ltb-true y x (or_other (is_observer own x) (nat_lt y x) (sym (observer_same x) ∙ none) test),
       )
 
       -- where a view is declared
       pub declared_there : (x : ℕ) (e : TypedTree) → p.instr ≡ Declare x e → is_anonymous (view_of s x) ≡ true
-          → (q : Pos) × (y : ℕ) × (path : TypedTree) × (u : ℕ) × (e ≡ More (Name q y path u) NoMore) × Outlives p.scope y x
-          × (is_observer s x ≡ false → (is_observer s y ≡ false) × (y < x))
+          → (q : Pos) × (y : ℕ) × (path : TypedTree) × (u : ℕ) × (v : TypedTree) × (e ≡ More v NoMore)
+          × IsSourceName s (object_at s x).of v q y path u × Outlives p.scope y x
+          × (is_observer s x ≡ false → (sees_only s y ≡ false) × (y < x))
       declared_there x e is anonymous =
           let test : ℕ → Bool = λ y. is_observer own x || nat_lt y x in
           let mine : is_anonymous (view_of own x) ≡ true = sym (anonymous_same x) ∙ anonymous in
           let names : NamesSource s (Declare x e) = subst (NamesSource s) is (source_there named has p there) in
-          let found = one_name_is test e (or_first (is_one_name_of test e) (is_call (first e)) (ap not (names anonymous))
-          (not_test (is_anonymous (view_of own x)) (is_one_name_of test e || is_call (first e)) mine (sym (ap (fits own) is) ∙ above.declared x e is))) in
+          let found = one_name_is test e (or_first (is_one_name_of test e) (gives_view own (first e)) (ap not (no_view own (first e) (names anonymous)))
+          (not_test (is_anonymous (view_of own x)) (is_one_name_of test e || gives_view own (first e)) mine (sym (ap (fits own) is) ∙ above.declared x e is))) in
           let value : TypedTree = More (Name found.0 found.1 found.2 found.3) NoMore in
           let whole_is : p.instr ≡ Declare x value = is ∙ ap (Declare x) found.4 in
           let fine : IsFine s named.sub.result (Declare x value) = subst (IsFine s named.sub.result) whole_is (fine_there named has p there) in (
@@ -441,7 +409,9 @@ module _ (table : Table) (typed : TypedProgram) (effects : Effects) (given : IsV
             found.1,
             found.2,
             found.3,
+            Name found.0 found.1 found.2 found.3,
             found.4,
+            inl refl,
             outlives found.1 x (subst (λ i. Has (named_in i) found.1) (sym whole_is) (first_root found.0 found.1 found.2 found.3 NoMore))
                 (source_lasts s given.owns given.parts_named (object_at s x).of found.0 found.1 found.2 found.3 anonymous fine.1) (around_declared x e is found.1),
             older_there x found.0 found.1 found.2 found.3 anonymous found.5 whole_is,
@@ -449,7 +419,7 @@ module _ (table : Table) (typed : TypedProgram) (effects : Effects) (given : IsV
 
       -- where a view is assigned
       pub assigned_there : (q : Pos) (x w : ℕ) (e : TypedTree) → p.instr ≡ Assign (Name q x NoMore w) e → is_anonymous (view_of s x) ≡ true
-          → (r : Pos) × (y : ℕ) × (path : TypedTree) × (u : ℕ) × (e ≡ Name r y path u) × (is_observer s x ≡ true → Outlives p.scope y x)
+          → (r : Pos) × (y : ℕ) × (path : TypedTree) × (u : ℕ) × IsSourceName s (object_at s x).of e r y path u × (is_observer s x ≡ true → Outlives p.scope y x)
           × (is_observer s x ≡ false → y ≡ x)
       unfolding Leads
       assigned_there q x w e is anonymous =
@@ -457,7 +427,7 @@ module _ (table : Table) (typed : TypedProgram) (effects : Effects) (given : IsV
           let mine : is_anonymous (view_of own x) ≡ true = sym (anonymous_same x) ∙ anonymous in
           let names : NamesSource s (Assign target e) = subst (NamesSource s) is (source_there named has p there) in
           let found = name_is is_any e (not_test (is_anonymous (view_of own x)) (is_name_of is_any e) mine
-          (or_first (not (is_anonymous (view_of own x)) || is_name_of is_any e) (is_call e) (ap not (names x refl anonymous)) (sym (ap (fits own) is) ∙ above.assigned target e is))) in
+          (or_first (not (is_anonymous (view_of own x)) || is_name_of is_any e) (gives_view own e) (ap not (no_view own e (names x refl anonymous))) (sym (ap (fits own) is) ∙ above.assigned target e is))) in
           let y : ℕ = found.1 in
           let n : TypedTree = Name found.0 y found.2 found.3 in
           let whole_is : p.instr ≡ Assign target n = is ∙ ap (Assign target) found.4 in
@@ -469,7 +439,7 @@ module _ (table : Table) (typed : TypedProgram) (effects : Effects) (given : IsV
             y,
             found.2,
             found.3,
-            found.4,
+            inl found.4,
             λ sees. outlives y x (subst (λ i. Has (named_in i) y) (sym whole_is) (name_root found.0 y found.2 found.3 (roots target))) lasts
                 (λ within. observed_encloses program effects given.accepted.no_reports (flow_sub own named) (in_program named has p there) here (in_sub named has p there)
                 found.0 x (name_of y found.2) (is_observer s y)
@@ -531,6 +501,44 @@ module _ (table : Table) (typed : TypedProgram) (effects : Effects) (given : IsV
           single k n (inl e) = e
           single k n (inr none) = absurd none
 
+  -- ---- what is declared, or ends
+
+  -- no object of a body that its points declare or end is a formal
+  module _ (named : NamedSub) (has : Has (flow_named table typed) named) (p : NamedPoint) (there : Has named.points p) where
+    begun_there : Begins (λ x. is_formal s x ≡ false) p.instr
+    begun_there = elim (valued.where_is table typed effects given named has) [
+      | inl e ↦ package_begun (unnumbered own) (λ x. is_formal s x ≡ false) given.order.first
+          (λ x declared. formal_same s own (scoped.alike table typed effects given) x
+          ∙ given.views.declared given.order.first (subst (λ subs. Has subs given.order.first) (sym given.order.subs) (inl refl)) x declared)
+          p (subst (λ (z : NamedSub). Has z.points p) (sym e) there)
+      | inr inside ↦ (
+          let body = valued.body table typed effects given named has inside in
+          sub_begun (setting_from own body.2 body.0) (λ x. is_formal s x ≡ false) body.0
+          (λ x declared. formal_same s own (scoped.alike table typed effects given) x
+          ∙ given.views.declared body.0 (scoped.in_subs table typed effects given body.0 body.1) x declared)
+          p (subst (λ (z : NamedSub). Has z.points p) (sym body.4) there))
+    ]
+
+    none_shown : (x : ℕ) → is_formal s x ≡ false → is_view_formal s x ≡ false
+    none_shown x none = ap (λ b. (b && is_in (object_at s x).mode) && is_owning s.table (object_at s x).of) none
+
+    pub begins_plain : (x : ℕ) (e : TypedTree) → p.instr ≡ Declare x e → is_view_formal s x ≡ false
+    begins_plain x e is = none_shown x (subst (Begins (λ y. is_formal s y ≡ false)) is begun_there)
+
+    pub ends_plain : (x : ℕ) → p.instr ≡ EndScope x → is_view_formal s x ≡ false
+    ends_plain x is = none_shown x (subst (Begins (λ y. is_formal s y ≡ false)) is begun_there)
+
+  -- formals that own nothing belong to no package
+  pub shown_apart : (x : ℕ) → is_view_formal s x ≡ true → is_package_object s x ≡ false
+  shown_apart x shown =
+      package_same s own (scoped.alike table typed effects given) x
+      ∙ given.views.apart x (sym (formal_same s own (scoped.alike table typed effects given) x)
+      ∙ first (is_formal s x) (is_in (object_at s x).mode) (first (is_in_formal s x) (is_owning s.table (object_at s x).of) shown))
+    where
+      first : (a b : Bool) → a && b ≡ true → a ≡ true
+      first true b e = refl
+      first false b e = cc
+
   -- ---- the package objects
 
   -- At each point one is declared, and it is no view.
@@ -544,14 +552,3 @@ module _ (table : Table) (typed : TypedProgram) (effects : Effects) (given : IsV
       not_true : (b : Bool) → not b ≡ true → b ≡ false
       not_true true e = cc
       not_true false e = refl
-
-  -- ---- all points
-
-  -- Nothing is moved, written or freed through an observer.
-  pub all_kept : (sub : FlowSub) → Has program.subs sub → (p : FlowPoint) → Has sub.points p → AllKeep (is_observer s) (map (λ (a : Placed). a.act) p.acts)
-  unfolding flow_program
-  all_kept sub has p there =
-      let named = Has-map_from (flow_sub own) (flow_named table typed) sub has in
-      let q = Has-map_from (λ (z : NamedPoint). flow_at own named.0 z) (named.0).points p (subst (λ (z : FlowSub). Has z.points p) (sym named.2) there) in
-      subst (λ (z : FlowPoint). AllKeep (is_observer s) (map (λ (a : Placed). a.act) z.acts)) q.2
-      (all_keep (is_observer s) (flow_at own named.0 q.0).acts (λ a h m e. changed_plain named.0 named.1 q.0 q.1 a h m e))

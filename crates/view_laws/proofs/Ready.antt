@@ -21,6 +21,7 @@ use Rattle.view_laws.proofs.Passing as passing
 use Rattle.view_laws.proofs.Scoped as scoped
 use Rattle.view_laws.proofs.Valued as valued
 use Rattle.view_laws.proofs.Points as points
+use Rattle.view_laws.proofs.Fixed as fixed
 
 no_assign : (i : Instruction) (x : ℕ) (v target e : TypedTree) → i ≡ Declare x v → i ≡ Assign target e → ⊥
 no_assign i x v target e is other = (let both : Declare x v ≡ Assign target e = sym is ∙ other in cc)
@@ -47,10 +48,14 @@ module _ (table : Table) (typed : TypedProgram) (effects : Effects) (given : IsV
   package_orderly named has e p there =
       let found = points.package_there table typed effects given named has e p there in
       record {
+        variables = λ x stored anonymous. (scoped.local table typed effects given x anonymous).0;
+        begun = points.begins_plain table typed effects given named has p there;
+        over = points.ends_plain table typed effects given named has p there;
         declared = λ x v is anonymous.
             (let both : true ≡ false = sym anonymous ∙ ap (λ z. is_anonymous (view_of s z)) (sym (same_object p.instr found.0 x found.1 v found.2 is)) ∙ found.3 in cc);
         assigned = λ q x w v is anonymous. absurd (no_assign p.instr found.0 found.1 (Name q x NoMore w) v found.2 is);
-        read = points.read_plain table typed effects given named has p there;
+        read = fixed.read_plain table typed effects given named has p there;
+        copied = fixed.unobserved table typed effects given named has p there;
         ended = λ y x is within other. absurd (no_end p.instr found.0 found.1 y found.2 is);
         followed = λ y x is q follows within sees alike. absurd (no_end p.instr found.0 found.1 y found.2 is);
       }
@@ -59,8 +64,12 @@ module _ (table : Table) (typed : TypedProgram) (effects : Effects) (given : IsV
       → Has named.points p → AreOrderly program p (Follows named p)
   body_orderly named has body p there = record {
     declared = points.declared_there table typed effects given named has body p there;
+    variables = λ x stored anonymous. (scoped.local table typed effects given x anonymous).0;
+    begun = points.begins_plain table typed effects given named has p there;
+    over = points.ends_plain table typed effects given named has p there;
     assigned = points.assigned_there table typed effects given named has body p there;
-    read = points.read_plain table typed effects given named has p there;
+    read = fixed.read_plain table typed effects given named has p there;
+    copied = fixed.unobserved table typed effects given named has p there;
     ended = points.ended_there table typed effects given named has body p there;
     followed = λ y x is q follows. points.followed_there table typed effects given named has body p there y x is q follows.0 follows.1 follows.2;
   }
@@ -83,12 +92,13 @@ module _ (table : Table) (typed : TypedProgram) (effects : Effects) (given : IsV
   pub views_orderly : ViewsAreOrderly table typed
   unfolding flow_program
   views_orderly = record {
-    local = scoped.local table typed effects given;
+    local = λ x anonymous. (scoped.local table typed effects given x anonymous).1;
+    passed = points.shown_apart table typed effects given;
     packages = packages_plain;
     transitive = transitive typed.scopes given.views.inner;
     itself = itself typed.scopes;
     points = point_orderly;
-    kept = points.all_kept table typed effects given;
+    kept = fixed.all_kept table typed effects given;
   }
 
   class : IsViewClass program
@@ -97,6 +107,8 @@ module _ (table : Table) (typed : TypedProgram) (effects : Effects) (given : IsV
     results = valued.named_results table typed effects given;
     formals = given.formals;
     functions = given.functions;
+    modes = given.modes;
+    procedures = given.procedures;
     copied = given.copied;
   }
 
@@ -113,6 +125,7 @@ module _ (table : Table) (typed : TypedProgram) (effects : Effects) (given : IsV
     called = passing.called_to table typed effects given.accepted given.owns given.order given.answered given.passed given.still given.passes;
     returning = scoped.are_returning table typed effects given;
     valued = valued.are_valued table typed effects given;
+    traversing = scoped.are_traversing table typed effects given;
     packages = scoped.packages table typed effects given;
     stands = scoped.packages_stand table typed effects given;
     main = suc given.order.number;

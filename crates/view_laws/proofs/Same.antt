@@ -2,7 +2,7 @@
 -- are no views.
 use Rattle.std.proofs.Common.{◌≡◌, refl, sym, ap, ◌∙◌, ◌⊎◌, inl, inr, ℕ, zero, suc, Bool, true, false, ◌&&◌, List, [], ◌∷◌, ◌++◌, map, get_or}
 use Rattle.std.specs.Prelude.{flat_map}
-use Rattle.type_definitions.specs.Types.{Table, full, is_scalar}
+use Rattle.type_definitions.specs.Types.{Table, full}
 use Rattle.typed_tree.specs.declared.object.Object.{Object}
 use Rattle.typed_tree.specs.Programs.{TypedProgram, text_io}
 use Rattle.flow_paths.specs.Objects.{Typing, object_at, is_variable, is_borrower, is_borrowing, is_observer, is_observing, is_anonymous, view_of}
@@ -11,7 +11,6 @@ use Rattle.flow_paths.specs.Scopes.{is_temporary}
 use Rattle.flow_paths.specs.Views.{scope_of}
 use Rattle.soundness.specs.Sound.{is_temporary_object}
 use Rattle.soundness.proofs.Typings.{Agree, flow_agrees}
-use Rattle.view_laws.proofs.Acts.{no_anonymous}
 
 -- After the objects of the text come temporaries.
 object_there : (xs : List Object) (ts : List Temporary) (x : ℕ)
@@ -32,8 +31,7 @@ false_and true b e = let no : true ≡ false = e in cc
 false_and false b e = refl
 
 module _ (table : Table) (typed : TypedProgram)
-    (temporaries : (x : ℕ) → is_temporary_object (flow_typing (flow_program table typed)) x ≡ true
-    → is_scalar (full (flow_program table typed).table (object_at (flow_typing (flow_program table typed)) x).of) ≡ true)
+    (temporaries : (x : ℕ) → is_temporary_object (flow_typing (flow_program table typed)) x ≡ true → is_anonymous (view_of (flow_typing (flow_program table typed)) x) ≡ false)
     (local : (x : ℕ) → is_anonymous (view_of (typing_of table typed) x) ≡ true → is_variable (object_at (typing_of table typed) x).kind ≡ true) where
   abbrev s : Typing
   s = flow_typing (flow_program table typed)
@@ -53,7 +51,7 @@ module _ (table : Table) (typed : TypedProgram)
   pub anonymous_same : (x : ℕ) → is_anonymous (view_of s x) ≡ is_anonymous (view_of own x)
   anonymous_same x = elim (object_or x) [
     | inl same ↦ (λ j. is_anonymous (full (alike.table j) (same j).of))
-    | inr (temporary, scope, none) ↦ no_anonymous (full s.table (object_at s x).of) (temporaries x temporary) ∙ sym (plain (is_anonymous (view_of own x)) refl none)
+    | inr (temporary, scope, none) ↦ temporaries x temporary ∙ sym (plain (is_anonymous (view_of own x)) refl none)
   ]
     where
       plain : (b : Bool) → is_anonymous (view_of own x) ≡ b → object_at own x ≡ text_io → b ≡ false

@@ -8,10 +8,10 @@ use Rattle.typed_tree.specs.Trees.{TypedTree, Name, Call, NoMore, More, TypedCod
 use Rattle.typed_tree.specs.Trees as typed
 use Rattle.typed_tree.specs.Programs.{TypedSub, TypedProgram}
 use Rattle.flow_paths.specs.Instructions.{Instruction, Declare, Assign}
-use Rattle.flow_paths.specs.Objects.{Typing, object_at, is_variable, is_anonymous, is_observer, is_package_object, view_of}
+use Rattle.flow_paths.specs.Objects.{Typing, object_at, sub_at, traverses, is_variable, is_anonymous, is_observer, is_formal, is_package_object, view_of}
 use Rattle.flow_paths.specs.Names.{first, whole}
-use Rattle.flow_paths.specs.Laid.{typing_of}
-use Rattle.scope_laws.specs.Code.{roots}
+use Rattle.flow_paths.specs.Laid.{declared_within, typing_of}
+use Rattle.scope_laws.specs.Code.{roots, body_seen}
 use Rattle.layered_scopes.specs.Layered.{is_older, is_body_layered}
 
 -- ---- what views are declared and assigned with
@@ -41,11 +41,16 @@ abbrev pub is_call : TypedTree → Bool
 is_call (Call p sub actuals) = true
 is_call e = false
 
+-- What a traversal function gives.
+abbrev pub gives_view : Typing → TypedTree → Bool
+gives_view s (Call p sub actuals) = traverses s.table (sub_at s sub).result
+gives_view s e = false
+
 -- A view is declared with a name, and a borrower with one that is rooted in an older object; a view is
--- assigned a name. Or what a function gives.
+-- assigned a name. Or what a traversal function gives.
 abbrev pub fits : Typing → Instruction → Bool
-fits s (Declare x v) = not (is_anonymous (view_of s x)) || (is_one_name_of (λ y. is_observer s x || nat_lt y x) v || is_call (first v))
-fits s (Assign target e) = stores_name s (whole target) e || is_call e
+fits s (Declare x v) = not (is_anonymous (view_of s x)) || (is_one_name_of (λ y. is_observer s x || nat_lt y x) v || gives_view s (first v))
+fits s (Assign target e) = stores_name s (whole target) e || gives_view s e
 fits s i = true
 
 -- What a view is declared or assigned with isn't what a function gives.
@@ -70,11 +75,15 @@ names_no_view s _ = true
 -- The subprogram of the package objects, and those with a body in the text.
 pub record AreViewsInOrder (table : Table) (program : TypedProgram) (first : TypedSub) (rest : List TypedSub) : Type 0 where
   pub values : names_no_view (typing_of table program) first.body ≡ true
+  pub seen : body_seen (is_package_object (typing_of table program)) first ≡ true
   -- the scope around one has a smaller number, or is it
   pub inner : (b : ℕ) → get_or program.scopes b b ≤ b
   -- what stands around an object is older
   pub layered : (sub : TypedSub) → Has rest sub
       → (n : ℕ) × (is_body_layered (typing_of table program) (is_older (typing_of table program) program.scopes) (fits (typing_of table program)) n sub ≡ true)
+  -- what is declared is no formal, and formals belong to no package
+  pub declared : (sub : TypedSub) → Has program.subs sub → (x : ℕ) → Has (declared_within sub.body) x → is_formal (typing_of table program) x ≡ false
+  pub apart : (x : ℕ) → is_formal (typing_of table program) x ≡ true → is_package_object (typing_of table program) x ≡ false
   -- views are variables of subprograms
   pub local : (x : ℕ) → is_anonymous (view_of (typing_of table program) x) ≡ true
       → (is_variable (object_at (typing_of table program) x).kind ≡ true) × (is_package_object (typing_of table program) x ≡ false)

@@ -1,22 +1,26 @@
 -- A program with borrowers and observers and what is known of it.
-use Rattle.std.specs.Prelude.{◌≡◌, ◌⊎◌, ℕ, suc, true, Option, Some}
+use Rattle.std.specs.Prelude.{◌≡◌, ◌⊎◌, ℕ, suc, true, false, Option, Some, None}
 use Rattle.spark_base.specs.Lists.{Has}
+use Rattle.place_names.specs.declared.act.Mode.TheVariants as mode
 use Rattle.type_definitions.specs.Types.{Table, full, is_scalar}
+use Rattle.type_definitions.specs.Entries.{integer, boolean}
 use Rattle.typed_tree.specs.Trees.{TypedTree}
-use Rattle.typed_tree.specs.Programs.{TypedProgram}
+use Rattle.typed_tree.specs.Programs.{TypedSub, TypedProgram}
 use Rattle.flow_paths.specs.declared.report.Effects.{Effects}
 use Rattle.flow_paths.specs.Instructions.{Call}
-use Rattle.flow_paths.specs.Objects.{object_at, sub_at, is_formal}
+use Rattle.flow_paths.specs.Objects.{is_named_access, view_of, object_at, sub_at, is_formal}
 use Rattle.flow_paths.specs.Points.{FlowPoint}
-use Rattle.flow_paths.specs.Laid.{FlowSub, FlowProgram, flow_typing, flow_program}
+use Rattle.flow_paths.specs.Laid.{FlowSub, FlowProgram, typing_of, flow_typing, flow_program}
 use Rattle.machine.specs.States.{sub_of}
 use Rattle.soundness.specs.Typed.{OwnsByShape}
-use Rattle.soundness.specs.Sound.{Accepted, calls_procedures, is_temporary_object, ArePlainResults, AreCopied}
+use Rattle.soundness.specs.Sound.{Accepted}
+use Rattle.scope_laws.specs.Alone.{ResultsFit}
 use Rattle.ready_laws.specs.InOrder.{IsInOrder, AreAnswered, AreStill, ArePassed}
-use Rattle.viewed_soundness.specs.Holds.{PartsAreNamed}
-use Rattle.viewed_steps.specs.Sound.{IsScalarObject, IsKindOfFormal}
+use Rattle.soundness.specs.Seen.{is_view_formal}
+use Rattle.viewed_soundness.specs.Holds.{PartsAreNamed, is_exclusive}
+use Rattle.viewed_steps.specs.Sound.{IsScalarObject, IsShown, IsKindOfFormal, AreKeptPlaces}
 use Rattle.viewed_steps.specs.Ready.{AreActualsTo}
-use Rattle.view_laws.specs.InOrder.{NamesSource, AreViewsInOrder}
+use Rattle.view_laws.specs.InOrder.{AreViewsInOrder}
 
 -- What is passed is as it is asked for.
 abbrev pub PassActuals : FlowProgram → Type 0
@@ -25,30 +29,31 @@ PassActuals program =
     → p.instr ≡ Call n actuals result → ((x : ℕ) → Has (sub_of program n).formals x → is_formal (flow_typing program) x ≡ true)
     → AreActualsTo (flow_typing program) (sub_of program n).formals actuals
 
--- It is accepted and typed, anonymous access types are those of objects alone, procedures are called, or
--- functions too, and then all have results of scalar types; formals are of scalar types, or of mode `in out` and
--- of no anonymous access type, those of functions and of the main procedure of scalar types; actuals that are
--- copied back to go through no access value, and those that aren't scalar belong to no package; no view has a
--- call as its source, and its subprograms and views are in order.
+-- It is accepted and typed, and anonymous access types are those of objects alone. What functions give is of scalar
+-- types; or it stands alone, and is of no anonymous access type. Formals are of the four kinds, those of functions of mode
+-- `in`, and nothing is changed through these; actuals that are copied back to go through no access value, or are scalar and
+-- belong to no package; and its subprograms and views are in order.
 pub record IsViewProgram (table : Table) (typed : TypedProgram) (effects : Effects) : Type 0 where
   pub accepted : Accepted table typed effects
   pub owns : OwnsByShape (flow_program table typed).table
   pub parts_named : PartsAreNamed (flow_program table typed).table
-  pub results : ((sub : FlowSub) → Has (flow_program table typed).subs sub → (p : FlowPoint) → Has sub.points p → calls_procedures p.instr ≡ true)
-      ⊎ ArePlainResults (flow_typing (flow_program table typed))
-  pub temporaries : (x : ℕ) → is_temporary_object (flow_typing (flow_program table typed)) x ≡ true
-      → is_scalar (full (flow_program table typed).table (object_at (flow_typing (flow_program table typed)) x).of) ≡ true
+  pub integers : is_scalar (full (flow_program table typed).table integer) ≡ true
+  pub truths : is_scalar (full (flow_program table typed).table boolean) ≡ true
   pub formals : (x : ℕ) → is_formal (flow_typing (flow_program table typed)) x ≡ true → IsKindOfFormal (flow_typing (flow_program table typed)) x
   pub functions : (n t : ℕ) → (sub_at (flow_typing (flow_program table typed)) n).result ≡ Some t → (x : ℕ)
       → Has (sub_at (flow_typing (flow_program table typed)) n).formals x → is_formal (flow_typing (flow_program table typed)) x ≡ true
-      → IsScalarObject (flow_typing (flow_program table typed)) x
+      → is_view_formal (flow_typing (flow_program table typed)) x ≡ true → is_exclusive (flow_typing (flow_program table typed)) x ≡ false
+  pub modes : (n t : ℕ) → (sub_at (flow_typing (flow_program table typed)) n).result ≡ Some t → (x : ℕ)
+      → Has (sub_at (flow_typing (flow_program table typed)) n).formals x → (object_at (flow_typing (flow_program table typed)) x).mode ≡ mode.In
+  pub procedures : (n : ℕ) → (sub_at (flow_typing (flow_program table typed)) n).result ≡ None → (x : ℕ)
+      → Has (sub_at (flow_typing (flow_program table typed)) n).formals x → is_formal (flow_typing (flow_program table typed)) x ≡ true
+      → is_view_formal (flow_typing (flow_program table typed)) x ≡ true → is_named_access (view_of (flow_typing (flow_program table typed)) x) ≡ true
   pub copied : (sub : FlowSub) → Has (flow_program table typed).subs sub → (p : FlowPoint) → Has sub.points p → (n : ℕ) (actuals : TypedTree)
       (result : Option ℕ) → p.instr ≡ Call n actuals result
       → ((x : ℕ) → Has (sub_of (flow_program table typed) n).formals x → is_formal (flow_typing (flow_program table typed)) x ≡ true)
-      → AreCopied (flow_typing (flow_program table typed)) (sub_of (flow_program table typed) n).formals actuals
-  pub sources : (sub : FlowSub) → Has (flow_program table typed).subs sub → (p : FlowPoint) → Has sub.points p
-      → NamesSource (flow_typing (flow_program table typed)) p.instr
+      → AreKeptPlaces (flow_typing (flow_program table typed)) (sub_of (flow_program table typed) n).formals actuals
   pub order : IsInOrder table typed
+  pub results : (sub : TypedSub) → Has order.rest sub → ResultsFit (typing_of table typed) sub.body
   pub answered : AreAnswered table typed order.rest
   pub passes : PassActuals (flow_program table typed)
   pub passed : ArePassed (flow_program table typed)

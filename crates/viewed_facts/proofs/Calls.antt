@@ -7,20 +7,22 @@ use Rattle.place_names.specs.declared.rule.Loan.TheVariants.{Borrowed}
 use Rattle.flow_paths.specs.Objects.{Typing, is_package_object}
 use Rattle.machine.specs.Memory.{Memory}
 use Rattle.machine.specs.States.{Return, Frame}
-use Rattle.owned_ways.specs.Ways.{Step, Root, OfVariable, Loc, OfRoot, OfCell, Inside, Way, Object, Lost, Into, All, Gone, Held, View, part, along, Reaches, Under, Told, Named, base_of, number_of}
+use Rattle.owned_ways.specs.Ways.{Step, Root, OfVariable, Loc, OfRoot, OfCell, Inside, Way, Object, Lost, Into, All, Gone, Held, View, part, along, Reaches, Under, Told, Named, base_of, number_of, name_of}
 use Rattle.owned_ways.proofs.Locations.{under_along, under_itself}
 use Rattle.owned_ways.proofs.Dropped.{named_base}
 use Rattle.part_offsets.specs.Parts.{IsSettled}
 use Rattle.soundness.specs.Seen.{word_in, content, seen, home, is_view_formal}
 use Rattle.soundness.proofs.Contents.{word_part, word_root}
 use Rattle.soundness.specs.Sound.{AreStages}
-use Rattle.owned_loans.specs.Views.{Views, AreClear, AreViews, IsMovedBy}
-use Rattle.owned_loans.proofs.Safe.{clean_below}
-use Rattle.viewed_steps.specs.Sound.{ViewStage, stages_of}
-use Rattle.viewed_steps.specs.Taken.{TakenBy, AreCarried, IsPassedOn, AreTaken}
+use Rattle.owned_loans.specs.Views.{Views, AreClear, AreViews, expand}
+use Rattle.owned_loans.proofs.Safe.{clean_name}
+use Rattle.exact_facts.proofs.Steps.{under_covers}
+use Rattle.viewed_steps.specs.Sound.{ViewStage, stages_of, Lies}
+use Rattle.viewed_steps.specs.Taken.{TakenBy, AreCarried, IsPassedOn, AreTaken, Lodge}
 use Rattle.viewed_steps.proofs.Between.{base_under, same_variable, taken_from}
-use Rattle.viewed_steps.proofs.Entered.{not_observing, inside_plain, inside_named, inside_number, inside_itself}
-use Rattle.viewed_steps.proofs.Views.{observes_not}
+use Rattle.viewed_soundness.proofs.Names.{owner_sees}
+use Rattle.viewed_steps.proofs.Entered.{inside_plain, inside_named, inside_number, inside_itself}
+use Rattle.viewed_facts.specs.Exact.{IsDefiniteBy}
 
 -- ---- ways from variables, where words are carried
 
@@ -97,12 +99,18 @@ module _ (s : Typing) (these : ℕ → Type 0) (ways : List Way) (m n : Memory) 
 
 -- ---- where frames have names
 
-pub home_below : (s : Typing) (a b y : ℕ) → a < b → home s a y ≡ b → ⊥
-home_below s a b y less e = by_package (is_package_object s y) e
+-- the home of an object isn't above the frame
+home_low : (s : Typing) (a y : ℕ) → home s a y < suc a
+home_low s a y = by_package (is_package_object s y)
   where
-    by_package : (c : Bool) → (if c then 0 else a) ≡ b → ⊥
-    by_package true e = omega (arith, less, e)
-    by_package false e = omega (arith, less, e)
+    by_package : (c : Bool) → (if c then 0 else a) < suc a
+    by_package true = omega arith
+    by_package false = omega arith
+
+-- what lies at a frame begins there or below
+pub lies_low : (s : Typing) (frame : ℕ) (w : Way) → Lies s frame w → (f : ℕ) × (x : ℕ) × (base_of w ≡ OfRoot (OfVariable f x)) × (f < suc frame)
+lies_low s frame w (inl named) = (home s frame (number_of w), number_of w, named_base (home s frame) w named, home_low s frame (number_of w))
+lies_low s frame w (inr (foreign, low, above)) = (foreign.0, foreign.1, foreign.2, omega (arith, low))
 
 -- the frames of a list are lower than its length
 pub lower : (older : List ViewStage) (outer : List Frame) → AreStages (stages_of older) outer → (g : ViewStage) → Has older g → g.stage.depth < length outer
@@ -114,32 +122,24 @@ lower (h ∷ older) (f ∷ outer) (frame, deep, others) g (inr has) = (let less 
 
 -- ---- the places that a call took
 
-pub passed_of : (s : Typing) (m : Memory) (depth : ℕ) (facts : List Fact) (scope : List ℕ) (returns : List Return) (ways : List Way)
-    → AreTaken s m depth facts scope returns ways → (to : Way) → Has ways to → (r : Return) × IsPassedOn s depth facts scope r.formal r.to to
-passed_of s m depth facts scope [] ways none to has = absurd (subst (λ z. Has z to) none has)
-passed_of s m depth facts scope (r ∷ rest) [] taken to has = absurd has
-passed_of s m depth facts scope (r ∷ rest) (k ∷ ways) (inl copied) to has = passed_of s m depth facts scope rest (k ∷ ways) copied.1 to has
-passed_of s m depth facts scope (r ∷ rest) (k ∷ ways) (inr (one, apart, another, more)) to (inl same) =
+pub passed_of : (s : Typing) (cells : List Lodge) (m : Memory) (depth : ℕ) (facts : List Fact) (scope : List ℕ) (returns : List Return) (ways : List Way)
+    → AreTaken s cells m depth facts scope returns ways → (to : Way) → Has ways to → (r : Return) × IsPassedOn s depth facts scope r.formal r.to to
+passed_of s cells m depth facts scope [] ways none to has = absurd (subst (λ z. Has z to) none has)
+passed_of s cells m depth facts scope (r ∷ rest) [] taken to has = absurd has
+passed_of s cells m depth facts scope (r ∷ rest) (k ∷ ways) (inl copied) to has = passed_of s cells m depth facts scope rest (k ∷ ways) copied.1 to has
+passed_of s cells m depth facts scope (r ∷ rest) (k ∷ ways) (inr (one, apart, another, more)) to (inl same) =
     (r, subst (IsPassedOn s depth facts scope r.formal r.to) same one.0)
-passed_of s m depth facts scope (r ∷ rest) (k ∷ ways) (inr (one, apart, another, more)) to (inr has) = passed_of s m depth facts scope rest ways more to has
+passed_of s cells m depth facts scope (r ∷ rest) (k ∷ ways) (inr (one, apart, another, more)) to (inr has) = passed_of s cells m depth facts scope rest ways more to has
 
 module _ (s : Typing) (settled : IsSettled s.table) (depth : ℕ) (facts : List Fact) (scope : List ℕ) (r : Return) (to : Way)
-    (passed : IsPassedOn s depth facts scope r.formal r.to to) (no_formals : (x : ℕ) → is_view_formal s x ≡ false) where
-  -- nothing that the frame moved is there
+    (passed : IsPassedOn s depth facts scope r.formal r.to to) where
+  -- nothing is there that the frame moved, by a name without an element
   pub passed_clean : (v : Views) (view : View) → AreViews (home s depth) (sees_only s) v view facts → AreClear (sees_only s) facts
-      → (w : Way) → IsMovedBy (home s depth) v facts w → Under to w → ⊥
-  passed_clean v view views clear w moved under =
-      clean_below (home s depth) (sees_only s) v view facts views clear to w (
+      → (w : Way) → IsDefiniteBy (home s depth) v facts w → Under to w → ⊥
+  passed_clean v view views clear w (m, moved, plain, same) under =
+      clean_name (home s depth) (sees_only s) v view facts views clear to m (
         inside_named s settled depth r.to to passed.inside,
         ap (sees_only s) (inside_number s settled depth r.to to passed.inside)
-            ∙ observes_not s no_formals (passed.inside).object (not_observing s (passed.inside).object (inside_plain s settled depth r.to to passed.inside)),
-      ) (λ h n has over. passed.unlent Borrowed h n has over) passed.whole
-      (subst (λ z. Under z w) (sym (inside_itself s settled depth r.to to passed.inside v)) under) moved
-
--- nor what another frame named
-pub other_clean : (s : Typing) (m : Memory) (a depth : ℕ) (facts : List Fact) (scope : List ℕ) (returns : List Return) (ways : List Way)
-    → AreTaken s m depth facts scope returns ways → a < depth → (to : Way) → Has ways to → (w : Way) → Named (home s a) w → Under to w → ⊥
-other_clean s m a depth facts scope returns ways taken less to has w named under =
-    let base = taken_from s m depth facts scope returns ways taken to has in
-    home_below s a depth (number_of w) less
-    (same_variable (home s a (number_of w)) (number_of w) depth base.0 (sym (named_base (home s a) w named) ∙ base_under to w under ∙ base.1)).0
+            ∙ owner_sees s (passed.inside).object (inside_plain s settled depth r.to to passed.inside) (passed.inside).owner,
+      ) (λ h n has over. passed.unlent Borrowed h n has over) moved (λ below. passed.cleared (name_of m) moved.1 (under_covers to m below plain))
+      (subst (λ z. Under z (expand v m)) (sym (inside_itself s settled depth r.to to passed.inside v)) (subst (Under to) (sym same) under))

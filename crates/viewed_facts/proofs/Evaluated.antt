@@ -1,7 +1,7 @@
 -- Facts without an element stay exact in expressions, with names through borrowers and observers.
-use Rattle.std.proofs.Common.{◌≡◌, refl, sym, ap, ◌∙◌, subst, ℕ, suc, ◌+◌, Bool, true, false, ◌||◌, List, [], ◌∷◌, ◌++◌, length, arith, append-nil, if◌then◌else◌, ◌⊎◌, inl}
+use Rattle.std.proofs.Common.{◌≡◌, refl, sym, ap, ◌∙◌, subst, ℕ, suc, ◌+◌, Bool, true, false, ◌||◌, List, [], ◌∷◌, ◌++◌, length, arith, append-nil, if◌then◌else◌, ◌⊎◌, inl, inr}
 use Rattle.viewed_soundness.specs.Taken.{GivesPlainly}
-use Rattle.viewed_facts.proofs.Steps.{IsOthers, of_others}
+use Rattle.viewed_facts.proofs.Steps.{IsAway, IsOthers, of_others}
 use Rattle.place_names.specs.declared.rule.Loan.TheVariants.{Borrowed}
 use Rattle.std.specs.Prelude.{nat_le}
 use Rattle.place_names.specs.declared.act.Act.TheVariants as act
@@ -22,7 +22,7 @@ use Rattle.machine.specs.Memory.{Memory, Place, words_of, moved_out, with_new_ce
 use Rattle.machine.specs.Evaluate.{Here, Now, AsValue, part_type, parts_of, Evaluated, Done, Raises, Traps, followed_by, evaluate, steps_of, initial, checked, allocated, variable_place, walked, held_or_taken, taken, heap_words, StorageError}
 use Rattle.machine.specs.Evaluate as run
 use Rattle.machine.specs.States.{Waiting, Leak}
-use Rattle.owned_ways.specs.Ways.{OfVariable, Way, Object, Under, Named, Allows, after, AllowsAll, number_of}
+use Rattle.owned_ways.specs.Ways.{OfVariable, Loc, Way, Object, Reaches, Under, Named, Allows, after, AllowsAll, number_of}
 use Rattle.owned_ways.specs.Ways as ways
 use Rattle.part_offsets.specs.Parts.{IsSettled}
 use Rattle.soundness.specs.Seen.{seen, home, IsNear, is_view_formal}
@@ -37,19 +37,20 @@ use Rattle.soundness.proofs.Stays.{Quiet, One}
 use Rattle.soundness.proofs.Evaluated.{Keeps, regrouped}
 use Rattle.owned_loans.specs.Views.{Around, Views, expand, IsThrough}
 use Rattle.owned_loans.proofs.Allowed.{read_open, move_open}
-use Rattle.owned_loans.proofs.Moves.{named_way}
-use Rattle.viewed_soundness.specs.Holds.{IsNamed, PartsAreNamed, KeepsObserved, AllKeep, sees_only}
-use Rattle.viewed_soundness.proofs.Stays.{Goes, taking, steps_taking, waited_quiet, name_on}
+use Rattle.viewed_soundness.specs.Holds.{is_fixed, IsOwners, IsNamed, PartsAreNamed, KeepsObserved, AllKeep, sees_only}
+use Rattle.viewed_soundness.proofs.Stays.{Goes, no_selectors, taking, steps_taking, waited_quiet, name_on}
 use Rattle.viewed_soundness.proofs.Evaluated.{keep_both, matches_named, Ready, GivenOn, live_trunk, checked_on, blank_ready, evaluated_on, part_named}
 use Rattle.viewed_facts.specs.Exact.{IsExact}
 use Rattle.viewed_facts.proofs.Memories.{taken_exact, made_exact}
 use Rattle.viewed_soundness.proofs.Names.{neither, stands_owners}
+use Rattle.viewed_soundness.proofs.Spared.{gone_off}
+use Rattle.viewed_soundness.proofs.Names.{free_sees, free_formal, changed_owners}
 
 module _ (h : Here) (settled : IsSettled h.typing.table) (leaks : List Leak) (waits : List (List machine.Word)) (other : Around (home h.typing h.frame))
     (alone : (w : Way) → IsNear h.frame w → other.gone w → ⊥) (keeps : Keeps h.typing)
     (index_law : IndexLaw) (own_law : OwnsByShape h.typing.table)
     (v : Views) (parts_named : PartsAreNamed h.typing.table)
-    (elsewhere : Way → Type 0) (away : (w : Way) → elsewhere w → (IsNear h.frame w → ⊥) ⊎ IsThrough (home h.typing h.frame) other.lent Borrowed w) where
+    (elsewhere : Way → Type 0) (away : (w : Way) → elsewhere w → IsAway h.typing h.frame other w) where
   abbrev ReadyIn : Memory → List Waiting → List Fact → Type 0
   ReadyIn m hands facts = Ready h settled leaks waits other alone keeps index_law own_law v parts_named m hands facts
 
@@ -101,27 +102,23 @@ module _ (h : Here) (settled : IsSettled h.typing.table) (leaks : List Leak) (wa
   -- what a place has is taken, where its type owns
   owner_exact : (on : List (List machine.Word)) (m : Memory) (hands : List Waiting) (facts : List Fact) (u : Way) (t : ℕ) → ReadyIn m hands facts → Exact m facts
       → Named (home h.typing h.frame) u → sees_only h.typing (number_of u) ≡ false
+      → ((l : Loc) → Reaches (seen h.typing m hands leaks) (expand v u) l → IsOwners h.typing (expand v u))
       → is_owning h.typing.table t ≡ true → Allows facts (act.Move (ways.name_of u) (parts h.typing.table t))
       → (x : Evaluated Place) → Walked h.typing settled hands leaks m on (expand v u) t x
       → ExactTo (effect (act.Move (ways.name_of u) (parts h.typing.table t)) facts) (followed_by x (held_or_taken h AsValue))
-  owner_exact on m hands facts u t ready exact named plain owns allowed (Done k n) (l, same, spot, reaches, of) =
+  owner_exact on m hands facts u t ready exact named plain owners owns allowed (Done k n) (l, same, spot, reaches, of) =
       subst (λ z. ExactTo (effect (act.Move (ways.name_of u) (parts h.typing.table t)) facts) (taken h k z)) (sym same)
       (subst (λ b. ExactTo (effect (act.Move (ways.name_of u) (parts h.typing.table t)) facts)
       (Done (words_of h.typing m k) (if b then record { memory = moved_out h.typing k m; waits = on } else record { memory = m; waits = on })))
       (sym (ap (is_owning h.typing.table) of ∙ owns))
       (subst (λ z. Exact (moved_out h.typing k m) (effect (act.Move (ways.name_of u) (parts h.typing.table z)) facts)) of
       (taken_exact h.typing settled (home h.typing h.frame) (sees_only h.typing) other v elsewhere apart m hands leaks facts k l u ready.viewed
-      (λ w under o. alone w (near_under h.frame (expand v u) w under (named_near h.typing h.frame (expand v u) rooted)) o) ready.kept spot named plain reaches
+      (λ w under o. gone_off h.typing h.frame other v (seen h.typing m hands leaks) facts ready.viewed alone u w named plain (inr under) o) ready.kept spot named plain reaches
       (live_trunk h settled leaks waits other alone keeps index_law own_law v parts_named m hands ready.viewed.owned (expand v u) l
-      (stands_owners h.typing h.frame v m u ready.holds named (inl (neither (is_observer h.typing (number_of u)) (is_view_formal h.typing (number_of u)) plain).1)) reaches)
+      (owners l reaches) reaches)
       (subst (λ z. Allows facts (act.Move (ways.name_of u) (parts h.typing.table z))) (sym of) allowed) exact)))
-    where
-      rooted : Named (home h.typing h.frame) (expand v u)
-      rooted =
-          named_way (home h.typing h.frame) (sees_only h.typing) other v (seen h.typing m hands leaks) facts ready.viewed.views (suc (number_of u)) u (omega arith)
-          (named, plain)
-  owner_exact on m hands facts u t ready exact named plain owns allowed (Raises e n) is = tt
-  owner_exact on m hands facts u t ready exact named plain owns allowed (Traps e n) none = tt
+  owner_exact on m hands facts u t ready exact named plain owners owns allowed (Raises e n) is = tt
+  owner_exact on m hands facts u t ready exact named plain owners owns allowed (Traps e n) none = tt
 
   -- a copy of what doesn't own
   copy_exact : (on : List (List machine.Word)) (m : Memory) (hands : List Waiting) (facts : List Fact) (w : Way) (t : ℕ) → Exact m facts
@@ -136,7 +133,7 @@ module _ (h : Here) (settled : IsSettled h.typing.table) (leaks : List Leak) (wa
 
   -- a name that is moved, or read
   name_exact : (on : List (List machine.Word)) (x : ℕ) (steps : TypedTree) (t : ℕ) (m : Memory) (hands : List Waiting) (facts : List Fact) (ready : ReadyIn m hands facts)
-      → Exact m facts → Allows facts (used h.typing (name_of x steps) t) → KeepsObserved (sees_only h.typing) (used h.typing (name_of x steps) t)
+      → Exact m facts → Allows facts (used h.typing (name_of x steps) t) → KeepsObserved (is_fixed h.typing) (used h.typing (name_of x steps) t)
       → (way : List run.Step) → Goes h.typing.table (object_at h.typing x).of t steps way
       → (b : Bool) → is_owning h.typing.table t ≡ b
       → ExactTo (effect (used h.typing (name_of x steps) t) facts)
@@ -151,7 +148,8 @@ module _ (h : Here) (settled : IsSettled h.typing.table) (leaks : List Leak) (wa
       }) in
       let moves : Allows facts (act.Move (ways.name_of u) (parts h.typing.table t)) =
       subst (λ z. Allows facts (act.Move z (parts h.typing.table t))) (sym called) (subst (Allows facts) is mine) in
-      let plain : sees_only h.typing x ≡ false = subst (KeepsObserved (sees_only h.typing)) is keep in
+      let free : is_fixed h.typing (name_of x steps) ≡ false = subst (KeepsObserved (is_fixed h.typing)) is keep in
+      let plain : sees_only h.typing x ≡ false = free_sees h.typing (name_of x steps) free in
       let where_ = name_on h settled hands leaks m waits other facts v ready.kept ready.viewed ready.holds alone
       (live_trunk h settled leaks waits other alone keeps index_law own_law v parts_named m hands ready.viewed.owned) index_law own_law parts_named
       on x steps t way goes (λ w named same. move_open facts w (parts h.typing.table t)
@@ -159,7 +157,10 @@ module _ (h : Here) (settled : IsSettled h.typing.table) (leaks : List Leak) (wa
       subst (λ z. ExactTo (effect z facts) (followed_by (walked h.typing way (variable_place h x) (record { memory = m; waits = on })) (held_or_taken h AsValue)))
       (ap (λ z. act.Move z (parts h.typing.table t)) called ∙ sym is)
       (owner_exact on m hands facts u t ready exact (named_along (home h.typing h.frame) way (Object (OfVariable (home h.typing h.frame x) x)) refl)
-      (ap (sees_only h.typing) (number_along way (Object (OfVariable (home h.typing h.frame x) x))) ∙ plain) owns moves
+      (ap (sees_only h.typing) (number_along way (Object (OfVariable (home h.typing h.frame x) x))) ∙ plain)
+      (changed_owners h settled hands leaks m on other facts v ready.kept ready.viewed ready.holds alone
+      (live_trunk h settled leaks waits other alone keeps index_law own_law v parts_named m hands ready.viewed.owned) x t way
+      (λ formal none. free_formal h.typing (name_of x steps) free formal (no_selectors h.typing.table (object_at h.typing x).of t steps way goes none)) goes.lead) owns moves
       (walked h.typing way (variable_place h x) (record { memory = m; waits = on })) where_)
   name_exact on x steps t m hands facts ready exact mine keep way goes false owns =
       let u : Way = way_along way (Object (OfVariable (home h.typing h.frame x) x)) in
@@ -213,7 +214,7 @@ module _ (h : Here) (settled : IsSettled h.typing.table) (leaks : List Leak) (wa
 
     pub exact_on : (e : TypedTree) (want : ℕ) → Gives h.typing want e → GivesPlainly h.typing e → (before on : List (List machine.Word))
         → Takes (waiting e) before on → (m : Memory) (hands : List Waiting) (facts : List Fact)
-        → ReadyIn m hands facts → AllowsAll facts (acts (acts_in h.typing e)) → IsNamed h.typing.table want → AllKeep (sees_only h.typing) (acts (acts_in h.typing e))
+        → ReadyIn m hands facts → AllowsAll facts (acts (acts_in h.typing e)) → IsNamed h.typing.table want → AllKeep (is_fixed h.typing) (acts (acts_in h.typing e))
         → Exact m facts → ExactTo (after (acts (acts_in h.typing e)) facts) (evaluate h AsValue e (record { memory = m; waits = before }))
     exact_on (Number n) want scalar calls before on takes m hands facts ready allowed own keep exact = exact
     exact_on (Literal n) want scalar calls before on takes m hands facts ready allowed own keep exact = exact
@@ -233,8 +234,8 @@ module _ (h : Here) (settled : IsSettled h.typing.table) (leaks : List Leak) (wa
         let live = live_trunk h settled leaks waits other alone keeps index_law own_law v parts_named m hands ready.viewed.owned in
         let each = allows_both facts (acts (acts_in h.typing steps)) (used h.typing name t ∷ [])
         (subst (AllowsAll facts) (acts_append (acts_in h.typing steps) (record { pos = p; act = used h.typing name t } ∷ [])) allowed) in
-        let kept_names = keep_both (sees_only h.typing) (acts (acts_in h.typing steps)) (used h.typing name t ∷ [])
-        (subst (AllKeep (sees_only h.typing)) (acts_append (acts_in h.typing steps) (record { pos = p; act = used h.typing name t } ∷ [])) keep) in
+        let kept_names = keep_both (is_fixed h.typing) (acts (acts_in h.typing steps)) (used h.typing name t ∷ [])
+        (subst (AllKeep (is_fixed h.typing)) (acts_append (acts_in h.typing steps) (record { pos = p; act = used h.typing name t } ∷ [])) keep) in
         let inner = steps_taking h settled hands leaks m waits other facts v ready.kept ready.viewed ready.holds alone live index_law own_law parts_named
         (object_at h.typing x).of t steps lead before on takes each.0 in
         let mine : Allows facts (used h.typing name t) = subst (λ z. Allows z (used h.typing name t)) inner.1 each.1.0 in
@@ -252,7 +253,7 @@ module _ (h : Here) (settled : IsSettled h.typing.table) (leaks : List Leak) (wa
         let one = calls.0 in
         let taken_there = takes_as (waiting e + waiting rest) (waiting e) before on alone_there takes in
         let mine = subst (λ z. AllowsAll facts (acts z)) acts_same allowed in
-        let names = subst (λ z. AllKeep (sees_only h.typing) (acts z)) acts_same keep in
+        let names = subst (λ z. AllKeep (is_fixed h.typing) (acts z)) acts_same keep in
         let of = matches_named h.typing.table d t fits (parts_named.designated want d c n is) in
         let behind : List Fact = after (acts (acts_in h.typing e)) facts in
         let given = evaluated_on h settled leaks waits other alone keeps index_law own_law v parts_named e t gives one before on taken_there m hands facts ready mine of names in
@@ -288,7 +289,7 @@ module _ (h : Here) (settled : IsSettled h.typing.table) (leaks : List Leak) (wa
     parts_exact : (es : TypedTree) (t i : ℕ) → GivesParts h.typing t i es → GivesPlainly h.typing es
         → is_record (shape_of h.typing.table t) || is_array (shape_of h.typing.table t) ≡ true
         → (before on : List (List machine.Word)) → Takes (waiting es) before on → (m : Memory) (hands : List Waiting) (facts : List Fact)
-        → ReadyIn m hands facts → AllowsAll facts (acts (acts_in h.typing es)) → AllKeep (sees_only h.typing) (acts (acts_in h.typing es)) → Exact m facts
+        → ReadyIn m hands facts → AllowsAll facts (acts (acts_in h.typing es)) → AllKeep (is_fixed h.typing) (acts (acts_in h.typing es)) → Exact m facts
         → ExactTo (after (acts (acts_in h.typing es)) facts) (parts_of h t i es (record { memory = m; waits = before }))
     parts_exact (More e rest) t i gives calls made before on takes m hands facts ready allowed keep exact =
         let now : Now = record { memory = m; waits = before } in
@@ -297,8 +298,8 @@ module _ (h : Here) (settled : IsSettled h.typing.table) (leaks : List Leak) (wa
         let two = takes_both (waiting e) (waiting rest) before on takes in
         let each = allows_both facts (acts (acts_in h.typing e)) (acts (acts_in h.typing rest))
         (subst (AllowsAll facts) (acts_append (acts_in h.typing e) (acts_in h.typing rest)) allowed) in
-        let names = keep_both (sees_only h.typing) (acts (acts_in h.typing e)) (acts (acts_in h.typing rest))
-        (subst (AllKeep (sees_only h.typing)) (acts_append (acts_in h.typing e) (acts_in h.typing rest)) keep) in
+        let names = keep_both (is_fixed h.typing) (acts (acts_in h.typing e)) (acts (acts_in h.typing rest))
+        (subst (AllKeep (is_fixed h.typing)) (acts_append (acts_in h.typing e) (acts_in h.typing rest)) keep) in
         let of = part_named h.typing.table parts_named t i sh refl made in
         let between : List Fact = after (acts (acts_in h.typing e)) facts in
         let behind : List Fact = after (acts (acts_in h.typing rest)) between in

@@ -1,6 +1,6 @@
 -- Each step of a sound state whose facts are exact leads to such a state, in a program that is ready.
-use Rattle.viewed_soundness.specs.Holds.{sees_only}
-use Rattle.std.proofs.Common.{◌<◌, ◌≡◌, refl, sym, ◌∙◌, subst, ◌⊎◌, inl, inr, ℕ, suc, true, false, List, [], ◌∷◌, length, arith, Some, None}
+use Rattle.viewed_soundness.specs.Holds.{is_view, sees_only}
+use Rattle.std.proofs.Common.{◌<◌, ◌≡◌, refl, sym, ◌∙◌, subst, ◌⊎◌, inl, inr, ℕ, suc, true, false, List, [], ◌∷◌, length, arith, Some, None, ap}
 use Rattle.spark_base.specs.Lists.{Has}
 use Rattle.place_names.specs.declared.fact.Fact.{Fact}
 use Rattle.place_names.specs.declared.fact.Fact.TheVariants.{Moved}
@@ -9,13 +9,13 @@ use Rattle.type_definitions.specs.Types.{Table}
 use Rattle.typed_tree.specs.Programs.{TypedProgram}
 use Rattle.flow_paths.specs.declared.report.Effects.{Effects}
 use Rattle.flow_paths.specs.Instructions.{Instruction, EndScope, Finish}
-use Rattle.flow_paths.specs.Objects.{Typing, is_anonymous, is_package_object, view_of}
+use Rattle.flow_paths.specs.Objects.{Typing, is_package_object}
 use Rattle.flow_paths.specs.Points.{NamedPoint}
 use Rattle.flow_paths.specs.Laid.{FlowSub, FlowProgram, NamedSub, flow_typing, flow_program, flow_named}
 use Rattle.flow_paths.specs.Paths.{ControlPath, facts_before}
-use Rattle.flow_paths.specs.Effects.{path_points}
+use Rattle.flow_paths.specs.Effects.{path_points, written_by}
 use Rattle.machine.specs.Memory.{Memory}
-use Rattle.machine.specs.States.{Waiting, Frame, State, Outcome, Goes, Ends, sub_of}
+use Rattle.machine.specs.States.{Waiting, Frame, State, Outcome, Goes, Ends, sub_of, Return}
 use Rattle.machine.specs.Owners.{waiting_in}
 use Rattle.machine.specs.Run.{step}
 use Rattle.owned_ways.specs.Ways.{OfVariable, OfRoot, Under, base_of, number_of, Way, Loc, Gone, Reaches, Told, Named, name_of}
@@ -23,22 +23,27 @@ use Rattle.soundness.specs.Seen.{home, seen}
 use Rattle.soundness.specs.Typed.{Kept}
 use Rattle.soundness.specs.Sound.{Stage, facts_of, AreStages, IsRunnable, InScope, IsNamedSub, IsAtPoint, IsNoCall, IsOnward, view_of as view_here}
 use Rattle.soundness.proofs.Points.{sub_there}
-use Rattle.owned_loans.specs.Views.{known_gone, Views, Viewed}
-use Rattle.viewed_steps.specs.Sound.{IsResting, HoldsAt, ArePlaced, NoneAbove, ViewStage, stages_of, GoneElsewhere, AreWaiting, IsRunning, AreTurned, AreLeft, Follows, steps_on, leaves_scope, begins_main, returns_one, calls_one, ends_one, LeadsAlong}
+use Rattle.owned_loans.specs.Views.{known_gone, Views, Viewed, expand}
+use Rattle.viewed_steps.specs.Sound.{ArePast, IsResting, HoldsAt, ArePlaced, NoneAbove, ViewStage, stages_of, GoneElsewhere, AreWaiting, IsRunning, AreTurned, AreLeft, Follows, steps_on, leaves_scope, begins_main, returns_one, calls_one, ends_one, LeadsAlong, IsSound, HasTraversals, loan_by, IsWaiting}
 use Rattle.viewed_steps.specs.Awaited.{AreAwaited, lasting_of}
 use Rattle.viewed_steps.specs.Ready.{IsReady}
-use Rattle.viewed_steps.proofs.Waiting.{StandsBetween, all_between}
+use Rattle.viewed_steps.proofs.Waiting.{StandsBetween, all_between, gone_low, unused_there}
 use Rattle.viewed_steps.proofs.Standing as standing
 use Rattle.viewed_steps.proofs.Packages as packages
 use Rattle.viewed_steps.proofs.Stepping.{sound_along}
 use Rattle.viewed_facts.specs.Exact.{IsDefiniteBy, IsDefiniteOf, LeadsExactly, StepsLeadExactly}
-use Rattle.viewed_facts.proofs.Steps.{named_definite}
-use Rattle.viewed_facts.proofs.Calls.{carried_told, home_below, lower, passed_of, passed_clean, other_clean}
-use Rattle.viewed_steps.specs.Taken.{AreCarried}
-use Rattle.owned_ways.proofs.Dropped.{named_base}
-use Rattle.viewed_facts.proofs.Frames.{between_named, IsDefiniteHere}
+use Rattle.owned_ways.proofs.Named.{longer}
+use Rattle.owned_loans.proofs.Meeting.{stands}
+use Rattle.viewed_steps.proofs.Views.{same_lies, base_named}
+use Rattle.viewed_facts.proofs.Calls.{carried_told, lies_low, lower, passed_of, passed_clean}
+use Rattle.viewed_steps.specs.Taken.{AreCarried, Lodge}
+use Rattle.viewed_facts.proofs.Frames.{IsDefiniteHere}
 use Rattle.viewed_facts.proofs.Told.{told_next}
 use Rattle.viewed_facts.proofs.ScopeEnds.{told_left}
+use Rattle.place_names.specs.Facts.{place}
+use Rattle.viewed_steps.proofs.Between.{base_under, taken_from, IsHomed, number_based}
+use Rattle.viewed_steps.proofs.Apart.{kept_there, written_disturbs}
+use Rattle.viewed_steps.proofs.Outside.{IsSpared, gone_clear}
 
 module _ (table : Table) (typed : TypedProgram) (effects : Effects) (input : List ℕ) (ready : IsReady table typed effects) where
   abbrev program : FlowProgram
@@ -47,7 +52,7 @@ module _ (table : Table) (typed : TypedProgram) (effects : Effects) (input : Lis
   abbrev s : Typing
   s = flow_typing program
 
-  abbrev local : (x : ℕ) → is_anonymous (view_of s x) ≡ true → is_package_object s x ≡ false
+  abbrev local : (x : ℕ) → is_view s x ≡ true → is_package_object s x ≡ false
   local = standing.local table typed effects input ready
 
   abbrev unmoved_stage : (e : Stage) → e.frame.sub ≡ 0 → (name : PlaceName) → Has (facts_of program effects e) (Moved name) → ⊥
@@ -92,87 +97,73 @@ module _ (table : Table) (typed : TypedProgram) (effects : Effects) (input : Lis
   -- ---- a call, and the end of one
 
   told_called : (depth : ℕ) (m n : Memory) (stages : List ViewStage)
-      → ((g : ViewStage) → Has stages g → (w : Way) → Definite g w → Named (home s g.stage.depth) w × (g.stage.depth < suc depth))
+      → ((g : ViewStage) → Has stages g → (w : Way) → Definite g w → (f : ℕ) × (x : ℕ) × (base_of w ≡ OfRoot (OfVariable f x)) × (f < suc depth))
       → AreCarried s (λ f. f ≡ suc depth → ⊥) [] m n → AllTold m stages → AllTold n stages
-  told_called depth m n stages named carried told =
+  told_called depth m n stages low carried told =
       carried_told s (λ f. f ≡ suc depth → ⊥) [] m n carried (IsDefiniteOf program effects stages)
-      (λ w (g, has, definite). (let there = named g has w definite in (
-        home s g.stage.depth (number_of w),
-        number_of w,
-        named_base (home s g.stage.depth) w there.0,
-        λ e. home_below s g.stage.depth (suc depth) (number_of w) there.1 e,
-      )))
+      (λ w (g, has, definite). (let there = low g has w definite in (there.0, there.1, there.2, λ e. (let less = there.3 in omega (arith, less, e)))))
       (λ w is to none under. none) told
 
+  gone_by : (g : ViewStage) (stages : List ViewStage) → Has stages g → (w : Way) → Definite g w → GoneElsewhere program effects stages w
+  gone_by g stages has w d = (g, has, inl (d.0, d.1, d.3))
+
   told_ended : (state : State) (depth : ℕ) (m n : Memory) (ways : List Way) (stages : List ViewStage) → ((g : ViewStage) → Has stages g → Between state depth g)
-      → ((g : ViewStage) → Has stages g → (w : Way) → Definite g w → Named (home s g.stage.depth) w → (to : Way) → Has ways to → Under to w → ⊥)
+      → ((g : ViewStage) → Has stages g → (w : Way) → Definite g w → (to : Way) → Has ways to → Under to w → ⊥)
       → AreCarried s (λ f. f ≡ depth → ⊥) ways m n → AllTold m stages → AllTold n stages
   told_ended state depth m n ways stages between off carried told =
       carried_told s (λ f. f ≡ depth → ⊥) ways m n carried (IsDefiniteOf program effects stages) begins_there
-      (λ w (g, has, definite) to there under.
-      off g has w definite (between_named table typed effects unmoved_stage local state depth g (between g has) w definite) to there under) told
+      (λ w (g, has, definite) to there under. off g has w definite to there under) told
     where
       begins_there : (w : Way) → IsDefiniteOf program effects stages w → (f : ℕ) × (x : ℕ) × (base_of w ≡ OfRoot (OfVariable f x)) × (f ≡ depth → ⊥)
-      begins_there w (g, has, definite) = elim (between g has) [
-        | inl first ↦ absurd (unmoved g first.0 w definite)
-        | inr (some, less, callee, backs, waits) ↦ (
-          home s g.stage.depth (number_of w),
-          number_of w,
-          named_base (home s g.stage.depth) w
-              (between_named table typed effects unmoved_stage local state depth g (inr (some, less, callee, backs, waits)) w definite),
-          λ e. home_below s g.stage.depth depth (number_of w) less e,
-        )
-      ]
+      begins_there w (g, has, definite) =
+          let base = gone_low table typed effects unmoved_stage local state depth stages between w (gone_by g stages has w definite) in
+          (base.0, base.1, base.2, λ e. (let low = base.3 in omega (arith, low, e)))
 
   -- ---- the frames after a step
 
   -- A step goes on in its frame, or the scope of an object ends there.
-  abbrev Stays : Instruction → Views → Views → Type 0
-  Stays i before later =
-      (IsNoCall i × (i ≡ Finish → ⊥) × ((y : ℕ) → i ≡ EndScope y → ⊥) × AreTurned i before later) ⊎ ((y : ℕ) × (i ≡ EndScope y) × AreLeft y before later)
+  abbrev Stays : ℕ → Instruction → Views → Views → Type 0
+  Stays depth i before later =
+      (IsNoCall i × (i ≡ Finish → ⊥) × ((y : ℕ) → i ≡ EndScope y → ⊥) × AreTurned i before later) ⊎ ((y : ℕ) × (i ≡ EndScope y) × AreLeft (home s depth) y before later)
 
   module _ (i : Instruction) (state after_step : State) (top : ViewStage) (older : List ViewStage) (packages_first : older ≡ [] → top.stage.frame.sub ≡ 0)
       (between : (g : ViewStage) → Has older g → StandsBetween table typed effects unmoved_stage local state top.stage.depth g)
-      (top_named : (w : Way) → IsDefiniteBy (home (flow_typing (flow_program table typed)) top.stage.depth) top.views (facts_of (flow_program table typed) effects top.stage) w
-      → Named (home (flow_typing (flow_program table typed)) top.stage.depth) w)
-      (lower_there : (next : ViewStage) (around : List ViewStage) → older ≡ next ∷ around → (g : ViewStage) → Has around g → g.stage.depth < next.stage.depth)
+      (top_low : (w : Way) → IsDefiniteBy (home (flow_typing (flow_program table typed)) top.stage.depth) top.views (facts_of (flow_program table typed) effects top.stage) w
+      → (f : ℕ) × (x : ℕ) × (base_of w ≡ OfRoot (OfVariable f x)) × (f < suc top.stage.depth))
+      (around_clear : (next : ViewStage) (around : List ViewStage) → older ≡ next ∷ around → (to : Way) → Has next.stage.returns to
+      → (w : Way) → GoneElsewhere (flow_program table typed) effects around w → Under to w → ⊥)
       (told : Told (seen (flow_typing (flow_program table typed)) state.memory [] []) (IsDefiniteOf (flow_program table typed) effects (top ∷ older)))
       (next : ViewStage) (around : List ViewStage)
-      (told_step : IsOnward top.stage next.stage → Stays i top.views next.views
+      (told_step : IsOnward top.stage next.stage → Stays top.stage.depth i top.views next.views
       → Told (seen (flow_typing (flow_program table typed)) after_step.memory [] [])
       (IsDefiniteHere table typed effects unmoved_stage local top.stage.depth next.views
       (facts_before (path_points (flow_program table typed) effects (sub_of (flow_program table typed) top.stage.frame.sub)) (top.stage.frame.next ∷ top.stage.before)) older)) where
-    all_low : (g : ViewStage) → Has (top ∷ older) g → (w : Way) → Definite g w → Named (home s g.stage.depth) w × (g.stage.depth < suc top.stage.depth)
-    all_low g (inl is) w definite = (
-      subst (λ (z : ViewStage). Named (home s z.stage.depth) w) is (top_named w (same_stage top g is w definite)),
-      subst (λ (z : ViewStage). z.stage.depth < suc top.stage.depth) is (omega arith),
-    )
-    all_low g (inr has) w definite = elim (between g has) [
-      | inl first ↦ absurd (unmoved g first.0 w definite)
-      | inr (some, less, callee, backs, waits) ↦ (
-        between_named table typed effects unmoved_stage local state top.stage.depth g (inr (some, less, callee, backs, waits)) w definite,
-        omega (arith, less),
-      )
-    ]
+    all_low : (g : ViewStage) → Has (top ∷ older) g → (w : Way) → Definite g w → (f : ℕ) × (x : ℕ) × (base_of w ≡ OfRoot (OfVariable f x)) × (f < suc top.stage.depth)
+    all_low g (inl is) w definite = top_low w (same_stage top g is w definite)
+    all_low g (inr has) w definite =
+        let base = gone_low table typed effects unmoved_stage local state top.stage.depth older between w (gone_by g older has w definite) in
+        (base.0, base.1, base.2, let low = base.3 in omega (arith, low))
+
+    abbrev with_cells : List Lodge → ViewStage
+    with_cells cells = record { stage = next.stage; views = next.views; cells = cells }
 
     -- what the frames moved is in no place that the call took
-    off_places : older ≡ next ∷ around → (g : ViewStage) → Has older g → (w : Way) → Definite g w → Named (home s g.stage.depth) w
-        → (to : Way) → Has next.stage.returns to → Under to w → ⊥
-    off_places same g has w definite named to there under = elim (between next (subst (λ gs. Has gs next) (sym same) (inl refl))) [
+    off_places : (cells : List Lodge) → older ≡ record { stage = next.stage; views = next.views; cells = cells } ∷ around → (g : ViewStage) → Has older g
+        → (w : Way) → Definite g w → (to : Way) → Has next.stage.returns to → Under to w → ⊥
+    off_places cells same g has w definite to there under = elim (between (with_cells cells) (subst (λ gs. Has gs (with_cells cells)) (sym same) (inl refl))) [
       | inl first ↦ subst (λ z. Has z to) (first.1).2 there
       | inr (some, less, callee, backs, waits) ↦ elim (subst (λ gs. Has gs g) same has) [
         | inl is ↦ (
-            let passed = passed_of s state.memory next.stage.depth (facts_of program effects next.stage) (lasting_of s waits.point.scope) backs next.stage.returns waits.taken to there in
-            let own : Definite next w = same_stage next g is w definite in
-            passed_clean s ready.accepted.settled next.stage.depth (facts_of program effects next.stage) (lasting_of s waits.point.scope) passed.0 to passed.1 (standing.no_in_formals table typed effects input ready) next.views (view_here s state)
-            waits.views waits.clear w (own.0, own.1, own.3) under)
+            let passed = passed_of s cells state.memory next.stage.depth (facts_of program effects next.stage) (lasting_of s waits.point.scope) backs next.stage.returns waits.taken to there in
+            let own : Definite next w = same_stage (with_cells cells) g is w definite in
+            passed_clean s ready.accepted.settled next.stage.depth (facts_of program effects next.stage) (lasting_of s waits.point.scope) passed.0 to passed.1 next.views (view_here s state)
+            waits.views waits.clear w own under)
         | inr other ↦
-            other_clean s state.memory g.stage.depth next.stage.depth (facts_of program effects next.stage) (lasting_of s waits.point.scope) backs next.stage.returns waits.taken
-            (lower_there next around same g other) to there w named under
+            around_clear (with_cells cells) around same to there w (gone_by g around other w definite) under
       ]
     ]
 
-    onward_told : IsOnward top.stage next.stage → Stays i top.views next.views → around ≡ older → AllTold after_step.memory (next ∷ around)
+    onward_told : IsOnward top.stage next.stage → Stays top.stage.depth i top.views next.views → around ≡ older → AllTold after_step.memory (next ∷ around)
     onward_told on stays same w l (g, inl is, definite) reaches =
         told_step on stays w l (inl (then_there top.stage next.stage on next.views w (same_stage next g is w definite))) reaches
     onward_told on stays same w l (g, inr has, definite) reaches =
@@ -206,37 +197,40 @@ module _ (table : Table) (typed : TypedProgram) (effects : Effects) (input : Lis
           | inl is ↦ unmoved below (on.0 ∙ packages_first none) w (same_stage below g is w definite)
           | inr never ↦ never
         ]
-    follows_told (calls_one waits same on fresh fewer carried) = λ w l (g, has, definite) reaches. by_frame waits same on fresh fewer carried w l g has definite reaches
+    follows_told (calls_one waits cells same on fresh fewer carried) = λ w l (g, has, definite) reaches. by_frame waits cells same on fresh fewer carried w l g has definite reaches
       where
-        by_frame : (waits : Stage) → around ≡ record { stage = waits; views = top.views } ∷ older → IsOnward top.stage waits → next.stage.before ≡ []
+        by_frame : (waits : Stage) (cells : List Lodge) → around ≡ record { stage = waits; views = top.views; cells = cells } ∷ older → IsOnward top.stage waits → next.stage.before ≡ []
             → ((f : Fact) → Has (facts_of program effects waits) f → Has (facts_of program effects top.stage) f)
             → AreCarried s (λ f. f ≡ suc top.stage.depth → ⊥) [] state.memory after_step.memory
             → (w : Way) (l : Loc) (g : ViewStage) → Has (next ∷ around) g → Definite g w → Reaches (seen s after_step.memory [] []) w l
             → (seen s after_step.memory [] []).word l ≡ Gone
-        by_frame waits same on fresh fewer carried w l g (inl is) definite reaches = absurd (none_yet next fresh w (same_stage next g is w definite))
-        by_frame waits same on fresh fewer carried w l g (inr has) definite reaches =
+        by_frame waits cells same on fresh fewer carried w l g (inl is) definite reaches = absurd (none_yet next fresh w (same_stage next g is w definite))
+        by_frame waits cells same on fresh fewer carried w l g (inr has) definite reaches =
             let all : AllTold after_step.memory (top ∷ older) = told_called top.stage.depth state.memory after_step.memory (top ∷ older) all_low carried told in
             elim (subst (λ gs. Has gs g) same has) [
               | inr there ↦ all w l (g, inr there, definite) reaches
               | inl is ↦ (
-                  let waiting = same_stage (record { stage = waits; views = top.views }) g is w definite in
+                  let waiting = same_stage (record { stage = waits; views = top.views; cells = cells }) g is w definite in
                   let before : IsDefiniteBy (home s waits.depth) top.views (facts_of program effects top.stage) w =
                   (waiting.0, (waiting.1.0, fewer (Moved (name_of waiting.0)) waiting.1.1), waiting.2, waiting.3) in
                   all w l (top, inl refl, subst (λ d. IsDefiniteBy (home s d) top.views (facts_of program effects top.stage) w) on.1 before) reaches)
             ]
-    follows_told (ends_one same carried) = λ w l (g, has, definite) reaches.
-        told_ended state top.stage.depth state.memory after_step.memory next.stage.returns older between (off_places same) carried
-        (λ v k (h, there, is) r. told v k (h, inr there, is) r) w l (g, subst (λ gs. Has gs g) (sym same) has, definite) reaches
+    follows_told (ends_one cells same carried) = λ w l (g, has, definite) reaches.
+        told_ended state top.stage.depth state.memory after_step.memory next.stage.returns older between (off_places cells same) carried
+        (λ v k (h, there, is) r. told v k (h, inr there, is) r) w l (elim has [
+          | inl is ↦ (with_cells cells, subst (λ gs. Has gs (with_cells cells)) (sym same) (inl refl), same_stage next g is w definite)
+          | inr there ↦ (g, subst (λ gs. Has gs g) (sym same) (inr there), definite)
+        ]) reaches
 
   -- ---- what holds at a step
 
-  packages_of : (state : State) (top : Stage) (views : Views) (older : List ViewStage) → IsRunning table typed effects state (record { stage = top; views = views }) older
+  packages_of : (state : State) (top : Stage) (views : Views) (older : List ViewStage) → IsRunning table typed effects state (record { stage = top; views = views; cells = [] }) older
       → older ≡ [] → top.frame.sub ≡ 0
   packages_of state top views [] running none = running.0
   packages_of state top views (below ∷ more) running none = cc
 
   between_of : (state : State) (top : Stage) (views : Views) (older : List ViewStage) (fs : List Frame) → AreStages (top ∷ stages_of older) fs
-      → IsRunning table typed effects state (record { stage = top; views = views }) older → (g : ViewStage) → Has older g → Between state top.depth g
+      → IsRunning table typed effects state (record { stage = top; views = views; cells = [] }) older → (g : ViewStage) → Has older g → Between state top.depth g
   between_of state top views older [] stages running g has = absurd stages
   between_of state top views [] (f ∷ outer) stages running g has = absurd has
   between_of state top views (below ∷ more) (f ∷ outer) stages running g has =
@@ -253,15 +247,64 @@ module _ (table : Table) (typed : TypedProgram) (effects : Effects) (input : Lis
       below [] stages = absurd stages
       below (h ∷ rest) (frame, deep, others) = (let less = lower around rest others g has in omega (arith, less, deep))
 
+  -- what is gone for the frames around the one that waits is in no place that was taken from it
+  clear_around : (state : State) (top : Stage) (views : Views) (older : List ViewStage) (fs : List Frame) → AreStages (top ∷ stages_of older) fs
+      → IsRunning table typed effects state (record { stage = top; views = views; cells = [] }) older → (next : ViewStage) (around : List ViewStage) → older ≡ next ∷ around
+      → (to : Way) → Has next.stage.returns to → (w : Way) → GoneElsewhere program effects around w → Under to w → ⊥
+  clear_around state top views [] fs stages running next around same to has w gone under = cc
+  clear_around state top views (below ∷ more) fs stages running next [] same to has w (g, none, gone) under = none
+  clear_around state top views (below ∷ more) fs stages running next (h ∷ others) same to has w gone under =
+      elim (between next (inl (sym head))) [
+        | inl first ↦ subst (λ z. Has z to) (first.1).2 has
+        | inr (some, less, callee, backs, waits) ↦ whole backs (callee, waits)
+      ]
+    where
+      between : (g : ViewStage) → Has (below ∷ more) g → Between state top.depth g
+      between = between_of state top views (below ∷ more) fs stages running
+
+      head : next ≡ below
+      head = cc
+
+      rest_is : more ≡ h ∷ others
+      rest_is = cc
+
+      waiting : AreWaiting table typed effects state top.frame.sub top.frame.returns (next ∷ (h ∷ others))
+      waiting = subst (AreWaiting table typed effects state top.frame.sub top.frame.returns) same running.2
+
+      between_low : (g : ViewStage) → Has (h ∷ others) g → Between state next.stage.depth g
+      between_low g there = elim (between g (inr (subst (λ gs. Has gs g) (sym rest_is) there))) [
+        | inl first ↦ inl first
+        | inr (some, less, callee, backs, waits) ↦ inr (some, lower_of top (below ∷ more) fs stages next (h ∷ others) same g there, callee, backs, waits)
+      ]
+
+      whole : (backs : List Return) → (callee : ℕ) × IsWaiting table typed effects state callee backs next → ⊥
+      whole backs (callee, waits) =
+          gone_clear table typed effects unmoved_stage local state next.stage.depth (h ∷ others) between_low to homed spared_to w gone (base_under to w under)
+        where
+          homed : IsHomed s next.stage.depth to
+          homed = taken_from s next.cells state.memory next.stage.depth (facts_of program effects next.stage) (lasting_of s waits.point.scope) backs next.stage.returns waits.taken to has
+
+          spared_to : IsSpared table typed effects unmoved_stage local state next.stage.depth (h ∷ others) between_low homed.1
+          spared_to l name lent root =
+              let at : base_of to ≡ OfRoot (OfVariable (home s next.stage.depth homed.1) homed.1) =
+              homed.2 ∙ ap (λ f. OfRoot (OfVariable f homed.1)) homed.3 in
+              let number : number_of to ≡ homed.1 = number_based (home s next.stage.depth) to homed.1 (base_named (home s next.stage.depth) to homed.1 at) at in
+              let (g, there, some_there, f, keeps, shared, kind, name_is) = lent in
+              let written = waits.written to has (ap (is_package_object s) (number ∙ sym root) ∙ shared) in
+              kept_there table typed effects ready.accepted.effects_are (unused_there table typed effects unmoved_stage local) state next.stage.frame.sub next.stage.frame.returns
+              (h ∷ others) waiting.1 g there some_there f keeps (ap (λ (z : PlaceName). is_package_object s z.root) name_is ∙ shared)
+              (written_disturbs table typed effects ready.accepted.effects_are (loan_by f) next.stage.frame.sub (place f).root
+              (subst (Has (written_by effects next.stage.frame.sub)) (number ∙ sym root ∙ ap (λ (z : PlaceName). z.root) (sym name_is)) written))
+
   none_then : (top : Stage) → top.frame.sub ≡ 0 → (v : Views) (w : Way) → Here top.depth v (facts_then top) [] w → ⊥
   none_then top first v w (inr (g, has, definite)) = has
   none_then top first v w (inl definite) =
-      unmoved (record { stage = record { frame = top.frame; depth = top.depth; before = top.frame.next ∷ top.before; returns = top.returns }; views = v }) first w definite
+      unmoved (record { stage = record { frame = top.frame; depth = top.depth; before = top.frame.next ∷ top.before; returns = top.returns }; views = v; cells = [] }) first w definite
 
   -- the views afterwards are views, and nothing is moved through an observer
   abbrev AreClearThen : Stage → Views → Type 0
   AreClearThen top later =
-      ((x : ℕ) (w : Way) → later.way x ≡ Some w → is_anonymous (view_of s x) ≡ true)
+      ((x : ℕ) (w : Way) → later.way x ≡ Some w → is_view s x ≡ true)
       × ((n : PlaceName) → Has (facts_then top) (Moved n) → sees_only s n.root ≡ false)
 
   module _ (state : State) (top : Stage) (below : ViewStage) (more_frames : List ViewStage) (rest : List Frame) (named : NamedSub) (p : NamedPoint)
@@ -274,9 +317,10 @@ module _ (table : Table) (typed : TypedProgram) (effects : Effects) (input : Lis
       (viewed_before : Viewed (home s (suc (length rest))) (sees_only s) (known_gone (home s (suc (length rest))) (GoneElsewhere program effects (below ∷ more_frames))) views
       (view_here s state) (facts_of program effects top))
       (kept : Kept s state.memory (waiting_in state)) (scope : InScope s state.memory (suc (length rest)) (lasting_of s p.scope)) (holds : HoldsAt s (suc (length rest)) views state.memory p)
-      (placed_before : ArePlaced program (facts_of program effects top) views p.scope) (above : NoneAbove s (suc (length rest)) state.memory)
-      (exact_before : Told (seen s state.memory [] []) (IsDefiniteOf program effects (record { stage = top; views = views } ∷ (below ∷ more_frames)))) where
-    main_told : (next : State) → step program input state ≡ Goes next → (later : Views) → AreClearThen top later → Stays p.instr views later
+      (placed_before : ArePlaced program (suc (length rest)) (facts_of program effects top) views p.scope × ArePast s (suc (length rest)) views (below ∷ more_frames)) (above : NoneAbove s (suc (length rest)) state.memory
+      × HasTraversals table typed (view_here s state) (record { stage = top; views = views; cells = [] } ∷ (below ∷ more_frames)))
+      (exact_before : Told (seen s state.memory [] []) (IsDefiniteOf program effects (record { stage = top; views = views; cells = [] } ∷ (below ∷ more_frames)))) where
+    main_told : (next : State) → step program input state ≡ Goes next → (later : Views) → AreClearThen top later → Stays (suc (length rest)) p.instr views later
         → Told (seen s next.memory [] []) (Here (suc (length rest)) later (facts_then top) (below ∷ more_frames))
     main_told next goes later (only, clear) (inr (y, is, left)) =
         subst (λ (z : FlowSub). Told (seen s next.memory [] []) (Here (suc (length rest)) later (facts_before (path_points program effects z) (top.frame.next ∷ top.before)) (below ∷ more_frames)))
@@ -289,14 +333,15 @@ module _ (table : Table) (typed : TypedProgram) (effects : Effects) (input : Lis
         (sym (sub_there table typed top.frame.sub named of_sub)) has)) turned)
 
   step_told : (state : State) (top : Stage) (views : Views) (older : List ViewStage) (fs : List Frame) → state.frames ≡ fs → AreStages (top ∷ stages_of older) fs
-      → IsRunning table typed effects state (record { stage = top; views = views }) older → AreAwaited table typed None (top ∷ stages_of older)
+      → IsRunning table typed effects state (record { stage = top; views = views; cells = [] }) older → AreAwaited table typed None (top ∷ stages_of older)
       → ControlPath (path_points program effects (sub_of program top.frame.sub)) top.before top.frame.next
       → Viewed (home s top.depth) (sees_only s) (known_gone (home s top.depth) (GoneElsewhere program effects older)) views (view_here s state) (facts_of program effects top)
       → Kept s state.memory (waiting_in state)
       → (named : NamedSub) → IsNamedSub (flow_named table typed) top.frame.sub named → (p : NamedPoint) → IsAtPoint named.points top.frame.next p
-      → InScope s state.memory top.depth (lasting_of s p.scope) → HoldsAt s top.depth views state.memory p → ArePlaced program (facts_of program effects top) views p.scope
-      → NoneAbove s top.depth state.memory → Told (seen s state.memory [] []) (IsDefiniteOf program effects (record { stage = top; views = views } ∷ older))
-      → (next : State) → step program input state ≡ Goes next → (later : Views) → AreClearThen top later → Stays p.instr views later
+      → InScope s state.memory top.depth (lasting_of s p.scope) → HoldsAt s top.depth views state.memory p → ArePlaced program top.depth (facts_of program effects top) views p.scope × ArePast s top.depth views older
+      → NoneAbove s top.depth state.memory × HasTraversals table typed (view_here s state) (record { stage = top; views = views; cells = [] } ∷ older)
+      → Told (seen s state.memory [] []) (IsDefiniteOf program effects (record { stage = top; views = views; cells = [] } ∷ older))
+      → (next : State) → step program input state ≡ Goes next → (later : Views) → AreClearThen top later → Stays top.depth p.instr views later
       → Told (seen s next.memory [] []) (Here top.depth later (facts_then top) older)
   step_told state top views [] fs is stages running awaiting path well kept named of_sub p at_point scope holds there above exact next goes later clear stays =
       λ w l definite reaches. absurd (none_then top running.0 later w definite)
@@ -305,27 +350,40 @@ module _ (table : Table) (typed : TypedProgram) (effects : Effects) (input : Lis
       subst (λ d. Told (seen s next.memory [] []) (Here d later (facts_then top) (below ∷ more))) (sym deep)
       (main_told state top below more rest named p (is ∙ (λ j. sym frame j ∷ (sym around_frame j ∷ rest))) deep (refl, deeper, others) running awaiting of_sub at_point path views
       (subst (λ d. Viewed (home s d) (sees_only s) (known_gone (home s d) (GoneElsewhere program effects (below ∷ more))) views (view_here s state) (facts_of program effects top)) deep well) kept
-      (subst (λ d. InScope s state.memory d (lasting_of s p.scope)) deep scope) (subst (λ d. HoldsAt s d views state.memory p) deep holds) there
-      (subst (λ d. NoneAbove s d state.memory) deep above) exact next goes later clear stays)
+      (subst (λ d. InScope s state.memory d (lasting_of s p.scope)) deep scope) (subst (λ d. HoldsAt s d views state.memory p) deep holds)
+      (subst (λ d. ArePlaced program d (facts_of program effects top) views p.scope × ArePast s d views (below ∷ more)) deep there)
+      (subst (λ d. NoneAbove s d state.memory) deep above.0, above.1) exact next goes later clear (subst (λ d. Stays d p.instr views later) deep stays))
   step_told state top views (below ∷ more) [] is stages running awaiting path well kept named of_sub p at_point scope holds there above exact next goes later clear stays = absurd stages
   step_told state top views (below ∷ more) (f ∷ []) is stages running awaiting path well kept named of_sub p at_point scope holds there above exact next goes later clear stays = absurd stages.2
+
+  -- what the innermost frame moved lies there
+  own_low : (state : State) (sound : IsSound table typed effects state) (w : Way)
+      → IsDefiniteBy (home s sound.top.depth) sound.views (facts_of program effects sound.top) w → (f : ℕ) × (x : ℕ) × (base_of w ≡ OfRoot (OfVariable f x)) × (f < suc sound.top.depth)
+  own_low state sound w (u, moved, plain, leads) =
+      subst (λ z. (f : ℕ) × (x : ℕ) × (base_of z ≡ OfRoot (OfVariable f x)) × (f < suc sound.top.depth)) leads
+      (lies_low s sound.top.depth (expand sound.views u)
+      (elim (stands (home s sound.top.depth) (sees_only s) sound.views (view_here s state) (facts_of program effects sound.top) sound.viewed.views u
+      (moved.0, sound.viewed.clear.owned (name_of u) moved.1)) [
+        | inl own ↦ inl own.0
+        | inr held ↦ same_lies s sound.top.depth (expand sound.views u) held.way (longer held.way (expand sound.views u) held.under).base
+            (sound.holds.lies held.object held.way held.has)
+      ]))
 
   pub exactly_step : StepsLeadExactly table typed effects input
   exactly_step state (sound, exact) = by (step program input state) refl (sound_along table typed effects input ready state sound)
     where
       by : (outcome : Outcome) → step program input state ≡ outcome
-          → LeadsAlong table typed effects sound.point.instr state.memory (record { stage = sound.top; views = sound.views }) sound.older outcome
+          → LeadsAlong table typed effects sound.point.instr state.memory (record { stage = sound.top; views = sound.views; cells = [] }) sound.older outcome
           → LeadsExactly table typed effects outcome
       by (Ends how after_step) is leads = tt
       by (Goes after_step) is leads = (
         leads.0,
-        follows_told sound.point.instr state after_step (record { stage = sound.top; views = sound.views }) sound.older (packages_of state sound.top sound.views sound.older sound.running)
+        follows_told sound.point.instr state after_step (record { stage = sound.top; views = sound.views; cells = [] }) sound.older (packages_of state sound.top sound.views sound.older sound.running)
             (between_of state sound.top sound.views sound.older state.frames sound.stages sound.running)
-            (named_definite (home s sound.top.depth) (sees_only s) (known_gone (home s sound.top.depth) (GoneElsewhere program effects sound.older)) sound.views (λ z. ⊥) (λ w none. absurd none)
-            (view_here s state) (facts_of program effects sound.top) sound.viewed)
-            (lower_of sound.top sound.older state.frames sound.stages) exact (record { stage = (leads.0).top; views = (leads.0).views }) (leads.0).older
+            (own_low state sound)
+            (clear_around state sound.top sound.views sound.older state.frames sound.stages sound.running) exact (record { stage = (leads.0).top; views = (leads.0).views; cells = [] }) (leads.0).older
             (λ on stays. step_told state sound.top sound.views sound.older state.frames refl sound.stages sound.running sound.awaited sound.path sound.viewed sound.kept sound.named sound.of_sub sound.point
-            sound.at_point sound.scope sound.holds sound.placed sound.none_above exact after_step is (leads.0).views (
+            sound.at_point sound.scope sound.holds (sound.placed, sound.past) (sound.none_above, sound.traversals) exact after_step is (leads.0).views (
               (leads.0).holds.only,
               λ n has. (leads.0).viewed.clear.owned n (subst (λ z. Has z (Moved n)) (sym (facts_onward sound.top (leads.0).top on)) has),
             ) stays)

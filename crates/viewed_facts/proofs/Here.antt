@@ -1,6 +1,6 @@
 -- The innermost frame at a point, in a sound state whose facts are exact: what it knows with the frames around it, and
 -- what all frames have after its step.
-use Rattle.viewed_soundness.specs.Holds.{sees_only}
+use Rattle.viewed_soundness.specs.Holds.{is_view, sees_only}
 use Rattle.std.proofs.Common.{◌≡◌, refl, sym, ap, ◌∙◌, subst, inl, inr, ℕ, suc, true, false, List, [], ◌∷◌, ◌++◌, map, drop, length, append_assoc, Some, None, ◌⊎◌, take}
 use Rattle.place_names.specs.declared.rule.Loan.TheVariants.{Borrowed}
 use Rattle.spark_base.specs.Lists.{Has}
@@ -46,7 +46,7 @@ use Rattle.soundness.proofs.Eased.{eased}
 use Rattle.soundness.specs.Ready.{Fills}
 use Rattle.soundness.proofs.Around.{IsFar}
 use Rattle.owned_loans.specs.Views.{Around, known_gone, Views, Viewed, IsThrough}
-use Rattle.viewed_steps.specs.Sound.{IsResting, HoldsAt, ArePlaced, NoneAbove, ViewStage, stages_of, GoneElsewhere, AreWaiting}
+use Rattle.viewed_steps.specs.Sound.{ArePast, IsResting, HoldsAt, ArePlaced, NoneAbove, ViewStage, stages_of, GoneElsewhere, AreWaiting, HasTraversals}
 use Rattle.viewed_steps.specs.Awaited.{AreAwaited, lasting_of, AreScalar, temporaries_of, TakesScalars}
 use Rattle.viewed_steps.specs.Ready.{AreOrderly, IsReady}
 use Rattle.viewed_steps.proofs.Waiting.{StandsBetween, beside_them, handed}
@@ -55,10 +55,12 @@ use Rattle.viewed_steps.proofs.Packages as packages
 use Rattle.viewed_steps.proofs.Innermost as innermost
 use Rattle.exact_facts.specs.Exact.{Knows}
 use Rattle.exact_facts.proofs.Frames.{after_more, after_keeps}
-use Rattle.exact_facts.proofs.Stepping.{excused_knows}
+use Rattle.exact_facts.proofs.Spots.{excused_knows}
 use Rattle.exact_facts.proofs.Spots.{leaks_same, object_same}
 use Rattle.viewed_facts.specs.Exact.{IsDefiniteBy, IsDefiniteOf, IsExact}
-use Rattle.viewed_facts.proofs.Frames.{elsewhere as moved_elsewhere, IsDefiniteHere, beside_told, apart_told}
+use Rattle.viewed_facts.proofs.Frames.{elsewhere as moved_elsewhere, IsDefiniteHere, beside_told, apart_told, definite_gone}
+use Rattle.viewed_steps.proofs.Views.{AreAccess}
+use Rattle.viewed_facts.proofs.Steps.{IsAway}
 
 module _ (table : Table) (typed : TypedProgram) (effects : Effects) (input : List ℕ) (ready : IsReady table typed effects) where
   abbrev program : FlowProgram
@@ -70,10 +72,10 @@ module _ (table : Table) (typed : TypedProgram) (effects : Effects) (input : Lis
   abbrev own : Typing
   own = typing_of table typed
 
-  abbrev no_formals : (x : ℕ) → is_view_formal s x ≡ false
-  no_formals = standing.no_in_formals table typed effects input ready
+  abbrev in_formals : AreAccess s
+  in_formals = standing.in_formals table typed effects input ready
 
-  abbrev local : (x : ℕ) → is_anonymous (view_of s x) ≡ true → is_package_object s x ≡ false
+  abbrev local : (x : ℕ) → is_view s x ≡ true → is_package_object s x ≡ false
   local = standing.local table typed effects input ready
 
   abbrev unmoved_stage : (e : Stage) → e.frame.sub ≡ 0 → (name : PlaceName) → Has (facts_of program effects e) (Moved name) → ⊥
@@ -90,8 +92,9 @@ module _ (table : Table) (typed : TypedProgram) (effects : Effects) (input : Lis
       (viewed_before : Viewed (home s (suc (length rest))) (sees_only s) (known_gone (home s (suc (length rest))) (GoneElsewhere program effects (below ∷ more_frames))) views
       (view_here s state) (facts_of program effects top))
       (kept : Kept s state.memory (waiting_in state)) (scope : InScope s state.memory (suc (length rest)) (lasting_of s p.scope)) (holds : HoldsAt s (suc (length rest)) views state.memory p)
-      (placed_before : ArePlaced program (facts_of program effects top) views p.scope) (above : NoneAbove s (suc (length rest)) state.memory)
-      (exact_before : Told (seen s state.memory [] []) (IsDefiniteOf program effects (record { stage = top; views = views } ∷ (below ∷ more_frames)))) where
+      (placed_before : ArePlaced program (suc (length rest)) (facts_of program effects top) views p.scope × ArePast s (suc (length rest)) views (below ∷ more_frames)) (above : NoneAbove s (suc (length rest)) state.memory
+      × HasTraversals table typed (view_here s state) (record { stage = top; views = views; cells = [] } ∷ (below ∷ more_frames)))
+      (exact_before : Told (seen s state.memory [] []) (IsDefiniteOf program effects (record { stage = top; views = views; cells = [] } ∷ (below ∷ more_frames)))) where
     abbrev pub outer : List Frame
     outer = below.stage.frame ∷ rest
 
@@ -113,8 +116,11 @@ module _ (table : Table) (typed : TypedProgram) (effects : Effects) (input : Lis
     abbrev pub elsewhere : Way → Type 0
     elsewhere = moved_elsewhere table typed effects unmoved_stage local state (suc (length rest)) (below ∷ more_frames) between views (innermost.own_views table typed effects input ready state top below more_frames rest named p frames deep stages running awaiting of_sub at_point path views viewed_before kept scope holds placed_before above)
 
-    pub away : (w : Way) → elsewhere w → (IsNear (suc (length rest)) w → ⊥) ⊎ IsThrough (home s (suc (length rest))) other.lent Borrowed w
-    away w (inl e) = inl e.0
+    abbrev pub own_views : (x : ℕ) (w : Way) → views.way x ≡ Some w → is_package_object s x ≡ false
+    own_views = innermost.own_views table typed effects input ready state top below more_frames rest named p frames deep stages running awaiting of_sub at_point path views viewed_before kept scope holds placed_before above
+
+    pub away : (w : Way) → elsewhere w → IsAway s (suc (length rest)) other w
+    away w (inl e) = inl (e.0, (e.0, definite_gone table typed effects unmoved_stage local state depth older between views own_views w e.1))
     away w (inr e) = inr e.0
 
     abbrev pub at : Turn
@@ -135,9 +141,6 @@ module _ (table : Table) (typed : TypedProgram) (effects : Effects) (input : Lis
     abbrev pub viewed : Viewed (home s depth) (sees_only s) other views (view_here s state) facts_now
     viewed = innermost.viewed table typed effects input ready state top below more_frames rest named p frames deep stages running awaiting of_sub at_point path views viewed_before kept scope holds placed_before above
 
-    abbrev pub own_views : (x : ℕ) (w : Way) → views.way x ≡ Some w → is_package_object s x ≡ false
-    own_views = innermost.own_views table typed effects input ready state top below more_frames rest named p frames deep stages running awaiting of_sub at_point path views viewed_before kept scope holds placed_before above
-
     abbrev pub home_frame : (x : ℕ) → is_package_object s x ≡ false → home s depth x ≡ depth
     home_frame = innermost.home_frame table typed effects input ready state top below more_frames rest named p frames deep stages running awaiting of_sub at_point path views viewed_before kept scope holds placed_before above
 
@@ -152,7 +155,7 @@ module _ (table : Table) (typed : TypedProgram) (effects : Effects) (input : Lis
     told_here w l (inr (g, has, definite)) reaches = exact_before w l (g, inr has, definite) reaches
     told_here w l (inl definite) reaches =
         exact_before w l (
-          record { stage = top; views = views },
+          record { stage = top; views = views; cells = [] },
           inl refl,
           subst (λ d. IsDefiniteBy (home s d) views (facts_of program effects top) w) (sym deep)
               (subst (λ z. IsDefiniteBy (home s depth) views z w) (sym (standing.facts_are table typed effects input ready state top older outer named p frames of_sub at_point path)) definite),
@@ -226,32 +229,12 @@ module _ (table : Table) (typed : TypedProgram) (effects : Effects) (input : Lis
         leaks_same s own (standing.agree table typed effects input ready) named.sub.result (standing.roots table typed effects input ready state top older outer named p frames of_sub at_point) p.pos p.instr calls fine_here
         (λ x is. object_same table typed x (subst (λ i. Fills s i (drop (taken p.instr) p.scope)) is (standing.supplied table typed effects input ready state top older outer named p frames of_sub at_point).1))
 
-    -- what was handed on stays where no act writes it
-    pub writes_none : (name : PlaceName) → (Uses effects top.frame.sub name.root → ⊥) → is_package_object s name.root ≡ true → (a : Placed) → Has (placed_by p.instr) a
-        → act_writes name.root a.act ≡ false
-    writes_none name spared shared a has = elim (bool_cases (act_writes name.root a.act)) [
-      | inr e ↦ e
-      | inl e ↦ absurd (spared (innermost.act_uses table typed effects input ready state top below more_frames rest named p frames deep stages running awaiting of_sub at_point path views viewed_before kept scope holds placed_before above name.root shared (flow_at own named p) (standing.in_sub table typed effects input ready state top older outer named p frames of_sub at_point) a
-          (subst (λ z. Has z a) agreed has) (inl e)))
-    ]
-
-    pub after_around : ((name : PlaceName) → (Uses effects top.frame.sub name.root → ⊥) → is_package_object s name.root ≡ true → (a : Placed) → Has (placed_by p.instr) a
-        → removes a.act (Moved name) ≡ false) → (name : PlaceName) → Has around (Moved name) → Has (after (acts_by p.instr) facts_now) (Moved name)
-    after_around leaves name has =
-        let found = innermost.unused_here table typed effects input ready state top below more_frames rest named p frames deep stages running awaiting of_sub at_point path views viewed_before kept scope holds placed_before above name has in
-        after_keeps (acts_by p.instr) facts_now (Moved name)
-        (λ a there. (
-        let from = Has-map_from (λ (z : Placed). z.act) (placed_by p.instr) a there in
-        ap (λ z. removes z (Moved name)) (sym from.2) ∙ leaves name found.1 found.0 from.0 from.1))
-        (Has-append_right own_facts around (Moved name) has)
-
     -- what the frames have after the step, from what is exact for the innermost one
-    pub all_told : (next : Memory) (later : Views) → ((x : ℕ) (w : Way) → later.way x ≡ Some w → is_anonymous (view_of s x) ≡ true) → IsNoCall p.instr
-        → ((name : PlaceName) → Has around (Moved name) → Has (after (acts_by p.instr) facts_now) (Moved name))
+    pub all_told : (next : Memory) (later : Views) → ((x : ℕ) (w : Way) → later.way x ≡ Some w → is_view s x ≡ true) → IsNoCall p.instr
         → IsExact s (home s depth) later elsewhere next (after (acts_by p.instr) facts_now)
         → Told (seen s next [] []) (IsDefiniteHere table typed effects unmoved_stage local depth later (facts_before points (top.frame.next ∷ top.before)) older)
-    all_told next later only no_calls kept_around exact_there =
+    all_told next later only no_calls exact_there =
         subst (λ z. Told (seen s next [] []) (IsDefiniteHere table typed effects unmoved_stage local depth later z older))
         (sym (standing.facts_on table typed effects input ready state top older outer named p frames of_sub at_point path no_calls))
         (apart_told table typed effects unmoved_stage local state depth older between later (λ x w has. local x (only x w has)) (seen s next [] []) (after (acts_by p.instr) facts_now) (after (acts_by p.instr) own_facts)
-        (after_more (acts_by p.instr) facts_now own_facts own_more) kept_around exact_there)
+        (after_more (acts_by p.instr) facts_now own_facts own_more) exact_there)

@@ -28,22 +28,22 @@ use Rattle.machine.specs.States.{Waiting, Leak, Outcome, Goes, Ends}
 use Rattle.machine.specs.Step.{Turn, typing, here, Stored, first_value, taken_by, declare, goes, leaking_goes, target_pos}
 use Rattle.machine.specs.Step as steps
 use Rattle.machine.specs.Owners.{waiting_in}
-use Rattle.owned_ways.specs.Ways.{OfVariable, OfRoot, Way, Object, Empty, Held, View, Under, Named, IsSame, after, AllowsAll, number_of, name_of as way_name}
+use Rattle.owned_ways.specs.Ways.{OfVariable, OfRoot, Way, Object, Empty, Held, View, Under, Named, IsSame, after, AllowsAll, number_of, name_of as way_name, base_of}
 use Rattle.owned_ways.proofs.Named.{longer}
 use Rattle.owned_ways.proofs.Dropped.{named_base}
 use Rattle.part_offsets.specs.Parts.{IsSettled}
-use Rattle.soundness.specs.Seen.{content, home, seen, IsNear, is_view_formal}
+use Rattle.soundness.specs.Seen.{content, home, seen, IsNear, is_view_formal, word_in}
 use Rattle.soundness.specs.Typed.{OwnsByShape}
 use Rattle.typed_laws.specs.Needed.{Stays, Gives, Leads, Source, FirstSource}
 use Rattle.soundness.proofs.Near.{near_under}
-use Rattle.soundness.proofs.Contents.{word_no, checks_made}
+use Rattle.soundness.proofs.Contents.{word_no, checks_made, word_dead}
 use Rattle.soundness.proofs.Steps.{alike}
 use Rattle.soundness.proofs.Scalars.{acts}
 use Rattle.soundness.proofs.Stays.{Quiet, One}
 use Rattle.soundness.proofs.Numbers.{index_law}
 use Rattle.soundness.proofs.Lasting.{keeps}
 use Rattle.owned_loans.specs.Views.{Around, Views, expand, Viewed, IsThrough}
-use Rattle.viewed_soundness.specs.Holds.{IsNamed, PartsAreNamed, AllKeep, sees_only}
+use Rattle.viewed_soundness.specs.Holds.{is_fixed, IsNamed, PartsAreNamed, AllKeep, sees_only, is_view}
 use Rattle.viewed_soundness.proofs.Names.{true_false}
 use Rattle.viewed_soundness.proofs.Evaluated.{Given}
 use Rattle.viewed_soundness.proofs.Viewing.{view_leaf, view_unseen}
@@ -51,20 +51,22 @@ use Rattle.viewed_soundness.proofs.Outcomes.{named_plain, not_views, IsGood, sca
 use Rattle.viewed_steps.proofs.Declared.{IsUnmoved, IsFree, stands_root, first_given}
 use Rattle.exact_facts.specs.Exact.{NoneFails, Knows}
 use Rattle.exact_facts.proofs.Steps.{IsPlaced, keeps_placed}
-use Rattle.exact_facts.proofs.Instructions.{none_made}
+use Rattle.exact_facts.proofs.Checks.{none_made}
 use Rattle.soundness.proofs.Taking.{Takes, takes_as, nothing_more}
 use Rattle.viewed_facts.specs.Exact.{IsDefinite, IsExact}
-use Rattle.viewed_facts.proofs.Steps.{named_definite, definite_variable, told_still, told_fewer, told_turned, IsOthers, of_others}
+use Rattle.viewed_facts.proofs.Steps.{IsAway, definite_variable, told_still, told_fewer, told_turned, IsOthers, of_others}
 use Rattle.viewed_facts.proofs.Memories.{told_seen, exact_from, declared_exact, ended_exact}
 use Rattle.viewed_facts.proofs.Evaluated.{ExactTo, checked_exact, exact_on}
 use Rattle.viewed_facts.proofs.Stored.{StoresExact, assigned_exact}
 use Rattle.viewed_facts.proofs.Checks.{place_holds}
+use Rattle.viewed_steps.proofs.Views.{AreAccess, same_named, view_cases}
+use Rattle.owned_loans.proofs.Meeting.{stands}
 
 module _ (t : Turn) (settled : IsSettled (typing t).table) (own_law : OwnsByShape (typing t).table) (other : Around (home (typing t) (length t.outer)))
-    (alone : (w : Way) → IsNear (length t.outer) w → other.gone w → ⊥) (no_formals : (x : ℕ) → is_view_formal (typing t) x ≡ false)
+    (alone : (w : Way) → IsNear (length t.outer) w → other.gone w → ⊥) (in_formals : AreAccess (typing t))
     (v : Views) (parts_named : PartsAreNamed (typing t).table) (may : ℕ → ℕ → Type 0)
     (frames : t.state.frames ≡ t.frame ∷ t.outer) (none : taken t.point.instr ≡ 0)
-    (elsewhere : Way → Type 0) (away : (w : Way) → elsewhere w → (IsNear (length t.outer) w → ⊥) ⊎ IsThrough (home (typing t) (length t.outer)) other.lent Borrowed w) (Excused : LeakSpot → Type 0) where
+    (elsewhere : Way → Type 0) (away : (w : Way) → elsewhere w → IsAway (typing t) (length t.outer) other w) (Excused : LeakSpot → Type 0) where
   abbrev s : Typing
   s = typing t
 
@@ -148,7 +150,7 @@ module _ (t : Turn) (settled : IsSettled (typing t).table) (own_law : OwnsByShap
 
   pub assign_on : (ws mid : List (List machine.Word)) (p : Pos) (x u : ℕ) (path e : TypedTree) → IsNamed s.table u → Gives s u e → Leads s (object_at s x).of path u
       → GivesPlainly s e → Takes (waits_in e) ws mid → Takes (waits_in path) mid [] → (facts : List Fact) → Good facts
-      → AllowsAll facts (acts (stored_acts s (Name p x path u) e)) → AllKeep (sees_only s) (acts (stored_acts s (Name p x path u) e))
+      → AllowsAll facts (acts (stored_acts s (Name p x path u) e)) → AllKeep (is_fixed s) (acts (stored_acts s (Name p x path u) e))
       → Exact m facts
       → (count : ℕ) → Knows Excused p (name_of x path) count (after (acts (acts_in s e ++ acts_in s path)) facts) (parts s.table u)
       → ExactOn (after (acts (stored_acts s (Name p x path u) e)) facts) (map (spot p (name_of x path) count) (parts s.table u))
@@ -169,7 +171,7 @@ module _ (t : Turn) (settled : IsSettled (typing t).table) (own_law : OwnsByShap
 
   abbrev Speaks_not : ℕ → List Fact → Type 0
   Speaks_not x facts =
-      IsUnmoved t settled own_law other alone no_formals v parts_named may frames none x facts × IsFree t settled own_law other alone no_formals v parts_named may frames none x
+      IsUnmoved t settled own_law other alone in_formals v parts_named may frames none x facts × IsFree t settled own_law other alone in_formals v parts_named may frames none x
 
   abbrev Given_here : ℕ → List Fact → Evaluated (List machine.Word) → Type 0
   Given_here u facts y = Given (here t) settled t.state.leaks [] other alone (keeps s settled own_law) index_law own_law v parts_named u hands facts y
@@ -180,7 +182,7 @@ module _ (t : Turn) (settled : IsSettled (typing t).table) (own_law : OwnsByShap
   unspoken : (x : ℕ) (facts : List Fact) (z : View) → Viewed (home s depth) (sees_only s) other v z facts → Speaks_not x facts
       → (w : Way) → IsDefinite (home s depth) v elsewhere facts w → Under (Object (OfVariable depth x)) w → ⊥
   unspoken x facts z viewed (unmoved, free) w (inr e) under = elim (away w e.1) [
-    | inl far ↦ far (near_under depth (Object (OfVariable depth x)) w under (inr refl))
+    | inl far ↦ far.0 (near_under depth (Object (OfVariable depth x)) w under (inr refl))
     | inr (k, named, begins_it, lent) ↦ (
         let begins_there = longer (Object (OfVariable depth x)) w under in
         let begins_lent = longer k w begins_it in
@@ -191,30 +193,38 @@ module _ (t : Turn) (settled : IsSettled (typing t).table) (own_law : OwnsByShap
   ]
   unspoken x facts z viewed (unmoved, free) w (inl d) under =
       let begins_there = longer (Object (OfVariable depth x)) w under in
-      let named : Named (home s depth) w = named_definite (home s depth) (sees_only s) other v elsewhere apart z facts viewed w d in
-      let at_home : home s depth x ≡ depth =
-      ap (home s depth) (sym begins_there.root)
-      ∙ same_frame (home s depth (number_of w)) (number_of w) depth x (sym (named_base (home s depth) w named) ∙ begins_there.base) in
       let root : number_of (expand v d.0) ≡ x = ap number_of d.3 ∙ begins_there.root in
-      elim (stands_root v d.0) [
-        | inl e ↦ unmoved (way_name d.0) d.1.1 (sym e ∙ root) (sym at_home)
-        | inr (y, k, has, e) ↦ (free.0 y k has).1 at_home (sym e ∙ root)
+      elim (stands (home s depth) (sees_only s) v z facts viewed.views d.0 (d.1.0, viewed.clear.owned (way_name d.0) d.1.1)) [
+        | inr held ↦ (
+            let foreign = held.passed.foreign in
+            (free.0 held.object held.way held.has).0 foreign
+            (same_frame foreign.0 foreign.1 depth x
+            (sym foreign.2 ∙ sym (longer held.way (expand v d.0) held.under).base ∙ ap base_of d.3 ∙ begins_there.base)))
+        | inl own ↦ (
+            let named : Named (home s depth) w = subst (Named (home s depth)) d.3 own.0 in
+            let at_home : home s depth x ≡ depth =
+            ap (home s depth) (sym begins_there.root)
+            ∙ same_frame (home s depth (number_of w)) (number_of w) depth x (sym (named_base (home s depth) w named) ∙ begins_there.base) in
+            elim (stands_root v d.0) [
+              | inl e ↦ unmoved (way_name d.0) d.1.1 (sym e ∙ root) (sym at_home)
+              | inr (y, k, has, e, base) ↦ (free.0 y k has).1 (same_named (home s depth) k w (sym base ∙ ap base_of d.3) named) at_home (sym e ∙ root)
+            ])
       ]
 
-  pub then_declared : (x : ℕ) (facts : List Fact) (y : Evaluated (List machine.Word)) → Given_here (object_at s x).of facts y → ExactTo_here facts y → Speaks_not x facts
+  pub then_declared : (x : ℕ) → is_view_formal s x ≡ false → (facts : List Fact) (y : Evaluated (List machine.Word)) → Given_here (object_at s x).of facts y → ExactTo_here facts y → Speaks_not x facts
       → ExactOn facts [] (steps.evaluated t y (λ ws n. goes t (declared depth x ws n) 0))
-  then_declared x facts (Done ws n) (ready, long, same) exact none_said = (
+  then_declared x owner facts (Done ws n) (ready, long, same) exact none_said = (
     declared_exact s settled (home s depth) (sees_only s) other v elsewhere apart n.memory (record { of = (object_at s x).of; words = ws }) hands t.state.leaks facts depth x
-        t.point.pos ready.viewed ready.kept (no_formals x) long (alike s.table settled (object_at s x).of (object_at s x).of (inl refl))
+        t.point.pos ready.viewed ready.kept owner long (alike s.table settled (object_at s x).of (object_at s x).of (inl refl))
         (unspoken x facts (seen s n.memory (record { of = (object_at s x).of; words = ws } ∷ hands) t.state.leaks) ready.viewed none_said) exact,
     tt,
   )
-  then_declared x facts (Raises e n) given exact none_said = tt
-  then_declared x facts (Traps e n) never exact none_said = tt
+  then_declared x owner facts (Raises e n) given exact none_said = tt
+  then_declared x owner facts (Traps e n) never exact none_said = tt
 
   -- what it is declared with
   pub source_exact : (ws : List (List machine.Word)) (u : ℕ) (e : TypedTree) → IsNamed s.table u → Source s u e → GivesPlainly s e → Takes (waits_in e) ws []
-      → (facts : List Fact) → Good facts → AllowsAll facts (acts (acts_in s e)) → AllKeep (sees_only s) (acts (acts_in s e)) → Exact m facts
+      → (facts : List Fact) → Good facts → AllowsAll facts (acts (acts_in s e)) → AllKeep (is_fixed s) (acts (acts_in s e)) → Exact m facts
       → ExactTo_here (after (acts (acts_in s e)) facts) (taken_by t u e (at ws))
   source_exact ws u e named (inl (view, is)) calls takes facts good allowed keep exact = absurd (true_false (is_anonymous (full s.table u)) view (named_plain s.table u named))
   source_exact ws u e named (inr gives) calls takes facts good allowed keep exact =
@@ -226,7 +236,7 @@ module _ (t : Turn) (settled : IsSettled (typing t).table) (own_law : OwnsByShap
       m hands facts (record { viewed = good.viewed; kept = good.kept; holds = good.holds }) allowed named keep exact))
 
   first_exact : (ws : List (List machine.Word)) (u : ℕ) (e : TypedTree) → IsNamed s.table u → FirstSource s u e → GivesPlainly s e → Takes (waits_in e) ws []
-      → (facts : List Fact) → Good facts → AllowsAll facts (acts (acts_in s e)) → AllKeep (sees_only s) (acts (acts_in s e)) → Exact m facts
+      → (facts : List Fact) → Good facts → AllowsAll facts (acts (acts_in s e)) → AllKeep (is_fixed s) (acts (acts_in s e)) → Exact m facts
       → ExactTo_here (after (acts (acts_in s e)) facts) (first_value t u e (at ws))
   unfolding GivesPlainly acts_in initial waits_in
   first_exact ws u (More e rest) named (last, gives) calls takes facts good allowed keep exact =
@@ -234,27 +244,27 @@ module _ (t : Turn) (settled : IsSettled (typing t).table) (own_law : OwnsByShap
       let alone_there : waits_in e + waits_in rest ≡ waits_in e = ap (λ z. waits_in e + waits_in z) last ∙ nothing_more (waits_in e) in
       subst (λ z. ExactTo_here (after (acts z) facts) (taken_by t u e (at ws))) (sym same)
       (source_exact ws u e named gives calls.0 (takes_as (waits_in e + waits_in rest) (waits_in e) ws [] alone_there takes)
-      facts good (subst (λ z. AllowsAll facts (acts z)) same allowed) (subst (λ z. AllKeep (sees_only s) (acts z)) same keep) exact)
+      facts good (subst (λ z. AllowsAll facts (acts z)) same allowed) (subst (λ z. AllKeep (is_fixed s) (acts z)) same keep) exact)
   first_exact ws u NoMore named gives calls takes facts good allowed keep exact = exact
   first_exact ws u e named gives calls takes facts good allowed keep exact = absurd gives
 
   -- An object is declared that isn't a view. No fact after the evaluation names it.
-  pub declare_on : (ws : List (List machine.Word)) (x : ℕ) (e : TypedTree) → IsNamed s.table (object_at s x).of → FirstSource s (object_at s x).of e
+  pub declare_on : (ws : List (List machine.Word)) (x : ℕ) (e : TypedTree) → IsNamed s.table (object_at s x).of → is_view_formal s x ≡ false → FirstSource s (object_at s x).of e
       → GivesPlainly s e → Takes (waits_in e) ws [] → (facts : List Fact)
-      → Good facts → AllowsAll facts (acts (declared_acts s x e)) → AllKeep (sees_only s) (acts (declared_acts s x e))
+      → Good facts → AllowsAll facts (acts (declared_acts s x e)) → AllKeep (is_fixed s) (acts (declared_acts s x e))
       → Speaks_not x (after (acts (declared_acts s x e)) facts) → Exact m facts
       → ExactOn (after (acts (declared_acts s x e)) facts) [] (steps.evaluated t (first_value t (object_at s x).of e (at ws)) (λ ws n. goes t (declared depth x ws n) 0))
-  declare_on ws x e named gives calls takes facts good allowed keep none_said exact =
+  declare_on ws x e named owner gives calls takes facts good allowed keep none_said exact =
       let kinds = not_views s x named in
       let same : declared_acts s x e ≡ acts_in s e =
       ap (λ b. if b then source_acts s (first e) (act.Borrow x) else
       (if is_observer s x then source_acts s (first e) (observe s x) else acts_in s e)) kinds.0
       ∙ ap (λ b. if b then source_acts s (first e) (observe s x) else acts_in s e) kinds.1 in
       let allows = subst (λ z. AllowsAll facts (acts z)) same allowed in
-      let keep_there = subst (λ z. AllKeep (sees_only s) (acts z)) same keep in
+      let keep_there = subst (λ z. AllKeep (is_fixed s) (acts z)) same keep in
       subst (λ z. ExactOn (after (acts z) facts) [] (steps.evaluated t (first_value t (object_at s x).of e (at ws)) (λ ws n. goes t (declared depth x ws n) 0))) (sym same)
-      (then_declared x (after (acts (acts_in s e)) facts) (first_value t (object_at s x).of e (at ws))
-      (first_given t settled own_law other alone no_formals v parts_named may frames none ws (object_at s x).of e named gives calls takes facts good allows keep_there)
+      (then_declared x owner (after (acts (acts_in s e)) facts) (first_value t (object_at s x).of e (at ws))
+      (first_given t settled own_law other alone in_formals v parts_named may frames none ws (object_at s x).of e named gives calls takes facts good allows keep_there)
       (first_exact ws (object_at s x).of e named gives calls takes facts good allows keep_there exact)
       (subst (λ z. Speaks_not x (after (acts z) facts)) same none_said))
 
@@ -287,10 +297,13 @@ module _ (t : Turn) (settled : IsSettled (typing t).table) (own_law : OwnsByShap
   -- ---- the end of a scope, where none of the views that are left begins
 
   -- the variable of a view owns nothing
-  pub view_empty : (n : Memory) (waiting : List Waiting) (leaks : List Leak) (f x : ℕ) → is_anonymous (view_of s x) ≡ true
+  pub view_empty : (n : Memory) (waiting : List Waiting) (leaks : List Leak) (f x : ℕ) → is_view s x ≡ true
       → (c : ℕ) → (seen s n waiting leaks).word (OfRoot (OfVariable f x)) ≡ Held c → ⊥
   view_empty n waiting leaks f x view c held =
-      let none = word_no s.table (content s n waiting (OfRoot (OfVariable f x))) [] (view_leaf s.table settled (object_at s x).of view []) in
+      let none : word_in s.table (content s n waiting (OfRoot (OfVariable f x))) [] ≡ Empty = elim (view_cases s x view) [
+        | inl anonymous ↦ word_no s.table (content s n waiting (OfRoot (OfVariable f x))) [] (view_leaf s.table settled (object_at s x).of anonymous [])
+        | inr formal ↦ word_dead s.table (content s n waiting (OfRoot (OfVariable f x))) [] (ap not formal)
+      ] in
       let no_number : Empty ≡ Held c = sym none ∙ held in cc
 
   -- `mine`: the object is one of the frame
@@ -303,14 +316,14 @@ module _ (t : Turn) (settled : IsSettled (typing t).table) (own_law : OwnsByShap
       (variable_place (here t) x) (OfRoot (OfVariable (home s depth x) x)) (Object (OfVariable (home s depth x) x))
       (record { base = refl; made = tt; at = refl; there = refl; of = inl refl }) refl refl Excused t.point.pos pos count known
 
-  pub end_scope_exact : (left : Views) (x : ℕ) (borrower : Bool) → home s depth x ≡ depth → (facts : List Fact)
+  pub end_scope_exact : (left : Views) (x : ℕ) (borrower : Bool) → is_view_formal s x ≡ false → home s depth x ≡ depth → (facts : List Fact)
       → Viewed (home s depth) (sees_only s) other v (seen s m hands t.state.leaks) facts → ((l : Loan) (n : PlaceName) → other.lent l n → n.root ≡ x → ⊥)
-      → ((y : ℕ) (w : Way) → v.way y ≡ Some w → is_anonymous (view_of s y) ≡ true)
-      → ((y : ℕ) (w : Way) → left.way y ≡ Some w → (v.way y ≡ Some w) × (number_of w ≡ x → ⊥)) → Exact m facts
+      → ((y : ℕ) (w : Way) → v.way y ≡ Some w → is_view s y ≡ true)
+      → ((y : ℕ) (w : Way) → left.way y ≡ Some w → (v.way y ≡ Some w) × (Named (home s depth) w → number_of w ≡ x → ⊥)) → Exact m facts
       → IsExact s (home s depth) left elsewhere (undeclared depth x m) (effect (act.EndScope x borrower) facts)
-  end_scope_exact left x borrower mine facts viewed unlent only was exact =
+  end_scope_exact left x borrower owner mine facts viewed unlent only was exact =
       let checks = checks_made s.table settled (content s m hands (OfRoot (OfVariable (home s depth x) x))) [] (object_at s x).of t.point.pos t.state.leaks refl
-      (ap not (no_formals x)) (alike s.table settled (object_at s x).of (object_at s x).of (inl refl)) in
+      (ap not owner) (alike s.table settled (object_at s x).of (object_at s x).of (inl refl)) in
       subst (λ f. IsExact s (home s depth) left elsewhere (undeclared f x m) (effect (act.EndScope x borrower) facts)) mine
       (ended_exact s settled (home s depth) (sees_only s) other v elsewhere apart m hands t.state.leaks _ facts left x borrower viewed unlent checks was
       (λ y w n has. view_empty m hands t.state.leaks (home s depth y) y (only y w has) n) exact)
@@ -318,7 +331,7 @@ module _ (t : Turn) (settled : IsSettled (typing t).table) (own_law : OwnsByShap
   -- ---- views with other ways
 
   -- where each view has the way that it had, or no moved name is rooted in it
-  pub turned_exact : (n : Memory) (turned : Views) (facts : List Fact) → ((x : ℕ) (w : Way) → v.way x ≡ Some w → is_anonymous (view_of s x) ≡ true)
+  pub turned_exact : (n : Memory) (turned : Views) (facts : List Fact) → ((x : ℕ) (w : Way) → v.way x ≡ Some w → is_view s x ≡ true)
       → ((x : ℕ) (w : Way) → turned.way x ≡ Some w → (v.way x ≡ Some w) ⊎ ((name : PlaceName) → Has facts (Moved name) → name.root ≡ x → ⊥))
       → Exact n facts → IsExact s (home s depth) turned elsewhere n facts
   turned_exact n turned facts only turns exact =

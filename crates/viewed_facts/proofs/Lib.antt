@@ -7,12 +7,13 @@ pub mod Instructions
 pub mod Releases
 pub mod Loops
 pub mod Viewing
+pub mod Given
 pub mod Frames
 pub mod Here
 pub mod Stepping
 pub mod Told
 pub mod ScopeEnds
-pub mod Spots
+pub mod Outs
 pub mod Calls
 pub mod Main
 pub mod Going

@@ -1,6 +1,6 @@
 -- Facts without an element stay exact in output, input and the iterations of loops, which change scalar places at most.
 use Rattle.std.proofs.Common.{◌≡◌, refl, sym, ap, ◌∙◌, subst, inl, inr, ℕ, suc, ◌+◌, Bool, true, false, List, [], ◌∷◌, ◌++◌, take, drop, length, append-nil, arith, ℤ, Option, Some, None, if◌then◌else◌, ◌⊎◌}
-use Rattle.viewed_facts.proofs.Steps.{IsOthers, of_others}
+use Rattle.viewed_facts.proofs.Steps.{IsAway, IsOthers, of_others}
 use Rattle.place_names.specs.declared.rule.Loan.TheVariants.{Borrowed}
 use Rattle.std.specs.Prelude as int
 use Rattle.spark_base.specs.declared.position.Pos.{Pos}
@@ -30,7 +30,7 @@ use Rattle.machine.specs.States.{Waiting, Outcome, Goes}
 use Rattle.machine.specs.Step.{Turn, typing, here, start, waiting, behind}
 use Rattle.machine.specs.Step as steps
 use Rattle.machine.specs.Owners.{waiting_in}
-use Rattle.owned_ways.specs.Ways.{OfVariable, Way, Object, Under, Named, Allows, after, AllowsAll, number_of}
+use Rattle.owned_ways.specs.Ways.{OfVariable, Way, Object, Under, Named, Allows, after, AllowsAll, number_of, Reaches}
 use Rattle.owned_ways.specs.Ways as ways
 use Rattle.owned_ways.proofs.Assigned.{named_rooted}
 use Rattle.part_offsets.specs.Parts.{IsSettled}
@@ -50,8 +50,9 @@ use Rattle.soundness.proofs.Freeing.{switched}
 use Rattle.soundness.proofs.Loops.{scalar_same}
 use Rattle.owned_loans.specs.Views.{Around, Views, expand, IsThrough}
 use Rattle.owned_loans.proofs.Allowed.{write_open}
-use Rattle.owned_loans.proofs.Moves.{named_way}
-use Rattle.viewed_soundness.specs.Holds.{PartsAreNamed, sees_only}
+use Rattle.owned_ways.specs.Ways.{Loc}
+use Rattle.viewed_soundness.specs.Holds.{PartsAreNamed, sees_only, IsOwners}
+use Rattle.viewed_soundness.proofs.Names.{Starts as StartsAt, changed_owners}
 use Rattle.viewed_soundness.proofs.Stays.{Goes as GoesAlong, name_quiet, taking, steps_taking}
 use Rattle.viewed_soundness.proofs.Evaluated.{Ready, live_trunk, blank_ready}
 use Rattle.viewed_soundness.proofs.Outcomes.{IsGood, start_is, live}
@@ -60,13 +61,13 @@ use Rattle.viewed_steps.proofs.Read.{Gets}
 use Rattle.viewed_facts.specs.Exact.{IsExact}
 use Rattle.viewed_facts.proofs.Memories.{stored_exact}
 use Rattle.viewed_facts.proofs.Instructions.{ExactOn, same_exact}
-use Rattle.viewed_steps.proofs.Views.{all_owners}
+use Rattle.viewed_steps.proofs.Views.{AreAccess, scalar_no_view, formal_view}
 
 module _ (t : Turn) (settled : IsSettled (typing t).table) (own_law : OwnsByShape (typing t).table) (other : Around (home (typing t) (length t.outer)))
-    (alone : (w : Way) → IsNear (length t.outer) w → other.gone w → ⊥) (no_formals : (x : ℕ) → is_view_formal (typing t) x ≡ false)
+    (alone : (w : Way) → IsNear (length t.outer) w → other.gone w → ⊥) (in_formals : AreAccess (typing t))
     (v : Views) (parts_named : PartsAreNamed (typing t).table) (may : ℕ → ℕ → Type 0)
     (frames : t.state.frames ≡ t.frame ∷ t.outer) (none : taken t.point.instr ≡ 0)
-    (elsewhere : Way → Type 0) (away : (w : Way) → elsewhere w → (IsNear (length t.outer) w → ⊥) ⊎ IsThrough (home (typing t) (length t.outer)) other.lent Borrowed w) (Excused : LeakSpot → Type 0) where
+    (elsewhere : Way → Type 0) (away : (w : Way) → elsewhere w → IsAway (typing t) (length t.outer) other w) (Excused : LeakSpot → Type 0) where
   abbrev s : Typing
   s = typing t
 
@@ -89,7 +90,7 @@ module _ (t : Turn) (settled : IsSettled (typing t).table) (own_law : OwnsByShap
   Exact n facts = IsExact s (home s depth) v elsewhere n facts
 
   abbrev ExactHere : List Fact → Outcome → Type 0
-  ExactHere facts outcome = ExactOn t settled own_law other alone no_formals v parts_named may frames none elsewhere away Excused facts [] outcome
+  ExactHere facts outcome = ExactOn t settled own_law other alone in_formals v parts_named may frames none elsewhere away Excused facts [] outcome
 
   away_from : (w : Way) → elsewhere w → IsOthers (home s depth) other w
   away_from w e = of_others s depth other w (away w e)
@@ -109,13 +110,13 @@ module _ (t : Turn) (settled : IsSettled (typing t).table) (own_law : OwnsByShap
       let all : List Slot = variable_slots s f x m.variables in
       let slots : List Slot = take 0 all ++ fresh value ++ drop (0 + length (fresh value)) all in
       let next : Memory = stored s k value m in (
-        same_exact t settled own_law other alone no_formals v parts_named may frames none elsewhere away Excused next facts good
+        same_exact t settled own_law other alone in_formals v parts_named may frames none elsewhere away Excused next facts good
             (scalar_same s settled m hands t.state.leaks f x scalar next.variables (λ g y ne. put_other s f x g y ne slots m.variables)) exact,
         tt,
       )
   next_by x scalar facts good exact ws None =
       let next : Memory = undeclared depth x m in (
-        same_exact t settled own_law other alone no_formals v parts_named may frames none elsewhere away Excused next facts good
+        same_exact t settled own_law other alone in_formals v parts_named may frames none elsewhere away Excused next facts good
             (scalar_same s settled m hands t.state.leaks depth x scalar next.variables (λ g y ne. removed_other s depth x g y ne m.variables)) exact,
         tt,
       )
@@ -131,7 +132,7 @@ module _ (t : Turn) (settled : IsSettled (typing t).table) (own_law : OwnsByShap
   abbrev Both : steps.Bounds → Type 0
   Both b = One b.low × One b.high
 
-  then_started : (x : ℕ) (f : steps.Bounds → Memory → Outcome) → Starts t settled own_law other alone no_formals v parts_named may frames none x f
+  then_started : (x : ℕ) (f : steps.Bounds → Memory → Outcome) → Starts t settled own_law other alone in_formals v parts_named may frames none x f
       → is_scalar (full s.table (object_at s x).of) ≡ true → (facts : List Fact) → Good facts → Exact m facts
       → (y : Evaluated steps.Bounds) → Quiet now Both y → ExactHere facts (steps.evaluated t y f)
   then_started x f starts scalar facts good exact (Done b n) (same, both) =
@@ -139,7 +140,7 @@ module _ (t : Turn) (settled : IsSettled (typing t).table) (own_law : OwnsByShap
       subst (λ (z : Now). ExactHere facts (f b z.memory)) (sym same) (elim (bool_cases (starts.fails b)) [
         | inl e ↦ subst (ExactHere facts) (sym (starts.at_fault b m e)) tt
         | inr e ↦ subst (ExactHere facts) (sym (starts.at_turn b m e)) (
-          same_exact t settled own_law other alone no_formals v parts_named may frames none elsewhere away Excused next facts good
+          same_exact t settled own_law other alone in_formals v parts_named may frames none elsewhere away Excused next facts good
               (scalar_same s settled m hands t.state.leaks depth x scalar next.variables (λ g y ne. put_other s depth x g y ne (fresh b.low) m.variables)) exact,
           tt,
         )
@@ -148,7 +149,7 @@ module _ (t : Turn) (settled : IsSettled (typing t).table) (own_law : OwnsByShap
   then_started x f starts scalar facts good exact (Traps e n) never = tt
 
   pub started_on : (ws mid : List (List machine.Word)) (x : ℕ) (f : steps.Bounds → Memory → Outcome) (low high : TypedTree)
-      → Starts t settled own_law other alone no_formals v parts_named may frames none x f
+      → Starts t settled own_law other alone in_formals v parts_named may frames none x f
       → is_scalar (full s.table (object_at s x).of) ≡ true
       → Stays s low → Stays s high → Takes (waits_in low) ws mid → Takes (waits_in high) mid [] → (facts : List Fact) → Good facts
       → AllowsAll facts (acts (acts_in s low ++ acts_in s high)) → Exact m facts
@@ -186,7 +187,7 @@ module _ (t : Turn) (settled : IsSettled (typing t).table) (own_law : OwnsByShap
   unfolding acts_in
   output_on ws e rest line last writes takes facts good allowed exact =
       let same : acts_in s e ++ acts_in s rest ≡ acts_in s e = ap (λ z. acts_in s e ++ acts_in s z) last ∙ append-nil (acts_in s e) in
-      let q = text_quiet t settled own_law other alone no_formals v parts_named may frames none ws [] e writes takes facts good (subst (λ z. AllowsAll facts (acts z)) same allowed) in
+      let q = text_quiet t settled own_law other alone in_formals v parts_named may frames none ws [] e writes takes facts good (subst (λ z. AllowsAll facts (acts z)) same allowed) in
       subst (λ z. ExactHere z (steps.evaluated t (text_of (here t) e (at ws)) (λ bytes m. Goes (record (behind t (waiting t) m 0) {
         output = t.state.output ++ bytes ++ (if line then 10 ∷ [] else []);
       })))) (sym (ap (λ z. after (acts z) facts) same ∙ q.1)) (written_exact facts exact line (text_of (here t) e (at ws)) q.0)
@@ -201,7 +202,7 @@ module _ (t : Turn) (settled : IsSettled (typing t).table) (own_law : OwnsByShap
 
   -- ---- input
 
-  module _ (f : Place → Memory → Outcome) (gets : Gets t settled own_law other alone no_formals v parts_named may frames none f) (facts : List Fact)
+  module _ (f : Place → Memory → Outcome) (gets : Gets t settled own_law other alone in_formals v parts_named may frames none f) (facts : List Fact)
       (good : Good facts) (exact : Exact m facts) (u : ℕ) (scalar : is_scalar (full s.table u) ≡ true) (i : ℤ) where
     abbrev value_in : Waiting
     value_in = record { of = u; words = machine.Int i ∷ [] }
@@ -211,7 +212,8 @@ module _ (t : Turn) (settled : IsSettled (typing t).table) (own_law : OwnsByShap
         m hands facts u (machine.Int i ∷ []) (λ k has. elim has [ inl e ↦ cc | inr e ↦ e ])
         (record { viewed = good.viewed; kept = good.kept; holds = good.holds })
 
-    module _ (w : Way) (named : Named (home s depth) w) (plain : sees_only s (number_of w) ≡ false) (allowed : Allows facts (act.Write (ways.name_of w))) where
+    module _ (w : Way) (named : Named (home s depth) w) (plain : sees_only s (number_of w) ≡ false) (allowed : Allows facts (act.Write (ways.name_of w)))
+        (owners : (l : Loc) → Reaches (seen s m (value_in ∷ hands) t.state.leaks) (expand v w) l → IsOwners s (expand v w)) where
       abbrev behind_it : List Fact
       behind_it = effect (act.Write (ways.name_of w)) facts
 
@@ -225,10 +227,8 @@ module _ (t : Turn) (settled : IsSettled (typing t).table) (own_law : OwnsByShap
             | inr out ↦ subst (ExactHere behind_it) (sym (gets.at_outside k m i end next out)) tt
             | inl fits ↦ (
                 let long : 1 ≡ words s.table k.of = sym (ap (words s.table) of ∙ settled.word_law u ∙ (plain_shape (shape_of s.table u) scalar).3 (words s.table)) in
-                let rooted = all_owners s no_formals (expand v w) (named_rooted (home s depth) (expand v w) (named_way (home s depth) (sees_only s) other v
-                (seen s m (value_in ∷ hands) t.state.leaks) facts ready_in.viewed.views (suc (number_of w)) w (omega arith) (named, plain))) in
                 let owns = live_trunk (here t) settled t.state.leaks [] other alone (keeps s settled own_law) index_law own_law v parts_named m (value_in ∷ hands)
-                ready_in.viewed.owned (expand v w) l rooted reaches in
+                ready_in.viewed.owned (expand v w) l (owners l reaches) reaches in
                 subst (ExactHere behind_it) (sym (gets.at_number k m i end next fits)) (
                   stored_exact s settled (home s depth) (sees_only s) other v elsewhere away_from m value_in hands t.state.leaks facts k l w t.point.pos ready_in.viewed ready_in.kept
                       place named plain reaches owns allowed long (inl (ap (shape_of s.table) (sym of))) exact,
@@ -249,6 +249,12 @@ module _ (t : Turn) (settled : IsSettled (typing t).table) (own_law : OwnsByShap
       by_item item.Bad e mine y is = got_none (λ k memory. (run.DataError, gets.at_bad k memory e)) y
       by_item (item.Number j end) e mine y is = got_at y is end (e ∙ ap (λ z. item.Number z end) (mine j end refl))
 
+    -- a formal that owns nothing isn't of a scalar type
+    whole : (x : ℕ) (path : TypedTree) (way : List run.Step) → GoesAlong s.table (object_at s x).of u path way → is_view_formal s x ≡ true → way ≡ [] → ⊥
+    whole x path way along formal none =
+        scalar_no_view s in_formals x
+        (subst (λ z. is_scalar (full s.table z) ≡ true) (sym (subst (λ z. StartsAt s.table (object_at s x).of z u) none along.lead)) scalar) (formal_view s x formal)
+
     -- the steps of the name are evaluated
     then_got : (x : ℕ) (path : TypedTree) → sees_only s x ≡ false → Allows facts (act.Write (name_of x path)) → (it : Item) → next_item t.input t.state.at ≡ it
         → ((j : ℤ) (end : ℕ) → it ≡ item.Number j end → j ≡ i) → (y : Evaluated (List run.Step)) → Quiet now (λ way. GoesAlong s.table (object_at s x).of u path way) y
@@ -263,7 +269,10 @@ module _ (t : Turn) (settled : IsSettled (typing t).table) (own_law : OwnsByShap
         subst (λ (z : Now). ExactHere (effect (act.Write (name_of x path)) facts) (steps.evaluated t (walked s way (variable_place (here t) x) z) f)) (sym same)
         (subst (λ z. ExactHere (effect (act.Write z) facts) (steps.evaluated t (walked s way (variable_place (here t) x) now) f)) called
         (by_item w named (ap (sees_only s) (number_along way (Object (OfVariable (home s depth x) x))) ∙ plain)
-        (subst (λ z. Allows facts (act.Write z)) (sym called) allowed) it next mine
+        (subst (λ z. Allows facts (act.Write z)) (sym called) allowed)
+        (λ l reaches. changed_owners (here t) settled (value_in ∷ hands) t.state.leaks m [] other facts v ready_in.kept ready_in.viewed ready_in.holds alone
+        (live_trunk (here t) settled t.state.leaks [] other alone (keeps s settled own_law) index_law own_law v parts_named m (value_in ∷ hands) ready_in.viewed.owned)
+        x u way (whole x path way goes) goes.lead l reaches) it next mine
         (walked s way (variable_place (here t) x) now)
         (name_quiet (here t) settled (value_in ∷ hands) t.state.leaks m [] other facts v ready_in.kept ready_in.viewed ready_in.holds alone
         (live_trunk (here t) settled t.state.leaks [] other alone (keeps s settled own_law) index_law own_law v parts_named m (value_in ∷ hands) ready_in.viewed.owned)
@@ -275,7 +284,7 @@ module _ (t : Turn) (settled : IsSettled (typing t).table) (own_law : OwnsByShap
   out_act name = act.Actual name mode.Out false false
 
   pub got_on : (ws : List (List machine.Word)) (f : Place → Memory → Outcome) (p : Pos) (x u : ℕ) (path : TypedTree)
-      → Gets t settled own_law other alone no_formals v parts_named may frames none f
+      → Gets t settled own_law other alone in_formals v parts_named may frames none f
       → is_scalar (full s.table u) ≡ true → Leads s (object_at s x).of path u → Takes (waits_in path) ws [] → sees_only s x ≡ false → (facts : List Fact) → Good facts
       → AllowsAll facts (acts (source_acts s (Name p x path u) out_act)) → Exact m facts
       → ExactHere (after (acts (source_acts s (Name p x path u) out_act)) facts) (steps.evaluated t (place_of (here t) (Name p x path u) (at ws)) f)

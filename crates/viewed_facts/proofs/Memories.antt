@@ -33,13 +33,12 @@ use Rattle.owned_loans.specs.Views.{Around, Views, expand, ExcusedBy, Viewed}
 use Rattle.owned_loans.proofs.Others.{clean_away}
 use Rattle.place_names.specs.declared.rule.Loan.{Loan}
 use Rattle.owned_loans.proofs.Allowed.{move_unlent, move_unmoved}
-use Rattle.owned_loans.proofs.Moves.{named_way}
 use Rattle.exact_facts.specs.Exact.{IsOfVariable}
-use Rattle.exact_facts.proofs.Steps.{fact_before, Keeps, IsPlaced, no_hand}
+use Rattle.exact_facts.proofs.Steps.{variable_rooted, fact_before, Keeps, IsPlaced, no_hand}
 use Rattle.exact_facts.proofs.Parts.{plain_leaf}
 use Rattle.exact_facts.proofs.Memories.{sels_part, named_part, end_plain, Shows, same_told}
 use Rattle.viewed_facts.specs.Exact.{IsDefinite, IsExact}
-use Rattle.viewed_facts.proofs.Steps.{IsOthers, definite_variable, variables_after, told_still, told_put, told_given, told_taken, left_variable, told_ended}
+use Rattle.viewed_facts.proofs.Steps.{no_hand_base, stands_variable, IsOthers, definite_variable, variables_after, told_still, told_put, told_given, told_taken, left_variable, told_ended}
 
 marked : (x : machine.Word) (g : Bool) → g ≡ true → owner_at x g ≡ Gone
 marked x true e = refl
@@ -66,10 +65,10 @@ module _ (s : Typing) (settled : IsSettled s.table) (home : ℕ → ℕ) (observ
       → Told t (Definite facts) → Exact m facts
   exact_from t m hands facts variables shows told = same_told s t (seen s m [] []) m hands [] (Definite facts) variables shows (λ l. refl) told
 
-  whole_named : (m : Memory) (hands : List Waiting) (leaks : List Leak) (facts : List Fact) → Viewed home observer other v (seen s m hands leaks) facts
-      → (u : Way) → Named home u → observer (number_of u) ≡ false → Named home (expand v u)
-  whole_named m hands leaks facts viewed u named plain =
-      named_way home observer other v (seen s m hands leaks) facts viewed.views (suc (number_of u)) u (omega arith) (named, plain)
+  whole_variable : (m : Memory) (hands : List Waiting) (leaks : List Leak) (facts : List Fact) → Viewed home observer other v (seen s m hands leaks) facts
+      → (u : Way) → Named home u → observer (number_of u) ≡ false → IsOfVariable (expand v u)
+  whole_variable m hands leaks facts viewed u named plain =
+      stands_variable home observer other v elsewhere apart (seen s m hands leaks) facts viewed u (named, plain)
 
   -- ---- what a name has is taken, by the act Move
 
@@ -86,7 +85,7 @@ module _ (s : Typing) (settled : IsSettled s.table) (home : ℕ → ℕ) (observ
       let move = taken_step s.table settled a b (length rest) x l (length m.cells) (λ n. (cell m n).freed) leaks change in
       let after_it : View = seen_of s.table b (length m.cells) (λ n. (cell m n).freed) leaks in
       let given = given_apart (seen s m rest leaks) after_it (expand v u) (Object (OfHand (length rest))) l (hand (length rest)) viewed.owned move reaches refl
-      (no_hand home (length rest) (expand v u) (whole_named m rest leaks facts viewed u named plain)) in
+      (no_hand_base (expand v u) (length rest) (whole_variable m rest leaks facts viewed u named plain)) in
       exact_from after_it (moved_out s k m) (x ∷ rest) (effect (Move (name_of u) (parts s.table k.of)) facts)
       (variables_after home observer other v elsewhere apart (seen s m rest leaks) facts viewed (Move (name_of u) (parts s.table k.of)) moved_plain) (λ z. refl)
       (told_taken home observer other v elsewhere apart (seen s m rest leaks) after_it u (length rest) l (parts s.table k.of) facts viewed named plain given allowed
@@ -104,7 +103,7 @@ module _ (s : Typing) (settled : IsSettled s.table) (home : ℕ → ℕ) (observ
       whole p leaf = elim (bool_cases (get_or (content s m rest (trunk l)).slots (offset_in s.table (content s m rest (trunk l)).of (p ++ steps_in l)) no_slot).gone) [
         | inr e ↦ e
         | inl e ↦ absurd (clean (viewed.known (along (expand v u) p) (part l p)
-            (named_along (expand v u) p (named_rooted home (expand v u) (whole_named m rest leaks facts viewed u named plain)))
+            (named_along (expand v u) p (variable_rooted (expand v u) (whole_variable m rest leaks facts viewed u named plain)))
             (reaches_along (seen s m rest leaks) (expand v u) l p reaches)
             (word_part s.table (content s m rest) l p ∙ word_yes s.table (content s m rest (trunk l)) (p ++ steps_in l) owns leaf ∙ marked _ _ e)))
       ]
@@ -159,7 +158,7 @@ module _ (s : Typing) (settled : IsSettled s.table) (home : ℕ → ℕ) (observ
       let after_it : View = seen_of s.table b (length m.cells) (λ n. (cell m n).freed) more in
       let move = stored_step s.table settled a b (length rest) x l (length m.cells) (λ n. (cell m n).freed) leaks more change checks in
       let given = given_apart (seen s m (x ∷ rest) leaks) after_it (Object (OfHand (length rest))) (expand v u) (hand (length rest)) l viewed.owned move refl reaches
-      (λ e. no_hand home (length rest) (expand v u) (whole_named m (x ∷ rest) leaks facts viewed u named plain) (sym e)) in
+      (λ e. no_hand_base (expand v u) (length rest) (whole_variable m (x ∷ rest) leaks facts viewed u named plain) (sym e)) in
       exact_from after_it (stored s k x.words m) rest (effect (Write (name_of u)) facts)
       (variables_after home observer other v elsewhere apart (seen s m (x ∷ rest) leaks) facts viewed (Write (name_of u)) (λ n none. absurd none)) (λ z. refl)
       (told_put home observer other v elsewhere apart (seen s m (x ∷ rest) leaks) after_it (length rest) u l facts viewed named plain given allowed
@@ -194,7 +193,7 @@ module _ (s : Typing) (settled : IsSettled s.table) (home : ℕ → ℕ) (observ
   pub ended_exact : (m : Memory) (rest : List Waiting) (leaks leaks' : List Leak) (facts : List Fact) (left : Views) (x : ℕ) (borrower : Bool)
       → Viewed home observer other v (seen s m rest leaks) facts → ((l : Loan) (n : Name) → other.lent l n → n.root ≡ x → ⊥)
       → Checks s.table (content s m rest (OfRoot (OfVariable (home x) x))) [] leaks leaks'
-      → ((y : ℕ) (w : Way) → left.way y ≡ Some w → (v.way y ≡ Some w) × (number_of w ≡ x → ⊥))
+      → ((y : ℕ) (w : Way) → left.way y ≡ Some w → (v.way y ≡ Some w) × (Named home w → number_of w ≡ x → ⊥))
       → ((y : ℕ) (w : Way) (n : ℕ) → v.way y ≡ Some w → (seen s m rest leaks).word (OfRoot (OfVariable (home y) y)) ≡ Held n → ⊥)
       → Exact m facts → IsExact s home left elsewhere (undeclared (home x) x m) (effect (EndScope x borrower) facts)
   ended_exact m rest leaks leaks' facts left x borrower viewed unlent checks was empty exact =

@@ -28,15 +28,13 @@ use Rattle.machine.specs.Step as steps
 use Rattle.machine.specs.Owners.{waiting_in}
 use Rattle.owned_ways.specs.Ways.{OfVariable, Loc, OfCell, Way, Object, All, Held, View, Reaches, IsRooted, Under, Named, Allows, after, AllowsAll, number_of}
 use Rattle.owned_ways.specs.Ways as ways
-use Rattle.owned_ways.proofs.Locations.{depth as depth_of}
+use Rattle.owned_ways.proofs.Locations.{depth as depth_of, under_itself}
 use Rattle.owned_ways.proofs.Unique.{one_way}
-use Rattle.owned_ways.proofs.Assigned.{named_rooted}
 use Rattle.part_offsets.specs.Parts.{owns_one, is_leaf, IsSettled}
 use Rattle.soundness.specs.Seen.{IsNear, is_view_formal, content, trunk, steps_in, seen, home}
 use Rattle.soundness.specs.Changes.{Alike as AlikeTypes, Checks, leaks_at}
 use Rattle.soundness.specs.Typed.{OwnsByShape, Spot}
 use Rattle.typed_laws.specs.Needed.{Leads}
-use Rattle.soundness.proofs.Near.{named_near}
 use Rattle.soundness.proofs.Contents.{checks_made}
 use Rattle.soundness.proofs.Joined.{below_cell}
 use Rattle.soundness.proofs.Walks.{both_true, way_along, Walked}
@@ -49,29 +47,30 @@ use Rattle.soundness.proofs.Stays.{Quiet}
 use Rattle.soundness.proofs.Numbers.{index_law}
 use Rattle.owned_loans.specs.Views.{Around, Views, expand, ExcusedBy, IsThrough}
 use Rattle.owned_loans.proofs.Allowed.{free_open}
-use Rattle.owned_loans.proofs.Moves.{IsPlace, named_way}
-use Rattle.viewed_soundness.specs.Holds.{IsNamed, PartsAreNamed, sees_only, IsOwners}
-use Rattle.viewed_soundness.proofs.Names.{is_place}
-use Rattle.viewed_soundness.proofs.Stays.{Goes, name_quiet, steps_taking}
+use Rattle.owned_loans.proofs.Moves.{IsPlace}
+use Rattle.viewed_soundness.specs.Holds.{IsNamed, PartsAreNamed, sees_only, is_fixed, IsOwners}
+use Rattle.viewed_soundness.proofs.Names.{is_place, free_sees, free_formal, changed_owners}
+use Rattle.viewed_soundness.proofs.Spared.{gone_off}
+use Rattle.viewed_soundness.proofs.Stays.{Goes, no_selectors, name_quiet, steps_taking}
 use Rattle.viewed_soundness.proofs.Viewing.{expand_down}
 use Rattle.viewed_soundness.proofs.Outcomes.{IsGood, live}
 use Rattle.viewed_steps.proofs.Released.{free_clean, Releases}
 use Rattle.exact_facts.specs.Exact.{Knows}
 use Rattle.exact_facts.proofs.Steps.{fact_before}
-use Rattle.exact_facts.proofs.Instructions.{none_made}
+use Rattle.exact_facts.proofs.Checks.{none_made}
 use Rattle.viewed_facts.specs.Exact.{IsExact}
-use Rattle.viewed_facts.proofs.Steps.{definite_variable, variables_after, told_released, told_fewer, IsOthers, of_others}
+use Rattle.viewed_facts.proofs.Steps.{IsAway, definite_variable, variables_after, told_released, told_fewer, IsOthers, of_others}
 use Rattle.viewed_facts.proofs.Memories.{told_seen, exact_from}
 use Rattle.viewed_facts.proofs.Checks.{place_holds}
 use Rattle.viewed_facts.proofs.Instructions.{ExactOn}
 use Rattle.viewed_soundness.proofs.Walks.{slot_at, one_slot, type_is, held_there, cell_spot}
-use Rattle.viewed_steps.proofs.Views.{all_owners}
+use Rattle.viewed_steps.proofs.Views.{AreAccess}
 
 module _ (t : Turn) (settled : IsSettled (typing t).table) (own_law : OwnsByShape (typing t).table) (other : Around (home (typing t) (length t.outer)))
-    (alone : (w : Way) → IsNear (length t.outer) w → other.gone w → ⊥) (no_formals : (x : ℕ) → is_view_formal (typing t) x ≡ false)
+    (alone : (w : Way) → IsNear (length t.outer) w → other.gone w → ⊥) (in_formals : AreAccess (typing t))
     (v : Views) (parts_named : PartsAreNamed (typing t).table) (may : ℕ → ℕ → Type 0)
     (frames : t.state.frames ≡ t.frame ∷ t.outer) (none : taken t.point.instr ≡ 0)
-    (elsewhere : Way → Type 0) (away : (w : Way) → elsewhere w → (IsNear (length t.outer) w → ⊥) ⊎ IsThrough (home (typing t) (length t.outer)) other.lent Borrowed w) (Excused : LeakSpot → Type 0) where
+    (elsewhere : Way → Type 0) (away : (w : Way) → elsewhere w → IsAway (typing t) (length t.outer) other w) (Excused : LeakSpot → Type 0) where
   abbrev s : Typing
   s = typing t
 
@@ -94,10 +93,10 @@ module _ (t : Turn) (settled : IsSettled (typing t).table) (own_law : OwnsByShap
   Exact n facts = IsExact s (home s depth) v elsewhere n facts
 
   abbrev ExactHere : List Fact → List LeakSpot → Outcome → Type 0
-  ExactHere facts spots outcome = ExactOn t settled own_law other alone no_formals v parts_named may frames none elsewhere away Excused facts spots outcome
+  ExactHere facts spots outcome = ExactOn t settled own_law other alone in_formals v parts_named may frames none elsewhere away Excused facts spots outcome
 
   abbrev Does : (Place → Memory → Outcome) → Pos → Type 0
-  Does f pos = Releases t settled own_law other alone no_formals v parts_named may frames none f pos
+  Does f pos = Releases t settled own_law other alone in_formals v parts_named may frames none f pos
 
   away_from : (w : Way) → elsewhere w → IsOthers (home s depth) other w
   away_from w e = of_others s depth other w (away w e)
@@ -136,19 +135,14 @@ module _ (t : Turn) (settled : IsSettled (typing t).table) (own_law : OwnsByShap
     slot_here k = slot_at s settled hands t.state.leaks m [] excused good.kept good.viewed.owned good.viewed.known alive_trunk k
 
     -- the place is found
-    module _ (w : Way) (named : Named (home s depth) w) (plain : sees_only s (number_of w) ≡ false) (place : IsPlace v w) (allowed : Allows facts (act.Free (ways.name_of w))) where
+    module _ (w : Way) (named : Named (home s depth) w) (plain : sees_only s (number_of w) ≡ false) (place : IsPlace v w) (allowed : Allows facts (act.Free (ways.name_of w)))
+        (owners : (l : Loc) → Reaches seen_here (expand v w) l → IsOwners s (expand v w)) where
       abbrev behind : List Fact
       behind = effect (act.Free (ways.name_of w)) facts
 
-      stands : Named (home s depth) (expand v w)
-      stands = named_way (home s depth) (sees_only s) other v seen_here facts good.viewed.views (suc (number_of w)) w (omega arith) (named, plain)
-
-      rooted : IsOwners s (expand v w)
-      rooted = all_owners s no_formals (expand v w) (named_rooted (home s depth) (expand v w) stands)
-
       clean : excused (expand v w) → ⊥
       clean (inl moved) = free_clean (home s depth) (sees_only s) other v seen_here facts good.viewed w named plain allowed moved
-      clean (inr o) = alone (expand v w) (named_near s depth (expand v w) stands) o
+      clean (inr o) = gone_off s depth other v seen_here facts good.viewed alone w (expand v w) named plain (inl (under_itself (expand v w))) o
 
       nothing : (k : ℕ) → ExactHere behind (spots_of (ways.name_of w) pos' count k) (steps.goes t m 0)
       nothing k = (
@@ -170,7 +164,7 @@ module _ (t : Turn) (settled : IsSettled (typing t).table) (own_law : OwnsByShap
       by_word k l spot reaches is known word (machine.Enumerated i) e =
           subst (ExactHere behind (spots_of (ways.name_of w) pos' count k.of)) (sym (does.at_listed k m i (word ∙ ap (λ z. z ∷ []) e))) (nothing k.of)
       by_word k l spot reaches is known word (machine.Cell n) e =
-          let held = held_there s settled hands t.state.leaks m [] excused good.kept good.viewed.owned good.viewed.known alive_trunk k l (expand v w) d false n spot rooted reaches is e clean in
+          let held = held_there s settled hands t.state.leaks m [] excused good.kept good.viewed.owned good.viewed.known alive_trunk k l (expand v w) d false n spot (owners l reaches) reaches is e clean in
           let alive : (cell m n).freed ≡ false = good.viewed.owned.live l n held in
           let there = cell_spot s settled hands t.state.leaks m [] excused good.kept good.viewed.owned good.viewed.known alive_trunk k l d false n spot is e in
           let leaf : is_leaf s.table (content s m hands (trunk l)).of (steps_in l) ≡ true =
@@ -183,7 +177,7 @@ module _ (t : Turn) (settled : IsSettled (typing t).table) (own_law : OwnsByShap
           let checks : Checks s.table (content s m hands (OfCell n)) [] t.state.leaks (t.state.leaks ++ leaks) =
           checks_made s.table settled (content s m hands (OfCell n)) [] t' pos t.state.leaks refl (ap not alive) like in
           let in_cell : Spot s m hands (cell_place t' n) (OfCell n) = subst (λ z. Spot s m hands (cell_place z n) (OfCell n)) (sym type) there in
-          let freed_there = releases s settled m hands t.state.leaks (t.state.leaks ++ leaks) n k l good.kept spot there.made.0 there.made.1 leaf (alive_trunk (expand v w) l rooted reaches) off checks in
+          let freed_there = releases s settled m hands t.state.leaks (t.state.leaks ++ leaks) n k l good.kept spot there.made.0 there.made.1 leaf (alive_trunk (expand v w) l (owners l reaches) reaches) off checks in
           let next : Memory = stored s k (machine.Null ∷ []) (freed n m) in
           let designates : Reaches seen_here (expand v (All w)) (OfCell n) =
           subst (λ z. Reaches seen_here z (OfCell n)) (sym (expand_down v w place)) (l, n, reaches, held, refl) in
@@ -211,13 +205,18 @@ module _ (t : Turn) (settled : IsSettled (typing t).table) (own_law : OwnsByShap
       released_at known (Raises e n) is = none_made Excused (spots_of (ways.name_of w) pos' count u)
       released_at known (Traps e n) never = none_made Excused (spots_of (ways.name_of w) pos' count u)
 
+    -- what is freed isn't a formal itself
+    whole : (x : ℕ) (path : TypedTree) (way : List run.Step) → is_fixed s (name_of x path) ≡ false → Goes s.table (object_at s x).of u path way
+        → is_view_formal s x ≡ true → way ≡ [] → ⊥
+    whole x path way free goes formal none = free_formal s (name_of x path) free formal (no_selectors s.table (object_at s x).of u path way goes none)
+
     -- the steps of the name are evaluated
-    then_released : (x : ℕ) (path : TypedTree) → sees_only s x ≡ false → Allows facts (act.Free (name_of x path))
+    then_released : (x : ℕ) (path : TypedTree) → is_fixed s (name_of x path) ≡ false → Allows facts (act.Free (name_of x path))
         → Knows Excused pos' (extend (name_of x path) (sel.Deref ∷ [])) count facts (parts s.table (designated s.table u)) → (y : Evaluated (List run.Step))
         → Quiet now (λ way. Goes s.table (object_at s x).of u path way) y
         → ExactHere (effect (act.Free (name_of x path)) facts) (spots_of (name_of x path) pos' count u)
         (steps.evaluated t (followed_by y (λ way now. walked s way (variable_place (here t) x) now)) f)
-    then_released x path plain allowed known (Done way n) (same, goes) =
+    then_released x path free allowed known (Done way n) (same, goes) =
         let w : Way = way_along way (Object (OfVariable (home s depth x) x)) in
         let named : Named (home s depth) w = named_along (home s depth) way (Object (OfVariable (home s depth x) x)) refl in
         let called : ways.name_of w ≡ name_of x path = (λ j. record {
@@ -227,23 +226,24 @@ module _ (t : Turn) (settled : IsSettled (typing t).table) (own_law : OwnsByShap
         let frees : Allows facts (act.Free (ways.name_of w)) = subst (λ z. Allows facts (act.Free z)) (sym called) allowed in
         subst (λ (z : Now). ExactHere (effect (act.Free (name_of x path)) facts) (spots_of (name_of x path) pos' count u) (steps.evaluated t (walked s way (variable_place (here t) x) z) f)) (sym same)
         (subst (λ z. ExactHere (effect (act.Free z) facts) (spots_of z pos' count u) (steps.evaluated t (walked s way (variable_place (here t) x) now) f)) called
-        (released_at w named (ap (sees_only s) (number_along way (Object (OfVariable (home s depth x) x))) ∙ plain)
-        (is_place s v (home s depth x) x u way goes.lead (named_type s.table u d access) (no_formals x) good.holds.only) frees
+        (released_at w named (ap (sees_only s) (number_along way (Object (OfVariable (home s depth x) x))) ∙ free_sees s (name_of x path) free)
+        (is_place s v (home s depth x) x u way goes.lead (named_type s.table u d access) (whole x path way free goes) good.holds.only) frees
+        (λ l reaches. changed_owners (here t) settled hands t.state.leaks m [] other facts v good.kept good.viewed good.holds alone alive_trunk x u way (whole x path way free goes) goes.lead l reaches)
         (subst (λ z. Knows Excused pos' (extend z (sel.Deref ∷ [])) count facts (parts s.table (designated s.table u))) (sym called) known)
         (walked s way (variable_place (here t) x) now)
         (name_quiet (here t) settled hands t.state.leaks m [] other facts v good.kept good.viewed good.holds alone alive_trunk index_law own_law parts_named x path u way goes
         (λ q q_named q_called. free_open facts q (subst (λ z. Allows facts (act.Free z)) (sym q_called) allowed)))))
-    then_released x path plain allowed known (Raises e n) is = none_made Excused (spots_of (name_of x path) pos' count u)
-    then_released x path plain allowed known (Traps e n) never = none_made Excused (spots_of (name_of x path) pos' count u)
+    then_released x path free allowed known (Raises e n) is = none_made Excused (spots_of (name_of x path) pos' count u)
+    then_released x path free allowed known (Traps e n) never = none_made Excused (spots_of (name_of x path) pos' count u)
 
   -- a release, whose name takes these values
   pub released_on : (ws : List (List machine.Word)) (f : Place → Memory → Outcome) (pos p : Pos) (x u d : ℕ) (path : TypedTree) → Does f pos
-      → shape_of s.table u ≡ shape.Access d false true → Leads s (object_at s x).of path u → Takes (waits_in path) ws [] → sees_only s x ≡ false
+      → shape_of s.table u ≡ shape.Access d false true → Leads s (object_at s x).of path u → Takes (waits_in path) ws [] → is_fixed s (name_of x path) ≡ false
       → (facts : List Fact) → Good facts → AllowsAll facts (acts (source_acts s (Name p x path u) act.Free)) → Exact m facts
       → (pos' : Pos) (count : ℕ) → Knows Excused pos' (extend (name_of x path) (sel.Deref ∷ [])) count (after (acts (acts_in s path)) facts) (parts s.table (designated s.table u))
       → ExactHere (after (acts (source_acts s (Name p x path u) act.Free)) facts) (spots_of (name_of x path) pos' count u)
       (steps.evaluated t (place_of (here t) (Name p x path u) (record { memory = m; waits = ws })) f)
-  released_on ws f pos p x u d path does access lead takes plain facts good allowed exact pos' count known =
+  released_on ws f pos p x u d path does access lead takes free facts good allowed exact pos' count known =
       let b : List Act = acts (acts_in s path) in
       let before : Now = record { memory = m; waits = ws } in
       let whole_acts : acts (source_acts s (Name p x path u) act.Free) ≡ b ++ (act.Free (name_of x path) ∷ []) =
@@ -256,4 +256,4 @@ module _ (t : Turn) (settled : IsSettled (typing t).table) (own_law : OwnsByShap
       ap (λ z. after z facts) whole_acts ∙ after_append b (act.Free (name_of x path) ∷ []) facts ∙ ap (effect (act.Free (name_of x path))) inner.1 in
       let knows = subst (λ z. Knows Excused pos' (extend (name_of x path) (sel.Deref ∷ [])) count z (parts s.table (designated s.table u))) inner.1 known in
       subst (λ z. ExactHere z (spots_of (name_of x path) pos' count u) (steps.evaluated t (place_of (here t) (Name p x path u) before) f)) (sym behind_acts)
-      (then_released f pos does facts good exact pos' count u d access x path plain frees knows (steps_of (here t) path before) inner.0)
+      (then_released f pos does facts good exact pos' count u d access x path free frees knows (steps_of (here t) path before) inner.0)

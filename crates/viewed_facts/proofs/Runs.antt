@@ -34,7 +34,7 @@ module _ (table : Table) (typed : TypedProgram) (effects : Effects) (ready : IsR
   exactly_start : IsExactly table typed effects (state_at_start program)
   exactly_start =
       let start = fresh_start table typed effects input ready in
-      (start.0, λ w l definite reaches. absurd (none_moved (record { stage = (start.0).top; views = (start.0).views } ∷ (start.0).older) start.1 w definite))
+      (start.0, λ w l definite reaches. absurd (none_moved (record { stage = (start.0).top; views = (start.0).views; cells = [] } ∷ (start.0).older) start.1 w definite))
 
   by_frames : (top : Stage) (older : List Stage) (fs : List Frame) (checks : List (List Leak)) → AreStages (top ∷ older) fs
       → NoneFails (IsExcused (path_points program effects (sub_of program top.frame.sub)) top.frame.next) (get_or (sub_of program top.frame.sub).points top.frame.next no_point).leaks checks

@@ -1,5 +1,5 @@
 -- At the end of a scope, facts of all frames stay exact, and no leak check fails that is excused.
-use Rattle.viewed_soundness.specs.Holds.{sees_only}
+use Rattle.viewed_soundness.specs.Holds.{is_view, sees_only}
 use Rattle.std.proofs.Common.{◌≡◌, eqb-true, refl, sym, ap, ◌∙◌, subst, inl, inr, ℕ, suc, true, false, List, [], ◌∷◌, ◌++◌, length, Some, None, ◌⊎◌, take}
 use Rattle.place_names.specs.declared.rule.Loan.TheVariants.{Borrowed}
 use Rattle.spark_base.specs.Lists.{Has}
@@ -42,7 +42,7 @@ use Rattle.soundness.proofs.Eased.{eased}
 use Rattle.soundness.proofs.Around.{IsFar}
 use Rattle.owned_loans.specs.Views.{Around, known_gone, Views, Viewed, IsThrough}
 use Rattle.viewed_soundness.proofs.Names.{true_false}
-use Rattle.viewed_steps.specs.Sound.{IsResting, HoldsAt, ArePlaced, NoneAbove, ViewStage, stages_of, GoneElsewhere, AreWaiting, AreLeft}
+use Rattle.viewed_steps.specs.Sound.{ArePast, IsResting, HoldsAt, ArePlaced, NoneAbove, ViewStage, stages_of, GoneElsewhere, AreWaiting, AreLeft, HasTraversals}
 use Rattle.viewed_steps.specs.Awaited.{AreAwaited, lasting_of, AreScalar, temporaries_of, TakesScalars}
 use Rattle.viewed_steps.specs.Ready.{IsReady}
 use Rattle.viewed_steps.proofs.Waiting.{StandsBetween, beside_them, handed}
@@ -54,6 +54,8 @@ use Rattle.viewed_facts.specs.Exact.{IsDefiniteOf, IsExact}
 use Rattle.viewed_facts.proofs.Instructions.{end_scope_checked, end_scope_exact}
 use Rattle.viewed_facts.proofs.Frames.{elsewhere as moved_elsewhere, IsDefiniteHere}
 use Rattle.viewed_facts.proofs.Here as here
+use Rattle.viewed_steps.proofs.Views.{AreAccess}
+use Rattle.viewed_facts.proofs.Steps.{IsAway}
 
 module _ (table : Table) (typed : TypedProgram) (effects : Effects) (input : List ℕ) (ready : IsReady table typed effects) where
   abbrev program : FlowProgram
@@ -65,10 +67,10 @@ module _ (table : Table) (typed : TypedProgram) (effects : Effects) (input : Lis
   abbrev own : Typing
   own = typing_of table typed
 
-  abbrev no_formals : (x : ℕ) → is_view_formal s x ≡ false
-  no_formals = standing.no_in_formals table typed effects input ready
+  abbrev in_formals : AreAccess s
+  in_formals = standing.in_formals table typed effects input ready
 
-  abbrev local : (x : ℕ) → is_anonymous (view_of s x) ≡ true → is_package_object s x ≡ false
+  abbrev local : (x : ℕ) → is_view s x ≡ true → is_package_object s x ≡ false
   local = standing.local table typed effects input ready
 
   abbrev unmoved_stage : (e : Stage) → e.frame.sub ≡ 0 → (name : PlaceName) → Has (facts_of program effects e) (Moved name) → ⊥
@@ -85,8 +87,9 @@ module _ (table : Table) (typed : TypedProgram) (effects : Effects) (input : Lis
       (viewed_before : Viewed (home s (suc (length rest))) (sees_only s) (known_gone (home s (suc (length rest))) (GoneElsewhere program effects (below ∷ more_frames))) views
       (view_here s state) (facts_of program effects top))
       (kept : Kept s state.memory (waiting_in state)) (scope : InScope s state.memory (suc (length rest)) (lasting_of s p.scope)) (holds : HoldsAt s (suc (length rest)) views state.memory p)
-      (placed_before : ArePlaced program (facts_of program effects top) views p.scope) (above : NoneAbove s (suc (length rest)) state.memory)
-      (exact_before : Told (seen s state.memory [] []) (IsDefiniteOf program effects (record { stage = top; views = views } ∷ (below ∷ more_frames)))) where
+      (placed_before : ArePlaced program (suc (length rest)) (facts_of program effects top) views p.scope × ArePast s (suc (length rest)) views (below ∷ more_frames)) (above : NoneAbove s (suc (length rest)) state.memory
+      × HasTraversals table typed (view_here s state) (record { stage = top; views = views; cells = [] } ∷ (below ∷ more_frames)))
+      (exact_before : Told (seen s state.memory [] []) (IsDefiniteOf program effects (record { stage = top; views = views; cells = [] } ∷ (below ∷ more_frames)))) where
     abbrev outer : List Frame
     outer = below.stage.frame ∷ rest
 
@@ -108,7 +111,7 @@ module _ (table : Table) (typed : TypedProgram) (effects : Effects) (input : Lis
     abbrev elsewhere : Way → Type 0
     elsewhere = moved_elsewhere table typed effects unmoved_stage local state (suc (length rest)) (below ∷ more_frames) between views (innermost.own_views table typed effects input ready state top below more_frames rest named p frames deep stages running awaiting of_sub at_point path views viewed_before kept scope holds placed_before above)
 
-    abbrev away : (w : Way) → elsewhere w → (IsNear (suc (length rest)) w → ⊥) ⊎ IsThrough (home s (suc (length rest))) other.lent Borrowed w
+    abbrev away : (w : Way) → elsewhere w → IsAway s (suc (length rest)) other w
     away = here.away table typed effects input ready state top below more_frames rest named p frames deep stages running awaiting of_sub at_point path views viewed_before kept scope holds placed_before above exact_before
 
     abbrev at : Turn
@@ -172,12 +175,7 @@ module _ (table : Table) (typed : TypedProgram) (effects : Effects) (input : Lis
     abbrev leaks_there : IsNoCall p.instr → leaks_of (frame_by s) p.pos p.instr ≡ leaks_of (frame_by own) p.pos p.instr
     leaks_there = here.leaks_there table typed effects input ready state top below more_frames rest named p frames deep stages running awaiting of_sub at_point path views viewed_before kept scope holds placed_before above exact_before
 
-    abbrev after_around : ((name : PlaceName) → (Uses effects top.frame.sub name.root → ⊥) → is_package_object s name.root ≡ true → (a : Placed) → Has (placed_by p.instr) a
-        → removes a.act (Moved name) ≡ false) → (name : PlaceName) → Has around (Moved name) → Has (after (acts_by p.instr) facts_now) (Moved name)
-    after_around = here.after_around table typed effects input ready state top below more_frames rest named p frames deep stages running awaiting of_sub at_point path views viewed_before kept scope holds placed_before above exact_before
-
-    abbrev all_told : (next : Memory) (later : Views) → ((x : ℕ) (w : Way) → later.way x ≡ Some w → is_anonymous (view_of s x) ≡ true) → IsNoCall p.instr
-        → ((name : PlaceName) → Has around (Moved name) → Has (after (acts_by p.instr) facts_now) (Moved name))
+    abbrev all_told : (next : Memory) (later : Views) → ((x : ℕ) (w : Way) → later.way x ≡ Some w → is_view s x ≡ true) → IsNoCall p.instr
         → IsExact s (home s depth) later elsewhere next (after (acts_by p.instr) facts_now)
         → Told (seen s next [] []) (IsDefiniteHere table typed effects unmoved_stage local depth later (facts_before points (top.frame.next ∷ top.before)) older)
     all_told = here.all_told table typed effects input ready state top below more_frames rest named p frames deep stages running awaiting of_sub at_point path views viewed_before kept scope holds placed_before above exact_before
@@ -200,7 +198,7 @@ module _ (table : Table) (typed : TypedProgram) (effects : Effects) (input : Lis
 
       scope_checks : NoneFails Excused (spots_by (EndScope y)) (checks_of (turn at (EndScope y)))
       scope_checks =
-          end_scope_checked easy ready.accepted.settled ready.owns other alone no_formals views ready.class.parts_named none_taken refl refl elsewhere away Excused y facts_now (viewed_easy plain_end.0).0 exact p.pos 0
+          end_scope_checked easy ready.accepted.settled ready.owns other alone in_formals views ready.class.parts_named none_taken refl refl elsewhere away Excused y facts_now (viewed_easy plain_end.0).0 exact p.pos 0
           (knows (EndScope y) is [] (placed_by (EndScope y)) refl p.pos (object y) (parts s.table (object_at s y).of))
 
       pub ended_checks_hold : NoneFails Excused at.point.leaks (checks_of (step program input state))
@@ -213,28 +211,14 @@ module _ (table : Table) (typed : TypedProgram) (effects : Effects) (input : Lis
       IsLeft (Goes next) = next.memory ≡ undeclared depth y state.memory
       IsLeft (Ends how next) = Unit {0}
 
-      ended_around : (name : PlaceName) → Has around (Moved name) → Has (after (acts_by p.instr) facts_now) (Moved name)
-      ended_around name has =
-          after_around (λ name spared shared a there. by_act name shared a (subst (λ i. Has (placed_by i) a) is there)) name has
-        where
-          by_root : (name : PlaceName) → is_package_object s name.root ≡ true → removes (act.EndScope y (is_borrower s y)) (Moved name) ≡ false
-          by_root name shared = elim (bool_cases (removes (act.EndScope y (is_borrower s y)) (Moved name))) [
-            | inr e ↦ e
-            | inl e ↦ absurd (true_false (is_package_object s name.root) shared (ap (is_package_object s) (eqb-true name.root y e) ∙ not_shared))
-          ]
-
-          by_act : (name : PlaceName) → is_package_object s name.root ≡ true → (a : Placed) → Has (placed_by (EndScope y)) a → removes a.act (Moved name) ≡ false
-          by_act name shared a (inl same_act) = ap (λ (z : Placed). removes z.act (Moved name)) (sym same_act) ∙ by_root name shared
-          by_act name shared a (inr never) = absurd never
-
       pub told_left : (next : State) → step program input state ≡ Goes next → (later : Views)
-          → ((x : ℕ) (w : Way) → later.way x ≡ Some w → is_anonymous (view_of s x) ≡ true) → AreLeft y views later
+          → ((x : ℕ) (w : Way) → later.way x ≡ Some w → is_view s x ≡ true) → AreLeft (home s depth) y views later
           → Told (seen s next.memory [] []) (IsDefiniteHere table typed effects unmoved_stage local depth later (facts_before points (top.frame.next ∷ top.before)) older)
       told_left next goes later only left =
-          all_told next.memory later only no_call_there ended_around
+          all_told next.memory later only no_call_there
           (subst (λ z. IsExact s (home s depth) later elsewhere z (after (acts_by p.instr) facts_now)) (sym memory_is)
           (subst (λ i. IsExact s (home s depth) later elsewhere (undeclared depth y state.memory) (after (acts_by i) facts_now)) (sym is)
-          (end_scope_exact easy ready.accepted.settled ready.owns other alone no_formals views ready.class.parts_named none_taken refl refl elsewhere away Excused later y (is_borrower s y) (home_frame y not_shared) facts_now (viewed_easy plain_end.0).0 (innermost.not_lent table typed effects input ready state top below more_frames rest named p frames deep stages running awaiting of_sub at_point path views viewed_before kept scope holds placed_before above y not_shared) holds.only left exact)))
+          (end_scope_exact easy ready.accepted.settled ready.owns other alone in_formals views ready.class.parts_named none_taken refl refl elsewhere away Excused later y (is_borrower s y) ((here.orderly table typed effects input ready state top below more_frames rest named p frames deep stages running awaiting of_sub at_point path views viewed_before kept scope holds placed_before above exact_before).over y is) (home_frame y not_shared) facts_now (viewed_easy plain_end.0).0 (innermost.not_lent table typed effects input ready state top below more_frames rest named p frames deep stages running awaiting of_sub at_point path views viewed_before kept scope holds placed_before above y not_shared) holds.only left exact)))
         where
           left_there : IsLeft (step program input state)
           left_there = subst IsLeft (sym (standing.step_is table typed effects input ready state top older outer named p frames of_sub at_point)) (subst (λ i. IsLeft (turn at i)) (sym is) refl)

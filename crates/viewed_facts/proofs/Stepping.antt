@@ -26,7 +26,7 @@ use Rattle.typed_tree.specs.Programs.{TypedProgram}
 use Rattle.flow_paths.specs.declared.report.Effects.{Effects}
 use Rattle.flow_paths.specs.declared.point.LeakSpot.{LeakSpot}
 use Rattle.flow_paths.specs.Instructions.{Instruction, Skip, Declare, Assign, Call, Output, Input, Release, Test, Choose, Start, Next, Evaluate, LeaveLoop, Hold, EndScope, Finish, Fall}
-use Rattle.flow_paths.specs.Objects.{Typing, object_at, is_anonymous, is_package_object, is_observer, view_of, designated}
+use Rattle.flow_paths.specs.Objects.{Typing, object_at, is_anonymous, is_package_object, is_observer, view_of, designated, is_variable}
 use Rattle.flow_paths.specs.Names.{has_call, name_of, waiting as waits_in}
 use Rattle.flow_paths.specs.Acts as flow
 use Rattle.flow_paths.specs.Acts.{acts_in, leaks_of, spot, stored_acts, assigned_to}
@@ -61,11 +61,11 @@ use Rattle.soundness.proofs.Operands.{handed_over, hold_is}
 use Rattle.soundness.proofs.Inherited.{after_splits}
 use Rattle.soundness.proofs.Around.{IsFar}
 use Rattle.owned_loans.specs.Views.{Around, known_gone, Views, Viewed, IsThrough}
-use Rattle.viewed_soundness.specs.Holds.{IsNamed, AllKeep, sees_only}
+use Rattle.viewed_soundness.specs.Holds.{is_fixed, is_view, IsNamed, AllKeep, sees_only}
 use Rattle.viewed_soundness.proofs.Names.{plain_named, true_false}
 use Rattle.viewed_soundness.proofs.Evaluated.{keep_both}
 use Rattle.viewed_soundness.proofs.Outcomes.{named_plain, IsGood, Leads_on, assigned_acts}
-use Rattle.viewed_steps.specs.Sound.{IsResting, HoldsAt, ArePlaced, NoneAbove, ViewStage, stages_of, GoneElsewhere, AreWaiting}
+use Rattle.viewed_steps.specs.Sound.{ArePast, IsResting, HoldsAt, ArePlaced, NoneAbove, ViewStage, stages_of, GoneElsewhere, AreWaiting, HasTraversals, IsStoredAt}
 use Rattle.viewed_steps.specs.Awaited.{AreAwaited, lasting_of, AreScalar, temporaries_of, TakesScalars, TakesAlone}
 use Rattle.viewed_steps.specs.Ready.{AreOrderly, IsReady}
 use Rattle.viewed_steps.proofs.Sources.{leads_or}
@@ -73,21 +73,27 @@ use Rattle.viewed_steps.proofs.Waiting.{StandsBetween, beside_them, handed}
 use Rattle.viewed_steps.proofs.Standing as standing
 use Rattle.viewed_steps.proofs.Packages as packages
 use Rattle.viewed_steps.proofs.Innermost as innermost
+use Rattle.viewed_steps.proofs.Taking as taking
 use Rattle.viewed_steps.proofs.Alone as alone_value
 use Rattle.viewed_steps.proofs.EachInstruction as each
 use Rattle.viewed_steps.proofs.Released.{Releases, released_on as sound_released_on}
 use Rattle.viewed_steps.proofs.Read.{Gets, got_on as sound_got_on}
 use Rattle.viewed_steps.proofs.Rounds.{Starts, started_on as sound_started_on}
 use Rattle.exact_facts.specs.Exact.{NoneFails, Knows, checks_of}
-use Rattle.exact_facts.proofs.Instructions.{none_made}
+use Rattle.exact_facts.proofs.Checks.{none_made}
 use Rattle.viewed_facts.specs.Exact.{IsDefiniteOf, IsExact}
 use Rattle.viewed_facts.proofs.Instructions.{ExactOn, value_on, waits_exact, source_exact, declare_on, assign_on, skip_exact, then_declared, then_stored}
+use Rattle.viewed_steps.proofs.Views.{anonymous_view}
 use Rattle.viewed_facts.proofs.Viewing.{view_parts, view_declared_on, view_assigned_on}
 use Rattle.viewed_facts.proofs.Releases.{released_on}
 use Rattle.viewed_facts.proofs.Loops.{next_exact, started_on, output_on, line_exact, got_on}
 use Rattle.viewed_facts.proofs.Frames.{elsewhere as moved_elsewhere}
 use Rattle.viewed_facts.proofs.Here as here
-use Rattle.viewed_steps.proofs.Views.{all_held, observes_not}
+use Rattle.viewed_steps.proofs.Views.{AreAccess, all_held}
+use Rattle.viewed_facts.proofs.Steps.{IsAway}
+use Rattle.viewed_facts.proofs.Given.{call_tree, given_declared, given_put, gives_no_call, first_plain}
+use Rattle.viewed_steps.specs.Traversals.{AreGiven, GivesView}
+use Rattle.viewed_soundness.proofs.Lends.{Sees}
 
 module _ (table : Table) (typed : TypedProgram) (effects : Effects) (input : List ℕ) (ready : IsReady table typed effects) where
   abbrev program : FlowProgram
@@ -99,10 +105,10 @@ module _ (table : Table) (typed : TypedProgram) (effects : Effects) (input : Lis
   abbrev own : Typing
   own = typing_of table typed
 
-  abbrev no_formals : (x : ℕ) → is_view_formal s x ≡ false
-  no_formals = standing.no_in_formals table typed effects input ready
+  abbrev in_formals : AreAccess s
+  in_formals = standing.in_formals table typed effects input ready
 
-  abbrev local : (x : ℕ) → is_anonymous (view_of s x) ≡ true → is_package_object s x ≡ false
+  abbrev local : (x : ℕ) → is_view s x ≡ true → is_package_object s x ≡ false
   local = standing.local table typed effects input ready
 
   abbrev unmoved_stage : (e : Stage) → e.frame.sub ≡ 0 → (name : PlaceName) → Has (facts_of program effects e) (Moved name) → ⊥
@@ -119,8 +125,9 @@ module _ (table : Table) (typed : TypedProgram) (effects : Effects) (input : Lis
       (viewed_before : Viewed (home s (suc (length rest))) (sees_only s) (known_gone (home s (suc (length rest))) (GoneElsewhere program effects (below ∷ more_frames))) views
       (view_here s state) (facts_of program effects top))
       (kept : Kept s state.memory (waiting_in state)) (scope : InScope s state.memory (suc (length rest)) (lasting_of s p.scope)) (holds : HoldsAt s (suc (length rest)) views state.memory p)
-      (placed_before : ArePlaced program (facts_of program effects top) views p.scope) (above : NoneAbove s (suc (length rest)) state.memory)
-      (exact_before : Told (seen s state.memory [] []) (IsDefiniteOf program effects (record { stage = top; views = views } ∷ (below ∷ more_frames)))) where
+      (placed_before : ArePlaced program (suc (length rest)) (facts_of program effects top) views p.scope × ArePast s (suc (length rest)) views (below ∷ more_frames)) (above : NoneAbove s (suc (length rest)) state.memory
+      × HasTraversals table typed (view_here s state) (record { stage = top; views = views; cells = [] } ∷ (below ∷ more_frames)))
+      (exact_before : Told (seen s state.memory [] []) (IsDefiniteOf program effects (record { stage = top; views = views; cells = [] } ∷ (below ∷ more_frames)))) where
     abbrev outer : List Frame
     outer = below.stage.frame ∷ rest
 
@@ -142,7 +149,7 @@ module _ (table : Table) (typed : TypedProgram) (effects : Effects) (input : Lis
     abbrev elsewhere : Way → Type 0
     elsewhere = moved_elsewhere table typed effects unmoved_stage local state (suc (length rest)) (below ∷ more_frames) between views (innermost.own_views table typed effects input ready state top below more_frames rest named p frames deep stages running awaiting of_sub at_point path views viewed_before kept scope holds placed_before above)
 
-    abbrev away : (w : Way) → elsewhere w → (IsNear (suc (length rest)) w → ⊥) ⊎ IsThrough (home s (suc (length rest))) other.lent Borrowed w
+    abbrev away : (w : Way) → elsewhere w → IsAway s (suc (length rest)) other w
     away = here.away table typed effects input ready state top below more_frames rest named p frames deep stages running awaiting of_sub at_point path views viewed_before kept scope holds placed_before above exact_before
 
     abbrev at : Turn
@@ -225,7 +232,7 @@ module _ (table : Table) (typed : TypedProgram) (effects : Effects) (input : Lis
 
     module _ (going : (x : ℕ) → p.instr ≡ EndScope x → ⊥) (no_calls : IsNoCall p.instr) where
       abbrev pub ExactAt : List Fact → List LeakSpot → Outcome → Type 0
-      ExactAt facts spots outcome = ExactOn easy ready.accepted.settled ready.owns other alone no_formals views ready.class.parts_named none_taken refl refl elsewhere away Excused facts spots outcome
+      ExactAt facts spots outcome = ExactOn easy ready.accepted.settled ready.owns other alone in_formals views ready.class.parts_named none_taken refl refl elsewhere away Excused facts spots outcome
 
       abbrev Exacts : Instruction → Type 0
       Exacts i = ExactAt (after (acts_by i) facts_now) (spots_by i) (turn at i)
@@ -234,7 +241,7 @@ module _ (table : Table) (typed : TypedProgram) (effects : Effects) (input : Lis
       good plain = record {
         viewed = (viewed_easy plain.0).0;
         kept = (viewed_easy plain.0).1;
-        holds = all_held s no_formals depth views state.memory (λ x n view e. holds.held x n (λ fading. going fading.0 fading.1) view e) holds.only holds.named;
+        holds = all_held s in_formals depth views state.memory (λ x n view e. holds.held x n (λ fading. going fading.0 fading.1) view e) holds.only holds.owners holds.own;
       }
 
       -- With these values out of the frame, the step makes the same of memory.
@@ -263,20 +270,20 @@ module _ (table : Table) (typed : TypedProgram) (effects : Effects) (input : Lis
       -- where nothing is taken, the step is like it is
       module _ (nothing : taken at.point.instr ≡ 0) where
         good_there : IsGood at ready.accepted.settled ready.owns other alone views ready.class.parts_named none_taken frames nothing views facts_now state
-        good_there = record { viewed = viewed; kept = kept; holds = all_held s no_formals depth views state.memory (λ x n view e. holds.held x n (λ fading. going fading.0 fading.1) view e) holds.only holds.named }
+        good_there = record { viewed = viewed; kept = kept; holds = all_held s in_formals depth views state.memory (λ x n view e. holds.held x n (λ fading. going fading.0 fading.1) view e) holds.only holds.owners holds.own }
 
         writes_line : (line : Bool) → Exacts (Output NoMore line)
         unfolding acts_in
         writes_line line =
-            line_exact at ready.accepted.settled ready.owns other alone no_formals views ready.class.parts_named none_taken frames nothing elsewhere away Excused line facts_now exact
+            line_exact at ready.accepted.settled ready.owns other alone in_formals views ready.class.parts_named none_taken frames nothing elsewhere away Excused line facts_now exact
 
         turns : (x : ℕ) (reversed : Bool) (low high : TypedTree) → is_scalar (full s.table (object_at s x).of) ≡ true → Exacts (Next x reversed low high)
         turns x reversed low high scalar =
-            next_exact at ready.accepted.settled ready.owns other alone no_formals views ready.class.parts_named none_taken frames nothing elsewhere away Excused
+            next_exact at ready.accepted.settled ready.owns other alone in_formals views ready.class.parts_named none_taken frames nothing elsewhere away Excused
             x reversed scalar facts_now good_there exact
 
       skips : Exacts Skip
-      skips = skip_exact easy ready.accepted.settled ready.owns other alone no_formals views ready.class.parts_named none_taken refl refl elsewhere away Excused facts_now exact
+      skips = skip_exact easy ready.accepted.settled ready.owns other alone in_formals views ready.class.parts_named none_taken refl refl elsewhere away Excused facts_now exact
 
       -- a declaration, at these turns
       declared_main : (facts : List Fact) (x : ℕ) (w : TypedTree)
@@ -301,10 +308,10 @@ module _ (table : Table) (typed : TypedProgram) (effects : Effects) (input : Lis
 
       -- a return with a value
       holds_value : (e : TypedTree) (of : ℕ) → p.instr ≡ Hold (More e NoMore) → named.sub.result ≡ Some of
-          → (IsNamed s.table of → AllowsAll facts_now (acts (acts_in s e)) → AllKeep (sees_only s) (acts (acts_in s e))
+          → (IsNamed s.table of → AllowsAll facts_now (acts (acts_in s e)) → AllKeep (is_fixed s) (acts (acts_in s e))
           → ExactTo (steps.here at) ready.accepted.settled state.leaks [] other alone (keeps s ready.accepted.settled ready.owns) index_law ready.owns views
           ready.class.parts_named elsewhere away (after (acts (acts_in s e)) facts_now) (steps.taken_by at of e (start at)))
-          → AllowsAll facts_now (acts_by (Hold (More e NoMore))) → AllKeep (sees_only s) (acts_by (Hold (More e NoMore))) → Exacts (Hold (More e NoMore))
+          → AllowsAll facts_now (acts_by (Hold (More e NoMore))) → AllKeep (is_fixed s) (acts_by (Hold (More e NoMore))) → Exacts (Hold (More e NoMore))
       unfolding acts_in
       holds_value e of is result value_exact allowed_there keep =
           let type_there : IsNamed s.table of = plain_named s.table of (innermost.named_result table typed effects input ready state top below more_frames rest named p frames deep stages running awaiting of_sub at_point path views viewed_before kept scope holds placed_before above of result) in
@@ -320,9 +327,9 @@ module _ (table : Table) (typed : TypedProgram) (effects : Effects) (input : Lis
           (eased_on (after (acts (acts_in s e)) facts_now) [] (steps.taken_by at of e (start at))
           (λ ws m. Goes (handed_over program input at.point state top.frame below.stage.frame rest of ws m))
           (λ ws m. Goes (handed_over program input at.point state top.frame below.stage.frame rest of ws m)) (λ ws m on. on)
-          (waits_exact easy ready.accepted.settled ready.owns other alone no_formals views ready.class.parts_named none_taken refl refl elsewhere away Excused
+          (waits_exact easy ready.accepted.settled ready.owns other alone in_formals views ready.class.parts_named none_taken refl refl elsewhere away Excused
           (after (acts (acts_in s e)) facts_now) (steps.taken_by at of e (start at))
-          (value_exact type_there (subst (AllowsAll facts_now) same allowed_there) (subst (AllKeep (sees_only s)) same keep))
+          (value_exact type_there (subst (AllowsAll facts_now) same allowed_there) (subst (AllKeep (is_fixed s)) same keep))
           (λ ws m. Goes (handed_over program input at.point state top.frame below.stage.frame rest of ws m)) (λ ws m still. (still, tt)))))
 
       -- ---- what a function gave, alone
@@ -350,35 +357,126 @@ module _ (table : Table) (typed : TypedProgram) (effects : Effects) (input : Lis
             (subst (λ ws. ExactTo (steps.here at) ready.accepted.settled state.leaks [] other alone (keeps s ready.accepted.settled ready.owns) index_law ready.owns views
             ready.class.parts_named elsewhere away facts_now (value (steps.here at) call (now ws))) (sym (alone_value.first_value table typed effects input ready state top below more_frames rest named p frames deep stages running awaiting of_sub at_point path views viewed_before kept scope holds placed_before above going taken_alone).1.3) exact))
 
-        declares_alone : (y : ℕ) → p.instr ≡ Declare y (More call NoMore) → Exacts (Declare y (More call NoMore))
+        given_here : AreGiven s (view_here s state) depth p.instr views top.frame.waits
+        given_here = subst (λ d. AreGiven s (view_here s state) d p.instr views top.frame.waits) deep ((above.1).0.0 named of_sub p at_point)
+
+        -- the call goes through a name, and its value is that of a view
+        module _ (x n : ℕ) (q r : Pos) (path_of : TypedTree) (u : ℕ) (others : TypedTree) (y : ℕ) (call_is : call ≡ call_tree r n q y path_of u others)
+            (gives : GivesView s n (object_at s x).of) (view : is_anonymous (view_of s x) ≡ true) (variable : is_variable (object_at s x).kind ≡ true) (stored_there : IsStoredAt p.instr x) where
+          abbrev word_now : machine.Word
+          word_now = taking.word_there table typed effects input ready state top below more_frames rest named p frames deep stages running awaiting of_sub at_point path views viewed_before kept scope holds placed_before above going no_calls taken_alone given_here x n q r path_of u others y call_is gives view variable stored_there
+
+          words_now : given_words ≡ (word_now ∷ []) ∷ []
+          words_now = taking.words_there table typed effects input ready state top below more_frames rest named p frames deep stages running awaiting of_sub at_point path views viewed_before kept scope holds placed_before above going no_calls taken_alone given_here x n q r path_of u others y call_is gives view variable stored_there
+
+          good_now : IsGood easy ready.accepted.settled ready.owns other alone views ready.class.parts_named none_taken refl refl views facts_now easy.state
+          good_now =
+              let good_there = taking.good_there table typed effects input ready state top below more_frames rest named p frames deep stages running awaiting of_sub at_point path views viewed_before kept scope holds placed_before above going no_calls taken_alone given_here x n q r path_of u others y call_is gives view variable stored_there in
+              record { viewed = good_there.viewed; kept = good_there.kept; holds = good_there.holds }
+
+          looks_now : Sees easy ready.accepted.settled ready.owns other alone views ready.class.parts_named none_taken refl refl x gives.d
+          looks_now = record {
+            k = gives.k;
+            e = gives.e;
+            o = gives.o;
+            view = gives.want;
+            fits = gives.fits;
+            anonymous = view;
+            mine = home_frame x (ready.orderly.local x view);
+          }
+
+          abbrev tree_now : TypedTree
+          tree_now = call_tree r n q y path_of u others
+
+          declared_so : ExactAt (after (acts_by (Declare x (More call NoMore))) facts_now) []
+              (steps.evaluated easy (steps.taken_by at (object_at s x).of call (start at)) (λ vs m. steps.goes easy (declared depth x vs m) 0))
+          declared_so =
+              subst (λ c. ExactAt (after (acts_by (Declare x (More c NoMore))) facts_now) []
+              (steps.evaluated easy (steps.taken_by at (object_at s x).of c (start at)) (λ vs m. steps.goes easy (declared depth x vs m) 0))) (sym call_is)
+              (subst (λ ws. ExactAt (after (acts_by (Declare x (More tree_now NoMore))) facts_now) []
+              (steps.evaluated easy (steps.taken_by at (object_at s x).of tree_now (record { memory = state.memory; waits = ws })) (λ vs m. steps.goes easy (declared depth x vs m) 0))) (sym words_now)
+              (given_declared easy ready.accepted.settled ready.owns other alone in_formals views ready.class.parts_named none_taken refl refl elsewhere away Excused r n q y path_of u others x gives.d word_now facts_now looks_now good_now exact variable))
+
+          abbrev Puts_now : Pos → TypedTree → Now → Outcome
+          Puts_now k c before =
+              steps.evaluated easy (followed_by (steps.taken_by at (object_at s x).of c before)
+              (λ ws now. followed_by (place_of (steps.here at) (Name k x NoMore (object_at s x).of) now) (λ b now. Done (record { words = ws; place = b }) now)))
+              (λ (st : steps.Stored) m. steps.leaking_goes (checks_at s (steps.target_pos at (Name k x NoMore (object_at s x).of)) m st.place) (steps.goes easy (stored s st.place st.words m) 0))
+
+          put_so : (k : Pos) → ExactAt (after (acts_by (Assign (Name k x NoMore (object_at s x).of) call)) facts_now) [] (Puts_now k call (start at))
+          put_so k =
+              subst (λ c. ExactAt (after (acts_by (Assign (Name k x NoMore (object_at s x).of) c)) facts_now) [] (Puts_now k c (start at))) (sym call_is)
+              (subst (λ ws. ExactAt (after (acts_by (Assign (Name k x NoMore (object_at s x).of) tree_now)) facts_now) [] (Puts_now k tree_now (record { memory = state.memory; waits = ws }))) (sym words_now)
+              (given_put easy ready.accepted.settled ready.owns other alone in_formals views ready.class.parts_named none_taken refl refl elsewhere away Excused r n q y path_of u others x gives.d word_now facts_now looks_now good_now exact variable p.pos (steps.target_pos at (Name k x NoMore (object_at s x).of)) k))
+
+        no_name : (r : Pos) (b : ℕ) (w : TypedTree) (o : ℕ) → call ≡ Name r b w o → ⊥
+        no_name r b w o e = cc
+
+        same_first : (a b : TypedTree) → ◌≡◌ {A = TypedTree} (More a NoMore) (More b NoMore) → a ≡ b
+        same_first a b e = cc
+
+        declares_view : (y : ℕ) → p.instr ≡ Declare y (More call NoMore) → is_anonymous (view_of s y) ≡ true → Exacts (Declare y (More call NoMore))
+        unfolding initial
+        declares_view y is view =
+            let found = orderly.declared y (More call NoMore) is view in
+            let tree_is : call ≡ found.4 = same_first call found.4 found.5 in
+            elim found.6 [
+              | inl name ↦ absurd (no_name found.0 found.1 found.2 found.3 (tree_is ∙ name))
+              | inr (r, n, others, call_is, gives) ↦ declared_main (after (acts_by (Declare y (More call NoMore))) facts_now) y (More call NoMore)
+                  (declared_so y n found.0 r found.2 found.3 others found.1 (tree_is ∙ call_is) gives view (orderly.variables y (inl (inl (More call NoMore, is))) view) (inl (More call NoMore, is)))
+            ]
+
+        assigns_view : (k : Pos) (y : ℕ) → p.instr ≡ Assign (Name k y NoMore (object_at s y).of) call → is_anonymous (view_of s y) ≡ true
+            → Exacts (Assign (Name k y NoMore (object_at s y).of) call)
+        assigns_view k y is view =
+            let found = orderly.assigned k y (object_at s y).of call is view in
+            let target : TypedTree = Name k y NoMore (object_at s y).of in
+            let stored_there : IsStoredAt p.instr y = inr (k, (object_at s y).of, call, is) in
+            elim found.4 [
+              | inl name ↦ absurd (no_name found.0 found.1 found.2 found.3 name)
+              | inr (r, n, others, call_is, gives) ↦
+                  subst (λ z. ExactAt (after (acts_by (Assign target call)) facts_now) (map (spot k (name_of y NoMore) (length (acts_in s call ++ acts_in s NoMore))) z) (turn at (Assign target call)))
+                  (sym (view_parts easy ready.accepted.settled ready.owns other alone in_formals views ready.class.parts_named none_taken refl refl elsewhere away Excused y view))
+                  (assigned_main (after (acts_by (Assign target call)) facts_now) [] target (object_at s y).of call
+                  (put_so y n found.0 r found.2 found.3 others found.1 call_is gives view (orderly.variables y (inl stored_there) view) stored_there k))
+            ]
+
+        declares_owner : (y : ℕ) → p.instr ≡ Declare y (More call NoMore) → is_anonymous (view_of s y) ≡ false → Exacts (Declare y (More call NoMore))
         unfolding acts_in initial
-        declares_alone y is =
-            let type_there = alone_value.named_object table typed effects input ready state top below more_frames rest named p frames deep stages running awaiting of_sub at_point path views viewed_before kept scope holds placed_before above going no_calls taken_alone y is in
-            let same = alone_value.acts_same table typed effects input ready state top below more_frames rest named p frames deep stages running awaiting of_sub at_point path views viewed_before kept scope holds placed_before above going no_calls taken_alone y is in
+        declares_owner y is owner =
+            let type_there = alone_value.named_object table typed effects input ready state top below more_frames rest named p frames deep stages running awaiting of_sub at_point path views viewed_before kept scope holds placed_before above going no_calls taken_alone y is owner in
+            let same = alone_value.acts_same table typed effects input ready state top below more_frames rest named p frames deep stages running awaiting of_sub at_point path views viewed_before kept scope holds placed_before above going no_calls taken_alone y is owner in
             declared_main (after (acts_by (Declare y (More call NoMore))) facts_now) y (More call NoMore)
             (subst (λ z. ExactAt (after z facts_now) [] (steps.evaluated easy (steps.first_value at (object_at s y).of (More call NoMore) (start at))
             (λ vs m. steps.goes easy (declared depth y vs m) 0))) (sym same)
-            (then_declared easy ready.accepted.settled ready.owns other alone no_formals views ready.class.parts_named none_taken refl refl elsewhere away Excused y facts_now (steps.first_value at (object_at s y).of (More call NoMore) (start at))
-            (alone_value.source_alone table typed effects input ready state top below more_frames rest named p frames deep stages running awaiting of_sub at_point path views viewed_before kept scope holds placed_before above going taken_alone (object_at s y).of type_there (alone_value.source_here table typed effects input ready state top below more_frames rest named p frames deep stages running awaiting of_sub at_point path views viewed_before kept scope holds placed_before above going no_calls taken_alone y is))
+            (then_declared easy ready.accepted.settled ready.owns other alone in_formals views ready.class.parts_named none_taken refl refl elsewhere away Excused y (orderly.begun y (More call NoMore) is) facts_now (steps.first_value at (object_at s y).of (More call NoMore) (start at))
+            (alone_value.source_alone table typed effects input ready state top below more_frames rest named p frames deep stages running awaiting of_sub at_point path views viewed_before kept scope holds placed_before above going taken_alone (object_at s y).of type_there (alone_value.source_here table typed effects input ready state top below more_frames rest named p frames deep stages running awaiting of_sub at_point path views viewed_before kept scope holds placed_before above going no_calls taken_alone y is owner))
             (call_exact (object_at s y).of type_there)
             (each.unmoved_now table typed effects input ready state top below more_frames rest named p frames deep stages running awaiting of_sub at_point path views viewed_before kept scope holds placed_before above going no_calls y (More call NoMore) is, each.free table typed effects input ready state top below more_frames rest named p frames deep stages running awaiting of_sub at_point path views viewed_before kept scope holds placed_before above going no_calls y (More call NoMore) is)))
 
-        assigns_alone : (r : Pos) (y : ℕ) (steps_there : TypedTree) (u : ℕ) → p.instr ≡ Assign (Name r y steps_there u) call → has_call steps_there ≡ false → (p.instr ≡ Finish → ⊥)
-            → Exacts (Assign (Name r y steps_there u) call)
+        declares_alone : (y : ℕ) → p.instr ≡ Declare y (More call NoMore) → Exacts (Declare y (More call NoMore))
+        declares_alone y is = by_kind (is_anonymous (view_of s y)) refl
+          where
+            by_kind : (b : Bool) → is_anonymous (view_of s y) ≡ b → Exacts (Declare y (More call NoMore))
+            by_kind true view = declares_view y is view
+            by_kind false owner = declares_owner y is owner
+
+        assigns_place : (r : Pos) (y : ℕ) (steps_there : TypedTree) (u : ℕ) → p.instr ≡ Assign (Name r y steps_there u) call → has_call steps_there ≡ false → (p.instr ≡ Finish → ⊥)
+            → is_anonymous (full s.table u) ≡ false → Exacts (Assign (Name r y steps_there u) call)
         unfolding acts_in
-        assigns_alone r y steps_there u is calls end =
+        assigns_place r y steps_there u is calls end place =
             let target : TypedTree = Name r y steps_there u in
-            let type_there = alone_value.named_target table typed effects input ready state top below more_frames rest named p frames deep stages running awaiting of_sub at_point path views viewed_before kept scope holds placed_before above going no_calls taken_alone r y steps_there u is calls end in
-            let leads = alone_value.leads_there table typed effects input ready state top below more_frames rest named p frames deep stages running awaiting of_sub at_point path views viewed_before kept scope holds placed_before above going no_calls taken_alone r y steps_there u is calls end in
+            let type_there = alone_value.named_target table typed effects input ready state top below more_frames rest named p frames deep stages running awaiting of_sub at_point path views viewed_before kept scope holds placed_before above going no_calls taken_alone r y steps_there u is calls end place in
+            let leads = alone_value.leads_there table typed effects input ready state top below more_frames rest named p frames deep stages running awaiting of_sub at_point path views viewed_before kept scope holds placed_before above going no_calls taken_alone r y steps_there u is calls end place in
             let a : List Act = acts (acts_in s steps_there) in
             let whole : after (acts_by (Assign target call)) facts_now ≡ effect (act.Write (name_of y steps_there)) (after a facts_now) =
-            ap (λ z. after z facts_now) (alone_value.acts_there table typed effects input ready state top below more_frames rest named p frames deep stages running awaiting of_sub at_point path views viewed_before kept scope holds placed_before above going no_calls taken_alone r y steps_there u is calls end)
+            ap (λ z. after z facts_now) (alone_value.acts_there table typed effects input ready state top below more_frames rest named p frames deep stages running awaiting of_sub at_point path views viewed_before kept scope holds placed_before above going no_calls taken_alone r y steps_there u is calls end place)
             ∙ after_append a (act.Write (name_of y steps_there) ∷ []) facts_now in
             assigned_main (after (acts_by (Assign target call)) facts_now) (spots_by (Assign target call)) target u call
             (subst (λ z. ExactAt z (spots_by (Assign target call)) (steps.evaluated easy (followed_by (steps.taken_by at u call (start at))
             (λ ws now. followed_by (place_of (steps.here at) target now) (λ k now. Done (record { words = ws; place = k }) now)))
             (λ (st : steps.Stored) m. steps.leaking_goes (checks_at s (steps.target_pos at target) m st.place) (steps.goes easy (stored s st.place st.words m) 0)))) (sym whole)
-            (then_stored easy ready.accepted.settled ready.owns other alone no_formals views ready.class.parts_named none_taken refl refl elsewhere away Excused (name_of y steps_there) u (after a facts_now) (effect (act.Write (name_of y steps_there)) (after a facts_now)) (steps.target_pos at target)
+            (then_stored easy ready.accepted.settled ready.owns other alone in_formals views ready.class.parts_named none_taken refl refl elsewhere away Excused (name_of y steps_there) u (after a facts_now) (effect (act.Write (name_of y steps_there)) (after a facts_now)) (steps.target_pos at target)
             r (length (acts_in s steps_there))
             (knows (Assign target call) is (acts_in s steps_there) (record { pos = r; act = act.Write (name_of y steps_there) } ∷ [])
             (assigned_acts s p.pos y u target steps_there call type_there leads) r (name_of y steps_there) (parts s.table u))
@@ -386,13 +484,30 @@ module _ (table : Table) (typed : TypedProgram) (effects : Effects) (input : Lis
             (λ ws now. followed_by (place_of (steps.here at) target now) (λ k now. Done (record { words = ws; place = k }) now)))
             (then_placed (steps.here at) ready.accepted.settled state.leaks [] other alone (keeps s ready.accepted.settled ready.owns) index_law ready.owns views
             ready.class.parts_named elsewhere away Excused [] [] r y u steps_there (waiting_in easy.state) facts_now
-            (alone_value.plain_root table typed effects input ready state top below more_frames rest named p frames deep stages running awaiting of_sub at_point path views viewed_before kept scope holds placed_before above going no_calls taken_alone r y steps_there u is calls end) leads (no_takes steps_there calls [])
-            (alone_value.allowed_steps table typed effects input ready state top below more_frames rest named p frames deep stages running awaiting of_sub at_point path views viewed_before kept scope holds placed_before above going no_calls taken_alone r y steps_there u is calls end) (steps.taken_by at u call (start at))
-            (alone_value.source_alone table typed effects input ready state top below more_frames rest named p frames deep stages running awaiting of_sub at_point path views viewed_before kept scope holds placed_before above going taken_alone u type_there (alone_value.source_there table typed effects input ready state top below more_frames rest named p frames deep stages running awaiting of_sub at_point path views viewed_before kept scope holds placed_before above going no_calls taken_alone r y steps_there u is calls end))
+            (alone_value.plain_root table typed effects input ready state top below more_frames rest named p frames deep stages running awaiting of_sub at_point path views viewed_before kept scope holds placed_before above going no_calls taken_alone r y steps_there u is calls end place) leads (no_takes steps_there calls [])
+            (alone_value.allowed_steps table typed effects input ready state top below more_frames rest named p frames deep stages running awaiting of_sub at_point path views viewed_before kept scope holds placed_before above going no_calls taken_alone r y steps_there u is calls end place) (steps.taken_by at u call (start at))
+            (alone_value.source_alone table typed effects input ready state top below more_frames rest named p frames deep stages running awaiting of_sub at_point path views viewed_before kept scope holds placed_before above going taken_alone u type_there (alone_value.source_there table typed effects input ready state top below more_frames rest named p frames deep stages running awaiting of_sub at_point path views viewed_before kept scope holds placed_before above going no_calls taken_alone r y steps_there u is calls end place))
             (call_exact u type_there))))
 
+        assigns_alone : (r : Pos) (y : ℕ) (steps_there : TypedTree) (u : ℕ) → p.instr ≡ Assign (Name r y steps_there u) call → has_call steps_there ≡ false → (p.instr ≡ Finish → ⊥)
+            → Exacts (Assign (Name r y steps_there u) call)
+        assigns_alone r y steps_there u is calls end = by_kind (is_anonymous (full s.table u)) refl
+          where
+            text_there : IsFine s named.sub.result (Assign (Name r y steps_there u) call)
+            text_there = subst (IsFine s named.sub.result) is fine_here
+
+            by_kind : (b : Bool) → is_anonymous (full s.table u) ≡ b → Exacts (Assign (Name r y steps_there u) call)
+            by_kind false place = assigns_place r y steps_there u is calls end place
+            by_kind true view = elim (leads_or s ready.class.parts_named steps_there (object_at s y).of u text_there.1.0) [
+              | inr own_type ↦ absurd (true_false (is_anonymous (full s.table u)) view (named_plain s.table u own_type))
+              | inl whole ↦ (
+                  let target_is : Name r y steps_there u ≡ Name r y NoMore (object_at s y).of = (λ j. Name r y (whole.0 j) (sym whole.1 j)) in
+                  subst (λ z. Exacts (Assign z call)) (sym target_is)
+                  (assigns_view r y (is ∙ ap (λ z. Assign z call) target_is) (ap (λ z. is_anonymous (full s.table z)) whole.1 ∙ view)))
+            ]
+
         returns_alone : (of : ℕ) → p.instr ≡ Hold (More call NoMore) → named.sub.result ≡ Some of
-            → AllowsAll facts_now (acts_by (Hold (More call NoMore))) → AllKeep (sees_only s) (acts_by (Hold (More call NoMore))) → Exacts (Hold (More call NoMore))
+            → AllowsAll facts_now (acts_by (Hold (More call NoMore))) → AllKeep (is_fixed s) (acts_by (Hold (More call NoMore))) → Exacts (Hold (More call NoMore))
         unfolding acts_in
         returns_alone of is result allowed_there keep = holds_value call of is result (λ type_there allows keeps. call_exact of type_there) allowed_there keep
 
@@ -401,14 +516,14 @@ module _ (table : Table) (typed : TypedProgram) (effects : Effects) (input : Lis
         result_there is None result none = (let never : ◌≡◌ {A = TypedTree} (More call NoMore) NoMore = none in cc)
         result_there is (Some of) result there = (of, result)
 
-        alone_exact : (p.instr ≡ Finish → ⊥) → AllowsAll facts_now (acts_by p.instr) → AllKeep (sees_only s) (acts_by p.instr) → Exacts p.instr
+        alone_exact : (p.instr ≡ Finish → ⊥) → AllowsAll facts_now (acts_by p.instr) → AllKeep (is_fixed s) (acts_by p.instr) → Exacts p.instr
         alone_exact end allowed_there keep = elim taken_alone.8 [
           | inl (y, is) ↦ subst Exacts (sym is) (declares_alone y is)
           | inr (inl (r, y, steps_there, u, is, calls)) ↦ subst Exacts (sym is) (assigns_alone r y steps_there u is calls end)
           | inr (inr is) ↦ (
               let result = result_there is named.sub.result refl (subst (IsFine s named.sub.result) is fine_here) in
               subst Exacts (sym is)
-              (returns_alone result.0 is result.1 (subst (λ i. AllowsAll facts_now (acts_by i)) is allowed_there) (subst (λ i. AllKeep (sees_only s) (acts_by i)) is keep)))
+              (returns_alone result.0 is result.1 (subst (λ i. AllowsAll facts_now (acts_by i)) is allowed_there) (subst (λ i. AllKeep (is_fixed s) (acts_by i)) is keep)))
         ]
 
       -- ---- what is taken is scalar
@@ -419,12 +534,12 @@ module _ (table : Table) (typed : TypedProgram) (effects : Effects) (input : Lis
             → ExactAt (after (acts (acts_in s e)) facts_now) [] (steps.evaluated at (value (steps.here at) e (start at)) f)
         value_taken e stays takes allowed_there f next =
             eased_on (after (acts (acts_in s e)) facts_now) [] (value (steps.here at) e (start at)) f f (λ ws m on. on)
-            (value_on easy ready.accepted.settled ready.owns other alone no_formals views ready.class.parts_named none_taken refl refl elsewhere away Excused given_words e stays takes facts_now (good plain) allowed_there exact f next)
+            (value_on easy ready.accepted.settled ready.owns other alone in_formals views ready.class.parts_named none_taken refl refl elsewhere away Excused given_words e stays takes facts_now (good plain) allowed_there exact f next)
 
         -- ---- declarations
 
         declares : (x : ℕ) (v : TypedTree) → p.instr ≡ Declare x v → FirstSource s (object_at s x).of v
-            → AllowsAll facts_now (acts_by (Declare x v)) → AllKeep (sees_only s) (acts_by (Declare x v)) → Exacts (Declare x v)
+            → AllowsAll facts_now (acts_by (Declare x v)) → AllKeep (is_fixed s) (acts_by (Declare x v)) → Exacts (Declare x v)
         unfolding waits_in
         declares x v e text allowed_there keep = by_view (is_anonymous (view_of s x)) refl
           where
@@ -433,7 +548,7 @@ module _ (table : Table) (typed : TypedProgram) (effects : Effects) (input : Lis
                 elim (after_splits (acts_by (Declare x v)) facts_now own_facts around (innermost.from_both table typed effects input ready state top below more_frames rest named p frames deep stages running awaiting of_sub at_point path views viewed_before kept scope holds placed_before above) (Moved name) has) [
                   | inl mine ↦ packages.new_after table typed effects input ready state top older outer named p frames of_sub at_point path x v e no_calls name
                       (subst (λ i. Has (after (acts_by i) own_facts) (Moved name)) (sym e) mine) root
-                  | inr there ↦ innermost.not_at_home table typed effects input ready state top below more_frames rest named p frames deep stages running awaiting of_sub at_point path views viewed_before kept scope holds placed_before above x name there root at_home
+                  | inr there ↦ absurd (innermost.not_handed table typed effects input ready state top below more_frames rest named p frames deep stages running awaiting of_sub at_point path views viewed_before kept scope holds placed_before above name there)
                 ]
 
             from_source : (q : Pos) (y u : ℕ) (path_of : TypedTree) → v ≡ More (Name q y path_of u) NoMore → is_anonymous (view_of s x) ≡ true → Exacts (Declare x v)
@@ -444,21 +559,28 @@ module _ (table : Table) (typed : TypedProgram) (effects : Effects) (input : Lis
                 (subst (λ z. Takes (taken (Declare x z)) given_words []) here_is (takes_of plain.0 (Declare x v) e)) in
                 subst (λ z. Exacts (Declare x z)) (sym here_is)
                 (declared_main (after (acts_by (Declare x (More (Name q y path_of u) NoMore))) facts_now) x (More (Name q y path_of u) NoMore)
-                (view_declared_on easy ready.accepted.settled ready.owns other alone no_formals views ready.class.parts_named none_taken refl refl elsewhere away Excused given_words q x y u path_of view (ready.orderly.local x view).0 (home_frame x (local x view)) text_there.1 takes facts_now (good plain)
+                (view_declared_on easy ready.accepted.settled ready.owns other alone in_formals views ready.class.parts_named none_taken refl refl elsewhere away Excused given_words q x y u path_of view (orderly.variables x (inl (inl (v, e))) view) (home_frame x (local x (anonymous_view s x view))) text_there.1 takes facts_now (good plain)
                 (subst (λ z. AllowsAll facts_now (acts_by (Declare x z))) here_is allowed_there) exact))
 
             by_view : (b : Bool) → is_anonymous (view_of s x) ≡ b → Exacts (Declare x v)
-            by_view true view = (let source = orderly.declared x v e view in from_source source.0 source.1 source.3 source.2 source.4 view)
+            by_view true view =
+                let source = orderly.declared x v e view in
+                elim source.6 [
+                  | inl is ↦ from_source source.0 source.1 source.3 source.2 (source.5 ∙ ap (λ z. More z NoMore) is) view
+                  | inr (r, n, more, is, gives) ↦ absurd (gives_no_call s r n (object_at s x).of (More (Name source.0 source.1 source.2 source.3) more) gives
+                      (first_plain s (CallIn r n (More (Name source.0 source.1 source.2 source.3) more))
+                      (subst (GivesPlainly s) (source.5 ∙ ap (λ z. More z NoMore) is) (subst (TakesScalars s) e plain.1))))
+                ]
             by_view false owner =
                 declared_main (after (acts_by (Declare x v)) facts_now) x v
-                (declare_on easy ready.accepted.settled ready.owns other alone no_formals views ready.class.parts_named none_taken refl refl elsewhere away Excused given_words x v (plain_named s.table (object_at s x).of owner) text
+                (declare_on easy ready.accepted.settled ready.owns other alone in_formals views ready.class.parts_named none_taken refl refl elsewhere away Excused given_words x v (plain_named s.table (object_at s x).of owner) (orderly.begun x v e) text
                 (subst (TakesScalars s) e plain.1) (takes_of plain.0 (Declare x v) e) facts_now (good plain) allowed_there keep
                 (after_it, each.free table typed effects input ready state top below more_frames rest named p frames deep stages running awaiting of_sub at_point path views viewed_before kept scope holds placed_before above going no_calls x v e) exact)
 
         -- ---- assignments
 
         assigns : (target e : TypedTree) → p.instr ≡ Assign target e → IsFine s None (Assign target e)
-            → AllowsAll facts_now (acts_by (Assign target e)) → AllKeep (sees_only s) (acts_by (Assign target e)) → Exacts (Assign target e)
+            → AllowsAll facts_now (acts_by (Assign target e)) → AllKeep (is_fixed s) (acts_by (Assign target e)) → Exacts (Assign target e)
         unfolding waits_in
         assigns (Name q x steps u) e is (v, (leads, type), source) allowed_there keep =
             by_view (subst (λ z. Source s z e) (sym type) source) (is_anonymous (full s.table u)) refl
@@ -470,7 +592,11 @@ module _ (table : Table) (typed : TypedProgram) (effects : Effects) (input : Lis
                 → AllowsAll facts_now (acts_by (Assign (Name q x NoMore (object_at s x).of) e)) → Exacts (Assign (Name q x NoMore (object_at s x).of) e)
             to_view source view instr_is allowed_here =
                 let found = orderly.assigned q x (object_at s x).of e instr_is view in
-                from_name found.0 found.1 found.3 found.2 found.4 found.6
+                elim found.4 [
+                  | inl named_so ↦ from_name found.0 found.1 found.3 found.2 named_so found.6
+                  | inr (r, n, more, call_is, gives) ↦ absurd (gives_no_call s r n (object_at s x).of (More (Name found.0 found.1 found.2 found.3) more) gives
+                      (subst (GivesPlainly s) call_is (subst (TakesScalars s) instr_is plain.1)))
+                ]
               where
                 from_name : (r : Pos) (y w : ℕ) (path_of : TypedTree) → e ≡ Name r y path_of w → (is_observer s x ≡ false → y ≡ x)
                     → Exacts (Assign (Name q x NoMore (object_at s x).of) e)
@@ -482,9 +608,9 @@ module _ (table : Table) (typed : TypedProgram) (effects : Effects) (input : Lis
                     subst (λ z. Exacts (Assign (Name q x NoMore (object_at s x).of) z)) (sym here_is)
                     (subst (λ z. ExactAt (after (acts_by (Assign (Name q x NoMore (object_at s x).of) (Name r y path_of w))) facts_now)
                     (map (spot q (name_of x NoMore) (length (acts_in s (Name r y path_of w) ++ acts_in s NoMore))) z)
-                    (turn at (Assign (Name q x NoMore (object_at s x).of) (Name r y path_of w)))) (sym (view_parts easy ready.accepted.settled ready.owns other alone no_formals views ready.class.parts_named none_taken refl refl elsewhere away Excused x view))
+                    (turn at (Assign (Name q x NoMore (object_at s x).of) (Name r y path_of w)))) (sym (view_parts easy ready.accepted.settled ready.owns other alone in_formals views ready.class.parts_named none_taken refl refl elsewhere away Excused x view))
                     (assigned_main (after (acts_by (Assign (Name q x NoMore of) (Name r y path_of w))) facts_now) [] (Name q x NoMore of) of (Name r y path_of w)
-                    (view_assigned_on easy ready.accepted.settled ready.owns other alone no_formals views ready.class.parts_named none_taken refl refl elsewhere away Excused given_words p.pos q r x y w path_of view (ready.orderly.local x view).0 (home_frame x (local x view))
+                    (view_assigned_on easy ready.accepted.settled ready.owns other alone in_formals views ready.class.parts_named none_taken refl refl elsewhere away Excused given_words p.pos q r x y w path_of view (orderly.variables x (inl (inr (q, (object_at s x).of, e, instr_is))) view) (home_frame x (local x (anonymous_view s x view)))
                     (subst (Source s (object_at s x).of) here_is source) takes itself facts_now (good plain)
                     (subst (λ z. AllowsAll facts_now (acts_by (Assign (Name q x NoMore (object_at s x).of) z))) here_is allowed_here) exact)))
 
@@ -497,9 +623,9 @@ module _ (table : Table) (typed : TypedProgram) (effects : Effects) (input : Lis
                   let two = takes_both (waits_in e) (waits_in steps) given_words [] (takes_of plain.0 (Assign (Name q x steps u) e) is) in
                   subst (λ z. ExactAt (after (acts z) facts_now) (spots_by (Assign (Name q x steps u) e)) (turn at (Assign (Name q x steps u) e))) (sym same_acts)
                   (assigned_main (after (acts (stored_acts s (Name q x steps u) e)) facts_now) (spots_by (Assign (Name q x steps u) e)) (Name q x steps u) u e
-                  (assign_on easy ready.accepted.settled ready.owns other alone no_formals views ready.class.parts_named none_taken refl refl elsewhere away Excused given_words two.0 q x u steps e own_type gives leads
+                  (assign_on easy ready.accepted.settled ready.owns other alone in_formals views ready.class.parts_named none_taken refl refl elsewhere away Excused given_words two.0 q x u steps e own_type gives leads
                   (subst (TakesScalars s) is plain.1) two.1 two.2 facts_now (good plain)
-                  (subst (λ z. AllowsAll facts_now (acts z)) same_acts allowed_there) (subst (λ z. AllKeep (sees_only s) (acts z)) same_acts keep) exact (length front)
+                  (subst (λ z. AllowsAll facts_now (acts z)) same_acts allowed_there) (subst (λ z. AllKeep (is_fixed s) (acts z)) same_acts keep) exact (length front)
                   (knows (Assign (Name q x steps u) e) is front (record { pos = q; act = act.Write (name_of x steps) } ∷ []) same_acts q (name_of x steps) (parts s.table u)))))
             ]
             by_view source true view = elim (leads_or s ready.class.parts_named steps (object_at s x).of u leads) [
@@ -522,7 +648,7 @@ module _ (table : Table) (typed : TypedProgram) (effects : Effects) (input : Lis
             (λ bytes m. Goes (record (behind easy (waiting easy) m 0) { output = state.output ++ bytes ++ (if line then 10 ∷ [] else []) }))
             (λ bytes m. Goes (record (behind at (waiting at) m 0) { output = state.output ++ bytes ++ (if line then 10 ∷ [] else []) }))
             (λ bytes m on. on)
-            (output_on easy ready.accepted.settled ready.owns other alone no_formals views ready.class.parts_named none_taken refl refl elsewhere away Excused given_words e last line none text
+            (output_on easy ready.accepted.settled ready.owns other alone in_formals views ready.class.parts_named none_taken refl refl elsewhere away Excused given_words e last line none text
             (takes_as (taken (Output (More e last) line)) (waits_in e) given_words [] (ap (λ z. waits_in e + waits_in z) none ∙ nothing_more (waits_in e))
             (takes_of plain.0 (Output (More e last) line) is))
             facts_now (good plain) allowed_there exact)
@@ -532,7 +658,7 @@ module _ (table : Table) (typed : TypedProgram) (effects : Effects) (input : Lis
         abbrev gets_here : Place → Memory → Outcome
         gets_here k m = got_with easy k (next_item input state.at) m
 
-        gets_so : Gets easy ready.accepted.settled ready.owns other alone no_formals views ready.class.parts_named none_taken refl refl gets_here
+        gets_so : Gets easy ready.accepted.settled ready.owns other alone in_formals views ready.class.parts_named none_taken refl refl gets_here
         gets_so = record {
           at_missing = λ k m next. rw next refl;
           at_bad = λ k m next. rw next refl;
@@ -547,17 +673,17 @@ module _ (table : Table) (typed : TypedProgram) (effects : Effects) (input : Lis
             let target : TypedTree = Name q x path_of u in
             let scalar_there : is_scalar (full s.table u) ≡ true = subst (λ z. is_scalar (full s.table z) ≡ true) (sym type) scalar in
             (input_eased at (Both (Input target)) (raising (Input target)) (λ trap m on. on.0 tt) target (
-              no_trap _ _ (sound_got_on easy ready.accepted.settled ready.owns other alone no_formals views ready.class.parts_named none_taken refl refl given_words
-                  gets_here q x u path_of gets_so scalar_there leads (takes_of plain.0 (Input target) is) (observes_not s no_formals x (orderly.read q x u path_of is)) facts_now (good plain) allowed_there),
-              got_on easy ready.accepted.settled ready.owns other alone no_formals views ready.class.parts_named none_taken refl refl elsewhere away Excused given_words
-                  gets_here q x u path_of gets_so scalar_there leads (takes_of plain.0 (Input target) is) (observes_not s no_formals x (orderly.read q x u path_of is)) facts_now (good plain) allowed_there exact,
+              no_trap _ _ (sound_got_on easy ready.accepted.settled ready.owns other alone in_formals views ready.class.parts_named none_taken refl refl given_words
+                  gets_here q x u path_of gets_so scalar_there leads (takes_of plain.0 (Input target) is) (orderly.read q x u path_of is) facts_now (good plain) allowed_there),
+              got_on easy ready.accepted.settled ready.owns other alone in_formals views ready.class.parts_named none_taken refl refl elsewhere away Excused given_words
+                  gets_here q x u path_of gets_so scalar_there leads (takes_of plain.0 (Input target) is) (orderly.read q x u path_of is) facts_now (good plain) allowed_there exact,
             )).1
         reads target is (v, never, scalar) allowed_there = absurd never
 
         abbrev frees_here : Pos → Place → Memory → Outcome
         frees_here q k m = released_with easy q k (words_of s m k) m
 
-        frees_so : (q : Pos) → Releases easy ready.accepted.settled ready.owns other alone no_formals views ready.class.parts_named none_taken refl refl (frees_here q) q
+        frees_so : (q : Pos) → Releases easy ready.accepted.settled ready.owns other alone in_formals views ready.class.parts_named none_taken refl refl (frees_here q) q
         frees_so q = record {
           at_null = λ k m is. rw is refl;
           at_whole = λ k m v is. rw is refl;
@@ -566,25 +692,25 @@ module _ (table : Table) (typed : TypedProgram) (effects : Effects) (input : Lis
         }
 
         releases : (target : TypedTree) → p.instr ≡ Release target → IsFine s None (Release target)
-            → AllowsAll facts_now (acts_by (Release target)) → AllKeep (sees_only s) (acts_by (Release target)) → Exacts (Release target)
+            → AllowsAll facts_now (acts_by (Release target)) → AllKeep (is_fixed s) (acts_by (Release target)) → Exacts (Release target)
         unfolding waits_in
         releases (Name q x path_of u) is (v, d, (leads, type), access) allowed_there keep =
             let target : TypedTree = Name q x path_of u in
             let access_there : shape_of s.table u ≡ shape.Access d false true = subst (λ z. shape_of s.table z ≡ shape.Access d false true) (sym type) access in
             (release_eased at (Both (Release target)) (raising (Release target)) (λ trap m on. on.0 tt) q x u path_of (
-              no_trap _ _ (sound_released_on easy ready.accepted.settled ready.owns other alone no_formals views ready.class.parts_named none_taken refl refl given_words
+              no_trap _ _ (sound_released_on easy ready.accepted.settled ready.owns other alone in_formals views ready.class.parts_named none_taken refl refl given_words
                   (frees_here q) q q x u d path_of (frees_so q) access_there leads (takes_of plain.0 (Release target) is) (last_kept (acts_in s path_of) keep) facts_now (good plain) allowed_there),
-              released_on easy ready.accepted.settled ready.owns other alone no_formals views ready.class.parts_named none_taken refl refl elsewhere away Excused given_words
+              released_on easy ready.accepted.settled ready.owns other alone in_formals views ready.class.parts_named none_taken refl refl elsewhere away Excused given_words
                   (frees_here q) q q x u d path_of (frees_so q) access_there leads (takes_of plain.0 (Release target) is) (last_kept (acts_in s path_of) keep) facts_now (good plain) allowed_there exact
                   q (length (acts_in s path_of))
                   (knows (Release target) is (acts_in s path_of) (record { pos = q; act = act.Free (name_of x path_of) } ∷ []) refl
                   q (extend (name_of x path_of) (sel.Deref ∷ [])) (parts s.table (designated s.table u))),
             )).1
           where
-            last_kept : (before : List Placed) → AllKeep (sees_only s) (acts (before ++ record { pos = q; act = act.Free (name_of x path_of) } ∷ [])) → sees_only s x ≡ false
+            last_kept : (before : List Placed) → AllKeep (is_fixed s) (acts (before ++ record { pos = q; act = act.Free (name_of x path_of) } ∷ [])) → is_fixed s (name_of x path_of) ≡ false
             last_kept before keep =
-                (keep_both (sees_only s) (acts before) (act.Free (name_of x path_of) ∷ [])
-                (subst (AllKeep (sees_only s)) (acts_append before (record { pos = q; act = act.Free (name_of x path_of) } ∷ [])) keep)).1.0
+                (keep_both (is_fixed s) (acts before) (act.Free (name_of x path_of) ∷ [])
+                (subst (AllKeep (is_fixed s)) (acts_append before (record { pos = q; act = act.Free (name_of x path_of) } ∷ [])) keep)).1.0
         releases target is (v, d, never, access) allowed_there keep = absurd never
 
         chosen_exact : (b : Bool) (k : ℕ) → ExactAt facts_now [] (if b then steps.goes at state.memory k else steps.raised at ConstraintError state.memory)
@@ -612,7 +738,7 @@ module _ (table : Table) (typed : TypedProgram) (effects : Effects) (input : Lis
         abbrev starts_here : ℕ → steps.Bounds → Memory → Outcome
         starts_here x b m = started_with easy x b m
 
-        starts_so : (x : ℕ) → Starts easy ready.accepted.settled ready.owns other alone no_formals views ready.class.parts_named none_taken refl refl x (starts_here x)
+        starts_so : (x : ℕ) → Starts easy ready.accepted.settled ready.owns other alone in_formals views ready.class.parts_named none_taken refl refl x (starts_here x)
         starts_so x = record {
           fails = λ b. int_le (steps.number b.low) (steps.number b.high)
               && not (fits_type s.table (object_at s x).of b.low && fits_type s.table (object_at s x).of b.high);
@@ -626,9 +752,9 @@ module _ (table : Table) (typed : TypedProgram) (effects : Effects) (input : Lis
         starts x reversed low high is scalar stays stays' allowed_there =
             let two = takes_both (waits_in low) (waits_in high) given_words [] (takes_of plain.0 (Start x reversed low high) is) in
             (start_eased at (Both (Start x reversed low high)) (raising (Start x reversed low high)) (λ trap m on. on.0 tt) x low high (
-              no_trap _ _ (sound_started_on easy ready.accepted.settled ready.owns other alone no_formals views ready.class.parts_named none_taken refl refl given_words two.0
+              no_trap _ _ (sound_started_on easy ready.accepted.settled ready.owns other alone in_formals views ready.class.parts_named none_taken refl refl given_words two.0
                   x (starts_here x) low high (starts_so x) scalar stays stays' two.1 two.2 facts_now (good plain) allowed_there),
-              started_on easy ready.accepted.settled ready.owns other alone no_formals views ready.class.parts_named none_taken refl refl elsewhere away Excused given_words two.0
+              started_on easy ready.accepted.settled ready.owns other alone in_formals views ready.class.parts_named none_taken refl refl elsewhere away Excused given_words two.0
                   x (starts_here x) low high (starts_so x) scalar stays stays' two.1 two.2 facts_now (good plain) allowed_there exact,
             )).1
 
@@ -643,16 +769,16 @@ module _ (table : Table) (typed : TypedProgram) (effects : Effects) (input : Lis
 
         -- a return with a value, and one without
         holds_plain : (e : TypedTree) (of : ℕ) → p.instr ≡ Hold (More e NoMore) → named.sub.result ≡ Some of → Source s of e
-            → AllowsAll facts_now (acts_by (Hold (More e NoMore))) → AllKeep (sees_only s) (acts_by (Hold (More e NoMore))) → Exacts (Hold (More e NoMore))
+            → AllowsAll facts_now (acts_by (Hold (More e NoMore))) → AllKeep (is_fixed s) (acts_by (Hold (More e NoMore))) → Exacts (Hold (More e NoMore))
         unfolding GivesPlainly waits_in
         holds_plain e of is result source allowed_there keep =
             holds_value e of is result (λ type_there allows keeps.
-            source_exact easy ready.accepted.settled ready.owns other alone no_formals views ready.class.parts_named none_taken refl refl elsewhere away Excused given_words of e type_there source (subst (TakesScalars s) is plain.1).0
+            source_exact easy ready.accepted.settled ready.owns other alone in_formals views ready.class.parts_named none_taken refl refl elsewhere away Excused given_words of e type_there source (subst (TakesScalars s) is plain.1).0
             (takes_as (taken (Hold (More e NoMore))) (waits_in e) given_words [] (nothing_more (waits_in e)) (takes_of plain.0 (Hold (More e NoMore)) is))
             facts_now (good plain) allows keeps exact) allowed_there keep
 
         returns : (v : TypedTree) (r : Option ℕ) → p.instr ≡ Hold v → named.sub.result ≡ r → Returns s r v → AllowsAll facts_now (acts_by (Hold v))
-            → AllKeep (sees_only s) (acts_by (Hold v)) → Exacts (Hold v)
+            → AllKeep (is_fixed s) (acts_by (Hold v)) → Exacts (Hold v)
         unfolding acts_in waits_in
         returns v None is result none allowed_there keep =
             subst (λ z. Exacts (Hold z)) (sym none)
@@ -660,10 +786,10 @@ module _ (table : Table) (typed : TypedProgram) (effects : Effects) (input : Lis
         returns v (Some of) is result (e, same, source) allowed_there keep =
             subst (λ z. Exacts (Hold z)) (sym same)
             (holds_plain e of (is ∙ ap Hold same) result source (subst (λ z. AllowsAll facts_now (acts_by (Hold z))) same allowed_there)
-            (subst (λ z. AllKeep (sees_only s) (acts_by (Hold z))) same keep))
+            (subst (λ z. AllKeep (is_fixed s) (acts_by (Hold z))) same keep))
 
         each_instruction : (i : Instruction) → p.instr ≡ i → (i ≡ Finish → ⊥) → IsFine s named.sub.result i → AllowsAll facts_now (acts_by i)
-            → AllKeep (sees_only s) (acts_by i) → Exacts i
+            → AllKeep (is_fixed s) (acts_by i) → Exacts i
         each_instruction Skip is end text allowed_there keep = skips
         each_instruction (Declare x v) is end text allowed_there keep = declares x v is text allowed_there keep
         each_instruction (Assign target e) is end text allowed_there keep = assigns target e is text allowed_there keep

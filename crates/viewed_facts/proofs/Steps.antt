@@ -21,18 +21,20 @@ use Rattle.place_names.specs.declared.rule.Loan.{Loan}
 use Rattle.flow_paths.specs.Objects.{Typing}
 use Rattle.soundness.specs.Seen.{IsNear, home as frame_home}
 use Rattle.soundness.proofs.Near.{near_under, named_near}
-use Rattle.owned_loans.proofs.Ways.{flip, under_on, meet_overlaps, root_on, on_named, Lifted, lifts, lifted_root, lifted_way}
+use Rattle.owned_loans.proofs.Ways.{flip, under_on, meet_overlaps, base_on, on_named, Lifted, lifts, lifted_root, lifted_way}
 use Rattle.owned_loans.proofs.Meeting.{IsPlain, meeting}
 use Rattle.owned_loans.proofs.Safe.{Unborrowed, loan_of, clean_below}
 use Rattle.owned_loans.proofs.Allowed.{move_unlent, move_unmoved, write_unlent, free_unlent}
-use Rattle.owned_loans.proofs.Moves.{expand_along, named_way}
+use Rattle.owned_loans.proofs.Moves.{expand_along}
 use Rattle.exact_facts.specs.Exact.{IsOfVariable}
+use Rattle.owned_loans.proofs.Meeting.{stands, stands_base}
+use Rattle.viewed_steps.proofs.Views.{base_named}
 use Rattle.exact_facts.proofs.Steps.{fact_before, under_covers, named_variable, Keeps, told_on, variable_begins, variable_rooted}
 use Rattle.viewed_facts.specs.Exact.{IsDefiniteBy, IsDefinite}
 
 -- ---- ways that begin at variables
 
-no_hand_base : (w : Way) (h : ℕ) → IsOfVariable w → base_of w ≡ OfRoot (OfHand h) → ⊥
+pub no_hand_base : (w : Way) (h : ℕ) → IsOfVariable w → base_of w ≡ OfRoot (OfHand h) → ⊥
 no_hand_base (Object (OfVariable f x)) h is e = cc
 no_hand_base (Object (OfHand k)) h is e = absurd is
 no_hand_base (Lost n) h is e = absurd is
@@ -57,16 +59,35 @@ expand_other v t b o loan up n c (All (Lost x)) off = refl
 expand_other v t b o loan up n c (All (Into w i)) off = ap All (expand_other v t b o loan up n c (Into w i) off)
 expand_other v t b o loan up n c (All (All w)) off = ap All (expand_other v t b o loan up n c (All w) off)
 
+-- a way that begins at a variable is rooted in its object
+number_there : (w : Way) {f x : ℕ} → base_of w ≡ OfRoot (OfVariable f x) → number_of w ≡ x
+number_there (Object (OfVariable g y)) e = cc
+number_there (Object (OfHand h)) e = cc
+number_there (Lost n) e = cc
+number_there (Into w i) e = number_there w e
+number_there (All w) e = number_there w e
+
 -- ---- one frame
 
--- A way of others begins with no name of the frame, or goes on from a place that they have borrowed.
+-- A way of others begins with no name of the frame and is gone for them, or goes on from a place that they have borrowed.
 abbrev pub IsOthers : (home : ℕ → ℕ) → Around home → Way → Type 0
-IsOthers home other w = ((k : Way) → Under k w → Named home k → ⊥) ⊎ IsThrough home other.lent Borrowed w
+IsOthers home other w = (((k : Way) → Under k w → Named home k → ⊥) × other.gone w) ⊎ IsThrough home other.lent Borrowed w
 
-pub of_others : (s : Typing) (depth : ℕ) (other : Around (frame_home s depth)) (w : Way) → (IsNear depth w → ⊥) ⊎ IsThrough (frame_home s depth) other.lent Borrowed w
-    → IsOthers (frame_home s depth) other w
-of_others s depth other w (inl far) = inl (λ k under named. far (near_under depth k w under (named_near s depth k named)))
+-- What begins at no variable of a frame and of no package object, or goes on from such a place.
+abbrev pub IsAway : (s : Typing) (depth : ℕ) → Around (frame_home s depth) → Way → Type 0
+IsAway s depth other w = ((IsNear depth w → ⊥) × other.gone w) ⊎ IsThrough (frame_home s depth) other.lent Borrowed w
+
+pub of_others : (s : Typing) (depth : ℕ) (other : Around (frame_home s depth)) (w : Way) → IsAway s depth other w → IsOthers (frame_home s depth) other w
+of_others s depth other w (inl (far, gone)) = inl ((λ k under named. far (near_under depth k w under (named_near s depth k named))), gone)
 of_others s depth other w (inr through) = inr through
+
+-- A way that begins at a variable is one of a variable.
+pub based_variable : (w : Way) (f x : ℕ) → base_of w ≡ OfRoot (OfVariable f x) → IsOfVariable w
+based_variable (Object (OfVariable g y)) f x e = tt
+based_variable (Object (OfHand h)) f x e = cc
+based_variable (Lost n) f x e = cc
+based_variable (Into w i) f x e = based_variable w f x e
+based_variable (All w) f x e = based_variable w f x e
 
 -- What is moved elsewhere is so.
 module _ (home : ℕ → ℕ) (observer : ℕ → Bool) (other : Around home) (v : Views) (elsewhere : Way → Type 0)
@@ -77,16 +98,17 @@ module _ (home : ℕ → ℕ) (observer : ℕ → Bool) (other : Around home) (v
   abbrev IsName : (s : View) (facts : List Fact) → Viewed home observer other v s facts → Way → Type 0
   IsName s facts viewed k = IsPlain home observer v s facts viewed.views k
 
-  -- what a name stands for is a name
-  stands : (s : View) (facts : List Fact) (viewed : Viewed home observer other v s facts) (k : Way) → IsName s facts viewed k → Named home (expand v k)
-  stands s facts viewed k plain = named_way home observer other v s facts viewed.views (suc (number_of k)) k (omega arith) plain
+  -- what a name stands for begins at a variable
+  pub stands_variable : (s : View) (facts : List Fact) (viewed : Viewed home observer other v s facts) (k : Way) → IsName s facts viewed k → IsOfVariable (expand v k)
+  stands_variable s facts viewed k plain =
+      let base = stands_base home observer v s facts viewed.views k plain in based_variable (expand v k) base.0 base.1 base.2
 
-  pub named_definite : (s : View) (facts : List Fact) (viewed : Viewed home observer other v s facts) (w : Way) → IsDefiniteBy home v facts w → Named home w
+  named_definite : (s : View) (facts : List Fact) (viewed : Viewed home observer other v s facts) (w : Way) → IsDefiniteBy home v facts w → IsOfVariable w
   named_definite s facts viewed w d =
-      subst (Named home) d.3 (stands s facts viewed d.0 (d.1.0, viewed.clear.owned (name_of d.0) d.1.1))
+      subst IsOfVariable d.3 (stands_variable s facts viewed d.0 (d.1.0, viewed.clear.owned (name_of d.0) d.1.1))
 
   pub definite_variable : (s : View) (facts : List Fact) (viewed : Viewed home observer other v s facts) (w : Way) → Definite facts w → IsOfVariable w
-  definite_variable s facts viewed w (inl d) = named_variable home w (named_definite s facts viewed w d)
+  definite_variable s facts viewed w (inl d) = named_definite s facts viewed w d
   definite_variable s facts viewed w (inr e) = e.0
 
   -- so it is after an act that moves nothing through an observer
@@ -98,7 +120,7 @@ module _ (home : ℕ → ℕ) (observer : ℕ → Bool) (other : Around home) (v
         | inl old ↦ viewed.clear.owned (name_of d.0) old.0
         | inr added ↦ new (name_of d.0) added
       ] in
-      named_variable home w (subst (Named home) d.3 (stands s facts viewed d.0 (d.1.0, plain)))
+      subst IsOfVariable d.3 (stands_variable s facts viewed d.0 (d.1.0, plain))
 
   rooted : (s : View) (facts : List Fact) (viewed : Viewed home observer other v s facts) (w : Way) → Definite facts w → IsRooted w
   rooted s facts viewed w is = variable_rooted w (definite_variable s facts viewed w is)
@@ -107,7 +129,10 @@ module _ (home : ℕ → ℕ) (observer : ℕ → Bool) (other : Around home) (v
   off_elsewhere : (s : View) (facts : List Fact) (viewed : Viewed home observer other v s facts) (k : Way) → IsName s facts viewed k → Unborrowed facts k
       → (w : Way) → Under (expand v k) w → elsewhere w → ⊥
   off_elsewhere s facts viewed k name free w under e = elim (apart w e) [
-    | inl far ↦ far (expand v k) under (stands s facts viewed k name)
+    | inl far ↦ elim (stands home observer v s facts viewed.views k name) [
+      | inl own ↦ far.0 (expand v k) under own.0
+      | inr held ↦ viewed.whole held.object held.way w held.has held.passed.foreign far.1 (inr (under_on held.way (expand v k) w held.under under))
+    ]
     | inr (j, named, begins_it, lent) ↦ below_through home observer other v s facts viewed j named lent k w name free begins_it under
   ]
 
@@ -305,7 +330,7 @@ module _ (home : ℕ → ℕ) (observer : ℕ → Bool) (other : Around home) (v
   pub told_ended : (s t : View) (left : Views) (x : ℕ) (borrower : Bool) (facts : List Fact) → Viewed home observer other v s facts
       → ((l : Loan) (n : Name) → other.lent l n → n.root ≡ x → ⊥)
       → IsDrop s t (OfVariable (home x) x)
-      → ((y : ℕ) (w : Way) → left.way y ≡ Some w → (v.way y ≡ Some w) × (number_of w ≡ x → ⊥))
+      → ((y : ℕ) (w : Way) → left.way y ≡ Some w → (v.way y ≡ Some w) × (Named home w → number_of w ≡ x → ⊥))
       → ((y : ℕ) (w : Way) (n : ℕ) → v.way y ≡ Some w → s.word (OfRoot (OfVariable (home y) y)) ≡ Held n → ⊥)
       → Told s (Definite facts) → Told t (IsDefinite home left elsewhere (effect (EndScope x borrower) facts))
   told_ended s t left x borrower facts viewed unlent step was empty told = by
@@ -326,24 +351,25 @@ module _ (home : ℕ → ℕ) (observer : ℕ → Bool) (other : Around home) (v
           ∙ told_left w l is before
 
       -- what stands for a way that begins there is rooted there
-      own_root : (u : Way) → number_of (expand left u) ≡ x → number_of u ≡ x
+      own_root : (u : Way) → base_of (expand left u) ≡ OfRoot (OfVariable (home x) x) → number_of u ≡ x
       own_root u is = elim (lifts left u) [
-        | inl e ↦ ap number_of (sym e) ∙ is
-        | inr l ↦ absurd ((was l.object l.way l.has).1 (sym (root_on l.way l.rest) ∙ ap number_of (sym (lifted_way left u l)) ∙ is))
+        | inl e ↦ number_there u (ap base_of (sym e) ∙ is)
+        | inr l ↦ absurd (let begins : base_of l.way ≡ OfRoot (OfVariable (home x) x) = sym (base_on l.way l.rest) ∙ ap base_of (sym (lifted_way left u l)) ∙ is in
+            (was l.object l.way l.has).1 (base_named home l.way x begins) (number_there l.way begins))
       ]
 
       by : Told t (IsDefinite home left elsewhere (effect (EndScope x borrower) facts))
       by w l (inr e) reach =
           stays w l (inr e)
           (λ under. elim (apart w e.1) [
-            | inl far ↦ far (place x) under refl
+            | inl far ↦ far.0 (place x) under refl
             | inr (k, named, begins_it, lent) ↦ unlent Borrowed (name_of k) lent (sym (longer k w begins_it).root ∙ (longer (place x) w under).root)
           ]) reach
       by w l (inl d) reach = elim (fact_before (EndScope x borrower) facts (Moved (name_of d.0)) d.1.1) [
         | inr none ↦ absurd none
         | inl old ↦ stays w l (inl (d.0, (d.1.0, old.0), d.2, d.3))
             (λ under. (
-            let number : number_of d.0 ≡ x = own_root d.0 (ap number_of d.3 ∙ (longer (place x) w under).root) in
+            let number : number_of d.0 ≡ x = own_root d.0 (ap base_of d.3 ∙ (longer (place x) w under).base) in
             let ends = eq-eqb (number_of d.0) x number in
             let kept = old.1 in cc)) reach
       ]

@@ -1,24 +1,25 @@
 -- Where a step of an instruction goes on that is no call and isn't the end of a scope, facts of all frames are exact,
 -- with the views then.
-use Rattle.viewed_soundness.specs.Holds.{sees_only}
-use Rattle.std.proofs.Common.{◌≡◌, refl, sym, ap, ◌∙◌, subst, inl, inr, ℕ, suc, true, false, List, [], ◌∷◌, ◌++◌, map, length, Some, None, ◌⊎◌, take, ◌||◌}
+use Rattle.viewed_soundness.specs.Holds.{is_view, sees_only, is_given, is_exclusive, is_fixed, AllKeep, IsNamed}
+use Rattle.std.proofs.Common.{◌≡◌, refl, sym, ap, ◌∙◌, subst, inl, inr, ℕ, suc, true, false, List, [], ◌∷◌, ◌++◌, map, length, Some, None, ◌⊎◌, take, ◌||◌, ◌&&◌, not}
 use Rattle.place_names.specs.declared.rule.Loan.TheVariants.{Borrowed}
 use Rattle.spark_base.specs.Lists.{Has}
 use Rattle.spark_base.specs.declared.position.Pos.{Pos}
 use Rattle.place_names.specs.declared.act.Act.{Act}
+use Rattle.place_names.specs.declared.act.Act.TheVariants as act
 use Rattle.place_names.specs.declared.act.Placed.{Placed}
 use Rattle.place_names.specs.declared.fact.Fact.{Fact}
 use Rattle.place_names.specs.declared.fact.Fact.TheVariants.{Moved}
 use Rattle.place_names.specs.Names.{Name as PlaceName}
 use Rattle.place_names.specs.Facts.{removes}
-use Rattle.type_definitions.specs.Types.{Table}
+use Rattle.type_definitions.specs.Types.{Table, full}
 use Rattle.typed_tree.specs.Trees.{TypedTree, Name, NoMore, More, Call as CallIn}
 use Rattle.typed_tree.specs.Programs.{TypedProgram}
 use Rattle.flow_paths.specs.declared.report.Effects.{Effects}
 use Rattle.flow_paths.specs.declared.point.LeakSpot.{LeakSpot}
 use Rattle.flow_paths.specs.Instructions.{Instruction, Declare, Assign, Hold, EndScope, Finish}
-use Rattle.flow_paths.specs.Objects.{Typing, object_at, is_anonymous, is_package_object, is_observer, view_of}
-use Rattle.flow_paths.specs.Names.{waiting as waits_in}
+use Rattle.flow_paths.specs.Objects.{Typing, object_at, is_anonymous, is_package_object, is_observer, view_of, is_variable, is_borrowing, is_observing, is_borrower}
+use Rattle.flow_paths.specs.Names.{waiting as waits_in, name_of, selectors}
 use Rattle.flow_paths.specs.Points.{NamedPoint}
 use Rattle.flow_paths.specs.Laid.{FlowProgram, NamedSub, number_in, flow_sub, typing_of, flow_typing, flow_program, flow_named}
 use Rattle.flow_paths.specs.Paths.{PathPoint, ControlPath, facts_before}
@@ -32,7 +33,7 @@ use Rattle.machine.specs.States.{Frame, State, Outcome, Goes, Ends, sub_of}
 use Rattle.machine.specs.Step.{Turn, start}
 use Rattle.machine.specs.Owners.{waiting_in}
 use Rattle.machine.specs.Run.{step}
-use Rattle.owned_ways.specs.Ways.{Way, Told, after, AllowsAll}
+use Rattle.owned_ways.specs.Ways.{Way, Told, after, AllowsAll, Allows}
 use Rattle.soundness.specs.Seen.{home, seen, IsNear, is_view_formal}
 use Rattle.soundness.specs.Typed.{Kept}
 use Rattle.soundness.specs.Sound.{Stage, facts_of, AreStages, IsRunnable, IsNoCall, InScope, Uses, IsNamedSub, IsAtPoint, view_of as view_here}
@@ -43,9 +44,9 @@ use Rattle.soundness.proofs.Eased.{eased}
 use Rattle.soundness.proofs.Inherited.{after_splits}
 use Rattle.soundness.proofs.Around.{IsFar}
 use Rattle.owned_loans.specs.Views.{Around, known_gone, Views, Viewed, IsThrough}
-use Rattle.viewed_soundness.proofs.Names.{true_false}
-use Rattle.viewed_soundness.proofs.Outcomes.{IsGood}
-use Rattle.viewed_steps.specs.Sound.{IsResting, HoldsAt, ArePlaced, NoneAbove, ViewStage, stages_of, GoneElsewhere, AreWaiting, IsStoredAt, AreTurned}
+use Rattle.viewed_soundness.proofs.Names.{true_false, free_formal, plain_named}
+use Rattle.viewed_soundness.proofs.Outcomes.{IsGood, assigned_acts}
+use Rattle.viewed_steps.specs.Sound.{ArePast, IsResting, HoldsAt, ArePlaced, NoneAbove, ViewStage, stages_of, GoneElsewhere, AreWaiting, IsStoredAt, AreTurned, HasTraversals}
 use Rattle.viewed_steps.specs.Awaited.{AreAwaited, lasting_of, AreScalar, temporaries_of, TakesScalars}
 use Rattle.viewed_steps.specs.Ready.{AreOrderly, IsReady}
 use Rattle.viewed_steps.proofs.Lent.{spare_has}
@@ -57,9 +58,17 @@ use Rattle.viewed_steps.proofs.EachInstruction as each
 use Rattle.viewed_facts.specs.Exact.{IsDefiniteOf, IsExact}
 use Rattle.viewed_facts.proofs.Instructions.{ExactOn, turned_exact}
 use Rattle.viewed_facts.proofs.Viewing.{reborrow_unmoved}
-use Rattle.viewed_facts.proofs.Frames.{elsewhere as moved_elsewhere, spare_keeps, IsDefiniteHere}
+use Rattle.viewed_steps.proofs.Views.{anonymous_view, view_cases}
+use Rattle.viewed_facts.proofs.Frames.{elsewhere as moved_elsewhere, IsDefiniteHere}
 use Rattle.viewed_facts.proofs.Here as here
 use Rattle.viewed_facts.proofs.Stepping as stepping
+use Rattle.viewed_steps.proofs.Views.{AreAccess}
+use Rattle.viewed_facts.proofs.Steps.{IsAway}
+use Rattle.flow_paths.specs.Acts.{before_write}
+use Rattle.soundness.proofs.Scalars.{acts_append, acts}
+use Rattle.viewed_soundness.proofs.Evaluated.{keep_both}
+use Rattle.viewed_facts.proofs.Given.{call_tree, given_unmoved, reborrowed_acts}
+use Rattle.viewed_steps.proofs.Ended.{view_kinds}
 
 module _ (table : Table) (typed : TypedProgram) (effects : Effects) (input : List ℕ) (ready : IsReady table typed effects) where
   abbrev program : FlowProgram
@@ -71,10 +80,10 @@ module _ (table : Table) (typed : TypedProgram) (effects : Effects) (input : Lis
   abbrev own : Typing
   own = typing_of table typed
 
-  abbrev no_formals : (x : ℕ) → is_view_formal s x ≡ false
-  no_formals = standing.no_in_formals table typed effects input ready
+  abbrev in_formals : AreAccess s
+  in_formals = standing.in_formals table typed effects input ready
 
-  abbrev local : (x : ℕ) → is_anonymous (view_of s x) ≡ true → is_package_object s x ≡ false
+  abbrev local : (x : ℕ) → is_view s x ≡ true → is_package_object s x ≡ false
   local = standing.local table typed effects input ready
 
   abbrev unmoved_stage : (e : Stage) → e.frame.sub ≡ 0 → (name : PlaceName) → Has (facts_of program effects e) (Moved name) → ⊥
@@ -91,8 +100,9 @@ module _ (table : Table) (typed : TypedProgram) (effects : Effects) (input : Lis
       (viewed_before : Viewed (home s (suc (length rest))) (sees_only s) (known_gone (home s (suc (length rest))) (GoneElsewhere program effects (below ∷ more_frames))) views
       (view_here s state) (facts_of program effects top))
       (kept : Kept s state.memory (waiting_in state)) (scope : InScope s state.memory (suc (length rest)) (lasting_of s p.scope)) (holds : HoldsAt s (suc (length rest)) views state.memory p)
-      (placed_before : ArePlaced program (facts_of program effects top) views p.scope) (above : NoneAbove s (suc (length rest)) state.memory)
-      (exact_before : Told (seen s state.memory [] []) (IsDefiniteOf program effects (record { stage = top; views = views } ∷ (below ∷ more_frames)))) where
+      (placed_before : ArePlaced program (suc (length rest)) (facts_of program effects top) views p.scope × ArePast s (suc (length rest)) views (below ∷ more_frames)) (above : NoneAbove s (suc (length rest)) state.memory
+      × HasTraversals table typed (view_here s state) (record { stage = top; views = views; cells = [] } ∷ (below ∷ more_frames)))
+      (exact_before : Told (seen s state.memory [] []) (IsDefiniteOf program effects (record { stage = top; views = views; cells = [] } ∷ (below ∷ more_frames)))) where
     abbrev outer : List Frame
     outer = below.stage.frame ∷ rest
 
@@ -114,7 +124,7 @@ module _ (table : Table) (typed : TypedProgram) (effects : Effects) (input : Lis
     abbrev elsewhere : Way → Type 0
     elsewhere = moved_elsewhere table typed effects unmoved_stage local state (suc (length rest)) (below ∷ more_frames) between views (innermost.own_views table typed effects input ready state top below more_frames rest named p frames deep stages running awaiting of_sub at_point path views viewed_before kept scope holds placed_before above)
 
-    abbrev away : (w : Way) → elsewhere w → (IsNear (suc (length rest)) w → ⊥) ⊎ IsThrough (home s (suc (length rest))) other.lent Borrowed w
+    abbrev away : (w : Way) → elsewhere w → IsAway s (suc (length rest)) other w
     away = here.away table typed effects input ready state top below more_frames rest named p frames deep stages running awaiting of_sub at_point path views viewed_before kept scope holds placed_before above exact_before
 
     abbrev at : Turn
@@ -134,6 +144,9 @@ module _ (table : Table) (typed : TypedProgram) (effects : Effects) (input : Lis
 
     abbrev own_views : (x : ℕ) (w : Way) → views.way x ≡ Some w → is_package_object s x ≡ false
     own_views = innermost.own_views table typed effects input ready state top below more_frames rest named p frames deep stages running awaiting of_sub at_point path views viewed_before kept scope holds placed_before above
+
+    abbrev viewed : Viewed (home s depth) (sees_only s) other views (view_here s state) facts_now
+    viewed = here.viewed table typed effects input ready state top below more_frames rest named p frames deep stages running awaiting of_sub at_point path views viewed_before kept scope holds placed_before above exact_before
 
     abbrev home_frame : (x : ℕ) → is_package_object s x ≡ false → home s depth x ≡ depth
     home_frame = innermost.home_frame table typed effects input ready state top below more_frames rest named p frames deep stages running awaiting of_sub at_point path views viewed_before kept scope holds placed_before above
@@ -174,16 +187,7 @@ module _ (table : Table) (typed : TypedProgram) (effects : Effects) (input : Lis
     abbrev fine_here : IsFine s named.sub.result p.instr
     fine_here = here.fine_here table typed effects input ready state top below more_frames rest named p frames deep stages running awaiting of_sub at_point path views viewed_before kept scope holds placed_before above exact_before
 
-    abbrev writes_none : (name : PlaceName) → (Uses effects top.frame.sub name.root → ⊥) → is_package_object s name.root ≡ true → (a : Placed) → Has (placed_by p.instr) a
-        → act_writes name.root a.act ≡ false
-    writes_none = here.writes_none table typed effects input ready state top below more_frames rest named p frames deep stages running awaiting of_sub at_point path views viewed_before kept scope holds placed_before above exact_before
-
-    abbrev after_around : ((name : PlaceName) → (Uses effects top.frame.sub name.root → ⊥) → is_package_object s name.root ≡ true → (a : Placed) → Has (placed_by p.instr) a
-        → removes a.act (Moved name) ≡ false) → (name : PlaceName) → Has around (Moved name) → Has (after (acts_by p.instr) facts_now) (Moved name)
-    after_around = here.after_around table typed effects input ready state top below more_frames rest named p frames deep stages running awaiting of_sub at_point path views viewed_before kept scope holds placed_before above exact_before
-
-    abbrev all_told : (next : Memory) (later : Views) → ((x : ℕ) (w : Way) → later.way x ≡ Some w → is_anonymous (view_of s x) ≡ true) → IsNoCall p.instr
-        → ((name : PlaceName) → Has around (Moved name) → Has (after (acts_by p.instr) facts_now) (Moved name))
+    abbrev all_told : (next : Memory) (later : Views) → ((x : ℕ) (w : Way) → later.way x ≡ Some w → is_view s x ≡ true) → IsNoCall p.instr
         → IsExact s (home s depth) later elsewhere next (after (acts_by p.instr) facts_now)
         → Told (seen s next [] []) (IsDefiniteHere table typed effects unmoved_stage local depth later (facts_before points (top.frame.next ∷ top.before)) older)
     all_told = here.all_told table typed effects input ready state top below more_frames rest named p frames deep stages running awaiting of_sub at_point path views viewed_before kept scope holds placed_before above exact_before
@@ -192,7 +196,7 @@ module _ (table : Table) (typed : TypedProgram) (effects : Effects) (input : Lis
 
     module _ (going : (x : ℕ) → p.instr ≡ EndScope x → ⊥) (no_calls : IsNoCall p.instr) where
       abbrev ExactAt : List Fact → List LeakSpot → Outcome → Type 0
-      ExactAt facts spots outcome = ExactOn easy ready.accepted.settled ready.owns other alone no_formals views ready.class.parts_named none_taken refl refl elsewhere away Excused facts spots outcome
+      ExactAt facts spots outcome = ExactOn easy ready.accepted.settled ready.owns other alone in_formals views ready.class.parts_named none_taken refl refl elsewhere away Excused facts spots outcome
 
       abbrev good : Plainly → IsGood easy ready.accepted.settled ready.owns other alone views ready.class.parts_named none_taken refl refl views facts_now easy.state
       good = stepping.good table typed effects input ready state top below more_frames rest named p frames deep stages running awaiting of_sub at_point path views viewed_before kept scope holds placed_before above exact_before going no_calls
@@ -205,47 +209,16 @@ module _ (table : Table) (typed : TypedProgram) (effects : Effects) (input : Lis
 
       -- ---- facts of all frames
 
-      kept_around : (p.instr ≡ Finish → ⊥) → (name : PlaceName) → Has around (Moved name) → Has (after (acts_by p.instr) facts_now) (Moved name)
-      kept_around end name has =
-          after_around (λ name spared shared a there.
-          spare_keeps s name a.act (spare_has s (placed_by p.instr) (each.spares table typed effects input ready state top below more_frames rest named p frames deep stages running awaiting of_sub at_point path views viewed_before kept scope holds placed_before above going no_calls end) a there) (writes_none name spared shared a there)) name has
-
-      -- no moved name is rooted in a view that is declared or assigned
-      assigned_unmoved : Plainly → (q : Pos) (x u : ℕ) (e : TypedTree) → p.instr ≡ Assign (Name q x NoMore u) e → (p.instr ≡ Finish → ⊥)
-          → is_anonymous (view_of s x) ≡ true → is_observer s x ≡ false
-          → (n : PlaceName) → Has (after (acts_by p.instr) facts_now) (Moved n) → n.root ≡ x → ⊥
-      unfolding Leads waits_in
-      assigned_unmoved plain q x u e is end view borrows n has root = by_fine (subst (IsFine s named.sub.result) is fine_here)
-        where
-          by_fine : IsFine s None (Assign (Name q x NoMore u) e) → ⊥
-          by_fine (v, (leads, type), source) =
-              let found = orderly.assigned q x u e is view in
-              from_name found.0 found.1 found.3 found.2 found.4 (found.6 borrows) (subst (λ z. Source s z e) (sym (leads ∙ type)) source) leads
-            where
-              from_name : (r : Pos) (y w : ℕ) (path_of : TypedTree) → e ≡ Name r y path_of w → y ≡ x → Source s (object_at s x).of e → (object_at s x).of ≡ u → ⊥
-              from_name r y w path_of here_is itself source_there of =
-                  let instr_is : p.instr ≡ Assign (Name q x NoMore (object_at s x).of) (Name r y path_of w) =
-                  is ∙ (λ j. Assign (Name q x NoMore (sym of j)) (here_is j)) in
-                  let takes : Takes (waits_in path_of) given_words [] =
-                  takes_as (taken (Assign (Name q x NoMore (object_at s x).of) (Name r y path_of w))) (waits_in path_of) given_words [] (nothing_more (waits_in path_of))
-                  (takes_of plain.0 (Assign (Name q x NoMore (object_at s x).of) (Name r y path_of w)) instr_is) in
-                  reborrow_unmoved easy ready.accepted.settled ready.owns other alone no_formals views ready.class.parts_named none_taken refl refl elsewhere away Excused given_words p.pos q r x y w path_of view (ready.orderly.local x view).0 (home_frame x (local x view))
-                  (subst (Source s (object_at s x).of) here_is source_there) takes borrows itself facts_now (good plain)
-                  (subst (λ i. AllowsAll facts_now (acts_by i)) instr_is (allowed_there end)) n (subst (λ i. Has (after (acts_by i) facts_now) (Moved n)) instr_is has) root
-
-      -- what a view gets isn't what a function gave
-      plain_there : (q : Pos) (x u : ℕ) (e : TypedTree) → p.instr ≡ Assign (Name q x NoMore u) e → is_anonymous (view_of s x) ≡ true → IsFine s None (Assign (Name q x NoMore u) e) → Plainly
-      unfolding Leads
-      plain_there q x u e is view (v, (leads, type), source) =
-          let target : Assign (Name q x NoMore u) e ≡ Assign (Name q x NoMore (object_at s x).of) e = ap (λ z. Assign (Name q x NoMore z) e) (sym leads) in
-          let found = orderly.assigned q x (object_at s x).of e (is ∙ target) view in
+      -- what a view gets from a name isn't what a function gave
+      plain_there : (q : Pos) (x u : ℕ) (e : TypedTree) (k : Pos) (z : ℕ) (path_of : TypedTree) (o : ℕ) → e ≡ Name k z path_of o → p.instr ≡ Assign (Name q x NoMore u) e → Plainly
+      plain_there q x u e k z path_of o named_so is =
           elim (innermost.taken_there table typed effects input ready state top below more_frames rest named p frames deep stages running awaiting of_sub at_point path views viewed_before kept scope holds placed_before above) [
             | inl plain ↦ plain
             | inr taken_alone ↦ absurd (elim taken_alone.8 [
               | inl (y, other_instr) ↦ (let never : Assign (Name q x NoMore u) e ≡ Declare y (More (CallIn taken_alone.3 taken_alone.4 taken_alone.5) NoMore) = sym is ∙ other_instr in cc)
               | inr (inl (r, y, steps_there, w, same, calls)) ↦ (
                   let there : Assign (Name q x NoMore u) e ≡ Assign (Name r y steps_there w) (CallIn taken_alone.3 taken_alone.4 taken_alone.5) = sym is ∙ same in
-                  by_source e taken_alone.3 taken_alone.4 taken_alone.5 found.0 found.1 found.2 found.3 (assigned_same there) found.4)
+                  by_source e taken_alone.3 taken_alone.4 taken_alone.5 k z path_of o (assigned_same there) named_so)
               | inr (inr other_instr) ↦ (let never : Assign (Name q x NoMore u) e ≡ Hold (More (CallIn taken_alone.3 taken_alone.4 taken_alone.5) NoMore) = sym is ∙ other_instr in cc)
             ])
           ]
@@ -257,28 +230,92 @@ module _ (table : Table) (typed : TypedProgram) (effects : Effects) (input : Lis
               → e ≡ CallIn k n actuals → e ≡ Name r y steps_there w → ⊥
           by_source e k n actuals r y steps_there w is same = cc
 
+      -- no moved name is rooted in a view that is declared or assigned
+      assigned_unmoved : (q : Pos) (x u : ℕ) (e : TypedTree) → p.instr ≡ Assign (Name q x NoMore u) e → (p.instr ≡ Finish → ⊥)
+          → is_anonymous (view_of s x) ≡ true → is_observer s x ≡ false
+          → (n : PlaceName) → Has (after (acts_by p.instr) facts_now) (Moved n) → n.root ≡ x → ⊥
+      unfolding Leads waits_in
+      assigned_unmoved q x u e is end view borrows n has root = by_fine (subst (IsFine s named.sub.result) is fine_here)
+        where
+          by_fine : IsFine s None (Assign (Name q x NoMore u) e) → ⊥
+          by_fine (v, (leads, type), source) =
+              let found = orderly.assigned q x u e is view in
+              elim found.4 [
+                | inl named_so ↦ from_name (plain_there q x u e found.0 found.1 found.2 found.3 named_so is) found.0 found.1 found.3 found.2 named_so (found.6 borrows)
+                    (subst (λ z. Source s z e) (sym (leads ∙ type)) source) leads
+                | inr (r, k, more, call_is, gives) ↦ from_call found.0 found.1 found.3 found.2 r k more call_is leads
+              ]
+            where
+              from_call : (a : Pos) (y w : ℕ) (path_of : TypedTree) (r : Pos) (k : ℕ) (more : TypedTree) → e ≡ call_tree r k a y path_of w more → (object_at s x).of ≡ u → ⊥
+              from_call a y w path_of r k more here_is of =
+                  let call_there : TypedTree = call_tree r k a y path_of w more in
+                  let instr_is : p.instr ≡ Assign (Name q x NoMore (object_at s x).of) call_there =
+                  is ∙ (λ j. Assign (Name q x NoMore (sym of j)) (here_is j)) in
+                  let one : is_borrower s x ≡ true =
+                  view_kinds (is_variable (object_at s x).kind) (is_borrowing (view_of s x)) (is_observing (view_of s x)) view (orderly.variables x (inl (inr (q, u, e, is))) view) borrows in
+                  let same = reborrowed_acts s p.pos q r a k x y w (object_at s x).of path_of more one in
+                  let mine : Allows facts_now (act.Reborrow x (name_of y path_of)) =
+                  (subst (λ z. AllowsAll facts_now (acts z)) same (subst (λ i. AllowsAll facts_now (acts_by i)) instr_is (allowed_there end))).0 in
+                  given_unmoved (home s depth) (sees_only s) other views (view_here s state) facts_now viewed x (name_of y path_of) mine n
+                  (subst (λ z. Has (after (acts z) facts_now) (Moved n)) same (subst (λ i. Has (after (acts_by i) facts_now) (Moved n)) instr_is has)) root
+
+              from_name : Plainly → (r : Pos) (y w : ℕ) (path_of : TypedTree) → e ≡ Name r y path_of w → y ≡ x → Source s (object_at s x).of e → (object_at s x).of ≡ u → ⊥
+              from_name plain r y w path_of here_is itself source_there of =
+                  let instr_is : p.instr ≡ Assign (Name q x NoMore (object_at s x).of) (Name r y path_of w) =
+                  is ∙ (λ j. Assign (Name q x NoMore (sym of j)) (here_is j)) in
+                  let takes : Takes (waits_in path_of) given_words [] =
+                  takes_as (taken (Assign (Name q x NoMore (object_at s x).of) (Name r y path_of w))) (waits_in path_of) given_words [] (nothing_more (waits_in path_of))
+                  (takes_of plain.0 (Assign (Name q x NoMore (object_at s x).of) (Name r y path_of w)) instr_is) in
+                  reborrow_unmoved easy ready.accepted.settled ready.owns other alone in_formals views ready.class.parts_named none_taken refl refl elsewhere away Excused given_words p.pos q r x y w path_of view (orderly.variables x (inl (inr (q, u, e, is))) view) (home_frame x (local x (anonymous_view s x view)))
+                  (subst (Source s (object_at s x).of) here_is source_there) takes borrows itself facts_now (good plain)
+                  (subst (λ i. AllowsAll facts_now (acts_by i)) instr_is (allowed_there end)) n (subst (λ i. Has (after (acts_by i) facts_now) (Moved n)) instr_is has) root
+
+      -- a formal that owns nothing isn't assigned itself
+      formal_kept : (q : Pos) (x u : ℕ) (e : TypedTree) → p.instr ≡ Assign (Name q x NoMore u) e → (p.instr ≡ Finish → ⊥) → is_view_formal s x ≡ true → ⊥
+      unfolding Leads selectors
+      formal_kept q x u e is end formal = by_fine (subst (IsFine s named.sub.result) is fine_here)
+        where
+          owner : is_anonymous (view_of s x) ≡ false
+          owner = elim (bool_cases (is_anonymous (view_of s x))) [ inl anonymous ↦ absurd ((in_formals x formal).1 anonymous) | inr none ↦ none ]
+
+          target : TypedTree
+          target = Name q x NoMore u
+
+          by_fine : IsFine s None (Assign (Name q x NoMore u) e) → ⊥
+          by_fine (v, (leads, type), source) =
+              let named_type : IsNamed s.table u = plain_named s.table u (ap (λ z. is_anonymous (full s.table z)) (sym leads) ∙ owner) in
+              let keep : AllKeep (is_fixed s) (acts_by (Assign target e)) =
+              subst (λ i. AllKeep (is_fixed s) (acts_by i)) is (standing.keeps_there table typed effects input ready state top older outer named p frames of_sub at_point) in
+              let stores = subst (λ z. AllKeep (is_fixed s) (acts z)) (assigned_acts s p.pos x u target NoMore e named_type leads) keep in
+              let last = keep_both (is_fixed s) (acts (before_write s target e)) (act.Write (name_of x NoMore) ∷ [])
+              (subst (AllKeep (is_fixed s)) (acts_append (before_write s target e) (record { pos = q; act = act.Write (name_of x NoMore) } ∷ [])) stores) in
+              free_formal s (name_of x NoMore) (last.1).0 formal refl
+
       stored_unmoved : (p.instr ≡ Finish → ⊥) → ((n : PlaceName) → Has (after (acts_by p.instr) own_facts) (Moved n) → sees_only s n.root ≡ false)
-          → (x : ℕ) → is_anonymous (view_of s x) ≡ true → IsStoredAt p.instr x → (n : PlaceName) → Has (after (acts_by p.instr) facts_now) (Moved n) → n.root ≡ x → ⊥
+          → (x : ℕ) → is_view s x ≡ true → IsStoredAt p.instr x → (n : PlaceName) → Has (after (acts_by p.instr) facts_now) (Moved n) → n.root ≡ x → ⊥
       stored_unmoved end clear x view stored n has root =
           elim (after_splits (acts_by p.instr) facts_now own_facts around (innermost.from_both table typed effects input ready state top below more_frames rest named p frames deep stages running awaiting of_sub at_point path views viewed_before kept scope holds placed_before above) (Moved n) has) [
-            | inr there ↦ innermost.not_handed table typed effects input ready state top below more_frames rest named p frames deep stages running awaiting of_sub at_point path views viewed_before kept scope holds placed_before above n there (ap (is_package_object s) root ∙ local x view)
+            | inr there ↦ innermost.not_handed table typed effects input ready state top below more_frames rest named p frames deep stages running awaiting of_sub at_point path views viewed_before kept scope holds placed_before above n there
             | inl mine ↦ elim stored [
               | inl (v, e) ↦ packages.new_after table typed effects input ready state top older outer named p frames of_sub at_point path x v e no_calls n mine root
-              | inr (q, u, e, is) ↦ elim (bool_cases (is_observer s x)) [
-                | inl sees ↦ true_false (sees_only s x) (ap (λ b. b || is_view_formal s x) sees) (ap (sees_only s) (sym root) ∙ clear n mine)
-                | inr borrows ↦ assigned_unmoved (plain_there q x u e is view (subst (IsFine s named.sub.result) is fine_here)) q x u e is end view borrows n has root
+              | inr (q, u, e, is) ↦ elim (view_cases s x view) [
+                | inr formal ↦ formal_kept q x u e is end formal
+                | inl anonymous ↦ elim (bool_cases (is_observer s x)) [
+                  | inl sees ↦ true_false (sees_only s x) (ap (λ b. b || (is_given s x && not (is_exclusive s x))) sees) (ap (sees_only s) (sym root) ∙ clear n mine)
+                  | inr borrows ↦ assigned_unmoved q x u e is end anonymous borrows n has root
+                ]
               ]
             ]
           ]
 
       -- They are exact after the step, too, with the views then.
       pub told_next : (p.instr ≡ Finish → ⊥) → (next : State) → step program input state ≡ Goes next → (later : Views)
-          → ((x : ℕ) (w : Way) → later.way x ≡ Some w → is_anonymous (view_of s x) ≡ true)
+          → ((x : ℕ) (w : Way) → later.way x ≡ Some w → is_view s x ≡ true)
           → ((n : PlaceName) → Has (facts_before points (top.frame.next ∷ top.before)) (Moved n) → sees_only s n.root ≡ false) → AreTurned p.instr views later
           → Told (seen s next.memory [] []) (IsDefiniteHere table typed effects unmoved_stage local depth later (facts_before points (top.frame.next ∷ top.before)) older)
       told_next end next is later only clear turned =
-          all_told next.memory later only no_calls (kept_around end)
-          (turned_exact easy ready.accepted.settled ready.owns other alone no_formals views ready.class.parts_named none_taken refl refl elsewhere away Excused next.memory later (after (acts_by p.instr) facts_now) holds.only
+          all_told next.memory later only no_calls
+          (turned_exact easy ready.accepted.settled ready.owns other alone in_formals views ready.class.parts_named none_taken refl refl elsewhere away Excused next.memory later (after (acts_by p.instr) facts_now) holds.only
           (λ x w has. elim (turned x w has) [
             | inl old ↦ inl old
             | inr stored ↦ inr (λ n moved root.

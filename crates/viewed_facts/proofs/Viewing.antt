@@ -49,16 +49,18 @@ use Rattle.viewed_steps.proofs.Sources.{view_shape, observes, observer_only}
 use Rattle.exact_facts.proofs.Steps.{fact_before}
 use Rattle.viewed_facts.specs.Exact.{IsExact}
 use Rattle.viewed_facts.proofs.Instructions.{ExactOn, view_stored, view_declared}
+use Rattle.viewed_steps.proofs.Views.{AreAccess}
+use Rattle.viewed_facts.proofs.Steps.{IsAway}
 
 -- an act that moves nothing
-moves_nothing : (a : Act) (facts : List Fact) → ((n : PlaceName) → Has (adds a) (Moved n) → ⊥) → (n : PlaceName) → Has (effect a facts) (Moved n) → Has facts (Moved n)
+pub moves_nothing : (a : Act) (facts : List Fact) → ((n : PlaceName) → Has (adds a) (Moved n) → ⊥) → (n : PlaceName) → Has (effect a facts) (Moved n) → Has facts (Moved n)
 moves_nothing a facts none n has = elim (fact_before a facts (Moved n) has) [ inl old ↦ old.0 | inr new ↦ absurd (none n new) ]
 
 module _ (t : Turn) (settled : IsSettled (typing t).table) (own_law : OwnsByShape (typing t).table) (other : Around (home (typing t) (length t.outer)))
-    (alone : (w : Way) → IsNear (length t.outer) w → other.gone w → ⊥) (no_formals : (x : ℕ) → is_view_formal (typing t) x ≡ false)
+    (alone : (w : Way) → IsNear (length t.outer) w → other.gone w → ⊥) (in_formals : AreAccess (typing t))
     (v : Views) (parts_named : PartsAreNamed (typing t).table) (may : ℕ → ℕ → Type 0)
     (frames : t.state.frames ≡ t.frame ∷ t.outer) (none : taken t.point.instr ≡ 0)
-    (elsewhere : Way → Type 0) (away : (w : Way) → elsewhere w → (IsNear (length t.outer) w → ⊥) ⊎ IsThrough (home (typing t) (length t.outer)) other.lent Borrowed w) (Excused : LeakSpot → Type 0) where
+    (elsewhere : Way → Type 0) (away : (w : Way) → elsewhere w → IsAway (typing t) (length t.outer) other w) (Excused : LeakSpot → Type 0) where
   abbrev s : Typing
   s = typing t
 
@@ -85,7 +87,7 @@ module _ (t : Turn) (settled : IsSettled (typing t).table) (own_law : OwnsByShap
   Exact n facts = IsExact s (home s depth) v elsewhere n facts
 
   abbrev ExactHere : List Fact → Outcome → Type 0
-  ExactHere facts outcome = ExactOn t settled own_law other alone no_formals v parts_named may frames none elsewhere away Excused facts [] outcome
+  ExactHere facts outcome = ExactOn t settled own_law other alone in_formals v parts_named may frames none elsewhere away Excused facts [] outcome
 
   abbrev Observes_here : ℕ → ℕ → ℕ → ℕ → TypedTree → Type 0
   Observes_here x y u d path = Observes t settled own_law other alone v parts_named may frames none x y u d path
@@ -151,7 +153,7 @@ module _ (t : Turn) (settled : IsSettled (typing t).table) (own_law : OwnsByShap
       (subst (λ c. ExactHere (effect (a (name_of y path)) facts)
       (steps.evaluated t (if c then viewed (here t) e (at ws) else followed_by (value (here t) e (at ws)) (checked (here t) (object_at s x).of)) (λ ws m. goes t (declared depth x ws m) 0)))
       (sym observes.anonymous)
-      (view_declared t settled own_law other alone no_formals v parts_named may frames none elsewhere away Excused
+      (view_declared t settled own_law other alone in_formals v parts_named may frames none elsewhere away Excused
       (λ ws. (z : machine.Word) × (ws ≡ z ∷ [])) x observes.anonymous facts (effect (a (name_of y path)) facts) good
       (moves_nothing (a (name_of y path)) facts none_moved) exact (evaluate (here t) AsView e (at ws)) shown.quiet_there))
 
@@ -161,7 +163,7 @@ module _ (t : Turn) (settled : IsSettled (typing t).table) (own_law : OwnsByShap
       → AllowsAll facts (acts (declared_acts s x (More (Name q y path u) NoMore))) → Exact m facts
       → ExactHere (after (acts (declared_acts s x (More (Name q y path u) NoMore))) facts) (Declares_here ws x (More (Name q y path u) NoMore))
   view_declared_on ws q x y u path view variable mine source_there takes facts good allowed exact =
-      let from_it = observes t settled own_law other alone no_formals v parts_named may frames none q x y u path view mine source_there in
+      let from_it = observes t settled own_law other alone in_formals v parts_named may frames none q x y u path view variable mine source_there in
       by_kind from_it.0 from_it.1 (is_observer s x) refl
     where
       e : TypedTree
@@ -205,7 +207,7 @@ module _ (t : Turn) (settled : IsSettled (typing t).table) (own_law : OwnsByShap
       (subst (λ (z : Now). ExactHere facts' (leaking_goes (checks_at s pos z.memory k) (goes t (stored s k ws z.memory) 0))) (sym same)
       (subst (λ z. ExactHere facts' (leaking_goes (checks_at s pos m k) (goes t (stored s k z m) 0))) (sym is)
       (subst (λ z. ExactHere facts' (leaking_goes (checks_at s pos m k) (goes t z 0))) (sym there)
-      (view_stored t settled own_law other alone no_formals v parts_named may frames none elsewhere away Excused depth x (z ∷ []) observes.anonymous facts facts' good less exact, tt))))
+      (view_stored t settled own_law other alone in_formals v parts_named may frames none elsewhere away Excused depth x (z ∷ []) observes.anonymous facts facts' good less exact, tt))))
   then_put pos q x y u w d path facts facts' good observes less exact (Raises e n) is = tt
   then_put pos q x y u w d path facts facts' good observes less exact (Traps e n) never = tt
 
@@ -237,7 +239,7 @@ module _ (t : Turn) (settled : IsSettled (typing t).table) (own_law : OwnsByShap
       → ExactHere (after (acts (assigned_to s pos (Some x) (Name r x NoMore (object_at s x).of) (Name q y path u))) facts)
       (Puts_here ws (Name r x NoMore (object_at s x).of) r x (Name q y path u))
   view_assigned_on ws pos r q x y u path view variable mine source_there takes itself facts good allowed exact =
-      let from_it = observes t settled own_law other alone no_formals v parts_named may frames none q x y u path view mine source_there in
+      let from_it = observes t settled own_law other alone in_formals v parts_named may frames none q x y u path view variable mine source_there in
       by_kind from_it.0 from_it.1 (is_observer s x) refl
     where
       by_kind : (d : ℕ) → Observes_here x y u d path → (b : Bool) → is_observer s x ≡ b
@@ -279,7 +281,7 @@ module _ (t : Turn) (settled : IsSettled (typing t).table) (own_law : OwnsByShap
   reborrow_unmoved ws pos r q x y u path view variable mine source_there takes borrows itself facts good allowed n has root =
       let e : TypedTree = Name q y path u in
       let target : TypedTree = Name r x NoMore (object_at s x).of in
-      let from_it = observes t settled own_law other alone no_formals v parts_named may frames none q x y u path view mine source_there in
+      let from_it = observes t settled own_law other alone in_formals v parts_named may frames none q x y u path view variable mine source_there in
       let is = view_kinds (is_variable (object_at s x).kind) (is_borrowing (view_of s x)) (is_observing (view_of s x)) view variable borrows in
       let same : assigned_to s pos (Some x) target e ≡ acts_in s path ++ record { pos = r; act = act.Reborrow x (name_of y path) } ∷ [] =
       ap (λ b. if b then index_acts s e ++ reborrow (acts_target_pos pos (written target)) x (source e)

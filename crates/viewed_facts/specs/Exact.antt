@@ -45,7 +45,7 @@ IsDefiniteOf program effects stages w =
 abbrev pub AreExact : (table : Table) (typed : TypedProgram) (effects : Effects) (state : State) → IsSound table typed effects state → Type 0
 AreExact table typed effects state sound =
     Told (seen (flow_typing (flow_program table typed)) state.memory [] [])
-    (IsDefiniteOf (flow_program table typed) effects (record { stage = sound.top; views = sound.views } ∷ sound.older))
+    (IsDefiniteOf (flow_program table typed) effects (record { stage = sound.top; views = sound.views; cells = [] } ∷ sound.older))
 
 -- ---- the law
 

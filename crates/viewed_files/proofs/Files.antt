@@ -1,7 +1,9 @@
 -- Borrowers and observers of files that break no rule are in order, and the runs of their program are sound where
--- nothing is reported and formals and results are of scalar types.
-use Rattle.std.proofs.Common.{◌≡◌, refl, sym, ◌∙◌, subst, ◌⊎◌, inl, inr, ℕ, Bool, true, false, List, [], ◌∷◌, Some, None}
+-- nothing is reported, results are of scalar types or stand alone, and formals are of scalar types or of mode `in out`.
+use Rattle.std.proofs.Common.{◌≡◌, refl, sym, ap, ◌∙◌, subst, ◌⊎◌, inl, inr, ℕ, Bool, true, false, ◌&&◌, List, [], ◌∷◌, Some, None, is_some}
 use Rattle.spark_base.specs.Lists.{Has}
+use Rattle.place_names.specs.declared.act.Mode.{Mode}
+use Rattle.place_names.specs.declared.act.Mode.TheVariants as mode
 use Rattle.ada_lexer.specs.Tokens.{Cut}
 use Rattle.ada_tree.specs.declared.unit.SourceUnit.{SourceUnit}
 use Rattle.name_events.specs.Outline.{source_events}
@@ -15,7 +17,7 @@ use Rattle.type_definitions.specs.declared.table.Shape.{Shape}
 use Rattle.type_definitions.specs.declared.table.Shape.TheVariants as shape
 use Rattle.type_definitions.specs.declared.judgement.View.{View}
 use Rattle.type_definitions.specs.declared.judgement.View.TheVariants as view
-use Rattle.type_definitions.specs.Types.{Table, full, view_of, is_scalar, shape_of, words, words_of}
+use Rattle.type_definitions.specs.Types.{Table, full, view_of, is_scalar, is_owning, shape_of, words, words_of}
 use Rattle.type_definitions.specs.Entries.{integer, boolean, marked}
 use Rattle.type_definitions.specs.Expressions.{is_anonymous}
 use Rattle.type_definitions.specs.Whole.{outside, known_of, type_fault}
@@ -43,10 +45,14 @@ use Rattle.anonymous_types.proofs.Main as anonymous
 use Rattle.typed_laws.specs.Fine.{Laws, counts, lists}
 use Rattle.typed_steps.specs.Steps.{AreTyped as AreStepsTyped}
 use Rattle.typed_points.specs.Meant.{AreMeantUnits, typing_meant}
+use Rattle.machine.specs.States.{sub_of}
+use Rattle.machine.specs.Owners.{is_in, is_in_formal}
+use Rattle.soundness.specs.Seen.{is_view_formal}
 use Rattle.soundness.specs.Typed.{OwnsByShape}
-use Rattle.soundness.specs.Sound.{Accepted, ArePlainResults, RunIsSound}
+use Rattle.soundness.proofs.Passing.{plain_type}
+use Rattle.soundness.specs.Sound.{Accepted, RunIsSound}
 use Rattle.soundness.proofs.Points.{flow_table}
-use Rattle.viewed_soundness.specs.Holds.{PartsAreNamed}
+use Rattle.viewed_soundness.specs.Holds.{PartsAreNamed, is_exclusive}
 use Rattle.ready_laws.specs.InOrder.{IsInOrder, IsSub, AreAnswered, AreStill, ArePassed}
 use Rattle.ready_laws.proofs.Actuals.{typed_passed}
 use Rattle.order_laws.specs.Orderly.{typed_of, typing_in, bodies_of, IsOrderly}
@@ -61,24 +67,25 @@ use Rattle.meant_files.specs.Typed.{AreTyped}
 use Rattle.meant_files.proofs.Main.{files_denote}
 use Rattle.meant_files.proofs.Main as meant
 use Rattle.meant_files.proofs.Codes as codes
-use Rattle.sound_files.specs.Class.{CallsProcedures, CallsWithOwners}
+use Rattle.scope_laws.proofs.Lists.{and_first, and_second}
+use Rattle.sound_files.specs.Class.{CallsWithOwners}
 use Rattle.sound_files.proofs.Laws.{table_laws, files_declared, integers_scalar, truths_scalar}
 use Rattle.sound_files.proofs.Called.{files_bodies}
 use Rattle.sound_files.proofs.Mains.{main_formless}
-use Rattle.sound_files.proofs.Functions.{functions_scalar}
-use Rattle.sound_files.proofs.Owners.{kinds_there, functions_there, main_there, passed_there}
-use Rattle.sound_files.proofs.Classes.{copies, are_answered, plain_results, temporaries_plain}
+use Rattle.sound_files.proofs.Functions.{functions_in}
+use Rattle.sound_files.proofs.Declared.{declared_known, formals_apart}
+use Rattle.sound_files.proofs.Owners.{kinds_there, modes_there, main_there, passed_there}
+use Rattle.sound_files.proofs.Classes.{are_answered}
 use Rattle.typed_files.proofs.Main.{files_fine, files_steps}
 use Rattle.sound_files.proofs.Main.{files_orderly}
 use Rattle.viewed_steps.specs.Ready.{IsReady}
 use Rattle.viewed_steps.proofs.Main.{ready_sound}
 use Rattle.view_laws.specs.InOrder.{AreViewsInOrder}
-use Rattle.viewed_steps.specs.Sound.{IsKindOfFormal}
+use Rattle.viewed_steps.specs.Sound.{IsScalarObject, IsShown, IsKindOfFormal}
 use Rattle.view_laws.specs.Program.{PassActuals, IsViewProgram}
 use Rattle.view_laws.proofs.Ready.{views_ready}
 use Rattle.viewed_files.proofs.Sources.{scalar_plain}
-use Rattle.viewed_files.proofs.Named.{named_sources}
-use Rattle.viewed_files.proofs.Passed.{actuals_passed}
+use Rattle.viewed_files.proofs.Passed.{PassFit, actuals_passed, kept_places}
 use Rattle.viewed_files.proofs.Main.{IsGiven, views_in_order}
 
 heads : (x y : TypedSub) (xs ys : List TypedSub) → x ∷ xs ≡ y ∷ ys → x ≡ y
@@ -97,6 +104,23 @@ same_anonymous : (w : View) → is_anonymous w ≡ false → flow.is_anonymous w
 same_anonymous (view.Access d k true) e = refl
 same_anonymous (view.Access d k false) e = cc
 same_anonymous w e = refl
+
+and_false : (b : Bool) → b && false ≡ false
+and_false true = refl
+and_false false = refl
+
+access_plain : (w : View) → flow.is_named_access w ≡ true → flow.is_anonymous w ≡ false
+access_plain (view.Access d k true) e = named_access k
+  where
+    named_access : (k : Bool) → flow.is_anonymous (view.Access d k true) ≡ false
+    named_access true = refl
+    named_access false = refl
+access_plain (view.Access d k false) e = cc
+access_plain w e = cc
+
+access_shape : (z : Shape) → flow.is_named_access (view_of z) ≡ true → (d : ℕ) × (c : Bool) × (n : Bool) × (z ≡ shape.Access d c n)
+access_shape (shape.Access d c n) e = (d, c, n, refl)
+access_shape z e = cc
 
 whole_named : (z : Shape) (d : ℕ) (c n : Bool) → counts z ≡ true → z ≡ shape.Access d c n → n ≡ true
 whole_named (shape.Access e k m) d c n whole is = cc
@@ -173,6 +197,8 @@ module _ (files : List (List SourceUnit)) where
         names = known_keeps (IsObjectIn (names_known files)) p (files_fit files up named);
         fits = files_fit files up named;
         values = files_values_seen files up named orderly.once;
+        declared = declared_known p (IsMade p.units) declared;
+        apart = formals_apart p (IsMade p.units) declared;
       }
 
       -- Where no formal is of an anonymous access type, borrowers and observers are in order.
@@ -191,7 +217,9 @@ module _ (files : List (List SourceUnit)) where
       formals_plain : (x : ℕ) → flow.is_formal (typing_in p) x ≡ true → flow.is_anonymous (flow.view_of (typing_in p) x) ≡ false
       formals_plain x is = elim (calls.formals x is) [
         | inl plain ↦ scalar_plain (flow.view_of (typing_in p) x) plain
-        | inr (back, plain) ↦ plain
+        | inr (inl (back, plain)) ↦ plain
+        | inr (inr (inl (shown, access))) ↦ access_plain (flow.view_of (typing_in p) x) access
+        | inr (inr (inr (in_mode, none, plain))) ↦ plain
       ]
 
       accepted : Accepted table (typed_of p) effects
@@ -234,9 +262,6 @@ module _ (files : List (List SourceUnit)) where
       integers : is_scalar (full table integer) ≡ true
       integers = integers_scalar files apart ended up named no_fault files_views
 
-      results : CallsProcedures flow_of_files ⊎ ArePlainResults (flow_typing flow_of_files)
-      results = plain_results p calls.results truths
-
       passed : ArePassed flow_of_files
       passed =
           typed_passed flow_of_files (subst (λ (rows : Table). counts (shape_of rows integer) ≡ true) same_table laws.whole)
@@ -246,14 +271,55 @@ module _ (files : List (List SourceUnit)) where
       kinds : (x : ℕ) → flow.is_formal (flow_typing flow_of_files) x ≡ true → IsKindOfFormal (flow_typing flow_of_files) x
       kinds x is = elim (kinds_there p calls.formals x is) [
         | inl plain ↦ inl plain
-        | inr (back, plain) ↦ inr (back, named_type (shape_of flow_of_files.table (flow.object_at (flow_typing flow_of_files) x).of) plain)
+        | inr (inl (back, plain)) ↦ inr (inl (back, named_type (shape_of flow_of_files.table (flow.object_at (flow_typing flow_of_files) x).of) plain))
+        | inr (inr (inl (shown, access))) ↦ inr (inr (inl (shown, access_shape (shape_of flow_of_files.table (flow.object_at (flow_typing flow_of_files) x).of) access)))
+        | inr (inr (inr (in_mode, none, plain))) ↦
+            inr (inr (inr (in_mode, none, named_type (shape_of flow_of_files.table (flow.object_at (flow_typing flow_of_files) x).of) plain)))
       ]
+
+      fit : PassFit flow_of_files
+      fit = passed_there p calls.passed
+
+      -- a formal of a scalar type owns nothing
+      scalar_none : (x : ℕ) → IsScalarObject (flow_typing flow_of_files) x → is_view_formal (flow_typing flow_of_files) x ≡ false
+      scalar_none x plain =
+          ap (λ b. is_in_formal (flow_typing flow_of_files) x && b) (plain_type (flow_typing flow_of_files) owns (flow.object_at (flow_typing flow_of_files) x).of plain)
+          ∙ and_false (is_in_formal (flow_typing flow_of_files) x)
+
+      modes : (n t : ℕ) → (flow.sub_at (flow_typing flow_of_files) n).result ≡ Some t → (x : ℕ) → Has (flow.sub_at (flow_typing flow_of_files) n).formals x
+          → (flow.object_at (flow_typing flow_of_files) x).mode ≡ mode.In
+      modes = modes_there p (functions_in p (units_faultless p no_fault) text_orderly.once)
+
+      functions : (n t : ℕ) → (flow.sub_at (flow_typing flow_of_files) n).result ≡ Some t → (x : ℕ) → Has (flow.sub_at (flow_typing flow_of_files) n).formals x
+          → flow.is_formal (flow_typing flow_of_files) x ≡ true → is_view_formal (flow_typing flow_of_files) x ≡ true → is_exclusive (flow_typing flow_of_files) x ≡ false
+      functions n t result x has formal view = elim (calls.seen n t x result has formal) [
+        | inl plain ↦ absurd (let no : true ≡ false = sym view ∙ scalar_none x plain in cc)
+        | inr seen ↦ seen view
+      ]
+
+      -- what a procedure is shown is of a named access type
+      procedures : (n : ℕ) → (flow.sub_at (flow_typing flow_of_files) n).result ≡ None → (x : ℕ) → Has (flow.sub_at (flow_typing flow_of_files) n).formals x
+          → flow.is_formal (flow_typing flow_of_files) x ≡ true → is_view_formal (flow_typing flow_of_files) x ≡ true
+          → flow.is_named_access (flow.view_of (flow_typing flow_of_files) x) ≡ true
+      procedures n result x has formal view = elim (kinds_there p calls.formals x formal) [
+        | inl plain ↦ absurd (let no : true ≡ false = sym view ∙ scalar_none x plain in cc)
+        | inr (inl (back, plain)) ↦ absurd (back (in_mode (flow.object_at (flow_typing flow_of_files) x).mode (and_second (flow.is_formal (flow_typing flow_of_files) x) (is_in (flow.object_at (flow_typing flow_of_files) x).mode)
+            (and_first (is_in_formal (flow_typing flow_of_files) x) (is_owning flow_of_files.table (flow.object_at (flow_typing flow_of_files) x).of) view))))
+        | inr (inr (inl (shown, access))) ↦ access
+        | inr (inr (inr (in_mode, none, plain))) ↦
+            absurd (let no : true ≡ false = sym (and_second (is_in_formal (flow_typing flow_of_files) x) (is_owning flow_of_files.table (flow.object_at (flow_typing flow_of_files) x).of) view) ∙ none in cc)
+      ]
+        where
+          in_mode : (m : Mode) → is_in m ≡ true → m ≡ mode.In
+          in_mode mode.In e = refl
+          in_mode mode.Out e = cc
+          in_mode mode.InOut e = cc
 
       passes : PassActuals flow_of_files
       passes =
           actuals_passed flow_of_files (subst (λ (rows : Table). counts (shape_of rows integer) ≡ true) same_table laws.whole)
           (subst (λ (rows : Table). lists (shape_of rows boolean) ≡ true) same_table laws.listed)
-          (subst (λ (rows : Table). (t : ℕ) → words rows t ≡ words_of (words rows) (shape_of rows t)) same_table laws.word_law) typed kinds (passed_there p calls.passed)
+          (subst (λ (rows : Table). (t : ℕ) → words rows t ≡ words_of (words rows) (shape_of rows t)) same_table laws.word_law) owns typed kinds fit
 
       main_in : IsSub (bodies_of p) order.number order.main
       main_in = subst (λ rest. IsSub rest order.number order.main) (sym rest_is) order.stands
@@ -263,13 +329,15 @@ module _ (files : List (List SourceUnit)) where
         accepted = accepted;
         owns = owns;
         parts_named = subst PartsAreNamed same_table parts_named;
-        results = results;
-        temporaries = temporaries_plain p calls.results truths integers order.lasting;
+        integers = subst (λ (rows : Table). is_scalar (full rows integer) ≡ true) same_table integers;
+        truths = subst (λ (rows : Table). is_scalar (full rows boolean) ≡ true) same_table truths;
         formals = kinds;
-        functions = functions_there p (functions_scalar p (units_faultless p no_fault) text_orderly.once calls.formals);
-        copied = λ sub has q there n actuals result is known. copies p calls.copied sub has q there n actuals result is;
-        sources = named_sources flow_of_files typed results;
+        functions = functions;
+        modes = modes;
+        procedures = procedures;
+        copied = λ sub has q there n actuals result is known. kept_places (flow_typing flow_of_files) (sub_of flow_of_files n).formals actuals known (fit sub has q there n actuals result is);
         order = order;
+        results = λ sub has. calls.results sub (subst (λ subs. Has subs sub) (sym rest_is) has);
         answered = subst (AreAnswered table (typed_of p)) rest_is (are_answered p (files_bodies files up named) typed);
         passes = passes;
         passed = passed;

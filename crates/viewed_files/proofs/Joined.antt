@@ -18,7 +18,7 @@ use Rattle.flow_paths.specs.Views.{encloses, scope_of}
 use Rattle.scope_laws.specs.Code.{roots, are_seen, is_seen, is_each_seen}
 use Rattle.scope_laws.proofs.Lists.{within_has, and_first, and_second, both_true}
 use Rattle.layered_scopes.specs.Layered.{is_older, are_of_scope, are_apart, is_layered, is_each_layered}
-use Rattle.view_laws.specs.InOrder.{is_call, is_list_end, is_one_name_of, is_any, fits}
+use Rattle.view_laws.specs.InOrder.{gives_view, is_list_end, is_one_name_of, is_any, fits}
 use Rattle.viewed_files.specs.Sources.{has_source, all_fit}
 
 either : (a b : Bool) → a || b ≡ true → (a ≡ true) ⊎ (b ≡ true)
@@ -73,20 +73,20 @@ module _ (s : Typing) (scopes : List ℕ) (k : ℕ) where
 
   declare_fits : (x : ℕ) (sc : List ℕ) (v : TypedTree) → k ≤ x → list_all (older x) sc ≡ true → are_seen before sc (roots v) ≡ true
       → has_source s (Declare x v) ≡ true → fits s (Declare x v) ≡ true
-  declare_fits x sc v low all seen is = by (either (not (is_anonymous (view_of s x))) (is_one_name_of is_any v || is_call (first v)) is)
+  declare_fits x sc v low all seen is = by (either (not (is_anonymous (view_of s x))) (is_one_name_of is_any v || gives_view s (first v)) is)
     where
       test : ℕ → Bool
       test y = is_observer s x || nat_lt y x
 
-      source : (is_one_name_of is_any v ≡ true) ⊎ (is_call (first v) ≡ true) → is_one_name_of test v || is_call (first v) ≡ true
+      source : (is_one_name_of is_any v ≡ true) ⊎ (gives_view s (first v) ≡ true) → is_one_name_of test v || gives_view s (first v) ≡ true
       source (inl name) =
-          or_left (is_one_name_of test v) (is_call (first v))
+          or_left (is_one_name_of test v) (gives_view s (first v))
           (one_name_so test v (λ y has. or_right (is_observer s x) (nat_lt y x) (seen_older x sc (roots v) low all seen y has)) name)
-      source (inr calls) = or_right (is_one_name_of test v) (is_call (first v)) calls
+      source (inr calls) = or_right (is_one_name_of test v) (gives_view s (first v)) calls
 
-      by : (not (is_anonymous (view_of s x)) ≡ true) ⊎ (is_one_name_of is_any v || is_call (first v) ≡ true) → fits s (Declare x v) ≡ true
-      by (inl named) = or_left (not (is_anonymous (view_of s x))) (is_one_name_of test v || is_call (first v)) named
-      by (inr has) = or_right (not (is_anonymous (view_of s x))) (is_one_name_of test v || is_call (first v)) (source (either (is_one_name_of is_any v) (is_call (first v)) has))
+      by : (not (is_anonymous (view_of s x)) ≡ true) ⊎ (is_one_name_of is_any v || gives_view s (first v) ≡ true) → fits s (Declare x v) ≡ true
+      by (inl named) = or_left (not (is_anonymous (view_of s x))) (is_one_name_of test v || gives_view s (first v)) named
+      by (inr has) = or_right (not (is_anonymous (view_of s x))) (is_one_name_of test v || gives_view s (first v)) (source (either (is_one_name_of is_any v) (gives_view s (first v)) has))
 
   abbrev AreHigh : TypedCode → Type 0
   AreHigh c = (x : ℕ) → Has (declared_within c) x → k ≤ x

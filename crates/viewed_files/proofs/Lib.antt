@@ -7,6 +7,5 @@ pub mod Walked
 pub mod Units
 pub mod Roots
 pub mod Main
-pub mod Named
 pub mod Passed
 pub mod Files

@@ -206,6 +206,8 @@ module _ (p : Program) (made : ℕ → Type 0) (laws : Laws (known_of p) made) (
     pub names : IsKnown s object
     pub fits : AllFit object [] p.units
     pub values : body_seen (is_package_object own) (elaboration s p.units) ≡ true
+    pub declared : (sub : TypedSub) → Has (typed_of p).subs sub → (x : ℕ) → Has (declared_within sub.body) x → is_formal own x ≡ false
+    pub apart : (x : ℕ) → is_formal own x ≡ true → is_package_object own x ≡ false
 
   module _ (given : IsGiven) where
     objects_are : own.objects ≡ text_io ∷ map (λ (o : DeclaredObject). o.object) all
@@ -300,4 +302,4 @@ module _ (p : Program) (made : ℕ → Type 0) (laws : Laws (known_of p) made) (
 
     -- The views of the program are in order.
     pub views_in_order : AreViewsInOrder table (typed_of p) (elaboration s p.units) (bodies_of p)
-    views_in_order = record { values = package_values; inner = inner; layered = body_layered; local = local_views }
+    views_in_order = record { values = package_values; seen = given.values; declared = given.declared; apart = given.apart; inner = inner; layered = body_layered; local = local_views }

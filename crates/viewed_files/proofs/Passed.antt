@@ -1,38 +1,35 @@
--- The actuals of typed calls are as they are asked for: those for formals that own are names of objects that belong to
--- no package.
-use Rattle.std.proofs.Common.{◌≡◌, refl, sym, ap, ◌∙◌, subst, ◌⊎◌, inl, inr, ℕ, Bool, true, false, List, [], ◌∷◌, Option}
+-- The actuals of typed calls of the class with formals that own are as they are asked for.
+use Rattle.std.proofs.Common.{◌≡◌, ◌∙◌, refl, sym, ap, subst, ◌⊎◌, inl, inr, ℕ, Bool, true, false, ◌&&◌, List, [], ◌∷◌, Option}
 use Rattle.spark_base.specs.Lists.{Has as Holds}
 use Rattle.place_names.specs.declared.act.Mode.{Mode}
 use Rattle.place_names.specs.declared.act.Mode.TheVariants as mode
-use Rattle.type_definitions.specs.Types.{shape_of, words, words_of, full, is_scalar}
+use Rattle.type_definitions.specs.Types.{shape_of, words, words_of, is_owning}
 use Rattle.type_definitions.specs.Entries.{integer, boolean}
 use Rattle.typed_tree.specs.Trees.{TypedTree, Name, More}
+use Rattle.typed_tree.specs.Trees as typed
 use Rattle.flow_paths.specs.Objects.{Typing, Signature, object_at, sub_at, is_formal, is_package_object}
 use Rattle.flow_paths.specs.Instructions.{Call}
 use Rattle.flow_paths.specs.Points.{FlowPoint}
 use Rattle.flow_paths.specs.Laid.{FlowSub, FlowProgram, flow_typing}
 use Rattle.machine.specs.States.{sub_of}
-use Rattle.typed_laws.specs.Fine.{Agree, counts, lists}
+use Rattle.machine.specs.Owners.{is_in, is_in_formal}
+use Rattle.soundness.specs.Typed.{OwnsByShape}
+use Rattle.soundness.specs.Sound.{goes_through_none}
+use Rattle.typed_laws.specs.Fine.{Has, Agree, counts, lists}
 use Rattle.typed_laws.specs.Needed.{Matches, IsPlace}
 use Rattle.typed_laws.proofs.Sound.{matches, leads}
-use Rattle.typed_steps.specs.Steps.{IsPlaceOf, IsActual, ActualsTaken, IsTypedStep, AreTyped}
+use Rattle.typed_steps.specs.Steps.{Taken, IsPlaceOf, IsActual, ActualsTaken, IsTypedStep, AreTyped}
 use Rattle.soundness.specs.Ready.{root_of}
-use Rattle.soundness.proofs.Passing.{signature_there}
+use Rattle.soundness.proofs.Passing.{plain_type, signature_there}
 use Rattle.ready_laws.proofs.Actuals.{taken_stays, scalar_back}
-use Rattle.sound_files.specs.Class.{AreOwnActuals}
-use Rattle.viewed_steps.specs.Sound.{IsScalarObject, IsKindOfFormal}
-use Rattle.viewed_steps.specs.Ready.{IsActualTo, AreActualsTo}
+use Rattle.sound_files.specs.Class.{IsShownActual, IsCopiedActual, IsKeptActual, IsFitActual, AreFitActuals}
+use Rattle.viewed_steps.specs.Sound.{IsScalarObject, IsKindOfFormal, AreKeptPlaces}
+use Rattle.viewed_steps.specs.Ready.{IsSeen, IsCopyOf, IsValueTo, IsActualTo, AreActualsTo}
 use Rattle.view_laws.specs.Program.{PassActuals}
 
-true_or : (b : Bool) → (b ≡ true) ⊎ (b ≡ false)
-true_or true = inl refl
-true_or false = inr refl
-
-out_and_in : mode.Out ≡ mode.InOut → ⊥
-out_and_in e = cc
-
-in_and_out : mode.In ≡ mode.InOut → ⊥
-in_and_out e = cc
+both_second : (a b : Bool) → a && b ≡ true → b ≡ true
+both_second true b e = e
+both_second false b e = cc
 
 module _ (y : Typing) (whole : counts (shape_of y.table integer) ≡ true) (listed : lists (shape_of y.table boolean) ≡ true)
     (word_law : (t : ℕ) → words y.table t ≡ words_of (words y.table) (shape_of y.table t)) where
@@ -42,59 +39,106 @@ module _ (y : Typing) (whole : counts (shape_of y.table integer) ≡ true) (list
       (t, (leads y whole listed word_law path (object_at y z).of u place.0, place.1), matches y.table t (object_at y x).of agree)
   named_place x t e place agree = absurd place
 
-  abbrev IsOwnRoot : ℕ → TypedTree → Type 0
-  IsOwnRoot x e = is_formal y x ≡ true → is_scalar (full y.table (object_at y x).of) ≡ false → (z : ℕ) → Holds (root_of e) z → is_package_object y z ≡ false
+  -- what is shown is null, or a name of the formal's type
+  shown_seen : (x : ℕ) (e : TypedTree) → IsShownActual y x e → Taken y (object_at y x).of e → IsSeen y x e
+  unfolding Has
+  shown_seen x typed.Null shown taken = tt
+  shown_seen x (Name p z path u) shown (inl has) = (leads y whole listed word_law path (object_at y z).of u has.0, inl shown.0, shown.1)
+  shown_seen x (Name p z path u) shown (inr (lead, view)) = (leads y whole listed word_law path (object_at y z).of u lead, inl shown.0, shown.1)
+  shown_seen x e shown taken = absurd shown
 
-  actual_to : (x : ℕ) (e : TypedTree) → is_formal y x ≡ true → IsKindOfFormal y x → IsOwnRoot x e → IsActual y x e → IsActualTo y x (object_at y x).mode e
-  actual_to x e formal kind own actual = by_mode (object_at y x).mode refl actual
-    where
-      scalar_of : (m : Mode) → (object_at y x).mode ≡ m → (m ≡ mode.InOut → ⊥) → IsScalarObject y x
-      scalar_of m is other = elim kind [
-        | inl plain ↦ plain
-        | inr (back, named) ↦ absurd (other (sym is ∙ back))
-      ]
+  -- what is copied is a name of the formal's type
+  name_copied : (x : ℕ) (e : TypedTree) → IsCopiedActual y x e → Taken y (object_at y x).of e → IsCopyOf y x e
+  unfolding Has
+  name_copied x (Name p z path u) same (inl has) = (leads y whole listed word_law path (object_at y z).of u has.0, inl same)
+  name_copied x (Name p z path u) same (inr (lead, view)) = (leads y whole listed word_law path (object_at y z).of u lead, inl same)
+  name_copied x e same taken = absurd same
 
-      by_mode : (m : Mode) → (object_at y x).mode ≡ m → IsActual y x e → IsActualTo y x m e
-      by_mode mode.In is g = taken_stays y whole listed word_law (object_at y x).of e (scalar_of mode.In is in_and_out) (rw is at g)
-      by_mode mode.Out is g =
-          let place = rw is at g in
-          let found = named_place x place.0 e place.1 place.2 in
-          (found.0, found.1, scalar_back y whole listed word_law found.0 (object_at y x).of found.2 (scalar_of mode.Out is out_and_in))
-      by_mode mode.InOut is g =
-          let place = rw is at g in
-          let found = named_place x place.0 e place.1 place.2 in (
-            found.0,
-            found.1,
-            found.2,
-            elim (true_or (is_scalar (full y.table (object_at y x).of))) [
-              | inl plain ↦ inl (scalar_back y whole listed word_law found.0 (object_at y x).of found.2 plain)
-              | inr owns ↦ inr (own formal owns)
-            ],
-          )
+  module _ (own_law : OwnsByShape y.table) where
+    actual_to : (x : ℕ) (e : TypedTree) → IsKindOfFormal y x → IsFitActual y x (object_at y x).mode e → IsActual y x e → IsActualTo y x (object_at y x).mode e
+    actual_to x e kind fit actual = by_mode (object_at y x).mode refl fit actual
+      where
+        owns_none : IsScalarObject y x → is_owning y.table (object_at y x).of ≡ false
+        owns_none plain = plain_type y own_law (object_at y x).of plain
 
-  actuals_to : (formals : List ℕ) (actuals : TypedTree) → ((x : ℕ) → Holds formals x → is_formal y x ≡ true) → ((x : ℕ) → is_formal y x ≡ true → IsKindOfFormal y x)
-      → AreOwnActuals y formals actuals → ActualsTaken y formals actuals → AreActualsTo y formals actuals
-  actuals_to (x ∷ formals) (More e rest) known kinds own (one, others) =
-      (actual_to x e (known x (inl refl)) (kinds x (known x (inl refl))) own.0 one, actuals_to formals rest (λ z has. known z (inr has)) kinds own.1 others)
-  actuals_to [] actuals known kinds own taken = λ x has. absurd has
-  actuals_to (x ∷ formals) actuals known kinds own taken = absurd taken
+        no_owner : is_owning y.table (object_at y x).of ≡ true → is_owning y.table (object_at y x).of ≡ false → ⊥
+        no_owner owns none = (let no : true ≡ false = sym owns ∙ none in cc)
+
+        value : Taken y (object_at y x).of e → IsFitActual y x mode.In e → (object_at y x).mode ≡ mode.In → is_owning y.table (object_at y x).of ≡ false → IsValueTo y x e
+        value taken fit is none = elim kind [
+          | inl plain ↦ inl (plain, taken_stays y whole listed word_law (object_at y x).of e plain taken)
+          | inr (inl (back, named)) ↦ absurd (back is)
+          | inr (inr (inl (shown, access))) ↦ absurd (no_owner (both_second (is_in_formal y x) (is_owning y.table (object_at y x).of) shown) none)
+          | inr (inr (inr (in_mode, owns, named))) ↦ elim fit [
+            | inl plain ↦ inl (plain, taken_stays y whole listed word_law (object_at y x).of e plain taken)
+            | inr (inl (here, shown)) ↦ absurd (no_owner here none)
+            | inr (inr (here, copy)) ↦ inr (named, name_copied x e copy taken)
+          ]
+        ]
+
+        seen : Taken y (object_at y x).of e → IsFitActual y x mode.In e → is_owning y.table (object_at y x).of ≡ true → IsSeen y x e
+        seen taken (inl plain) owns = absurd (no_owner owns (owns_none plain))
+        seen taken (inr (inl (here, shown))) owns = shown_seen x e shown taken
+        seen taken (inr (inr (none, copy))) owns = absurd (no_owner owns none)
+
+        copied : IsKeptActual y x e → (t : ℕ) → IsPlaceOf y t e → Agree y.table t (object_at y x).of → IsActualTo y x mode.InOut e
+        copied kept t place agree =
+            let found = named_place x t e place agree in (
+              found.0,
+              found.1,
+              found.2,
+              elim kept [
+                | inl (plain, which) ↦ inl (scalar_back y whole listed word_law found.0 (object_at y x).of found.2 plain)
+                | inr (none, roots) ↦ inr roots
+              ],
+            )
+
+        by_mode : (m : Mode) → (object_at y x).mode ≡ m → IsFitActual y x m e → IsActual y x e → IsActualTo y x m e
+        by_mode mode.In is fit g = (value (rw is at g) fit is, seen (rw is at g) fit)
+        by_mode mode.Out is fit g = (let place = rw is at g in copied fit place.0 place.1 place.2)
+        by_mode mode.InOut is fit g = (let place = rw is at g in copied fit place.0 place.1 place.2)
+
+    actuals_to : (formals : List ℕ) (actuals : TypedTree) → ((x : ℕ) → Holds formals x → is_formal y x ≡ true) → ((x : ℕ) → is_formal y x ≡ true → IsKindOfFormal y x)
+        → AreFitActuals y formals actuals → ActualsTaken y formals actuals → AreActualsTo y formals actuals
+    actuals_to (x ∷ formals) (More e rest) known kinds fit (one, others) =
+        (actual_to x e (kinds x (known x (inl refl))) (fit.0 (known x (inl refl))) one, actuals_to formals rest (λ z has. known z (inr has)) kinds fit.1 others)
+    actuals_to [] actuals known kinds fit taken = λ x has. absurd has
+    actuals_to (x ∷ formals) actuals known kinds fit taken = absurd taken
+
+-- Where places are that are copied back to.
+kept_one : (s : Typing) (x : ℕ) (e : TypedTree) (m : Mode) → is_in m ≡ false → IsFitActual s x m e
+    → (goes_through_none e ≡ true) ⊎ (IsScalarObject s x × ((z : ℕ) → Holds (root_of e) z → is_package_object s z ≡ false))
+kept_one s x e mode.In back fit = cc
+kept_one s x e mode.Out back (inl (plain, inl none)) = inl none
+kept_one s x e mode.Out back (inl (plain, inr roots)) = inr (plain, roots)
+kept_one s x e mode.Out back (inr (none, roots)) = inl none
+kept_one s x e mode.InOut back (inl (plain, inl none)) = inl none
+kept_one s x e mode.InOut back (inl (plain, inr roots)) = inr (plain, roots)
+kept_one s x e mode.InOut back (inr (none, roots)) = inl none
+
+pub kept_places : (s : Typing) (formals : List ℕ) (actuals : TypedTree) → ((x : ℕ) → Holds formals x → is_formal s x ≡ true) → AreFitActuals s formals actuals
+    → AreKeptPlaces s formals actuals
+kept_places s (x ∷ formals) (More e rest) known fit =
+    ((λ back. kept_one s x e (object_at s x).mode back (fit.0 (known x (inl refl)))), kept_places s formals rest (λ z has. known z (inr has)) fit.1)
+kept_places s [] actuals known fit = tt
+kept_places s (x ∷ formals) actuals known fit = tt
 
 module _ (program : FlowProgram) where
   abbrev s : Typing
   s = flow_typing program
 
-  -- Actuals for formals that own are rooted in objects that belong to no package.
-  abbrev pub PassOwn : Type 0
-  PassOwn =
+  -- In each call, actuals are as the class with formals that own asks.
+  abbrev pub PassFit : Type 0
+  PassFit =
       (sub : FlowSub) → Holds program.subs sub → (p : FlowPoint) → Holds sub.points p → (n : ℕ) (actuals : TypedTree) (result : Option ℕ)
-      → p.instr ≡ Call n actuals result → AreOwnActuals s (sub_of program n).formals actuals
+      → p.instr ≡ Call n actuals result → AreFitActuals s (sub_of program n).formals actuals
 
-  -- So it is of a program whose steps are typed, where actuals for formals that own are such names.
+  -- So it is of a program whose steps are typed.
   pub actuals_passed : counts (shape_of program.table integer) ≡ true → lists (shape_of program.table boolean) ≡ true
-      → ((t : ℕ) → words program.table t ≡ words_of (words program.table) (shape_of program.table t)) → AreTyped program
-      → ((x : ℕ) → is_formal s x ≡ true → IsKindOfFormal s x) → PassOwn → PassActuals program
-  actuals_passed whole listed word_law typed kinds own sub has p there n actuals result is known =
+      → ((t : ℕ) → words program.table t ≡ words_of (words program.table) (shape_of program.table t)) → OwnsByShape program.table → AreTyped program
+      → ((x : ℕ) → is_formal s x ≡ true → IsKindOfFormal s x) → PassFit → PassActuals program
+  actuals_passed whole listed word_law own_law typed kinds fit sub has p there n actuals result is known =
       let call = subst (λ i. IsTypedStep (flow_typing program) sub.result i) is (typed sub has p there) in
       let same : (sub_at (flow_typing program) n).formals ≡ (sub_of program n).formals = ap (λ (z : Signature). z.formals) (signature_there program.subs n) in
-      actuals_to (flow_typing program) whole listed word_law (sub_of program n).formals actuals known kinds (own sub has p there n actuals result is)
+      actuals_to (flow_typing program) whole listed word_law own_law (sub_of program n).formals actuals known kinds (fit sub has p there n actuals result is)
       (subst (λ fs. ActualsTaken (flow_typing program) fs actuals) same call.0)

@@ -1,6 +1,6 @@
 -- Objects of anonymous access types are variables of subprograms, with names or calls as sources, where typing finds
 -- no fault.
-use Rattle.std.proofs.Common.{◌≡◌, refl, sym, ap, ◌∙◌, subst, ◌⊎◌, inl, inr, ℕ, Bool, true, false, not, ◌&&◌, ◌||◌, List, [], ◌∷◌, ◌++◌, map, Some, None, ℤ, if◌then◌else◌}
+use Rattle.std.proofs.Common.{◌≡◌, refl, sym, ap, ◌∙◌, subst, ◌⊎◌, inl, inr, ℕ, Bool, true, false, not, ◌&&◌, ◌||◌, List, [], ◌∷◌, ◌++◌, map, Option, Some, None, is_some, ℤ, if◌then◌else◌}
 use Rattle.std.specs.Prelude.{flat_map}
 use Rattle.std.specs.List.{AllByRecursion}
 use Rattle.spark_base.specs.declared.position.Pos.{Pos}
@@ -28,28 +28,29 @@ use Rattle.type_definitions.specs.Types.{Table, full, shape_of, view_of, untyped
 use Rattle.type_definitions.specs.Entries.{entry_of, integer, marked}
 use Rattle.type_definitions.specs.Faults.{demand, K2, K6}
 use Rattle.type_definitions.specs.Names.{Context, extent, seen, step, along, led_on, ended, reached, through, indexed, is_index, array_value, array_attribute, of_entry, reading_of, is_end}
-use Rattle.type_definitions.specs.Expressions.{faults, inside, behind, way_of, reading_faults, given_names, call_arguments, own_of, next_type, is_variable, is_anonymous}
+use Rattle.type_definitions.specs.Expressions.{faults, inside, behind, way_of, reading_faults, given_names, call_arguments, own_of, next_type, is_variable, is_anonymous, is_traversal, profile_of, result_type}
 use Rattle.type_definitions.specs.Statements.{source_faults, source_name, source_fits, formal_source, designates, is_source, keeps_constant, is_object_entry, is_formal, is_formal_kind, target_faults, assign_faults, assigned}
 use Rattle.type_definitions.specs.Gathered.{indicated, is_anonymous_indication, declared_number}
 use Rattle.type_definitions.specs.Declarations.{indication_faults, is_single, first_pos, first_number, in_package, starting, has_one, initial_faults, object_faults}
 use Rattle.typed_tree.specs.Trees.{TypedTree, TypedCode, Name, NoMore as nothing_more}
 use Rattle.typed_tree.specs.Trees as typed
 use Rattle.typed_tree.specs.declared.object.Object.{Object}
-use Rattle.typed_tree.specs.Expressions.{Site, object_number, typed_expression, typed_name, typed_steps, typed_step, typed_actuals, typed_imaged, typed_optional, typed_first, called_function, object_type, designating, element}
+use Rattle.typed_tree.specs.Expressions.{Site, object_number, sub_number, typed_expression, typed_name, typed_steps, typed_step, typed_actuals, typed_imaged, typed_optional, typed_first, called_function, object_type, designating, element}
 use Rattle.typed_tree.specs.Statements.{typed_object, typed_assign, type_read}
 use Rattle.typed_tree.specs.Programs.{DeclaredObject, Home, object_of, formals_of, front_formals, kind_of, entry_kind}
 use Rattle.flow_paths.specs.Instructions.{Declare}
-use Rattle.flow_paths.specs.Objects.{Typing, Signature, object_at, is_variable as is_variable_object}
+use Rattle.flow_paths.specs.Objects.{Typing, Signature, object_at, sub_at, is_variable as is_variable_object}
 use Rattle.flow_paths.specs.Objects as flow
 use Rattle.flow_paths.specs.Names.{first, whole, whole_object}
 use Rattle.typed_laws.specs.Fine.{Laws, IsMeant, Denotes, AreSuffixes, counts}
 use Rattle.typed_laws.proofs.Agreeing.{holds, nil_left, nil_right}
-use Rattle.typed_points.specs.Meant.{AreDeclared, AreNumbers}
+use Rattle.typed_laws.proofs.Readings.{call_of}
+use Rattle.typed_points.specs.Meant.{AreDeclared, AreNumbers, IsMeantOptional}
 use Rattle.typed_points.proofs.Flags.{flagged, reading_same}
 use Rattle.seen_files.specs.Uses.{Uses}
 use Rattle.meant_files.specs.Typed.{AreIndicated, AreOf, IsGroupTyped, AreGroupsTyped, IsFrontTyped, AreIntegers}
-use Rattle.scope_laws.proofs.Lists.{all_both}
-use Rattle.view_laws.specs.InOrder.{is_call, is_name_of, is_one_name_of, is_any, stores_name}
+use Rattle.scope_laws.proofs.Lists.{all_both, and_first, and_second}
+use Rattle.view_laws.specs.InOrder.{gives_view, is_name_of, is_one_name_of, is_any, stores_name}
 use Rattle.viewed_files.specs.Sources.{has_source, all_fit}
 
 or_left : (a b : Bool) → a ≡ true → a || b ≡ true
@@ -109,50 +110,77 @@ module _ (s : Site) (objects : List Object) (subs : List Signature) (made : ℕ 
 
   -- ---- sources
 
-  -- What is read or called.
+  -- A name, or a call of a traversal function.
   abbrev IsNameOrCall : TypedTree → Type 0
-  IsNameOrCall e = is_name_of is_any e || is_call e ≡ true
+  IsNameOrCall e = is_name_of is_any e || gives_view y e ≡ true
 
-  source_fit : (looped starts : Bool) (want given : ℕ) (e : Tree) → source_faults (flagged looped starts s.context) want e ≡ [] → IsNameOrCall (typed_expression s given e)
-  unfolding typed_expression inside
-  source_fit looped starts want given (Named p d rest) none =
+  read_entry : (c : Context) (d : ℕ) (rest : Tree) → reading_of c d rest ≡ of_entry c d (entry_of c.known d) rest
+  unfolding reading_of
+  read_entry c d rest = refl
+
+  view_anonymous : (w : View) → is_anonymous w ≡ true → flow.is_anonymous w ≡ true
+  view_anonymous (view.Access d k true) e = cc
+  view_anonymous (view.Access d true false) e = refl
+  view_anonymous (view.Access d false false) e = refl
+  view_anonymous w e = cc
+
+  -- A function with an anonymous result by what is known of it has one by the text.
+  traversal : (d f : ℕ) → (f ≡ d) × (t : ℕ) × ((profile_of (entry_of known d)).result ≡ Some t) → Denotes s y d → is_traversal known (profile_of (entry_of known f)) ≡ true
+      → flow.traverses table (sub_at y (sub_number s f)).result ≡ true
+  traversal d f (same, t, result) denotes traverses =
+      ap (λ n. flow.traverses table (sub_at y (sub_number s n)).result) same ∙ ap (flow.traverses table) (denotes.1 t result)
+      ∙ view_anonymous (full table t)
+      (and_second (is_some (Some t)) (is_anonymous (full table t))
+      (sym (ap (λ (r : Option ℕ). is_some r && is_anonymous (full table (result_type r))) result)
+      ∙ sym (ap (λ n. is_traversal known (profile_of (entry_of known n))) same) ∙ traverses))
+
+  source_fit : (looped starts : Bool) (want given : ℕ) (e : Tree) → IsMeant s y e → source_faults (flagged looped starts s.context) want e ≡ [] → IsNameOrCall (typed_expression s given e)
+  unfolding typed_expression inside IsMeant
+  source_fit looped starts want given (Named p d rest) meant none =
       let c : Context = flagged looped starts s.context in
       let steps : TypedTree = typed_steps s (object_type (entry_of known d)) rest in
       let r : Reading = reading_of c d rest in
       let loose = nil_right (source_name c want p r) (inside c true integer (Named p d rest)) none in
       subst (λ z. IsNameOrCall (typed_name s p d z steps (typed_actuals s (called_function z) rest) (typed_imaged s rest))) (reading_same looped starts s.context d rest)
-      (by c steps (typed_actuals s (called_function r) rest) (typed_imaged s rest) r (nil_left (source_name c want p r) (inside c true integer (Named p d rest)) none)
+      (by steps (typed_actuals s (called_function r) rest) (typed_imaged s rest) r refl (nil_left (source_name c want p r) (inside c true integer (Named p d rest)) none)
       (nil_left (reading_faults c p d true (given_names (call_arguments rest)) r) (behind c (way_of known d (entry_of known d)) rest) loose))
     where
+      c : Context
+      c = flagged looped starts s.context
+
       no_source : (a b : Bool) → a ≡ false → a && b ≡ true → ⊥
       no_source true b e f = cc
       no_source false b e f = cc
 
-      by : (c : Context) (steps actuals imaged : TypedTree) (r : Reading) → source_name c want p r ≡ [] → reading_faults c p d true (given_names (call_arguments rest)) r ≡ []
+      by : (steps actuals imaged : TypedTree) (r : Reading) → reading_of (flagged looped starts s.context) d rest ≡ r → source_name c want p r ≡ [] → reading_faults c p d true (given_names (call_arguments rest)) r ≡ []
           → IsNameOrCall (typed_name s p d r steps actuals imaged)
-      by c steps actuals imaged reading.Off a b = cc
-      by c steps actuals imaged (reading.Place t) a b = refl
-      by c steps actuals imaged (reading.Call f) a b = refl
-      by c steps actuals imaged (reading.Value t v) a b =
+      by steps actuals imaged reading.Off is a b = cc
+      by steps actuals imaged (reading.Place t) is a b = refl
+      by steps actuals imaged (reading.Call f) is a b =
+          traversal d f (call_of (flagged looped starts s.context) d f (entry_of known d) rest (sym (read_entry (flagged looped starts s.context) d rest) ∙ is)) meant.0
+          (and_first (is_traversal c.known (profile_of (entry_of c.known f))) _
+          (holds 6 p (is_source c.known (reading.Call f) && keeps_constant c.known want (own_of c.known (reading.Call f)))
+          (nil_right (demand 1 p (designates c want (own_of c.known (reading.Call f)))) _ a)))
+      by steps actuals imaged (reading.Value t v) is a b =
           absurd (no_source false (keeps_constant c.known want (own_of c.known (reading.Value t v))) refl
           (holds 6 p (is_source c.known (reading.Value t v) && keeps_constant c.known want (own_of c.known (reading.Value t v)))
           (nil_right (demand 1 p (designates c want (own_of c.known (reading.Value t v)))) _ a)))
-      by c steps actuals imaged (reading.Image t) a b =
+      by steps actuals imaged (reading.Image t) is a b =
           absurd (no_source false (keeps_constant c.known want (own_of c.known (reading.Image t))) refl
           (holds 6 p (is_source c.known (reading.Image t) && keeps_constant c.known want (own_of c.known (reading.Image t)))
           (nil_right (demand 1 p (designates c want (own_of c.known (reading.Image t)))) _ a)))
-      by c steps actuals imaged reading.EndOfFile a b =
+      by steps actuals imaged reading.EndOfFile is a b =
           absurd (no_source false (keeps_constant c.known want (own_of c.known reading.EndOfFile)) refl
           (holds 6 p (is_source c.known reading.EndOfFile && keeps_constant c.known want (own_of c.known reading.EndOfFile))
           (nil_right (demand 1 p (designates c want (own_of c.known reading.EndOfFile))) _ a)))
-  source_fit looped starts want given e none =
+  source_fit looped starts want given e meant none =
       (let c : Context = flagged looped starts s.context in
       let six = nil_left (K6 (position e)) (inside c false want e) (nil_right (demand 1 (position e) (source_fits c want e)) (K6 (position e) ++ inside c false want e) none) in cc)
 
   -- ---- declarations
 
   named_source : (x : ℕ) (v : TypedTree) → flow.is_anonymous (full table (object_at y x).of) ≡ false → has_source y (Declare x v) ≡ true
-  named_source x v plain = or_left (not (flow.is_anonymous (full table (object_at y x).of))) (is_one_name_of is_any v || is_call (first v)) (not_false (flow.is_anonymous (full table (object_at y x).of)) plain)
+  named_source x v plain = or_left (not (flow.is_anonymous (full table (object_at y x).of))) (is_one_name_of is_any v || gives_view y (first v)) (not_false (flow.is_anonymous (full table (object_at y x).of)) plain)
 
   each_named : (ids i : Code) (v : TypedTree) → AreDeclared s y made i ids → ((d : ℕ) → flow.is_anonymous (full table (indicated known d i)) ≡ false)
       → Fits (map (typed_object s v) (code_items ids))
@@ -178,17 +206,17 @@ module _ (s : Site) (objects : List Object) (subs : List Signature) (made : ℕ 
   numbers_plain (More d rest) v h = (ap (λ t. flow.is_anonymous (full table t)) h.0 ∙ integer_plain, numbers_plain rest v h.1)
   numbers_plain ids v h = tt
 
-  each_sourced : (v : TypedTree) → is_one_name_of is_any v || is_call (first v) ≡ true → (ids : List Code) → Fits (map (typed_object s v) ids)
+  each_sourced : (v : TypedTree) → is_one_name_of is_any v || gives_view y (first v) ≡ true → (ids : List Code) → Fits (map (typed_object s v) ids)
   unfolding all_fit
   each_sourced v source [] = tt
   each_sourced v source (d ∷ ids) = (right (not (flow.is_anonymous (full table (object_at y (object_number s (declared_number d))).of))) source, each_sourced v source ids)
     where
-      right : (a : Bool) → is_one_name_of is_any v || is_call (first v) ≡ true → a || (is_one_name_of is_any v || is_call (first v)) ≡ true
+      right : (a : Bool) → is_one_name_of is_any v || gives_view y (first v) ≡ true → a || (is_one_name_of is_any v || gives_view y (first v)) ≡ true
       right true e = refl
       right false e = e
 
-  listed_source : (e : TypedTree) → IsNameOrCall e → is_one_name_of is_any (typed.More e nothing_more) || is_call (first (typed.More e nothing_more)) ≡ true
-  listed_source e h = by (is_name_of is_any e) (is_call e) h
+  listed_source : (e : TypedTree) → IsNameOrCall e → is_one_name_of is_any (typed.More e nothing_more) || gives_view y (first (typed.More e nothing_more)) ≡ true
+  listed_source e h = by (is_name_of is_any e) (gives_view y e) h
     where
       by : (a b : Bool) → a || b ≡ true → (a && true) || b ≡ true
       by true b h = refl
@@ -219,18 +247,18 @@ module _ (s : Site) (objects : List Object) (subs : List Signature) (made : ℕ 
         (nil_right (demand 6 (first_pos ids) (not (is_anonymous_indication i) || (is_single ids && (not (in_package c) && (not constant && has_one v))))) _
         (nil_right (indication_faults known i) _ none))
 
-    first_source : (v : Tree) (t : ℕ) → has_one v ≡ true → initial_faults (starting c) true t v ≡ []
-        → is_one_name_of is_any (typed_optional s t v) || is_call (first (typed_optional s t v)) ≡ true
-    first_source (More e rest) t one none = listed_source (typed_expression s t e) (source_fit looped (in_package s.context) t t e none)
-    first_source v t one none = cc
+    first_source : (v : Tree) (t : ℕ) → IsMeantOptional s y v → has_one v ≡ true → initial_faults (starting c) true t v ≡ []
+        → is_one_name_of is_any (typed_optional s t v) || gives_view y (first (typed_optional s t v)) ≡ true
+    first_source (More e rest) t meant one none = listed_source (typed_expression s t e) (source_fit looped (in_package s.context) t t e meant none)
+    first_source v t meant one none = cc
 
-    pub objects_fit : (ids i : Code) (constant : Bool) (v : Tree) → AreDeclared s y made i ids → object_faults c ids constant i v ≡ []
+    pub objects_fit : (ids i : Code) (constant : Bool) (v : Tree) → AreDeclared s y made i ids → IsMeantOptional s y v → object_faults c ids constant i v ≡ []
         → Fits (map (typed_object s (typed_optional s (indicated known (first_number ids) i) v)) (code_items ids))
-    objects_fit ids (Plain m) constant v h none = each_named ids (Plain m) (typed_optional s (marked known m) v) h (λ d. marks m)
-    objects_fit ids (Anonymous p k m) constant v h none =
+    objects_fit ids (Plain m) constant v h meant none = each_named ids (Plain m) (typed_optional s (marked known m) v) h (λ d. marks m)
+    objects_fit ids (Anonymous p k m) constant v h meant none =
         let test = anonymous_test (is_single ids) (in_package c) constant (has_one v) (test_of ids (Anonymous p k m) constant v none) in
-        each_sourced (typed_optional s (first_number ids) v) (first_source v (first_number ids) test.2 (initial_of ids (Anonymous p k m) constant v none)) (code_items ids)
-    objects_fit ids i constant v h none = each_named ids i (typed_optional s integer v) h (λ d. integer_plain)
+        each_sourced (typed_optional s (first_number ids) v) (first_source v (first_number ids) meant test.2 (initial_of ids (Anonymous p k m) constant v none)) (code_items ids)
+    objects_fit ids i constant v h meant none = each_named ids i (typed_optional s integer v) h (λ d. integer_plain)
 
     -- What a package declares is no view.
     pub objects_plain : (ids i : Code) (constant : Bool) (v : Tree) (value : TypedTree) → in_package s.context ≡ true → AreDeclared s y made i ids → object_faults c ids constant i v ≡ []
@@ -417,7 +445,7 @@ module _ (s : Site) (objects : List Object) (subs : List Signature) (made : ℕ 
 
     object_stored : (p : Pos) (d t : ℕ) (o : ObjectInfo) (value : TypedTree) (e : Tree) → IsRootPlain d → Denotes s y d → entry_of known d ≡ entry.Object o → o.of ≡ t
         → ((want : ℕ) → source_faults z want e ≡ [] → IsNameOrCall value) → assigned z true (entry_of known d) e (reading.Place t) ≡ []
-        → stores_name y (Some (object_number s d)) value || is_call value ≡ true
+        → stores_name y (Some (object_number s d)) value || gives_view y value ≡ true
     object_stored p d t o value e root denotes is of source none = by (flow.is_anonymous (full table t)) refl
       where
         object_is : flow.is_anonymous (full table (object_at y (object_number s d)).of) ≡ flow.is_anonymous (full table t)
@@ -445,31 +473,31 @@ module _ (s : Site) (objects : List Object) (subs : List Signature) (made : ℕ 
         unfolded true f h g view k = k
         unfolded false f h g view k = cc
 
-        by : (b : Bool) → flow.is_anonymous (full table t) ≡ b → stores_name y (Some (object_number s d)) value || is_call value ≡ true
-        by false plain = named (flow.is_anonymous (full table (object_at y (object_number s d)).of)) (is_name_of is_any value) (is_call value) (object_is ∙ plain)
+        by : (b : Bool) → flow.is_anonymous (full table t) ≡ b → stores_name y (Some (object_number s d)) value || gives_view y value ≡ true
+        by false plain = named (flow.is_anonymous (full table (object_at y (object_number s d)).of)) (is_name_of is_any value) (gives_view y value) (object_is ∙ plain)
         by true view =
-            either (flow.is_anonymous (full table (object_at y (object_number s d)).of)) (is_name_of is_any value) (is_call value)
+            either (flow.is_anonymous (full table (object_at y (object_number s d)).of)) (is_name_of is_any value) (gives_view y value)
             (within (is_formal (entry_of known d)) (sym known_formal) view
             (unfolded (is_anonymous (full table t)) (is_formal (entry_of known d)) refl refl (other_anonymous (full table t) view) none))
 
-    pub assign_fit : (target e : Tree) → Uses IsRootPlain target → IsMeant s y target → target_faults z target ≡ [] → assign_faults z target e ≡ [] → IsStored target e
+    pub assign_fit : (target e : Tree) → Uses IsRootPlain target → IsMeant s y target → IsMeant s y e → target_faults z target ≡ [] → assign_faults z target e ≡ [] → IsStored target e
     unfolding all_fit Uses IsMeant typed_steps along AreSuffixes
-    assign_fit (Named p d rest) e uses meant none stored =
+    assign_fit (Named p d rest) e uses meant value_meant none stored =
         let read = target_read p d rest none in
         let value : TypedTree = typed_expression s (type_read (reading_of s.context d rest)) e in
-        subst (λ w. stores_name y w value || is_call value ≡ true) (sym (whole_named p d read.1 rest read.3))
+        subst (λ w. stores_name y w value || gives_view y value ≡ true) (sym (whole_named p d read.1 rest read.3))
         (by rest read.0 read.1 value meant.1 read.2 read.3 (subst (λ r. assigned z (is_end rest) (entry_of known d) e r ≡ []) (reading_same looped starts s.context d rest ∙ read.3) stored)
-        (λ want h. source_fit looped starts want (type_read (reading_of s.context d rest)) e h))
+        (λ want h. source_fit looped starts want (type_read (reading_of s.context d rest)) e value_meant h))
       where
         by : (rest : Tree) (o : ObjectInfo) (t : ℕ) (value : TypedTree) → AreSuffixes s y rest → entry_of known d ≡ entry.Object o → reading_of s.context d rest ≡ reading.Place t
             → assigned z (is_end rest) (entry_of known d) e (reading.Place t) ≡ [] → ((want : ℕ) → source_faults z want e ≡ [] → IsNameOrCall value)
-            → stores_name y (whole_object (object_number s d) (typed_steps s (object_type (entry_of known d)) rest)) value || is_call value ≡ true
+            → stores_name y (whole_object (object_number s d) (typed_steps s (object_type (entry_of known d)) rest)) value || gives_view y value ≡ true
         by NoMore o t value suffixes is place h source =
             object_stored p d t o value e uses.0 meant.0 is (one_place o.of t (sym (read_along d o NoMore is) ∙ place)) source h
         by (More a more) o t value suffixes is place h source =
-            subst (λ w. stores_name y w value || is_call value ≡ true)
+            subst (λ w. stores_name y w value || gives_view y value ≡ true)
             (sym (ap (λ k. whole_object (object_number s d) (typed_steps s k (More a more))) (ap object_type is)
             ∙ part_named o.of t a more (laws.object d o is) (sym (read_along d o (More a more) is) ∙ place) (object_number s d)))
             refl
         by other o t value suffixes is place h source = absurd suffixes
-    assign_fit target e uses meant none stored = cc
+    assign_fit target e uses meant value_meant none stored = cc

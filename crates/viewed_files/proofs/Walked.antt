@@ -102,7 +102,7 @@ module _ (s : Site) (objects : List Object) (subs : List Signature) (made : ℕ 
   pub one_declaration : (looped : Bool) (a n m : ℕ) (c : Code) → is_declaration c ≡ true → IsMeantCode s y made c → AreTyped made s.context c → Faultless looped c → Went a n m c
   unfolding statements objects_in IsMeantCode AreTyped code_faults
   one_declaration looped a n m (Objects ids constant i v) e meant are none = (
-    source.objects_fit s objects subs made laws looped marks ids i constant v meant.0 none,
+    source.objects_fit s objects subs made laws looped marks ids i constant v meant.0 meant.1 none,
     source.objects_local s objects subs made laws looped marks h same outside a ids i constant v are none,
   )
   one_declaration looped a n m (Numbers ids v) e meant are none = (
@@ -171,7 +171,7 @@ module _ (s : Site) (objects : List Object) (subs : List Signature) (made : ℕ 
     one_went looped inside a n m (Skip p) e roots meant are none = ((refl, tt), tt)
     one_went looped inside a n m (Assign target v) e roots meant are none =
         let z : Context = flagged looped s.context.starts s.context in
-        ((source.assign_fit s objects subs made laws looped s.context.starts target v roots.0 meant.0 (nil_left (target_faults z target) _ none) (nil_right (target_faults z target) _ none), tt), tt)
+        ((source.assign_fit s objects subs made laws looped s.context.starts target v roots.0 meant.0 meant.1 (nil_left (target_faults z target) _ none) (nil_right (target_faults z target) _ none), tt), tt)
     one_went looped inside a n m (Call name) e roots meant are none = ((call_fits name, tt), tt)
     one_went looped inside a n m (Exit p when) e roots meant are none = ((refl, tt), tt)
     one_went looped inside a n m (Return p v) e roots meant are none = ((refl, tt), tt)

@@ -1,4 +1,4 @@
--- Code in which views are declared and assigned with names, or with what a function gives.
+-- Code in which views are declared and assigned with names, or with what a traversal function gives.
 use Rattle.std.specs.Prelude.{Bool, true, not, ◌&&◌, ◌||◌}
 use Rattle.typed_tree.specs.Trees.{TypedCode}
 use Rattle.typed_tree.specs.Trees as typed
@@ -6,12 +6,12 @@ use Rattle.flow_paths.specs.Instructions.{Instruction, Declare, Assign}
 use Rattle.flow_paths.specs.Instructions as instruction
 use Rattle.flow_paths.specs.Objects.{Typing, is_anonymous, view_of}
 use Rattle.flow_paths.specs.Names.{first, whole}
-use Rattle.view_laws.specs.InOrder.{is_call, is_one_name_of, is_any, stores_name}
+use Rattle.view_laws.specs.InOrder.{gives_view, is_one_name_of, is_any, stores_name}
 
 -- As `fits` has it, without an order of objects.
 abbrev pub has_source : Typing → Instruction → Bool
-has_source s (Declare x v) = not (is_anonymous (view_of s x)) || (is_one_name_of is_any v || is_call (first v))
-has_source s (Assign target e) = stores_name s (whole target) e || is_call e
+has_source s (Declare x v) = not (is_anonymous (view_of s x)) || (is_one_name_of is_any v || gives_view s (first v))
+has_source s (Assign target e) = stores_name s (whole target) e || gives_view s e
 has_source s i = true
 
 -- Each declaration and each assignment is as asked.

@@ -1,8 +1,10 @@
 -- names
+pub mod Led
 pub mod Names
 pub mod Viewed
 pub mod Sources
 -- instructions, steps, and the law
+pub mod Spared
 pub mod Actuals
 pub mod Passed
 pub mod Instructions

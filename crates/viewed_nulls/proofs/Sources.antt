@@ -8,7 +8,7 @@ use Rattle.place_names.specs.declared.fact.Fact.{Fact}
 use Rattle.place_names.specs.Names.{Name as PlaceName}
 use Rattle.type_definitions.specs.declared.table.Shape.TheVariants as shape
 use Rattle.type_definitions.specs.Types.{shape_of, full, is_scalar, view_of as view_of_shape}
-use Rattle.typed_tree.specs.Trees.{TypedTree, Name, NoMore, More}
+use Rattle.typed_tree.specs.Trees.{TypedTree, Name, NoMore, More, Call as CallIn}
 use Rattle.flow_paths.specs.Objects.{Typing, object_at, is_anonymous, is_borrower, is_borrowing, is_observing, is_observer, is_variable, view_of}
 use Rattle.flow_paths.specs.Names.{waiting as waits_in, name_of, source, written}
 use Rattle.flow_paths.specs.Acts.{acts_in, index_acts, source_acts, stored_acts, declared_acts, assigned_to, observe, reborrow, target_pos as acts_target_pos}
@@ -22,7 +22,7 @@ use Rattle.machine.specs.Owners.{waiting_in}
 use Rattle.owned_ways.specs.Ways.{OfVariable, Loc, Way, Object, Reaches, IsRooted, Allows, AllowsAll, number_of}
 use Rattle.owned_ways.specs.Ways as ways
 use Rattle.part_offsets.specs.Parts.{IsSettled}
-use Rattle.soundness.specs.Seen.{IsNear, content, trunk, seen, home, is_view_formal}
+use Rattle.soundness.specs.Seen.{IsNear, content, trunk, seen, home}
 use Rattle.soundness.specs.Typed.{OwnsByShape}
 use Rattle.typed_laws.specs.Needed.{Leads, Gives, Source}
 use Rattle.soundness.proofs.Walks.{way_along}
@@ -46,6 +46,7 @@ use Rattle.null_places.proofs.Scalars.{view_same, steps_on, place_then, none_the
 use Rattle.null_places.proofs.Instructions.{SameStep, twin, declared_by, stored_same}
 use Rattle.viewed_nulls.proofs.Names.{name_same, access_found, view_whole}
 use Rattle.viewed_nulls.proofs.Viewed.{viewed_premises, anonymous_access, IsReadyIn, viewed_behaves, viewed_values}
+use Rattle.viewed_steps.proofs.Views.{AreAccess}
 
 -- The source of a view is a name of an access type.
 source_of : (s : Typing) (want : ℕ) (q : Pos) (y u : ℕ) (path : TypedTree) → is_anonymous (full s.table want) ≡ true → Source s want (Name q y path u)
@@ -59,9 +60,9 @@ source_of s want q y u path view (inr (lead, inr scalar)) =
     absurd (let no : false ≡ true = sym (ap (λ z. is_scalar (view_of_shape z)) sh.3) ∙ scalar.1 in cc)
 
 module _ (t : Turn) (settled : IsSettled (typing t).table) (own_law : OwnsByShape (typing t).table) (other : Around (home (typing t) (length t.outer)))
-    (alone : (w : Way) → IsNear (length t.outer) w → other.gone w → ⊥) (no_formals : (x : ℕ) → is_view_formal (typing t) x ≡ false) (v : Views)
+    (alone : (w : Way) → IsNear (length t.outer) w → other.gone w → ⊥) (in_formals : AreAccess (typing t)) (v : Views)
     (parts_named : PartsAreNamed (typing t).table) (facts : List Fact)
-    (so : IsReadyIn (here t) settled t.state.leaks other alone no_formals index_law own_law v parts_named t.state.memory (waiting_in t.state) facts)
+    (so : IsReadyIn (here t) settled t.state.leaks other alone in_formals index_law own_law v parts_named t.state.memory (waiting_in t.state) facts)
     (only : OnlyOwners (typing t) t.state.memory) (n : Memory) (agrees : Agrees t.state.memory n) where
   abbrev s : Typing
   s = typing t
@@ -85,13 +86,13 @@ module _ (t : Turn) (settled : IsSettled (typing t).table) (own_law : OwnsByShap
   asks = viewed_premises h parts_named
 
   abbrev ready_in : Memory → List Waiting → List Fact → Type 0
-  ready_in m' hands' known = IsReadyIn h settled t.state.leaks other alone no_formals index_law own_law v parts_named m' hands' known
+  ready_in m' hands' known = IsReadyIn h settled t.state.leaks other alone in_formals index_law own_law v parts_named m' hands' known
 
   laws : Values h asks ready_in
-  laws = viewed_values h settled t.state.leaks other alone no_formals index_law own_law v parts_named
+  laws = viewed_values h settled t.state.leaks other alone in_formals index_law own_law v parts_named
 
   law : Behaves h asks m hands facts
-  law = viewed_behaves h settled t.state.leaks other alone no_formals index_law own_law v parts_named m hands facts so only
+  law = viewed_behaves h settled t.state.leaks other alone in_formals index_law own_law v parts_named m hands facts so only
 
   live : (w : Way) (l : Loc) → IsOwners s w → Reaches (seen s m hands t.state.leaks) w l → (content s m hands (trunk l)).owns ≡ true
   live = live_trunk h settled t.state.leaks [] other alone (keeps s settled own_law) index_law own_law v parts_named m hands so.viewed.owned
@@ -115,17 +116,17 @@ module _ (t : Turn) (settled : IsSettled (typing t).table) (own_law : OwnsByShap
 
       same : (n' : Now) → SameNow s (record { memory = m; waits = on }) n' → SameTo s (walked s way (variable_place h y) (record { memory = m; waits = on })) (walked s way (variable_place h y) n')
       same =
-          name_same h settled hands t.state.leaks m on other facts v so.kept so.viewed so.holds alone live only no_formals y u way goes.lead
+          name_same h settled hands t.state.leaks m on other facts v so.kept so.viewed so.holds alone live only in_formals y u way goes.lead
           (λ e. cleared_open facts w (clears w called e))
 
       by_kind : (b : Bool) → shape_of s.table u ≡ shape.Access d c b → LeadsWhole h asks m hands facts on y u way
       by_kind true is = (
-        access_found h settled hands t.state.leaks m on other facts v so.kept so.viewed so.holds alone live only no_formals index_law own_law parts_named y u d c way goes.lead is
+        access_found h settled hands t.state.leaks m on other facts v so.kept so.viewed so.holds alone live only in_formals index_law own_law parts_named y u d c way goes.lead is
             (λ e. cleared_open facts w (clears w called e)) (λ e. cleared_whole facts w (clears w called e)),
         same,
       )
       by_kind false is = (
-        view_whole h settled hands t.state.leaks m on other facts v so.kept so.viewed so.holds alone live only no_formals y u way goes.lead
+        view_whole h settled hands t.state.leaks m on other facts v so.kept so.viewed so.holds alone live only in_formals y u way goes.lead
             (ap (λ z. is_anonymous (view_of_shape z)) is ∙ anonymous_access c) (λ e. cleared_open facts w (clears w called e)),
         same,
       )
@@ -215,6 +216,23 @@ module _ (t : Turn) (settled : IsSettled (typing t).table) (own_law : OwnsByShap
   assigned_at r x e same =
       stored_same t settled own_law asks ready_in laws facts so only n agrees (Name r x NoMore (object_at s x).of) _ _
       (then_stored r x (object_at s x).of (taken_by t (object_at s x).of e at) (taken_by t (object_at s x).of e (start (twin t n))) same)
+
+  -- with what a call gave
+  call_taken : (u' : ℕ) (r : Pos) (k : ℕ) (actuals : TypedTree) → is_anonymous (full s.table u') ≡ true
+      → SameTo s (taken_by t u' (CallIn r k actuals) at) (taken_by t u' (CallIn r k actuals) (start (twin t n)))
+  unfolding evaluate
+  call_taken u' r k actuals view =
+      subst (λ b. SameTo s (if b then viewed h (CallIn r k actuals) at else followed_by (value h (CallIn r k actuals) at) (checked h u'))
+      (if b then viewed h (CallIn r k actuals) (start (twin t n)) else followed_by (value h (CallIn r k actuals) (start (twin t n))) (checked h u'))) (sym view)
+      (refl, (agrees, refl, only))
+
+  pub call_declared_same : (x : ℕ) (r : Pos) (k : ℕ) (actuals : TypedTree) → is_anonymous (view_of (typing t) x) ≡ true
+      → SameStep t (declare t x (More (CallIn r k actuals) NoMore)) (declare (twin t n) x (More (CallIn r k actuals) NoMore))
+  call_declared_same x r k actuals view = declared_at x (CallIn r k actuals) (call_taken (object_at s x).of r k actuals view)
+
+  pub call_assigned_same : (q : Pos) (x : ℕ) (r : Pos) (k : ℕ) (actuals : TypedTree) → is_anonymous (view_of (typing t) x) ≡ true
+      → SameStep t (assign t (Name q x NoMore (object_at (typing t) x).of) (CallIn r k actuals)) (assign (twin t n) (Name q x NoMore (object_at (typing t) x).of) (CallIn r k actuals))
+  call_assigned_same q x r k actuals view = assigned_at q x (CallIn r k actuals) (call_taken (object_at s x).of r k actuals view)
 
   pub view_assigned_same : (on : List (List machine.Word)) (pos r q : Pos) (x y u : ℕ) (path : TypedTree) → is_anonymous (view_of (typing t) x) ≡ true → is_variable (object_at (typing t) x).kind ≡ true
       → Source (typing t) (object_at (typing t) x).of (Name q y path u) → Takes (waits_in path) (start t).waits on

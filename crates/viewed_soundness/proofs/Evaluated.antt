@@ -14,7 +14,7 @@ use Rattle.type_definitions.specs.declared.table.Shape.TheVariants as shape
 use Rattle.type_definitions.specs.Types.{Table, shape_of, components_of, view_of as view_shape, words, words_of as shape_words, full, is_owning, is_scalar, owns_of, parts}
 use Rattle.typed_tree.specs.Trees.{TypedTree, Number, Literal, Name, Call, EndOfFile, Parens, Unary, Binary, Short, IsNull, Aggregate, Alike, New, NoMore, More}
 use Rattle.typed_tree.specs.Trees as typed
-use Rattle.flow_paths.specs.Objects.{Typing, object_at, is_observer}
+use Rattle.flow_paths.specs.Objects.{Typing, object_at}
 use Rattle.flow_paths.specs.Names.{has_call, waiting, name_of}
 use Rattle.flow_paths.specs.Acts.{used, acts_in}
 use Rattle.machine.specs.Words.{default, fits_type}
@@ -27,11 +27,11 @@ use Rattle.machine.specs.States.{Waiting, Leak}
 use Rattle.owned_ways.specs.Ways.{Step, OfVariable, OfHand, Loc, OfRoot, OfCell, Inside, Way, Object, Lost, Into, All, Word, Empty, Reaches, IsRooted, Under, Named, Spares, Allows, after, AllowsAll, Owned, IsSame, number_of}
 use Rattle.owned_ways.specs.Ways as ways
 use Rattle.part_offsets.specs.Parts.{type_in, offset_in, has_part, owns_one, is_leaf, IsSettled}
-use Rattle.soundness.specs.Seen.{IsNear, in_hand, owner_word, content, trunk, word_in, seen, home, is_view_formal}
+use Rattle.soundness.specs.Seen.{IsNear, in_hand, owner_word, content, trunk, word_in, seen, home}
 use Rattle.soundness.specs.Changes.{Alike as AlikeTypes}
 use Rattle.soundness.specs.Typed.{Matches, OwnsByShape, Kept, Spot}
 use Rattle.typed_laws.specs.Needed.{Stays, Gives, GivesParts, GivesFirst, IndexLaw}
-use Rattle.soundness.proofs.Near.{named_near, near_under}
+use Rattle.soundness.proofs.Near.{near_under}
 use Rattle.soundness.proofs.Contents.{bool_cases, word_yes, word_no}
 use Rattle.soundness.proofs.Steps.{no_leaf, plain_shape, matches_words, room, taken_slots, alike}
 use Rattle.soundness.proofs.Defaults.{NoCell, none_default, none_repeated, blank_word}
@@ -47,17 +47,18 @@ use Rattle.soundness.proofs.Fading.{Fades, FadesTo, fades}
 use Rattle.soundness.proofs.Evaluated.{regrouped, changed_hand, blank_hand, Keeps}
 use Rattle.owned_loans.specs.Views.{Around, Views, expand, ExcusedBy, Viewed}
 use Rattle.owned_loans.proofs.Allowed.{read_open, move_open}
-use Rattle.owned_loans.proofs.Moves.{named_way, as_sound, same_viewed}
-use Rattle.viewed_soundness.specs.Holds.{IsNamed, PartsAreNamed, sees_only, IsOwners, Holds, KeepsObserved, AllKeep}
-use Rattle.viewed_soundness.proofs.Names.{neither, stands_owners}
+use Rattle.owned_loans.proofs.Moves.{as_sound, same_viewed}
+use Rattle.viewed_soundness.specs.Holds.{IsNamed, PartsAreNamed, sees_only, is_fixed, IsOwners, Holds, KeepsObserved, AllKeep}
+use Rattle.viewed_soundness.proofs.Spared.{gone_off}
+use Rattle.viewed_soundness.proofs.Names.{free_sees, free_formal, changed_owners}
 use Rattle.soundness.proofs.Waits.{drop_none}
 use Rattle.viewed_soundness.specs.Taken.{GivesPlainly}
 use Rattle.viewed_soundness.proofs.Moments.{from_sound, hands_spared, other_hands, with_cell, taken_viewed}
-use Rattle.viewed_soundness.proofs.Stays.{Goes, taking, steps_taking, name_on, waited_quiet}
+use Rattle.viewed_soundness.proofs.Stays.{Goes, no_selectors, taking, steps_taking, name_on, waited_quiet}
 
-pub keep_both : (observer : ℕ → Bool) (a b : List Act) → AllKeep observer (a ++ b) → AllKeep observer a × AllKeep observer b
-keep_both observer [] b k = (tt, k)
-keep_both observer (x ∷ a) b (k, rest) = let both = keep_both observer a b rest in ((k, both.0), both.1)
+pub keep_both : (fixed : PlaceName → Bool) (a b : List Act) → AllKeep fixed (a ++ b) → AllKeep fixed a × AllKeep fixed b
+keep_both fixed [] b k = (tt, k)
+keep_both fixed (x ∷ a) b (k, rest) = let both = keep_both fixed a b rest in ((k, both.0), both.1)
 
 scalar_access : (sh : Shape) (d : ℕ) (c n : Bool) → sh ≡ shape.Access d c n → is_scalar (view_shape sh) ≡ true → ⊥
 scalar_access sh d c n is scalar = let no : is_scalar (view_shape (shape.Access d c n)) ≡ true = ap (λ z. is_scalar (view_shape z)) (sym is) ∙ scalar in cc
@@ -118,9 +119,6 @@ module _ (h : Here) (settled : IsSettled h.typing.table) (leaks : List Leak) (wa
       ap (λ z. (content h.typing m hands (trunk z)).owns) e ∙ live_trunk m hands owned w k n r
   live_trunk m hands owned (All w) l n (k, c, r, held, e) =
       ap (λ z. (content h.typing m hands (trunk z)).owns) e ∙ ap not (owned.live k c held)
-
-  spared : (w : Way) → Named (home h.typing h.frame) w → Spares other.gone w
-  spared w named v u o = alone v (near_under h.frame w v u (named_near h.typing h.frame w named)) o
 
   -- nor has one of a hand
   spared_hand : (k : ℕ) (w : Way) → Under (Object (OfHand k)) w → other.gone w → ⊥
@@ -207,6 +205,7 @@ module _ (h : Here) (settled : IsSettled h.typing.table) (leaks : List Leak) (wa
     only = holds.only;
     owners = holds.owners;
     access = holds.access;
+    own = holds.own;
   }
 
   held_on : (on : List (List machine.Word)) (m : Memory) (want : ℕ) (hands : List Waiting) (facts : List Fact) (x : Evaluated (List machine.Word)) → Holds h.typing h.frame v m
@@ -219,42 +218,37 @@ module _ (h : Here) (settled : IsSettled h.typing.table) (leaks : List Leak) (wa
   -- what a place has is taken, where its type owns
   owner_taken : (on : List (List machine.Word)) (m : Memory) (hands : List Waiting) (facts : List Fact) (u : Way) (t : ℕ) → Ready m hands facts → Named (home h.typing h.frame) u
       → sees_only h.typing (number_of u) ≡ false
+      → ((l : Loc) → Reaches (seen h.typing m hands leaks) (expand v u) l → IsOwners h.typing (expand v u))
       → is_owning h.typing.table t ≡ true → Allows facts (act.Move (ways.name_of u) (parts h.typing.table t)) → (x : Evaluated Place)
       → Walked h.typing settled hands leaks m on (expand v u) t x
       → Bare on t hands (effect (act.Move (ways.name_of u) (parts h.typing.table t)) facts) (followed_by x (held_or_taken h AsValue))
-  owner_taken on m hands facts u t ready named plain owns allowed (Done k n) (l, same, spot, reaches, of) =
+  owner_taken on m hands facts u t ready named plain owners owns allowed (Done k n) (l, same, spot, reaches, of) =
       subst (λ z. Bare on t hands (effect (act.Move (ways.name_of u) (parts h.typing.table t)) facts) (taken h k z)) (sym same)
       (subst (λ b. Bare on t hands (effect (act.Move (ways.name_of u) (parts h.typing.table t)) facts)
       (Done (words_of h.typing m k) (if b then record { memory = moved_out h.typing k m; waits = on } else record { memory = m; waits = on })))
       (sym (ap (is_owning h.typing.table) of ∙ owns)) (
         subst (λ z. Viewed (home h.typing h.frame) (sees_only h.typing) other v (seen h.typing (moved_out h.typing k m) (record { of = z; words = words_of h.typing m k } ∷ hands) leaks)
             (effect (act.Move (ways.name_of u) (parts h.typing.table z)) facts)) of
-            (taken_viewed h.typing settled (home h.typing h.frame) (sees_only h.typing) other v m hands leaks facts k l u ready.viewed (spared (expand v u) rooted) ready.kept spot
+            (taken_viewed h.typing settled (home h.typing h.frame) (sees_only h.typing) other v m hands leaks facts k l u ready.viewed spared_there ready.kept spot
             named plain reaches
-            (live_trunk m hands ready.viewed.owned (expand v u) l owners reaches)
+            (live_trunk m hands ready.viewed.owned (expand v u) l (owners l reaches) reaches)
             (subst (λ z. Allows facts (act.Move (ways.name_of u) (parts h.typing.table z))) (sym of) allowed)),
         subst (λ z. Kept h.typing (moved_out h.typing k m) (record { of = z; words = words_of h.typing m k } ∷ hands)) of (keeps.moved m hands k l spot ready.kept),
         long k l spot of,
         refl,
       ))
     where
-      rooted : Named (home h.typing h.frame) (expand v u)
-      rooted =
-          named_way (home h.typing h.frame) (sees_only h.typing) other v (seen h.typing m hands leaks) facts ready.viewed.views (suc (number_of u)) u (omega arith)
-          (named, plain)
-
-      owners : IsOwners h.typing (expand v u)
-      owners =
-          stands_owners h.typing h.frame v m u ready.holds named
-          (inl (neither (is_observer h.typing (number_of u)) (is_view_formal h.typing (number_of u)) plain).1)
+      spared_there : Spares other.gone (expand v u)
+      spared_there z under gone =
+          gone_off h.typing h.frame other v (seen h.typing m hands leaks) facts ready.viewed alone u z named plain (inr under) gone
 
       long : (k : Place) (l : Loc) → Spot h.typing m hands k l → k.of ≡ t → length (words_of h.typing m k) ≡ words h.typing.table t
       long k l spot of =
           length-map (slots_of h.typing m k) (λ (x : Slot). x.word)
           ∙ (taken_slots h.typing settled m k (room h.typing settled m hands ready.kept k l spot)).0
           ∙ ap (words h.typing.table) of
-  owner_taken on m hands facts u t ready named plain owns allowed (Raises e n) is = tt
-  owner_taken on m hands facts u t ready named plain owns allowed (Traps e n) none = none
+  owner_taken on m hands facts u t ready named plain owners owns allowed (Raises e n) is = tt
+  owner_taken on m hands facts u t ready named plain owners owns allowed (Traps e n) none = none
 
   -- ---- all together
 
@@ -324,7 +318,7 @@ module _ (h : Here) (settled : IsSettled h.typing.table) (leaks : List Leak) (wa
               (with_cell h.typing k.memory t ws (record { of = t; words = ws } ∷ record { of = want; words = [] } ∷ hands)
               (record { of = want; words = machine.Cell (suc (length k.memory.cells)) ∷ [] } ∷ hands) leaks);
           kept = keeps.made k.memory t want d c n ws hands long is fits ready.kept;
-          holds = record { held = ready.holds.held; only = ready.holds.only; owners = ready.holds.owners; access = ready.holds.access };
+          holds = record { held = ready.holds.held; only = ready.holds.only; owners = ready.holds.owners; access = ready.holds.access; own = ready.holds.own };
         },
         sym one_word,
         same,
@@ -345,7 +339,7 @@ module _ (h : Here) (settled : IsSettled h.typing.table) (leaks : List Leak) (wa
 
   -- a name that is moved, or read
   by_owning : (on : List (List machine.Word)) (p : Pos) (x : ℕ) (steps : TypedTree) (t : ℕ) (m : Memory) (hands : List Waiting) (facts : List Fact) (ready : Ready m hands facts)
-      → Allows facts (used h.typing (name_of x steps) t) → KeepsObserved (sees_only h.typing) (used h.typing (name_of x steps) t)
+      → Allows facts (used h.typing (name_of x steps) t) → KeepsObserved (is_fixed h.typing) (used h.typing (name_of x steps) t)
       → (way : List run.Step) → Goes h.typing.table (object_at h.typing x).of t steps way
       → (b : Bool) → is_owning h.typing.table t ≡ b
       → Bare on t hands (effect (used h.typing (name_of x steps) t) facts)
@@ -360,14 +354,17 @@ module _ (h : Here) (settled : IsSettled h.typing.table) (leaks : List Leak) (wa
       }) in
       let moves : Allows facts (act.Move (ways.name_of u) (parts h.typing.table t)) =
       subst (λ z. Allows facts (act.Move z (parts h.typing.table t))) (sym called) (subst (Allows facts) is mine) in
-      let plain : sees_only h.typing x ≡ false = subst (KeepsObserved (sees_only h.typing)) is keep in
+      let free : is_fixed h.typing (name_of x steps) ≡ false = subst (KeepsObserved (is_fixed h.typing)) is keep in
+      let plain : sees_only h.typing x ≡ false = free_sees h.typing (name_of x steps) free in
       let where_ = name_on h settled hands leaks m waits other facts v ready.kept ready.viewed ready.holds alone (live_trunk m hands ready.viewed.owned) index_law own_law parts_named
       on x steps t way goes (λ w named same. move_open facts w (parts h.typing.table t)
       (subst (λ z. Allows facts (act.Move z (parts h.typing.table t))) (called ∙ sym same) moves)) in
       subst (λ z. Bare on t hands (effect z facts) (followed_by (walked h.typing way (variable_place h x) (record { memory = m; waits = on })) (held_or_taken h AsValue)))
       (ap (λ z. act.Move z (parts h.typing.table t)) called ∙ sym is)
       (owner_taken on m hands facts u t ready (named_along (home h.typing h.frame) way (Object (OfVariable (home h.typing h.frame x) x)) refl)
-      (ap (sees_only h.typing) (number_along way (Object (OfVariable (home h.typing h.frame x) x))) ∙ plain) owns moves
+      (ap (sees_only h.typing) (number_along way (Object (OfVariable (home h.typing h.frame x) x))) ∙ plain)
+      (changed_owners h settled hands leaks m on other facts v ready.kept ready.viewed ready.holds alone (live_trunk m hands ready.viewed.owned) x t way
+      (λ formal none. free_formal h.typing (name_of x steps) free formal (no_selectors h.typing.table (object_at h.typing x).of t steps way goes none)) goes.lead) owns moves
       (walked h.typing way (variable_place h x) (record { memory = m; waits = on })) where_)
   by_owning on p x steps t m hands facts ready mine keep way goes false owns =
       let u : Way = way_along way (Object (OfVariable (home h.typing h.frame x) x)) in
@@ -494,7 +491,7 @@ module _ (h : Here) (settled : IsSettled h.typing.table) (leaks : List Leak) (wa
     pub evaluated_on : (e : TypedTree) (want : ℕ) → Gives h.typing want e → GivesPlainly h.typing e → (before on : List (List machine.Word))
         → Takes (waiting e) before on → (m : Memory) (hands : List Waiting) (facts : List Fact)
         → Ready m hands facts → AllowsAll facts (acts (acts_in h.typing e)) → IsNamed h.typing.table want
-        → AllKeep (sees_only h.typing) (acts (acts_in h.typing e))
+        → AllKeep (is_fixed h.typing) (acts (acts_in h.typing e))
         → GivenOn on want hands (after (acts (acts_in h.typing e)) facts) (evaluate h AsValue e (record { memory = m; waits = before }))
     evaluated_on (Number v) want scalar calls before on takes m hands facts ready allowed own keep =
         scalar_on on m hands facts facts want ready refl scalar (Done (machine.Int v ∷ []) (record { memory = m; waits = before })) (still m before on takes, refl)
@@ -519,8 +516,8 @@ module _ (h : Here) (settled : IsSettled h.typing.table) (leaks : List Leak) (wa
         let live = live_trunk m hands ready.viewed.owned in
         let each = allows_both facts (acts (acts_in h.typing steps)) (used h.typing name t ∷ [])
         (subst (AllowsAll facts) (acts_append (acts_in h.typing steps) (record { pos = p; act = used h.typing name t } ∷ [])) allowed) in
-        let kept_names = keep_both (sees_only h.typing) (acts (acts_in h.typing steps)) (used h.typing name t ∷ [])
-        (subst (AllKeep (sees_only h.typing)) (acts_append (acts_in h.typing steps) (record { pos = p; act = used h.typing name t } ∷ [])) keep) in
+        let kept_names = keep_both (is_fixed h.typing) (acts (acts_in h.typing steps)) (used h.typing name t ∷ [])
+        (subst (AllKeep (is_fixed h.typing)) (acts_append (acts_in h.typing steps) (record { pos = p; act = used h.typing name t } ∷ [])) keep) in
         let inner = steps_taking h settled hands leaks m waits other facts v ready.kept ready.viewed ready.holds alone live index_law own_law parts_named
         (object_at h.typing x).of t steps lead before on takes each.0 in
         let mine : Allows facts (used h.typing name t) = subst (λ z. Allows z (used h.typing name t)) inner.1 each.1.0 in
@@ -542,7 +539,7 @@ module _ (h : Here) (settled : IsSettled h.typing.table) (leaks : List Leak) (wa
         (takes_as (waiting e + waiting rest) (waiting e) before on alone_there takes) m (record { of = want; words = [] } ∷ hands) facts
         (blank_ready m hands facts want [] (λ k h. h) ready) (subst (λ z. AllowsAll facts (acts z)) acts_same allowed)
         (matches_named h.typing.table d t fits (parts_named.designated want d c n is))
-        (subst (λ z. AllKeep (sees_only h.typing) (acts z)) acts_same keep) in
+        (subst (λ z. AllKeep (is_fixed h.typing) (acts z)) acts_same keep) in
         subst (λ z. GivenOn on want hands (after (acts z) facts) (followed_by (followed_by (evaluate h AsValue e now) (checked h t)) (allocated t))) (sym acts_same)
         (allocated_given on t want d c n hands (after (acts (acts_in h.typing e)) facts) own is fits (followed_by (evaluate h AsValue e now) (checked h t))
         (checked_on on t t (record { of = want; words = [] } ∷ hands) (after (acts (acts_in h.typing e)) facts) (evaluate h AsValue e now) inner))
@@ -591,7 +588,7 @@ module _ (h : Here) (settled : IsSettled h.typing.table) (leaks : List Leak) (wa
         → (m : Memory) (acc : List machine.Word) (hands : List Waiting) (facts : List Fact)
         → length acc ≡ words_to (words h.typing.table) (shape_of h.typing.table t) i
         → Ready m (record { of = t; words = acc } ∷ hands) facts → AllowsAll facts (acts (acts_in h.typing es))
-        → AllKeep (sees_only h.typing) (acts (acts_in h.typing es))
+        → AllKeep (is_fixed h.typing) (acts (acts_in h.typing es))
         → Grows on t acc hands (after (acts (acts_in h.typing es)) facts) (parts_of h t i es (record { memory = m; waits = before }))
     parts_given (More e rest) t i gives calls count made before on takes m acc hands facts long ready allowed keep =
         let now : Now = record { memory = m; waits = before } in
@@ -601,8 +598,8 @@ module _ (h : Here) (settled : IsSettled h.typing.table) (leaks : List Leak) (wa
         let two = takes_both (waiting e) (waiting rest) before on takes in
         let each = allows_both facts (acts (acts_in h.typing e)) (acts (acts_in h.typing rest))
         (subst (AllowsAll facts) (acts_append (acts_in h.typing e) (acts_in h.typing rest)) allowed) in
-        let names = keep_both (sees_only h.typing) (acts (acts_in h.typing e)) (acts (acts_in h.typing rest))
-        (subst (AllKeep (sees_only h.typing)) (acts_append (acts_in h.typing e) (acts_in h.typing rest)) keep) in
+        let names = keep_both (is_fixed h.typing) (acts (acts_in h.typing e)) (acts (acts_in h.typing rest))
+        (subst (AllKeep (is_fixed h.typing)) (acts_append (acts_in h.typing e) (acts_in h.typing rest)) keep) in
         let between : List Fact = after (acts (acts_in h.typing e)) facts in
         let behind : List Fact = after (acts (acts_in h.typing rest)) between in
         let next : List machine.Word → Now → Evaluated (List machine.Word) =
@@ -637,7 +634,7 @@ module _ (h : Here) (settled : IsSettled h.typing.table) (leaks : List Leak) (wa
   -- without calls nothing that waits is taken
   pub evaluated : (e : TypedTree) (want : ℕ) → Gives h.typing want e → has_call e ≡ false → (m : Memory) (hands : List Waiting) (facts : List Fact)
       → Ready m hands facts → AllowsAll facts (acts (acts_in h.typing e)) → IsNamed h.typing.table want
-      → AllKeep (sees_only h.typing) (acts (acts_in h.typing e))
+      → AllKeep (is_fixed h.typing) (acts (acts_in h.typing e))
       → Given want hands (after (acts (acts_in h.typing e)) facts) (evaluate h AsValue e (record { memory = m; waits = waits }))
   evaluated e want gives calls m hands facts ready allowed own keep =
       evaluated_on e want gives (gives_plainly h.typing e (inl calls)) waits waits (no_takes e calls waits) m hands facts ready allowed own keep

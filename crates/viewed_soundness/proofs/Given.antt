@@ -1,20 +1,23 @@
 -- What a formal that owns nothing sees: what its actual designates, in a frame of its own. Nothing that
 -- was moved meets its way, and it is foreign there.
-use Rattle.std.proofs.Common.{◌≡◌, refl, sym, ap, ◌∙◌, subst, ◌⊎◌, inl, inr, ℕ, suc, ◌<◌, Bool, true, false, List, arith, if◌then◌else◌}
+use Rattle.std.proofs.Common.{◌≡◌, refl, sym, ap, ◌∙◌, subst, ◌⊎◌, inl, inr, ℕ, suc, ◌<◌, Bool, true, false, List, Some, arith, if◌then◌else◌}
 use Rattle.place_names.specs.declared.fact.Fact.{Fact}
 use Rattle.flow_paths.specs.Objects.{Typing, is_package_object}
-use Rattle.owned_ways.specs.Ways.{Way, All, View, Under, Named, number_of}
+use Rattle.owned_ways.specs.Ways.{Way, All, View, Under, Past, Named, number_of, name_of}
 use Rattle.owned_ways.proofs.Dropped.{named_base}
 use Rattle.owned_ways.proofs.Locations.{under_itself}
 use Rattle.soundness.specs.Seen.{IsNear, home}
-use Rattle.soundness.proofs.Near.{named_near, near_under, under_near}
 use Rattle.owned_loans.specs.Views.{on, Around, Views, expand, ExcusedBy, IsForeign, Viewed}
-use Rattle.owned_loans.proofs.Ways.{beginnings, under_on, on_under, Lifted, lifted_way, next_of}
+use Rattle.owned_loans.proofs.Ways.{Meet, meets_front, beginnings, under_on, on_under, Lifted, lifted_way, next_of}
 use Rattle.owned_loans.proofs.Meeting.{next}
+use Rattle.place_names.specs.Names.{overlaps}
+use Rattle.place_names.proofs.Names.{overlaps-sym}
+use Rattle.owned_loans.proofs.Safe.{Unlent, Unborrowed, designated_over, unlent_below, unborrowed_below, unmoved_below, over_below, apart_names, off_view}
 use Rattle.owned_loans.proofs.Allowed.{Cleared, cleared_whole}
-use Rattle.owned_loans.proofs.Others.{above_away, clean_away, seen_above_away, seen_away_below}
-use Rattle.owned_loans.proofs.Moves.{IsPlace, named_way}
+use Rattle.owned_loans.proofs.Others.{off_kept, above_away, clean_away, seen_above_away, seen_away_below}
+use Rattle.owned_loans.proofs.Moves.{IsPlace}
 use Rattle.viewed_soundness.specs.Holds.{sees_only}
+use Rattle.viewed_soundness.proofs.Spared.{gone_off}
 use Rattle.viewed_soundness.proofs.Viewing.{expand_down}
 
 module _ (s : Typing) (frame : ℕ) (other : Around (home s frame)) (v : Views) (view : View) (facts : List Fact)
@@ -23,13 +26,6 @@ module _ (s : Typing) (frame : ℕ) (other : Around (home s frame)) (v : Views) 
   abbrev Meets : Way → Way → Type 0
   Meets z w = Under z w ⊎ Under w z
 
-  near_met : (w z : Way) → Named (home s frame) w → Meets z w → IsNear frame z
-  near_met w z named (inl above) = under_near frame z w above (named_near s frame w named)
-  near_met w z named (inr below) = near_under frame w z below (named_near s frame w named)
-
-  stands : (u : Way) → Named (home s frame) u → sees_only s (number_of u) ≡ false → Named (home s frame) (expand v u)
-  stands u named plain = named_way (home s frame) (sees_only s) other v view facts viewed.views (suc (number_of u)) u (omega arith) (named, plain)
-
   -- by a name of an owner or a borrower
   pub owner_whole : (u : Way) → Named (home s frame) u → sees_only s (number_of u) ≡ false → IsPlace v u → Cleared facts u
       → (z : Way) → ExcusedBy (home s frame) v other facts z → Meets z (expand v (All u)) → ⊥
@@ -37,7 +33,7 @@ module _ (s : Typing) (frame : ℕ) (other : Around (home s frame)) (v : Views) 
       by_case excused (subst (Meets z) (expand_down v u place) meets)
     where
       by_case : ExcusedBy (home s frame) v other facts z → Meets z (All (expand v u)) → ⊥
-      by_case (inr gone) met = alone z (near_met (All (expand v u)) z (stands u named plain) met) gone
+      by_case (inr gone) met = gone_off s frame other v view facts viewed alone u z named plain (meets_front (expand v u) (All (expand v u)) z (inr (under_itself (expand v u))) met) gone
       by_case (inl away) (inr below) =
           clean_away (home s frame) (sees_only s) other v view facts viewed u z (named, plain) clear.0 clear.1
           (under_on (expand v u) (All (expand v u)) z (inr (under_itself (expand v u))) below) away
@@ -46,6 +42,21 @@ module _ (s : Typing) (frame : ℕ) (other : Around (home s frame)) (v : Views) 
           (subst (Under (expand v u)) (sym same) (inr (under_itself (expand v u)))) away
       by_case (inl away) (inl (inr above)) =
           above_away (home s frame) (sees_only s) other v view facts viewed u z (named, plain) (cleared_whole facts u clear) above away
+
+  -- by the way of what is designated, of a formal itself, too
+  pub lent_whole : (u : Way) → Named (home s frame) u → sees_only s (number_of u) ≡ false → Cleared facts u
+      → (z : Way) → ExcusedBy (home s frame) v other facts z → Meets z (expand v (All u)) → ⊥
+  lent_whole u named plain clear z excused meets = by_case excused meets
+    where
+      clear_below : Cleared facts (All u)
+      clear_below = (unborrowed_below facts u clear.0, unmoved_below facts u clear.1)
+
+      by_case : ExcusedBy (home s frame) v other facts z → Meets z (expand v (All u)) → ⊥
+      by_case (inr gone) met = gone_off s frame other v view facts viewed alone (All u) z named plain met gone
+      by_case (inl away) (inr below) =
+          clean_away (home s frame) (sees_only s) other v view facts viewed (All u) z (named, plain) clear_below.0 clear_below.1 below away
+      by_case (inl away) (inl above) =
+          above_away (home s frame) (sees_only s) other v view facts viewed (All u) z (named, plain) (cleared_whole facts (All u) clear_below) above away
 
   -- through an observer or another formal
   pub seen_whole : (u : Way) → Named (home s frame) u → (l : Lifted v (All u)) → sees_only s l.object ≡ true
@@ -57,7 +68,7 @@ module _ (s : Typing) (frame : ℕ) (other : Around (home s frame)) (v : Views) 
   seen_whole u named l sees z (inr gone) meets = elim (viewed.views l.object l.way l.has) [
     | inl own ↦ (
         let on = next (home s frame) (sees_only s) v view facts viewed.views (All u) l own named in
-        alone z (near_met (expand v (All u)) z (subst (Named (home s frame)) on.same (stands (next_of v (All u) l) on.plain.0 on.plain.1)) meets) gone)
+        gone_off s frame other v view facts viewed alone (next_of v (All u) l) z on.plain.0 on.plain.1 (subst (Meets z) (sym on.same) meets) gone)
     | inr passed ↦ viewed.whole l.object l.way z l.has passed.foreign gone (nearer (subst (Meets z) (lifted_way v (All u) l) meets))
   ]
     where
@@ -65,11 +76,38 @@ module _ (s : Typing) (frame : ℕ) (other : Around (home s frame)) (v : Views) 
       nearer (inl above) = beginnings z l.way (on l.way l.rest) above (on_under l.way l.rest)
       nearer (inr below) = inr (under_on l.way (on l.way l.rest) z (on_under l.way l.rest) below)
 
+-- What a formal changes: nothing of it is lent, so no view of the frame goes past it, and none of others; and
+-- what names designate that don't overlap doesn't meet.
+module _ (s : Typing) (frame : ℕ) (other : Around (home s frame)) (v : Views) (view : View) (facts : List Fact)
+    (viewed : Viewed (home s frame) (sees_only s) other v view facts) where
+  pub lent_past : (u : Way) → Named (home s frame) u → sees_only s (number_of u) ≡ false → Unlent facts u
+      → (x : ℕ) (w : Way) → v.way x ≡ Some w → Past (expand v (All u)) w → ⊥
+  lent_past u named plain unlent x w has past =
+      off_view (home s frame) (sees_only s) v view facts viewed.views viewed.clear (All u) x w (named, plain) (unlent_below facts u unlent) has past
+
+  pub lent_far : (u : Way) → Named (home s frame) u → sees_only s (number_of u) ≡ false → Unlent facts u
+      → (w : Way) (n : ℕ) → other.kept w n → Past (expand v (All u)) w → ⊥
+  lent_far u named plain unlent w n keeps past =
+      off_kept (home s frame) (sees_only s) other v view facts viewed (All u) w n (named, plain) (unlent_below facts u unlent) keeps past
+
+  pub lent_apart : (u y : Way) → Named (home s frame) u → Named (home s frame) y → sees_only s (number_of u) ≡ false → sees_only s (number_of y) ≡ false
+      → Unborrowed facts u → Unborrowed facts y → (overlaps (name_of u) (name_of y) ≡ true → ⊥) → Meet (expand v (All u)) (expand v (All y)) → ⊥
+  lent_apart u y named named_y plain plain_y free free_y apart meets =
+      apart_names (home s frame) (sees_only s) v view facts viewed.views viewed.clear (All u) (All y) (named, plain) (named_y, plain_y)
+      (unborrowed_below facts u free) (unborrowed_below facts y free_y) (λ over. apart (over_below u y over)) meets
+
+  -- nor what a name designates and another place
+  pub lent_beside : (u y : Way) → Named (home s frame) u → Named (home s frame) y → sees_only s (number_of u) ≡ false → sees_only s (number_of y) ≡ false
+      → Unborrowed facts u → Unborrowed facts y → (overlaps (name_of u) (name_of y) ≡ true → ⊥) → Meet (expand v (All u)) (expand v y) → ⊥
+  lent_beside u y named named_y plain plain_y free free_y apart meets =
+      apart_names (home s frame) (sees_only s) v view facts viewed.views viewed.clear (All u) y (named, plain) (named_y, plain_y) (unborrowed_below facts u free) free_y
+      (λ over. apart (overlaps-sym (name_of u) (name_of y) ∙ designated_over (name_of y) u (overlaps-sym (name_of y) (name_of (All u)) ∙ over))) meets
+
 -- A way of a frame that begins at none of its package objects, or one that is foreign there and begins
 -- below the next frame, is foreign in the next frame.
 abbrev pub IsLow : Typing → ℕ → Way → Type 0
 IsLow s frame w =
-    (Named (home s frame) w × (is_package_object s (number_of w) ≡ false)) ⊎ ((foreign : IsForeign (home s frame) w) × (foreign.0 < suc frame))
+    (Named (home s frame) w × (is_package_object s (number_of w) ≡ false)) ⊎ ((foreign : IsForeign (home s frame) w) × (foreign.0 < suc frame) × (0 < foreign.0))
 
 pub foreign_there : (s : Typing) (frame : ℕ) (w : Way) → IsLow s frame w → IsForeign (home s (suc frame)) w
 foreign_there s frame w (inl (named, own)) = (
@@ -80,7 +118,7 @@ foreign_there s frame w (inl (named, own)) = (
       let here : home s frame (number_of w) ≡ frame = ap (λ b. if b then 0 else frame) own in
       let there : home s (suc frame) (number_of w) ≡ suc frame = ap (λ b. if b then 0 else suc frame) own in omega (arith, e, here, there)),
 )
-foreign_there s frame w (inr (foreign, low)) = (foreign.0, foreign.1, foreign.2, λ e. by_kind (is_package_object s foreign.1) refl e)
+foreign_there s frame w (inr (foreign, low, some)) = (foreign.0, foreign.1, foreign.2, λ e. by_kind (is_package_object s foreign.1) refl e)
   where
     by_kind : (b : Bool) → is_package_object s foreign.1 ≡ b → foreign.0 ≡ home s (suc frame) foreign.1 → ⊥
     by_kind true shared e =
@@ -89,8 +127,8 @@ foreign_there s frame w (inr (foreign, low)) = (foreign.0, foreign.1, foreign.2,
         (let there : home s (suc frame) foreign.1 ≡ suc frame = ap (λ b. if b then 0 else suc frame) own in omega (arith, low, e, there))
 
 -- and it is low there again
-pub low_there : (s : Typing) (frame : ℕ) (w : Way) (low : IsLow s frame w) → (foreign_there s frame w low).0 < suc frame
+pub low_there : (s : Typing) (frame : ℕ) (w : Way) → 0 < frame → (low : IsLow s frame w) → ((foreign_there s frame w low).0 < suc frame) × (0 < (foreign_there s frame w low).0)
 unfolding foreign_there
-low_there s frame w (inl (named, own)) =
-    (let here : home s frame (number_of w) ≡ frame = ap (λ b. if b then 0 else frame) own in omega (arith, here))
-low_there s frame w (inr (foreign, low)) = low
+low_there s frame w deep (inl (named, own)) =
+    (let here : home s frame (number_of w) ≡ frame = ap (λ b. if b then 0 else frame) own in (omega (arith, here), omega (arith, here, deep)))
+low_there s frame w deep (inr (foreign, low, some)) = (low, some)

@@ -1,6 +1,6 @@
 -- What declarations of borrowers and observers and assignments to them lead to: the view gets what
 -- its source has, and its way from it.
-use Rattle.std.proofs.Common.{◌≡◌, refl, sym, ap, ◌∙◌, subst, ◌⊎◌, inl, inr, ℕ, ◌<◌, Bool, true, false, not, ◌&&◌, ◌||◌, List, [], ◌∷◌, ◌++◌, flat_map, take, drop, length, Option, Some, if◌then◌else◌, ◌==◌, eqb-true, eq-eqb, ◌+◌, append-nil, arith}
+use Rattle.std.proofs.Common.{◌≡◌, refl, sym, ap, ◌∙◌, subst, ◌⊎◌, inl, inr, ℕ, ◌<◌, Bool, true, false, not, ◌||◌, List, [], ◌∷◌, ◌++◌, flat_map, take, drop, length, Option, Some, if◌then◌else◌, ◌==◌, eqb-true, eq-eqb, ◌+◌, append-nil, arith}
 use Rattle.spark_base.specs.declared.position.Pos.{Pos}
 use Rattle.place_names.specs.declared.act.Act.{Act}
 use Rattle.place_names.specs.declared.act.Act.TheVariants as act
@@ -10,7 +10,7 @@ use Rattle.place_names.specs.Facts.{adds, removes, effect}
 use Rattle.type_definitions.specs.declared.table.Shape.TheVariants as shape
 use Rattle.type_definitions.specs.Types.{Table, shape_of, words, words_of as shape_words, full, is_scalar, view_of as view_of_shape, parts, parts_of}
 use Rattle.typed_tree.specs.Trees.{TypedTree, Name, NoMore, More}
-use Rattle.flow_paths.specs.Objects.{Typing, object_at, is_anonymous, is_borrowing, is_observing, is_borrower, is_observer, is_variable, view_of}
+use Rattle.flow_paths.specs.Objects.{Typing, object_at, is_anonymous, is_borrower, is_observer, view_of}
 use Rattle.flow_paths.specs.Names.{waiting as waits_in, name_of, written, source}
 use Rattle.flow_paths.specs.Scopes.{taken}
 use Rattle.flow_paths.specs.Acts.{acts_in, stored_acts, declared_acts, assigned_to, source_acts, index_acts, reborrow, observe, target_pos as acts_target_pos}
@@ -24,7 +24,7 @@ use Rattle.machine.specs.States.{Waiting, State, Outcome}
 use Rattle.machine.specs.Step.{Turn, counted, typing, here, start, waiting, Stored, first_value, taken_by, declare, assign, goes, behind, led, successor, leaking_goes, target_pos}
 use Rattle.machine.specs.Step as steps
 use Rattle.machine.specs.Owners.{waiting_in}
-use Rattle.owned_ways.specs.Ways.{Loc, Way, All, Reaches, IsRooted, Named, Allows, after, AllowsAll, number_of, base_of, OfRoot}
+use Rattle.owned_ways.specs.Ways.{Loc, Way, All, Reaches, IsRooted, Under, Named, Allows, after, AllowsAll, number_of, base_of, OfRoot}
 use Rattle.owned_ways.specs.Ways as ways
 use Rattle.part_offsets.specs.Parts.{IsSettled}
 use Rattle.soundness.specs.Seen.{IsNear, content, trunk, seen, home, is_view_formal}
@@ -44,16 +44,16 @@ use Rattle.soundness.proofs.Numbers.{index_law}
 use Rattle.soundness.proofs.Scalars.{acts, acts_append, after_append, allows_both}
 use Rattle.soundness.proofs.Stays.{Quiet}
 use Rattle.soundness.proofs.Taking.{Takes}
-use Rattle.owned_loans.specs.Views.{Around, Views, expand, Viewed, Becomes, Unused, with_view}
+use Rattle.owned_loans.specs.Views.{Go, on, Around, Views, expand, Viewed, Becomes, Unused, with_view}
 use Rattle.owned_loans.proofs.Allowed.{Cleared, borrow_clears, observe_clears, loan_kept, reborrow_clears}
 use Rattle.owned_ways.proofs.Dropped.{named_base}
-use Rattle.owned_loans.proofs.Ways.{Lifted, next_of, lifts, lifted_root, lifted_way, root_on, base_on}
+use Rattle.owned_loans.proofs.Ways.{Lifted, next_of, lifts, lifted_root, lifted_way, root_on, named_on, base_on, on_named, on_under}
 use Rattle.owned_loans.proofs.Taken.{becomes_with}
 use Rattle.owned_loans.proofs.Taken as lent
-use Rattle.viewed_soundness.specs.Holds.{PartsAreNamed, is_view, sees_only, IsOwners, Holds}
-use Rattle.viewed_soundness.proofs.Names.{both_no, either_true, true_false}
+use Rattle.viewed_soundness.specs.Holds.{PartsAreNamed, is_view, sees_only, IsOwners, Holds, is_given}
+use Rattle.viewed_soundness.proofs.Names.{either_true, observer_sees, borrower_sees, sees_view, true_false}
 use Rattle.viewed_soundness.proofs.Stays.{steps_taking}
-use Rattle.viewed_soundness.proofs.Viewing.{IsDesignated, IsOfType, way_from, number_in, borrower_declared, observer_stored, observer_again, view_emptied, borrower_stored}
+use Rattle.viewed_soundness.proofs.Viewing.{IsReached, IsOfType, way_from, number_in, borrower_declared, observer_stored, observer_again, view_emptied, borrower_stored}
 use Rattle.viewed_soundness.proofs.Sources.{Shows, source_on}
 use Rattle.viewed_soundness.proofs.Outcomes.{IsGood, IsSame, Comes, Turned, Leads_on, raises, goes_to, goes_on, live}
 
@@ -115,7 +115,7 @@ module _ (t : Turn) (settled : IsSettled (typing t).table) (own_law : OwnsByShap
   -- ---- what a view may get
 
   -- The state of the memory afterwards, with the variable of the view.
-  abbrev Got : Views → ℕ → machine.Word → List Fact → Type 0
+  abbrev pub Got : Views → ℕ → machine.Word → List Fact → Type 0
   Got views x z facts =
       Viewed (home s depth) (sees_only s) other views (seen s (declared depth x (z ∷ []) m) hands t.state.leaks) facts
       × Kept s (declared depth x (z ∷ []) m) hands × Holds s depth views (declared depth x (z ∷ []) m) × Turned_here views facts
@@ -161,27 +161,46 @@ module _ (t : Turn) (settled : IsSettled (typing t).table) (own_law : OwnsByShap
           let off : q ≡ x → ⊥ = λ same. (let no = eq-eqb q x same in cc) in
           inl (record { way = becomes.ways q off; loan = becomes.loans q off; up = becomes.ups q off })
 
+  -- what a name stands for that is rooted in a view goes on from the way of that
+  comes_under : (y : ℕ) (k w : Way) → expand v k ≡ w → (l : Lifted v k) → l.object ≡ y → (q : Way) × (v.way y ≡ Some q) × Under q w
+  comes_under y k w is l object =
+      (l.way, subst (λ q. v.way q ≡ Some l.way) object l.has, subst (Under l.way) (sym (lifted_way v k l) ∙ is) (on_under l.way l.rest))
+
+  in_word : (z : machine.Word) (w k : Way) → way_from z w ≡ Some k → (n : ℕ) × (z ≡ machine.Cell n)
+  in_word (machine.Cell n) w k e = (n, refl)
+  in_word (machine.Int n) w k e = cc
+  in_word (machine.Enumerated n) w k e = cc
+  in_word machine.Null w k e = cc
+
   -- it is taken from an object, or from what another view designates
-  taken_from : (views : Views) (x y : ℕ) (z : machine.Word) (u loan : Way) (facts : List Fact)
-      → Becomes v views x (way_from z (expand v (All u))) loan (All u) (number_in z) → may x y → Named (home s depth) u → number_of u ≡ y → (y ≡ x → ⊥)
-      → (sees_only s x ≡ true → Has facts (Lent Observed x (ways.name_of loan))) → Turned_here views facts
-  taken_from views x y z u loan facts becomes mine named root apart lent =
-      turned_by views x y (way_from z (expand v (All u))) loan (All u) (number_in z) facts becomes mine (λ w e. record {
+  taken_from : (views : Views) (x y : ℕ) (z : machine.Word) (k loan : Way) (facts : List Fact)
+      → Becomes v views x (way_from z (expand v k)) loan k (number_in z) → may x y → Named (home s depth) k → number_of k ≡ y → (y ≡ x → ⊥)
+      → (sees_only s x ≡ true → Has facts (Lent Observed x (ways.name_of loan)))
+      → (is_view s y ≡ true → (n : ℕ) → z ≡ machine.Cell n → (l : Lifted v k) × (l.object ≡ y)) → Turned_here views facts
+  taken_from views x y z k loan facts becomes mine named root apart lent lifted =
+      turned_by views x y (way_from z (expand v k)) loan k (number_in z) facts becomes mine (λ w e. record {
         up = inl (ap number_of becomes.up_is ∙ root);
-        root = subst (Has_root x y) (sym (way_of z (expand v (All u)) w e)) (root_from x y (All u) named root apart);
+        root = subst (Has_root x y) (sym (way_of z (expand v k) w e)) (root_from x y k named root apart);
         loan = λ sees. inl (subst (λ q. Has facts (Lent Observed x (ways.name_of q))) (sym becomes.loan_is) (lent sees));
+        under = λ view. (
+            let n = in_word z (expand v k) w e in
+            let l = lifted view n.0 n.1 in
+            comes_under y k w (sym (way_of z (expand v k) w e)) l.0 l.1);
       })
 
-  taken_again : (views : Views) (x y : ℕ) (z : machine.Word) (u : Way) (l : Lifted v (All u)) (facts : List Fact)
-      → Becomes v views x (way_from z (expand v (All u))) (v.loan l.object) (next_of v (All u) l) (number_in z) → may x y → number_of u ≡ y
+  taken_again : (views : Views) (x y : ℕ) (z : machine.Word) (k : Way) (l : Lifted v k) (facts : List Fact)
+      → Becomes v views x (way_from z (expand v k)) (v.loan l.object) (next_of v k l) (number_in z) → may x y → number_of k ≡ y
       → (sees_only s x ≡ true → sees_only s y ≡ true) → Turned_here views facts
-  taken_again views x y z u l facts becomes mine root sees =
-      let object : l.object ≡ y = sym (lifted_root v (All u) l) ∙ root in
+  taken_again views x y z k l facts becomes mine root sees =
+      let object : l.object ≡ y = sym (lifted_root v k l) ∙ root in
       let has : v.way y ≡ Some l.way = subst (λ q. v.way q ≡ Some l.way) object l.has in
-      turned_by views x y (way_from z (expand v (All u))) (v.loan l.object) (next_of v (All u) l) (number_in z) facts becomes mine (λ w e. record {
-        up = inr (l.way, has, ap number_of becomes.up_is ∙ root_on (v.up l.object) l.rest ∙ ap (λ q. number_of (v.up q)) object);
-        root = subst (Has_root x y) (sym (way_of z (expand v (All u)) w e)) (lifted_from x y (All u) root l);
-        loan = λ observes. inr (l.way, has, sees observes, becomes.loan_is ∙ ap v.loan object);
+      let back : Named (home s depth) (views.up x) → Named (home s depth) (v.up y) =
+      (λ named. subst (λ q. Named (home s depth) (v.up q)) object (on_named (home s depth) (v.up l.object) l.rest (subst (Named (home s depth)) becomes.up_is named))) in
+      turned_by views x y (way_from z (expand v k)) (v.loan l.object) (next_of v k l) (number_in z) facts becomes mine (λ w e. record {
+        up = inr (l.way, has, ap number_of becomes.up_is ∙ root_on (v.up l.object) l.rest ∙ ap (λ q. number_of (v.up q)) object, back);
+        root = subst (Has_root x y) (sym (way_of z (expand v k) w e)) (lifted_from x y k root l);
+        loan = λ observes. inr (l.way, has, sees observes, becomes.loan_is ∙ ap v.loan object, back);
+        under = λ view. comes_under y k w (sym (way_of z (expand v k) w e)) l object;
       })
 
   -- it has none
@@ -204,14 +223,25 @@ module _ (t : Turn) (settled : IsSettled (typing t).table) (own_law : OwnsByShap
   fact_added : (a : Act) (facts : List Fact) (f : Fact) → Has (adds a) f → Has (effect a facts) f
   fact_added a facts f has = Has-append_right (filter (λ g. not (removes a g)) facts) (adds a) f has
 
-  -- What the source gives is stored in the variable of the view.
-  abbrev Gets : ℕ → ℕ → ℕ → PlaceName → List Fact → Type 0
+  -- What the source gives is stored in the variable of the view. It may lead further than the source does
+  -- itself, where a function gave it.
+  abbrev pub Gets : ℕ → ℕ → ℕ → PlaceName → List Fact → Type 0
   Gets x y d name facts =
-      (u : Way) (z : machine.Word) → Named (home s depth) u → ways.name_of u ≡ name → IsDesignated v (seen s m hands t.state.leaks) u z
+      (u : Way) (r : List Go) (z : machine.Word) → Named (home s depth) u → ways.name_of u ≡ name → IsReached v (seen s m hands t.state.leaks) (on (All u) r) z
       → ((k : ℕ) → z ≡ machine.Cell k → IsCell s m d k)
-      → (is_view s y ≡ true → (k : ℕ) → z ≡ machine.Cell k → (l : Lifted v (All u)) × (l.object ≡ y)) → (views : Views) × Got views x z facts
+      → (is_view s y ≡ true → (k : ℕ) → z ≡ machine.Cell k → (l : Lifted v (on (All u) r)) × (l.object ≡ y)) → (views : Views) × Got views x z facts
 
-  -- An object of an anonymous access type whose source designates what it does.
+  -- An object of an anonymous access type, which designates this type.
+  pub record Sees (x d : ℕ) : Type 0 where
+    pub k : ℕ
+    pub e : Bool
+    pub o : Bool
+    pub view : shape_of s.table (object_at s x).of ≡ shape.Access k e o
+    pub fits : Matches s.table d k
+    pub anonymous : is_anonymous (view_of s x) ≡ true
+    pub mine : home s depth x ≡ depth
+
+  -- Its source is a name that designates what it does.
   pub record Observes (x y u d : ℕ) (path : TypedTree) : Type 0 where
     pub k : ℕ
     pub c : Bool
@@ -224,57 +254,77 @@ module _ (t : Turn) (settled : IsSettled (typing t).table) (own_law : OwnsByShap
     pub fits : Matches s.table d k
     pub anonymous : is_anonymous (view_of s x) ≡ true
     pub mine : home s depth x ≡ depth
-    pub own : is_view_formal s x ≡ false
+    pub own : is_given s x ≡ false
+
+  sees_it : (x y u d : ℕ) (path : TypedTree) → Observes x y u d path → Sees x d
+  sees_it x y u d path observes = record {
+    k = observes.k;
+    e = observes.e;
+    o = observes.o;
+    view = observes.view;
+    fits = observes.fits;
+    anonymous = observes.anonymous;
+    mine = observes.mine;
+  }
 
   -- what an object sees that is no formal
   observes_only : (x : ℕ) → is_observer s x ≡ true → sees_only s x ≡ true
-  observes_only x e = ap (λ b. b || is_view_formal s x) e
+  observes_only x e = observer_sees s x e
 
-  borrows_only : (x : ℕ) → is_observer s x ≡ false → is_view_formal s x ≡ false → sees_only s x ≡ false
-  borrows_only x e own = both_no (is_observer s x) (is_view_formal s x) e own
+  borrows_only : (x : ℕ) → is_observer s x ≡ false → is_given s x ≡ false → sees_only s x ≡ false
+  borrows_only x e own = borrower_sees s x e own
+
+  -- a name through a formal goes by its way
+  found : (w : Way) (r : List Go) (y : ℕ) (z : machine.Word) → number_of w ≡ y
+      → (is_view s y ≡ true → (k : ℕ) → z ≡ machine.Cell k → (l : Lifted v (on (All w) r)) × (l.object ≡ y))
+      → is_view_formal s (number_of (on (All w) r)) ≡ true → (k : ℕ) → z ≡ machine.Cell k → Lifted v (on (All w) r)
+  found w r y z root lifted formal k e =
+      (lifted (either_true (is_anonymous (view_of s y)) (is_view_formal s y) (ap (is_view_formal s) (sym (root_on (All w) r ∙ root)) ∙ formal)) k e).0
 
   same_designated : (k d : ℕ) (e o c n : Bool) → shape.Access k e o ≡ shape.Access d c n → k ≡ d
   same_designated k d e o c n is = cc
 
-  of_type : (x y u d : ℕ) (path : TypedTree) → Observes x y u d path → (z : machine.Word) → ((k : ℕ) → z ≡ machine.Cell k → IsCell s m d k) → IsOfType s settled m x z
-  of_type x y u d path observes z typed d' c' n' k is e =
+  of_type : (x d : ℕ) → Sees x d → (z : machine.Word) → ((k : ℕ) → z ≡ machine.Cell k → IsCell s m d k) → IsOfType s settled m x z
+  of_type x d observes z typed d' c' n' k is e =
       let there = typed k e in
       let same = same_designated observes.k d' observes.e observes.o c' n' (sym observes.view ∙ is) in
       (there.0, there.1, matches_on s.table d d' (cell m k).of (subst (Matches s.table d) same observes.fits) there.2)
 
-  one_word : (x y u d : ℕ) (path : TypedTree) → Observes x y u d path → words s.table (object_at s x).of ≡ 1
-  one_word x y u d path observes = settled.word_law (object_at s x).of ∙ ap (shape_words (words s.table)) observes.view
+  one_word : (x d : ℕ) → Sees x d → words s.table (object_at s x).of ≡ 1
+  one_word x d observes = settled.word_law (object_at s x).of ∙ ap (shape_words (words s.table)) observes.view
 
-  borrow_gets : (x y u d : ℕ) (path : TypedTree) (facts : List Fact) → Observes x y u d path → Good v facts t.state → Unused (home s depth) other.lent v facts x
+  pub borrow_gets : (x y d : ℕ) (path : TypedTree) (facts : List Fact) → Sees x d → Good v facts t.state → Unused (home s depth) other.lent v facts x
       → sees_only s x ≡ false → sees_only s y ≡ false → y < x → may x y → Allows facts (act.Borrow x (name_of y path))
       → Gets x y d (name_of y path) (effect (act.Borrow x (name_of y path)) facts)
-  borrow_gets x y u d path facts observes good unused borrows plain older mine allowed w z named called is typed lifted =
-      let views : Views = with_view v x (way_from z (expand v (All w))) w (All w) (number_in z) in
+  borrow_gets x y d path facts observes good unused borrows plain older mine allowed w r z named called is typed lifted =
+      let views : Views = with_view v x (way_from z (expand v (on (All w) r))) w (on (All w) r) (number_in z) in
       let root : number_of w ≡ y = ap (λ (n : PlaceName). n.root) called in
       let got = borrower_declared s settled depth other v views m hands t.state.leaks facts good.viewed good.kept good.holds x z observes.mine observes.anonymous
-      (one_word x y u d path observes) (of_type x y u d path observes z typed) w
-      (becomes_with v x (way_from z (expand v (All w))) w (All w) (number_in z)) unused borrows named (ap (sees_only s) root ∙ plain)
+      (one_word x d observes) (of_type x d observes z typed) w r
+      (becomes_with v x (way_from z (expand v (on (All w) r))) w (on (All w) r) (number_in z)) unused borrows (found w r y z root lifted) named (ap (sees_only s) root ∙ plain)
       (subst (λ n. n < x) (sym root) older) is (subst (λ n. Allows facts (act.Borrow x n)) (sym called) allowed) in
       let turned : Turned_here views (effect (act.Borrow x (ways.name_of w)) facts) =
-      taken_from views x y z w w (effect (act.Borrow x (ways.name_of w)) facts) (becomes_with v x (way_from z (expand v (All w))) w (All w) (number_in z)) mine named root
+      taken_from views x y z (on (All w) r) w (effect (act.Borrow x (ways.name_of w)) facts) (becomes_with v x (way_from z (expand v (on (All w) r))) w (on (All w) r) (number_in z)) mine
+      (named_on (home s depth) (All w) r named) (root_on (All w) r ∙ root)
       (λ same. absurd (omega (arith, older, same)))
-      (λ sees. absurd (true_false (sees_only s x) sees borrows)) in
+      (λ sees. absurd (true_false (sees_only s x) sees borrows)) lifted in
       (views, subst (λ n. Got views x z (effect (act.Borrow x n) facts)) called (got.sound, got.words_kept, got.views_held, turned))
 
-  observe_gets : (x y u d : ℕ) (path : TypedTree) (facts : List Fact) → Observes x y u d path → Good v facts t.state
+  observe_gets : (x y d : ℕ) (path : TypedTree) (facts : List Fact) → Sees x d → Good v facts t.state
       → sees_only s x ≡ true → sees_only s y ≡ false → may x y → Allows facts (act.Observe x (name_of y path) false)
       → Gets x y d (name_of y path) (effect (act.Observe x (name_of y path) false) facts)
-  observe_gets x y u d path facts observes good sees plain mine allowed w z named called is typed lifted =
-      let views : Views = with_view v x (way_from z (expand v (All w))) w (All w) (number_in z) in
+  observe_gets x y d path facts observes good sees plain mine allowed w r z named called is typed lifted =
+      let views : Views = with_view v x (way_from z (expand v (on (All w) r))) w (on (All w) r) (number_in z) in
       let root : number_of w ≡ y = ap (λ (n : PlaceName). n.root) called in
       let got = observer_stored s settled depth other v views m hands t.state.leaks facts good.viewed good.kept good.holds x z observes.mine observes.anonymous
-      (one_word x y u d path observes) (of_type x y u d path observes z typed) w
-      (becomes_with v x (way_from z (expand v (All w))) w (All w) (number_in z)) sees named (ap (sees_only s) root ∙ plain)
+      (one_word x d observes) (of_type x d observes z typed) w r
+      (becomes_with v x (way_from z (expand v (on (All w) r))) w (on (All w) r) (number_in z)) sees (found w r y z root lifted) named (ap (sees_only s) root ∙ plain)
       is (subst (λ n. Allows facts (act.Observe x n false)) (sym called) allowed) in
       let turned : Turned_here views (effect (act.Observe x (ways.name_of w) false) facts) =
-      taken_from views x y z w w (effect (act.Observe x (ways.name_of w) false) facts) (becomes_with v x (way_from z (expand v (All w))) w (All w) (number_in z)) mine named root
+      taken_from views x y z (on (All w) r) w (effect (act.Observe x (ways.name_of w) false) facts) (becomes_with v x (way_from z (expand v (on (All w) r))) w (on (All w) r) (number_in z)) mine
+      (named_on (home s depth) (All w) r named) (root_on (All w) r ∙ root)
       (λ same. absurd (true_false (sees_only s x) sees (ap (sees_only s) (sym same) ∙ plain)))
-      (λ sees. fact_added (act.Observe x (ways.name_of w) false) facts (Lent Observed x (ways.name_of w)) (inl refl)) in
+      (λ sees. fact_added (act.Observe x (ways.name_of w) false) facts (Lent Observed x (ways.name_of w)) (inl refl)) lifted in
       (views, subst (λ n. Got views x z (effect (act.Observe x n false) facts)) called (got.sound, got.words_kept, got.views_held, turned))
 
   abbrev Shown : (facts : List Fact) → Good v facts t.state → ℕ → ℕ → PlaceName → List machine.Word → Type 0
@@ -282,13 +332,17 @@ module _ (t : Turn) (settled : IsSettled (typing t).table) (own_law : OwnsByShap
       (u : Way) × Named (home s depth) u × (ways.name_of u ≡ name)
       × Shows (here t) settled hands t.state.leaks m [] other facts v good.kept good.viewed good.holds alone (alive facts good) index_law own_law parts_named y d u ws
 
+  -- it is declared with that
+  pub got_declared : (x : ℕ) (z : machine.Word) (behind : List Fact) → (views : Views) × Got views x z behind → Leads_here behind (goes t (declared depth x (z ∷ []) m) 0)
+  got_declared x z behind got =
+      goes_to t settled own_law other alone v parts_named may frames none (declared depth x (z ∷ []) m) 0 got.0 behind got.1.3 got.1.0 got.1.1 got.1.2
+
   then_got : (x y d : ℕ) (name : PlaceName) (facts behind : List Fact) (good : Good v facts t.state) → Gets x y d name behind → (e : Evaluated (List machine.Word))
       → Quiet now (Shown facts good y d name) e → Leads_here behind (steps.evaluated t e (λ ws m. goes t (declared depth x ws m) 0))
   then_got x y d name facts behind good gets (Done ws n) (same, (u, named, called, shows)) =
-      let got = gets u shows.word named called shows.designated shows.typed shows.lifted in
       subst (λ (z : Now). Leads_here behind (goes t (declared depth x ws z.memory) 0)) (sym same)
       (subst (λ z. Leads_here behind (goes t (declared depth x z m) 0)) (sym shows.is)
-      (goes_to t settled own_law other alone v parts_named may frames none (declared depth x (shows.word ∷ []) m) 0 got.0 behind got.1.3 got.1.0 got.1.1 got.1.2))
+      (got_declared x shows.word behind (gets u [] shows.word named called shows.designated shows.typed shows.lifted)))
   then_got x y d name facts behind good gets (Raises e n) is = (λ trap. trap, raises t settled own_law other alone v parts_named may frames none facts good n.memory)
   then_got x y d name facts behind good gets (Traps e n) never = absurd never
 
@@ -352,66 +406,59 @@ module _ (t : Turn) (settled : IsSettled (typing t).table) (own_law : OwnsByShap
       subst (λ z. Leads_here (after (acts z) facts) (Declares ws x (More e rest))) (sym same)
       (view_on ws x y u d p path rest (act.Borrow x) observes takes facts good goes_by
       (λ w called plain. borrow_clears facts x w (subst (λ n. Allows facts (act.Borrow x n)) (sym called) (last_allowed ws x y u d p path (act.Borrow x) observes takes facts good goes_by).0))
-      (λ mine. borrow_gets x y u d path facts observes good unused (borrows_only x borrows observes.own) plain older from mine))
+      (λ mine. borrow_gets x y d path facts (sees_it x y u d path observes) good unused (borrows_only x borrows observes.own) plain older from mine))
 
   -- ---- an observer of what another observer or a formal sees
 
-  through_gets : (b : Bool) (x y u d : ℕ) (path : TypedTree) (facts : List Fact) → Observes x y u d path → Good v facts t.state
+  pub through_gets : (b : Bool) (x y d : ℕ) (path : TypedTree) (facts : List Fact) → Sees x d → Good v facts t.state
       → sees_only s x ≡ true → sees_only s y ≡ true → may x y → Allows facts (act.Observe x (name_of y path) b)
       → Gets x y d (name_of y path) (effect (act.Observe x (name_of y path) b) facts)
-  through_gets b x y u d path facts observes good looks from mine allowed w z named called is typed lifted = by_word z is typed lifted
+  through_gets b x y d path facts observes good looks from mine allowed w r z named called is typed lifted = by_word z is typed lifted
     where
-      anonymous : (a b c f : Bool) → (a && c) || f ≡ true → (b || c) || f ≡ true
-      anonymous true true c f e = refl
-      anonymous true false c f e = e
-      anonymous false true c f e = refl
-      anonymous false false true f e = refl
-      anonymous false false false f e = e
-
       view_y : is_view s y ≡ true
-      view_y = anonymous (is_variable (object_at s y).kind) (is_borrowing (view_of s y)) (is_observing (view_of s y)) (is_view_formal s y) from
+      view_y = sees_view s y from
 
-      nothing : (z : machine.Word) → ((k : ℕ) → z ≡ machine.Cell k → ⊥) → IsDesignated v (seen s m hands t.state.leaks) w z
+      nothing : (z : machine.Word) → ((k : ℕ) → z ≡ machine.Cell k → ⊥) → IsReached v (seen s m hands t.state.leaks) (on (All w) r) z
           → ((k : ℕ) → z ≡ machine.Cell k → IsCell s m d k) → (views : Views) × Got views x z (effect (act.Observe x (name_of y path) b) facts)
       nothing z null is typed =
           let views : Views = with_view v x (way_from z w) w w (number_in z) in
           let a : Act = act.Observe x (name_of y path) b in
           let got = view_emptied s settled depth other v views m hands t.state.leaks facts good.viewed good.kept good.holds x z observes.mine observes.anonymous
-          (one_word x y u d path observes) (of_type x y u d path observes z typed) (effect a facts) w w w (becomes_with v x (way_from z w) w w (number_in z)) null
+          (one_word x d observes) (of_type x d observes z typed) (effect a facts) w w w (becomes_with v x (way_from z w) w w (number_in z)) null
           (lent.observer_unused (home s depth) (sees_only s) other v views (seen s m hands t.state.leaks) facts good.viewed x looks)
           (λ n has. kept_fact a facts (Moved n) has refl) (loan_kept a facts (λ l h k. refl))
           (clear_observe (sees_only s) facts good.viewed.clear x (name_of y path) b allowed) in
           (views, (got.sound, got.words_kept, got.views_held, taken_none views x z w w w (effect a facts) (becomes_with v x (way_from z w) w w (number_in z)) null))
 
-      by_word : (z : machine.Word) → IsDesignated v (seen s m hands t.state.leaks) w z → ((k : ℕ) → z ≡ machine.Cell k → IsCell s m d k)
-          → (is_view s y ≡ true → (k : ℕ) → z ≡ machine.Cell k → (l : Lifted v (All w)) × (l.object ≡ y))
+      by_word : (z : machine.Word) → IsReached v (seen s m hands t.state.leaks) (on (All w) r) z → ((k : ℕ) → z ≡ machine.Cell k → IsCell s m d k)
+          → (is_view s y ≡ true → (k : ℕ) → z ≡ machine.Cell k → (l : Lifted v (on (All w) r)) × (l.object ≡ y))
           → (views : Views) × Got views x z (effect (act.Observe x (name_of y path) b) facts)
       by_word (machine.Cell k) is typed lifted =
           let z : machine.Word = machine.Cell k in
           let l = lifted view_y k refl in
-          let views : Views = with_view v x (way_from z (expand v (All w))) (v.loan l.0.object) (next_of v (All w) l.0) (number_in z) in
+          let views : Views = with_view v x (way_from z (expand v (on (All w) r))) (v.loan l.0.object) (next_of v (on (All w) r) l.0) (number_in z) in
           let got = observer_again s settled depth other v views m hands t.state.leaks facts good.viewed good.kept good.holds x z observes.mine observes.anonymous
-          (one_word x y u d path observes) (of_type x y u d path observes z typed) w l.0 (ap (sees_only s) l.1 ∙ from)
-          (becomes_with v x (way_from z (expand v (All w))) (v.loan l.0.object) (next_of v (All w) l.0) (number_in z)) looks named is
-          b (subst (λ n. Allows facts (act.Observe x n b)) (sym called) allowed) in
-          let turned : Turned_here views (effect (act.Observe x (ways.name_of w) b) facts) =
-          taken_again views x y z w l.0 (effect (act.Observe x (ways.name_of w) b) facts)
-          (becomes_with v x (way_from z (expand v (All w))) (v.loan l.0.object) (next_of v (All w) l.0) (number_in z)) mine
-          (ap (λ (n : PlaceName). n.root) called) (λ observes. from) in
-          (views, subst (λ n. Got views x z (effect (act.Observe x n b) facts)) called (got.sound, got.words_kept, got.views_held, turned))
+          (one_word x d observes) (of_type x d observes z typed) (name_of y path) (on (All w) r) l.0 (ap (sees_only s) l.1 ∙ from)
+          (becomes_with v x (way_from z (expand v (on (All w) r))) (v.loan l.0.object) (next_of v (on (All w) r) l.0) (number_in z)) looks
+          (named_on (home s depth) (All w) r named) is b allowed in
+          let turned : Turned_here views (effect (act.Observe x (name_of y path) b) facts) =
+          taken_again views x y z (on (All w) r) l.0 (effect (act.Observe x (name_of y path) b) facts)
+          (becomes_with v x (way_from z (expand v (on (All w) r))) (v.loan l.0.object) (next_of v (on (All w) r) l.0) (number_in z)) mine
+          (root_on (All w) r ∙ ap (λ (n : PlaceName). n.root) called) (λ observes. from) in
+          (views, (got.sound, got.words_kept, got.views_held, turned))
       by_word (machine.Int k) is typed lifted = nothing (machine.Int k) (λ q e. cc) is typed
       by_word (machine.Enumerated k) is typed lifted = nothing (machine.Enumerated k) (λ q e. cc) is typed
       by_word machine.Null is typed lifted = nothing machine.Null (λ q e. cc) is typed
 
   -- an observer of what isn't an observer: of an owner, a borrower or a formal
-  seen_gets : (x y u d : ℕ) (path : TypedTree) (facts : List Fact) → Observes x y u d path → Good v facts t.state
+  pub seen_gets : (x y d : ℕ) (path : TypedTree) (facts : List Fact) → Sees x d → is_given s x ≡ false → Good v facts t.state
       → is_observer s x ≡ true → is_observer s y ≡ false → may x y → Allows facts (act.Observe x (name_of y path) false)
       → Gets x y d (name_of y path) (effect (act.Observe x (name_of y path) false) facts)
-  seen_gets x y u d path facts observes good sees plain mine allowed = by_kind (is_view_formal s y) refl
+  seen_gets x y d path facts observes own good sees plain mine allowed = by_kind (sees_only s y) refl
     where
-      by_kind : (b : Bool) → is_view_formal s y ≡ b → Gets x y d (name_of y path) (effect (act.Observe x (name_of y path) false) facts)
-      by_kind false e = observe_gets x y u d path facts observes good (observes_only x sees) (borrows_only y plain e) mine allowed
-      by_kind true e = through_gets false x y u d path facts observes good (observes_only x sees) (either_true (is_observer s y) (is_view_formal s y) e) mine allowed
+      by_kind : (b : Bool) → sees_only s y ≡ b → Gets x y d (name_of y path) (effect (act.Observe x (name_of y path) false) facts)
+      by_kind false e = observe_gets x y d path facts observes good (observes_only x sees) e mine allowed
+      by_kind true e = through_gets false x y d path facts observes good (observes_only x sees) e mine allowed
 
   -- An observer is declared, of what an owner has, or what a borrower leads to.
   pub observer_on : (ws : List (List machine.Word)) (x y u d : ℕ) (p : Pos) (path rest : TypedTree) → Observes x y u d path → is_borrower s x ≡ false → is_observer s x ≡ true
@@ -429,7 +476,7 @@ module _ (t : Turn) (settled : IsSettled (typing t).table) (own_law : OwnsByShap
       subst (λ z. Leads_here (after (acts z) facts) (Declares ws x (More e rest))) (sym same)
       (view_on ws x y u d p path rest a observes takes facts good goes_by
       (λ w called plain. observe_clears facts x false w (subst (λ n. Allows facts (act.Observe x n false)) (sym called) (last_allowed ws x y u d p path a observes takes facts good goes_by).0))
-      (λ mine. seen_gets x y u d path facts observes good sees plain from mine))
+      (λ mine. seen_gets x y d path facts (sees_it x y u d path observes) observes.own good sees plain from mine))
 
   -- An observer is declared that sees what another one does.
   pub observer_again_on : (ws : List (List machine.Word)) (x y u d : ℕ) (p : Pos) (path rest : TypedTree) → Observes x y u d path → is_borrower s x ≡ false → is_observer s x ≡ true
@@ -447,7 +494,7 @@ module _ (t : Turn) (settled : IsSettled (typing t).table) (own_law : OwnsByShap
       subst (λ z. Leads_here (after (acts z) facts) (Declares ws x (More e rest))) (sym same)
       (view_on ws x y u d p path rest a observes takes facts good goes_by
       (λ w called plain. absurd (true_false (sees_only s y) (observes_only y from) plain))
-      (λ mine. through_gets true x y u d path facts observes good (observes_only x sees) (observes_only y from) by mine))
+      (λ mine. through_gets true x y d path facts (sees_it x y u d path observes) good (observes_only x sees) (observes_only y from) by mine))
 
   -- ---- assignments to borrowers and observers
 
@@ -462,19 +509,23 @@ module _ (t : Turn) (settled : IsSettled (typing t).table) (own_law : OwnsByShap
   no_parts k e false any f = refl
 
   -- the variable of a view has no leak checks, and its word is the whole of it
-  unchecked : (x y u d : ℕ) (path : TypedTree) → Observes x y u d path → (pos : Pos) → leaks_at s pos m (run.variable_place (here t) x) ≡ []
-  unchecked x y u d path observes pos =
+  unchecked : (x d : ℕ) → Sees x d → (pos : Pos) → leaks_at s pos m (run.variable_place (here t) x) ≡ []
+  unchecked x d observes pos =
       let empty : parts s.table (object_at s x).of ≡ [] =
       settled.part_law (object_at s x).of ∙ ap (parts_of (parts s.table)) observes.view
       ∙ no_parts observes.k observes.e observes.o (sym (ap (λ z. is_anonymous (view_of_shape z)) observes.view) ∙ observes.anonymous) (parts s.table) in
       ap (λ z. checked_at pos 0 (slots_at s m (run.variable_place (here t) x).base) (flat_map (machine.offsets s.table (object_at s x).of) z)) empty
 
+  pub stored_as : (x d : ℕ) (facts : List Fact) → Sees x d → Good v facts t.state → (z : machine.Word)
+      → stored s (run.variable_place (here t) x) (z ∷ []) m ≡ declared depth x (z ∷ []) m
+  stored_as x d facts observes good z =
+      ap (λ q. memory.put (memory.OfVariable (home s depth x) x) q m)
+      (replaced (variable_slots s (home s depth x) x m.variables) z (good.kept.variables (home s depth x) x ∙ one_word x d observes))
+      ∙ ap (λ f. declared f x (z ∷ []) m) observes.mine
+
   pub stored_is : (x y u d : ℕ) (path : TypedTree) (facts : List Fact) → Observes x y u d path → Good v facts t.state → (z : machine.Word)
       → stored s (run.variable_place (here t) x) (z ∷ []) m ≡ declared depth x (z ∷ []) m
-  stored_is x y u d path facts observes good z =
-      ap (λ q. memory.put (memory.OfVariable (home s depth x) x) q m)
-      (replaced (variable_slots s (home s depth x) x m.variables) z (good.kept.variables (home s depth x) x ∙ one_word x y u d path observes))
-      ∙ ap (λ f. declared f x (z ∷ []) m) observes.mine
+  stored_is x y u d path facts observes good z = stored_as x d facts (sees_it x y u d path observes) good z
 
   abbrev pub Puts : Pos → Pos → ℕ → ℕ → Evaluated (List machine.Word) → Outcome
   Puts pos q x u e =
@@ -486,19 +537,25 @@ module _ (t : Turn) (settled : IsSettled (typing t).table) (own_law : OwnsByShap
   unfolding steps_of
   put_at pos q x u ws n = refl
 
+  -- the view is assigned that
+  pub got_put : (pos q : Pos) (x w d : ℕ) (facts behind : List Fact) → Sees x d → Good v facts t.state → (z : machine.Word) → (views : Views) × Got views x z behind
+      → Leads_here behind (Puts pos q x w (Done (z ∷ []) now))
+  got_put pos q x w d facts behind observes good z got =
+      let k : Place = run.variable_place (here t) x in
+      subst (Leads_here behind) (sym (put_at pos q x w (z ∷ []) now))
+      (subst (λ a. Leads_here behind (leaking_goes (checks_at s pos m k) (goes t a 0))) (sym (stored_as x d facts observes good z))
+      (goes_on t settled own_law other alone v parts_named may frames none (declared depth x (z ∷ []) m) (checks_at s pos m k) []
+      (all_checks s pos m k ∙ unchecked x d observes pos) got.0 behind got.1.3
+      (subst (λ a. Viewed (home s depth) (sees_only s) other got.0 (seen s (declared depth x (z ∷ []) m) hands a) behind) (sym (append-nil t.state.leaks)) got.1.0)
+      got.1.1 got.1.2))
+
   then_put : (pos q : Pos) (x y u w d : ℕ) (path : TypedTree) (name : PlaceName) (facts behind : List Fact) (good : Good v facts t.state) → Observes x y u d path
       → Gets x y d name behind → (e : Evaluated (List machine.Word)) → Quiet now (Shown facts good y d name) e → Leads_here behind (Puts pos q x w e)
   then_put pos q x y u w d path name facts behind good observes gets (Done ws n) (same, (r, named, called, shows)) =
-      let got = gets r shows.word named called shows.designated shows.typed shows.lifted in
-      let k : Place = run.variable_place (here t) x in
-      let is = stored_is x y u d path facts observes good shows.word in
-      subst (Leads_here behind) (sym (put_at pos q x w ws n))
-      (subst (λ (z : Now). Leads_here behind (leaking_goes (checks_at s pos z.memory k) (goes t (stored s k ws z.memory) 0))) (sym same)
-      (subst (λ z. Leads_here behind (leaking_goes (checks_at s pos m k) (goes t (stored s k z m) 0))) (sym shows.is)
-      (subst (λ z. Leads_here behind (leaking_goes (checks_at s pos m k) (goes t z 0))) (sym is)
-      (goes_on t settled own_law other alone v parts_named may frames none (declared depth x (shows.word ∷ []) m) (checks_at s pos m k) [] (all_checks s pos m k ∙ unchecked x y u d path observes pos) got.0 behind got.1.3
-      (subst (λ z. Viewed (home s depth) (sees_only s) other got.0 (seen s (declared depth x (shows.word ∷ []) m) hands z) behind) (sym (append-nil t.state.leaks)) got.1.0)
-      got.1.1 got.1.2))))
+      subst (λ (z : Now). Leads_here behind (Puts pos q x w (Done ws z))) (sym same)
+      (subst (λ z. Leads_here behind (Puts pos q x w (Done z now))) (sym shows.is)
+      (got_put pos q x w d facts behind (sees_it x y u d path observes) good shows.word
+      (gets r [] shows.word named called shows.designated shows.typed shows.lifted)))
   then_put pos q x y u w d path name facts behind good observes gets (Raises e n) is = (λ trap. trap, raises t settled own_law other alone v parts_named may frames none facts good n.memory)
   then_put pos q x y u w d path name facts behind good observes gets (Traps e n) never = absurd never
 
@@ -520,10 +577,10 @@ module _ (t : Turn) (settled : IsSettled (typing t).table) (own_law : OwnsByShap
       (shown_on ws x y u d p path observes takes facts good last.1 (λ w called plain. clears w called plain last.0))))
 
   -- A borrower goes on from where it is.
-  reborrow_gets : (x u d : ℕ) (path : TypedTree) (facts : List Fact) → Observes x x u d path → Good v facts t.state
-      → sees_only s x ≡ false → may x x → Allows facts (act.Reborrow x (name_of x path))
+  pub reborrow_gets : (x d : ℕ) (path : TypedTree) (facts : List Fact) → Sees x d → Good v facts t.state
+      → sees_only s x ≡ false → is_given s x ≡ false → may x x → Allows facts (act.Reborrow x (name_of x path))
       → Gets x x d (name_of x path) (effect (act.Reborrow x (name_of x path)) facts)
-  reborrow_gets x u d path facts observes good borrows mine allowed w z named called is typed lifted = by_word z is typed lifted
+  reborrow_gets x d path facts observes good borrows own mine allowed w r z named called is typed lifted = by_word z is typed lifted
     where
       nothing : (z : machine.Word) → ((k : ℕ) → z ≡ machine.Cell k → ⊥) → ((k : ℕ) → z ≡ machine.Cell k → IsCell s m d k)
           → (views : Views) × Got views x z (effect (act.Reborrow x (name_of x path)) facts)
@@ -531,28 +588,28 @@ module _ (t : Turn) (settled : IsSettled (typing t).table) (own_law : OwnsByShap
           let views : Views = with_view v x (way_from z w) w w (number_in z) in
           let a : Act = act.Reborrow x (name_of x path) in
           let got = view_emptied s settled depth other v views m hands t.state.leaks facts good.viewed good.kept good.holds x z observes.mine observes.anonymous
-          (one_word x x u d path observes) (of_type x x u d path observes z typed) (effect a facts) w w w (becomes_with v x (way_from z w) w w (number_in z)) null
+          (one_word x d observes) (of_type x d observes z typed) (effect a facts) w w w (becomes_with v x (way_from z w) w w (number_in z)) null
           (lent.reborrow_unused (home s depth) (sees_only s) other v views (seen s m hands t.state.leaks) facts good.viewed x (name_of x path) allowed)
           (λ n has. kept_fact a facts (Moved n) has refl) (loan_kept a facts (λ l h k. refl))
           (clear_same (sees_only s) facts good.viewed.clear a refl) in
           (views, (got.sound, got.words_kept, got.views_held, taken_none views x z w w w (effect a facts) (becomes_with v x (way_from z w) w w (number_in z)) null))
 
-      by_word : (z : machine.Word) → IsDesignated v (seen s m hands t.state.leaks) w z → ((k : ℕ) → z ≡ machine.Cell k → IsCell s m d k)
-          → (is_view s x ≡ true → (k : ℕ) → z ≡ machine.Cell k → (l : Lifted v (All w)) × (l.object ≡ x))
+      by_word : (z : machine.Word) → IsReached v (seen s m hands t.state.leaks) (on (All w) r) z → ((k : ℕ) → z ≡ machine.Cell k → IsCell s m d k)
+          → (is_view s x ≡ true → (k : ℕ) → z ≡ machine.Cell k → (l : Lifted v (on (All w) r)) × (l.object ≡ x))
           → (views : Views) × Got views x z (effect (act.Reborrow x (name_of x path)) facts)
       by_word (machine.Cell k) is typed lifted =
           let z : machine.Word = machine.Cell k in
           let l = lifted (ap (λ b. b || is_view_formal s x) observes.anonymous) k refl in
-          let views : Views = with_view v x (way_from z (expand v (All w))) (v.loan l.0.object) (next_of v (All w) l.0) (number_in z) in
+          let views : Views = with_view v x (way_from z (expand v (on (All w) r))) (v.loan l.0.object) (next_of v (on (All w) r) l.0) (number_in z) in
           let got = borrower_stored s settled depth other v views m hands t.state.leaks facts good.viewed good.kept good.holds x z observes.mine observes.anonymous
-          (one_word x x u d path observes) (of_type x x u d path observes z typed) w l.0 l.1
-          (becomes_with v x (way_from z (expand v (All w))) (v.loan l.0.object) (next_of v (All w) l.0) (number_in z)) borrows named is
-          (subst (λ n. Allows facts (act.Reborrow x n)) (sym called) allowed) in
-          let turned : Turned_here views (effect (act.Reborrow x (ways.name_of w)) facts) =
-          taken_again views x x z w l.0 (effect (act.Reborrow x (ways.name_of w)) facts)
-          (becomes_with v x (way_from z (expand v (All w))) (v.loan l.0.object) (next_of v (All w) l.0) (number_in z)) mine
-          (ap (λ (n : PlaceName). n.root) called) (λ observes. observes) in
-          (views, subst (λ n. Got views x z (effect (act.Reborrow x n) facts)) called (got.sound, got.words_kept, got.views_held, turned))
+          (one_word x d observes) (of_type x d observes z typed) (name_of x path) (on (All w) r) l.0 l.1
+          (becomes_with v x (way_from z (expand v (on (All w) r))) (v.loan l.0.object) (next_of v (on (All w) r) l.0) (number_in z)) borrows own
+          (named_on (home s depth) (All w) r named) is allowed in
+          let turned : Turned_here views (effect (act.Reborrow x (name_of x path)) facts) =
+          taken_again views x x z (on (All w) r) l.0 (effect (act.Reborrow x (name_of x path)) facts)
+          (becomes_with v x (way_from z (expand v (on (All w) r))) (v.loan l.0.object) (next_of v (on (All w) r) l.0) (number_in z)) mine
+          (root_on (All w) r ∙ ap (λ (n : PlaceName). n.root) called) (λ observes. observes) in
+          (views, (got.sound, got.words_kept, got.views_held, turned))
       by_word (machine.Int k) is typed lifted = nothing (machine.Int k) (λ q e. cc) typed
       by_word (machine.Enumerated k) is typed lifted = nothing (machine.Enumerated k) (λ q e. cc) typed
       by_word machine.Null is typed lifted = nothing machine.Null (λ q e. cc) typed
@@ -571,7 +628,7 @@ module _ (t : Turn) (settled : IsSettled (typing t).table) (own_law : OwnsByShap
       subst (λ z. Leads_here (after (acts z) facts) (Puts (target_pos t target) q x (object_at s x).of (taken_by t (object_at s x).of e (at ws)))) (sym same)
       (put_on ws (target_pos t target) q p q x x u d path (act.Reborrow x) observes takes facts good (subst (λ z. AllowsAll facts (acts z)) same allowed)
       (λ w called plain mine. reborrow_clears facts x w (ap (λ (n : PlaceName). n.root) called) (subst (λ n. Allows facts (act.Reborrow x n)) (sym called) mine))
-      (λ mine. reborrow_gets x u d path facts observes good (borrows_only x borrows observes.own) from mine))
+      (λ mine. reborrow_gets x d path facts (sees_it x x u d path observes) good (borrows_only x borrows observes.own) observes.own from mine))
 
   -- An observer gets another value, of what an owner has, or what a borrower or an observer leads to.
   pub assign_observer_on : (ws : List (List machine.Word)) (pos q p : Pos) (x y u d : ℕ) (path : TypedTree) → Observes x y u d path → is_borrower s x ≡ false → is_observer s x ≡ true
@@ -600,5 +657,5 @@ module _ (t : Turn) (settled : IsSettled (typing t).table) (own_law : OwnsByShap
         where
           gets : (b : Bool) → is_observer s y ≡ b → Allows facts (act.Observe x (name_of y path) b)
               → Gets x y d (name_of y path) (effect (act.Observe x (name_of y path) b) facts)
-          gets true kind mine = through_gets true x y u d path facts observes good (observes_only x sees) (observes_only y kind) from mine
-          gets false kind mine = seen_gets x y u d path facts observes good sees kind from mine
+          gets true kind mine = through_gets true x y d path facts (sees_it x y u d path observes) good (observes_only x sees) (observes_only y kind) from mine
+          gets false kind mine = seen_gets x y d path facts (sees_it x y u d path observes) observes.own good sees kind from mine

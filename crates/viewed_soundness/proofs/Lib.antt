@@ -1,4 +1,5 @@
 pub mod Walks
+pub mod Spared
 pub mod Names
 pub mod Stays
 pub mod Moments
@@ -8,5 +9,7 @@ pub mod Viewing
 pub mod Sources
 pub mod Outcomes
 pub mod Lends
+-- what waits for borrowers and observers
+pub mod Coming
 -- what formals see
 pub mod Given

@@ -1,6 +1,6 @@
 -- Steps of a memory keep the state sound with views: what names have is taken, values are stored,
 -- and variables are declared and end.
-use Rattle.std.proofs.Common.{◌≡◌, refl, sym, ap, ◌∙◌, subst, inl, inr, ℕ, suc, ◌+◌, ◌<◌, Bool, true, false, not, List, [], ◌∷◌, ◌++◌, take, drop, length, get_or, append-nil, arith}
+use Rattle.std.proofs.Common.{◌≡◌, refl, sym, ap, ◌∙◌, subst, inl, inr, ℕ, ◌+◌, ◌<◌, Bool, true, false, not, List, [], ◌∷◌, ◌++◌, take, drop, length, get_or, append-nil, arith}
 use Rattle.spark_base.specs.declared.position.Pos.{Pos}
 use Rattle.place_names.specs.declared.selector.Sel.{Sel}
 use Rattle.place_names.specs.declared.act.Act.TheVariants.{Move, Write, EndScope}
@@ -15,8 +15,7 @@ use Rattle.machine.specs.Words as machine
 use Rattle.machine.specs.Memory.{Slot, Memory, HeapCell, Place, fresh, cell, no_slot, slots_at, slots_of, words_of, gone_at, stored, moved_out, undeclared, with_new_cell}
 use Rattle.machine.specs.Calls.{checked_at}
 use Rattle.machine.specs.States.{Waiting, Leak}
-use Rattle.owned_ways.specs.Ways.{Step, OfVariable, OfHand, Loc, OfRoot, OfCell, Inside, Way, Object, Lost, Into, All, Gone, View, Reaches, Owned, part, along, Under, Named, Spares, Allows, Sound, sels_of, name_of, sel_of, base_of, number_of}
-use Rattle.owned_ways.proofs.Assigned.{named_rooted}
+use Rattle.owned_ways.specs.Ways.{Step, OfVariable, OfHand, Loc, OfRoot, OfCell, Inside, Way, Object, Lost, Into, All, Gone, View, IsRooted, Reaches, Owned, part, along, Under, Named, Spares, Allows, Sound, sels_of, name_of, sel_of, base_of, number_of}
 use Rattle.owned_ways.proofs.Locations.{under_along, under_itself, named_along, reaches_along}
 use Rattle.part_offsets.specs.Parts.{type_in, offset_in, is_leaf, sels_along, IsSettled}
 use Rattle.part_offsets.proofs.Leaves.{leaf_has}
@@ -31,7 +30,7 @@ use Rattle.owned_loans.specs.Views.{Around, Views, expand, ExcusedBy, Viewed}
 use Rattle.owned_loans.proofs.Meeting.{IsPlain}
 use Rattle.owned_loans.proofs.Others.{clean_away}
 use Rattle.owned_loans.proofs.Allowed.{move_unlent, move_unmoved}
-use Rattle.owned_loans.proofs.Moves.{IsPlace, named_way, view_rooted, reached, view_on, all_known, no_hand, taken, put}
+use Rattle.owned_loans.proofs.Moves.{IsPlace, rests_there, rooted_way, view_rooted, reached, view_on, all_known, no_hand, taken, put}
 use Rattle.owned_loans.proofs.Ended.{Leaves, ended}
 
 -- ---- ways through words that stay
@@ -49,6 +48,10 @@ far_old s owned (Object (OfHand h)) l f x base r = cc
 far_old s owned (Lost c) l f x base r = cc
 far_old s owned (Into w i) l f x base (m, r, e) = subst (IsOld s) (sym e) (far_old s owned w m f x base r)
 far_old s owned (All w) l f x base (m, c, r, held, e) = subst (IsOld s) (sym e) (owned.within m c held)
+
+old_part : (s : View) (l : Loc) (p : List Step) → IsOld s l → IsOld s (part l p)
+old_part s l [] old = old
+old_part s l (i ∷ p) old = old_part s l p old
 
 far_reaches : (s t : View) → Owned s → ((l : Loc) → IsOld s l → t.word l ≡ s.word l) → (w : Way) (l : Loc) (f x : ℕ) → base_of w ≡ OfRoot (OfVariable f x)
     → Reaches s w l → Reaches t w l
@@ -73,7 +76,11 @@ module _ (home : ℕ → ℕ) (observer : ℕ → Bool) (other : Around home) (v
         view_on home observer other v s t facts facts x w view (λ seen n loan. loan)
         (far_reaches s t viewed.owned same w (OfCell (v.cell x)) root.0 root.1 root.2 (reached home observer other v s facts x w view)));
     whole = viewed.whole;
+    past = viewed.past;
     far = λ w n keeps. (let root = other.begins w n keeps in far_reaches s t viewed.owned same w (OfCell n) root.0 root.1 root.2 (viewed.far w n keeps));
+    bare = λ w l p bare q c held. (let root = other.bares w l p bare in
+        viewed.bare w l p bare q c (sym (same (part l (q ++ p))
+        (old_part s l (q ++ p) (far_old s viewed.owned w l root.0 root.1 root.2 (rests_there home observer other v s facts viewed w l p bare)))) ∙ held));
   }
 
   -- nothing that is known of a name is of a hand
@@ -165,7 +172,6 @@ module _ (s : Typing) (settled : IsSettled s.table) (home : ℕ → ℕ) (observ
       subst (λ z. Checks s.table (a (trunk l)) (steps_in l) leaks (leaks ++ z)) (same_leaks m (x ∷ rest) k l pos spot) checks0 in
       let move = stored_step s.table settled a b (length rest) x l (length m.cells) (λ n. (cell m n).freed) leaks (leaks ++ leaks_at s pos m k) change checks in
       let name : IsPlain home observer v (seen s m (x ∷ rest) leaks) facts viewed.views u = (named, plain) in
-      let whole = named_way home observer other v (seen s m (x ∷ rest) leaks) facts viewed.views (suc (number_of u)) u (omega arith) name in
       let done = put home observer other v (seen s m (x ∷ rest) leaks) (seen_of s.table b (length m.cells) (λ n. (cell m n).freed) (leaks ++ leaks_at s pos m k))
       (Object (OfHand (length rest))) u (hand (length rest)) l facts viewed move tt (hands (length rest)) refl named plain place reaches allowed
       (stored_whole s.table settled a b (length rest) x l (length m.cells) (λ n. (cell m n).freed) (leaks ++ leaks_at s pos m k) change) in
@@ -198,15 +204,15 @@ module _ (s : Typing) (settled : IsSettled s.table) (home : ℕ → ℕ) (observ
       name : IsPlain home observer v (seen s m rest leaks) facts viewed.views u
       name = (named, plain)
 
-      rooted : Named home (expand v u)
-      rooted = named_way home observer other v (seen s m rest leaks) facts viewed.views (suc (number_of u)) u (omega arith) name
+      rooted : IsRooted (expand v u)
+      rooted = rooted_way home observer other v (seen s m rest leaks) facts viewed.views u name
 
       -- nothing at or below the name is gone
       whole : (p : List Step) → is_leaf s.table (content s m rest (trunk l)).of (p ++ steps_in l) ≡ true
           → (get_or (content s m rest (trunk l)).slots (offset_in s.table (content s m rest (trunk l)).of (p ++ steps_in l)) no_slot).gone ≡ false
       whole p leaf = elim (bool_cases (get_or (content s m rest (trunk l)).slots (offset_in s.table (content s m rest (trunk l)).of (p ++ steps_in l)) no_slot).gone) [
         | inr e ↦ e
-        | inl e ↦ absurd (clean (viewed.known (along (expand v u) p) (part l p) (named_along (expand v u) p (named_rooted home (expand v u) rooted))
+        | inl e ↦ absurd (clean (viewed.known (along (expand v u) p) (part l p) (named_along (expand v u) p rooted)
             (reaches_along (seen s m rest leaks) (expand v u) l p reaches)
             (word_part s.table (content s m rest) l p ∙ word_yes s.table (content s m rest (trunk l)) (p ++ steps_in l) owns leaf ∙ marked _ _ e)))
       ]

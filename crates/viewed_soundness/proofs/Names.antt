@@ -2,33 +2,37 @@
 -- cell.
 use Rattle.std.proofs.Common.{◌≡◌, refl, sym, ap, ◌∙◌, subst, ◌⊎◌, inl, inr, ℕ, ◌<◌, Bool, true, false, not, ◌&&◌, ◌||◌, List, [], ◌∷◌, map, take, drop, length, get_or, arith, Option, Some, None, if◌then◌else◌}
 use Rattle.place_names.specs.declared.fact.Fact.{Fact}
+use Rattle.place_names.specs.Names.{Name as PlaceName}
 use Rattle.type_definitions.specs.declared.table.Shape.{Shape}
 use Rattle.type_definitions.specs.declared.table.Shape.TheVariants as shape
-use Rattle.type_definitions.specs.Types.{Table, shape_of, components_of, fields, words, words_of, full, view_of as view_of_shape}
-use Rattle.flow_paths.specs.Objects.{Typing, object_at, designated, designated_of, is_anonymous, is_observing, is_observer, is_variable, view_of}
+use Rattle.type_definitions.specs.Types.{Table, is_nil, is_owning, shape_of, components_of, fields, words, words_of, full, view_of as view_of_shape}
+use Rattle.flow_paths.specs.Objects.{Typing, object_at, is_formal, designated, designated_of, is_anonymous, is_borrowing, is_observing, is_observer, is_variable, view_of}
 use Rattle.machine.specs.Words.{component_type, element_type, element_count, count_of}
 use Rattle.machine.specs.Words as machine
 use Rattle.machine.specs.Memory.{Slot, Memory, Place, cell, no_slot, variable_slots, words_of as place_words}
 use Rattle.machine.specs.Evaluate.{Here, Now, Evaluated, Done, Raises, Traps, followed_by, cell_place, designated_place, walked, variable_place, Touched}
 use Rattle.machine.specs.Evaluate as run
 use Rattle.machine.specs.States.{Waiting, Leak}
-use Rattle.owned_ways.specs.Ways.{Component, Element, Root, OfVariable, OfHand, Loc, OfRoot, OfCell, Way, Object, Lost, Into, All, View, Reaches, IsRooted, Past, Owned, Named, Under, number_of}
+use Rattle.owned_ways.specs.Ways.{Component, Element, Root, OfVariable, OfHand, Loc, OfRoot, OfCell, Way, Object, Lost, Into, All, Empty, Held, View, Reaches, IsRooted, Past, Owned, Named, Under, number_of}
 use Rattle.part_offsets.specs.Parts.{IsSettled}
 use Rattle.owned_ways.proofs.Locations.{past_under, under_itself}
+use Rattle.machine.specs.Owners.{is_in_formal, is_in}
 use Rattle.soundness.specs.Seen.{IsNear, content, trunk, seen, home, is_view_formal}
 use Rattle.soundness.specs.Typed.{Kept, Spot}
+use Rattle.soundness.proofs.Contents.{word_dead}
 use Rattle.soundness.proofs.Near.{named_near, past_near}
 use Rattle.soundness.proofs.Walks.{way_step, way_along, Lead, Walked}
 use Rattle.soundness.proofs.Scalars.{number_along, named_along}
 use Rattle.owned_loans.specs.Views.{Around, Go, Part, Down, go, on, Views, way_at, expand_root, expand, IsObject, ExcusedBy, Viewed}
-use Rattle.owned_loans.proofs.Ways.{beginnings, on_deep, expand_go, Lifted, lifts, further, lifted_root, lifted_way}
+use Rattle.owned_loans.proofs.Ways.{Meet, beginnings, on_deep, expand_go, Lifted, lifts, further, lifted_root, lifted_way}
 use Rattle.owned_loans.proofs.Meeting.{IsPlain}
 use Rattle.owned_loans.proofs.Safe.{Open}
 use Rattle.owned_loans.proofs.Others.{open_away, seen_away}
-use Rattle.owned_loans.proofs.Moves.{IsPlace, view_named, reached}
+use Rattle.owned_loans.proofs.Moves.{IsPlace, reached}
 use Rattle.owned_loans.proofs.Ended.{stands_itself}
-use Rattle.viewed_soundness.specs.Holds.{IsNamed, PartsAreNamed, is_view, sees_only, IsOwners, Holds}
+use Rattle.viewed_soundness.specs.Holds.{IsNamed, PartsAreNamed, is_view, is_given, is_exclusive, sees_only, is_fixed, IsOwners, Holds}
 use Rattle.viewed_soundness.proofs.Walks.{owners_rooted, walk}
+use Rattle.viewed_soundness.proofs.Spared.{gone_off}
 
 -- ---- steps from the variable of a view
 
@@ -163,18 +167,25 @@ not_object_along (next ∷ rest) step w d = not_object_along rest next (way_step
 pub no_parts_in : (sh : Shape) → (d : ℕ) × (c : Bool) × (n : Bool) × (sh ≡ shape.Access d c n) → (length (components_of sh) ≡ 0) × (count_of sh ≡ 0)
 no_parts_in sh (d, c, n, is) = (ap (λ z. length (components_of z)) is, ap count_of is)
 
--- a name of a named type isn't that of a view, if it isn't that of a formal
+-- a name of a named type isn't that of a view, if it isn't a formal itself
 pub is_place : (s : Typing) (v : Views) (f x t : ℕ) (way : List run.Step) → Starts s.table (object_at s x).of way t → IsNamed s.table t
-    → is_view_formal s x ≡ false
+    → (is_view_formal s x ≡ true → way ≡ [] → ⊥)
     → ((y : ℕ) (w : Way) → v.way y ≡ Some w → is_view s y ≡ true) → IsPlace v (way_along way (Object (OfVariable f x)))
 is_place s v f x t [] starts named own only r e = ap (way_at v) (sym (root_is (OfVariable f x) r e)) ∙ no_way (v.way x) refl
   where
     root_is : (a b : Root) → Object a ≡ Object b → a ≡ b
     root_is a b e = cc
 
+    not_formal : (b : Bool) → is_view_formal s x ≡ b → is_view_formal s x ≡ false
+    not_formal true e = absurd (own e refl)
+    not_formal false e = e
+
     no_way : (o : Option Way) → v.way x ≡ o → v.way x ≡ None
     no_way None e = e
-    no_way (Some w) e = absurd (not_view s.table (object_at s x).of (either (is_anonymous (view_of s x)) (is_view_formal s x) (only x w e) own) (subst (IsNamed s.table) (sym starts) named))
+    no_way (Some w) e =
+        absurd (not_view s.table (object_at s x).of
+        (either (is_anonymous (view_of s x)) (is_view_formal s x) (only x w e) (not_formal (is_view_formal s x) refl))
+        (subst (IsNamed s.table) (sym starts) named))
 is_place s v f x t (step ∷ rest) starts named own only r e =
     absurd (not_object_along rest step (Object (OfVariable f x)) (subst IsObject (sym e) tt))
 
@@ -197,11 +208,78 @@ no_and false c e = refl
 pub plain_observer : (s : Typing) (x : ℕ) → is_anonymous (view_of s x) ≡ false → is_observer s x ≡ false
 plain_observer s x plain = no_and (is_variable (object_at s x).kind) (is_observing (view_of s x)) (neither _ (is_observing (view_of s x)) plain).1
 
+and_true : (a b : Bool) → a && b ≡ true → (a ≡ true) × (b ≡ true)
+and_true true b e = (refl, e)
+and_true false b e = cc
+
+-- what isn't a view isn't given
+plain_given : (s : Typing) (x : ℕ) → is_view s x ≡ false → is_given s x ≡ false
+plain_given s x plain =
+    let none = neither (is_anonymous (view_of s x)) (is_view_formal s x) plain in
+    both_no (is_view_formal s x) (is_in_formal s x && is_anonymous (view_of s x)) none.1 (no_and (is_in_formal s x) (is_anonymous (view_of s x)) none.0)
+
+pub given_view : (s : Typing) (x : ℕ) → is_given s x ≡ true → is_view s x ≡ true
+given_view s x given = by (is_view_formal s x) (is_in_formal s x) (is_anonymous (view_of s x)) given
+  where
+    by : (f i a : Bool) → f || (i && a) ≡ true → a || f ≡ true
+    by f i true e = refl
+    by true i false e = refl
+    by false true false e = cc
+    by false false false e = cc
+
+-- nor is a variable
+pub variable_given : (s : Typing) (x : ℕ) → is_formal s x ≡ false → is_given s x ≡ false
+variable_given s x none = by (is_formal s x) (is_in (object_at s x).mode) (is_owning s.table (object_at s x).of) (is_anonymous (view_of s x)) none
+  where
+    by : (f i o a : Bool) → f ≡ false → ((f && i) && o) || ((f && i) && a) ≡ false
+    by false i o a e = refl
+    by true i o a e = cc
+
 -- what isn't a view doesn't see another's cell
 pub plain_sees : (s : Typing) (x : ℕ) → is_view s x ≡ false → sees_only s x ≡ false
 plain_sees s x plain =
     let none = neither (is_anonymous (view_of s x)) (is_view_formal s x) plain in
-    both_no (is_observer s x) (is_view_formal s x) (plain_observer s x none.0) none.1
+    both_no (is_observer s x) (is_given s x && not (is_exclusive s x)) (plain_observer s x none.0) (ap (λ b. b && not (is_exclusive s x)) (plain_given s x plain))
+
+pub owner_sees : (s : Typing) (x : ℕ) → is_anonymous (view_of s x) ≡ false → is_view_formal s x ≡ false → sees_only s x ≡ false
+owner_sees s x own plain = plain_sees s x (both_no (is_anonymous (view_of s x)) (is_view_formal s x) own plain)
+
+-- what sees is a view
+pub sees_view : (s : Typing) (x : ℕ) → sees_only s x ≡ true → is_view s x ≡ true
+sees_view s x sees = by (is_observer s x) (is_given s x) (not (is_exclusive s x)) refl sees
+  where
+    observed : (a b c f : Bool) → a && c ≡ true → (b || c) || f ≡ true
+    observed true true c f is = refl
+    observed true false true f is = refl
+    observed true false false f is = cc
+    observed false b c f is = cc
+
+    by : (o g e : Bool) → is_observer s x ≡ o → o || (g && e) ≡ true → is_view s x ≡ true
+    by true g e is any = observed (is_variable (object_at s x).kind) (is_borrowing (view_of s x)) (is_observing (view_of s x)) (is_view_formal s x) is
+    by false g e is any = given_view s x (given_first (is_given s x) (not (is_exclusive s x)) (ap (λ b. b || (is_given s x && not (is_exclusive s x))) (sym is) ∙ sees))
+      where
+        given_first : (a b : Bool) → a && b ≡ true → a ≡ true
+        given_first true b e = refl
+        given_first false b e = cc
+
+-- an observer sees, and what is neither one nor a formal doesn't
+pub observer_sees : (s : Typing) (x : ℕ) → is_observer s x ≡ true → sees_only s x ≡ true
+observer_sees s x e = ap (λ b. b || (is_given s x && not (is_exclusive s x))) e
+
+pub borrower_sees : (s : Typing) (x : ℕ) → is_observer s x ≡ false → is_given s x ≡ false → sees_only s x ≡ false
+borrower_sees s x e own = both_no (is_observer s x) (is_given s x && not (is_exclusive s x)) e (ap (λ b. b && not (is_exclusive s x)) own)
+
+pub sees_observer : (s : Typing) (x : ℕ) → sees_only s x ≡ false → is_observer s x ≡ false
+sees_observer s x e = (neither (is_observer s x) (is_given s x && not (is_exclusive s x)) e).0
+
+-- a name that is changed isn't one through what only sees, nor a formal itself
+pub free_sees : (s : Typing) (n : PlaceName) → is_fixed s n ≡ false → sees_only s n.root ≡ false
+free_sees s n e = (neither (sees_only s n.root) (is_given s n.root && is_nil n.sels) e).0
+
+pub free_formal : (s : Typing) (n : PlaceName) → is_fixed s n ≡ false → is_view_formal s n.root ≡ true → n.sels ≡ [] → ⊥
+free_formal s n e formal none =
+    true_false (is_given s n.root && is_nil n.sels) (ap (λ b. (b || (is_in_formal s n.root && is_anonymous (view_of s n.root))) && is_nil n.sels) formal ∙ ap is_nil none)
+    (neither (sees_only s n.root) (is_given s n.root && is_nil n.sels) e).1
 
 -- a name that a view leads to is that of a place
 pub lifted_place : (v : Views) (u : Way) → Lifted v u → IsPlace v u
@@ -306,8 +384,8 @@ module _ (h : Here) (settled : IsSettled h.typing.table) (hands : List Waiting) 
   pub view_clean : (x : ℕ) (rest : List run.Step) (w : Way) → v.way x ≡ Some w → Opens x (way_along rest (All (variable x)))
       → (z : Way) → Past z (way_along rest w) → excused z → ⊥
   view_clean x rest w has opens z past (inr o) = elim (viewed.views x w has) [
-    | inl own ↦ alone z (past_near h.frame z (way_along rest w) past (named_near s h.frame (way_along rest w)
-        (named_along (home s h.frame) rest w (view_named (home s h.frame) (sees_only s) other v view_here facts viewed.views x w own)))) o
+    | inl own ↦ gone_off s h.frame other v view_here facts viewed alone (v.up x) z own.named own.plain
+        (subst (Meet z) (sym own.leads) (beginnings z w (way_along rest w) (past_under z (way_along rest w) past) (under_way_along rest w))) o
     | inr passed ↦ viewed.whole x w z has passed.foreign o
         (beginnings z w (way_along rest w) (past_under z (way_along rest w) past) (under_way_along rest w))
   ]
@@ -393,6 +471,48 @@ module _ (h : Here) (settled : IsSettled h.typing.table) (hands : List Waiting) 
       by_type true view (run.ToElement n ∷ rest) (less, lead) opens =
           let none = no_parts_in (shape_of s.table (object_at s x).of) (holds.access x view) in absurd (omega (arith, none.1, less))
       by_type true view (run.ToDesignated ∷ rest) (d, c, n, is, lead) opens = view_walked x t rest d c n view is lead opens
+
+  reached_front : (rest : List run.Step) (w : Way) (l : Loc) → Reaches view_here (way_along rest w) l → (k : Loc) × Reaches view_here w k
+  reached_front [] w l reaches = (l, reaches)
+  reached_front (step ∷ rest) w l reaches = (let r = reached_front rest (way_step step w) l reaches in one step r.0 r.1)
+    where
+      one : (step : run.Step) (k : Loc) → Reaches view_here (way_step step w) k → (k : Loc) × Reaches view_here w k
+      one (run.ToComponent i) k r = (r.0, r.1)
+      one (run.ToElement n) k r = (r.0, r.1)
+      one run.ToDesignated k r = (r.0, r.2)
+
+  -- what a name reaches through a formal that owns nothing, it reaches by the way of the formal
+  pub formal_lifted : (x t : ℕ) (way : List run.Step) → is_view_formal s x ≡ true → (way ≡ [] → ⊥) → Starts s.table (object_at s x).of way t → (l : Loc)
+      → Reaches view_here (expand v (way_along way (variable x))) l → Lifted v (way_along way (variable x))
+  formal_lifted x t [] formal whole starts l reaches = absurd (whole refl)
+  formal_lifted x t (run.ToComponent i ∷ rest) formal whole (less, lead) l reaches =
+      let none = no_parts_in (shape_of s.table (object_at s x).of) (holds.access x (either_true (is_anonymous (view_of s x)) (is_view_formal s x) formal)) in
+      absurd (omega (arith, none.0, less))
+  formal_lifted x t (run.ToElement n ∷ rest) formal whole (less, lead) l reaches =
+      let none = no_parts_in (shape_of s.table (object_at s x).of) (holds.access x (either_true (is_anonymous (view_of s x)) (is_view_formal s x) formal)) in
+      absurd (omega (arith, none.1, less))
+  formal_lifted x t (run.ToDesignated ∷ rest) formal whole starts l reaches = elim (lifts v (way_along rest (All (variable x)))) [
+    | inr found ↦ found
+    | inl same ↦ (
+        let front = reached_front rest (All (variable x)) l (subst (λ z. Reaches view_here z l) same reaches) in
+        let root : front.1.0 ≡ OfRoot (OfVariable (home s h.frame x) x) = front.1.2 in
+        let held : view_here.word (OfRoot (OfVariable (home s h.frame x) x)) ≡ Held front.1.1 = ap view_here.word (sym root) ∙ front.1.3 in
+        absurd (empty_held (sym (word_dead s.table (content s m hands (OfRoot (OfVariable (home s h.frame x) x))) [] (ap not formal)) ∙ held)))
+  ]
+    where
+      empty_held : {n : ℕ} → Empty ≡ Held n → ⊥
+      empty_held e = cc
+
+  -- what is changed begins at an owner
+  pub changed_owners : (x t : ℕ) (way : List run.Step) → (is_view_formal s x ≡ true → way ≡ [] → ⊥) → Starts s.table (object_at s x).of way t → (l : Loc)
+      → Reaches view_here (expand v (way_along way (variable x))) l → IsOwners s (expand v (way_along way (variable x)))
+  changed_owners x t way whole starts l reaches = by_kind (is_view_formal s x) refl
+    where
+      by_kind : (b : Bool) → is_view_formal s x ≡ b → IsOwners s (expand v (way_along way (variable x)))
+      by_kind false e =
+          stands_owners s h.frame v m (way_along way (variable x)) holds (named_along (home s h.frame) way (variable x) refl)
+          (inl (ap (is_view_formal s) (number_along way (variable x)) ∙ e))
+      by_kind true e = lifted_owners s h.frame v m (way_along way (variable x)) holds (formal_lifted x t way e (whole e) starts l reaches)
 
   -- An exception, with the memory as it was.
   abbrev pub IsRaised : Memory → Evaluated Place → Type 0

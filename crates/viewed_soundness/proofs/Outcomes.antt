@@ -21,7 +21,7 @@ use Rattle.machine.specs.States.{Waiting, Leak, State, Outcome, Goes, Ends}
 use Rattle.machine.specs.Step.{Turn, counted, typing, here, start, waiting, Stored, first_value, taken_by, declare, assign, goes, behind, led, successor, leaking_goes, target_pos}
 use Rattle.machine.specs.Step as steps
 use Rattle.machine.specs.Owners.{waiting_in, WellOwned}
-use Rattle.owned_ways.specs.Ways.{Loc, Way, All, Reaches, IsRooted, Named, Allows, after, AllowsAll, number_of, base_of, OfRoot}
+use Rattle.owned_ways.specs.Ways.{Loc, Way, All, Reaches, IsRooted, Under, Named, Allows, after, AllowsAll, number_of, base_of, OfRoot}
 use Rattle.owned_ways.specs.Ways as ways
 use Rattle.part_offsets.specs.Parts.{IsSettled}
 use Rattle.soundness.specs.Seen.{IsNear, content, trunk, seen, home, is_view_formal}
@@ -48,7 +48,7 @@ use Rattle.soundness.proofs.Stays.{Quiet, One}
 use Rattle.soundness.proofs.Taking.{Takes, no_takes}
 use Rattle.soundness.proofs.Waits.{take_none, drop_none, waits_of, led_waits}
 use Rattle.owned_loans.specs.Views.{Around, Views, Viewed, HasLoan}
-use Rattle.viewed_soundness.specs.Holds.{IsNamed, PartsAreNamed, sees_only, IsOwners, Holds, AllKeep}
+use Rattle.viewed_soundness.specs.Holds.{IsNamed, PartsAreNamed, is_view, sees_only, is_fixed, IsOwners, Holds, AllKeep}
 use Rattle.viewed_soundness.specs.Taken.{GivesPlainly}
 use Rattle.viewed_soundness.proofs.Names.{not_view}
 use Rattle.viewed_soundness.proofs.Stays.{taking}
@@ -122,10 +122,12 @@ module _ (t : Turn) (settled : IsSettled (typing t).table) (own_law : OwnsByShap
 
   -- A view got its way from an object, or from the way of one that is a view itself.
   pub record Comes (views : Views) (facts : List Fact) (x y : ℕ) (w : Way) : Type 0 where
-    pub up : (number_of (views.up x) ≡ y) ⊎ ((k : Way) × (v.way y ≡ Some k) × (number_of (views.up x) ≡ number_of (v.up y)))
+    pub up : (number_of (views.up x) ≡ y)
+        ⊎ ((k : Way) × (v.way y ≡ Some k) × (number_of (views.up x) ≡ number_of (v.up y)) × (Named (home s depth) (views.up x) → Named (home s depth) (v.up y)))
     pub root : ((base_of w ≡ OfRoot (ways.OfVariable (home s depth y) y)) × (y ≡ x → ⊥)) ⊎ ((k : Way) × (v.way y ≡ Some k) × (base_of w ≡ base_of k))
     pub loan : sees_only s x ≡ true → (Has facts (Lent Observed x (ways.name_of (views.loan x))))
-        ⊎ ((k : Way) × (v.way y ≡ Some k) × (sees_only s y ≡ true) × (views.loan x ≡ v.loan y))
+        ⊎ ((k : Way) × (v.way y ≡ Some k) × (sees_only s y ≡ true) × (views.loan x ≡ v.loan y) × (Named (home s depth) (views.up x) → Named (home s depth) (v.up y)))
+    pub under : is_view s y ≡ true → (k : Way) × (v.way y ≡ Some k) × Under k w
 
   -- Each view has what it had, or got its way from an object that it may have it from.
   abbrev pub Turned : Views → List Fact → Type 0
@@ -176,7 +178,7 @@ module _ (t : Turn) (settled : IsSettled (typing t).table) (own_law : OwnsByShap
     record {
       viewed = subst (λ z. Viewed (home s depth) (sees_only s) other views (seen s m z t.state.leaks) facts) (sym (hands_behind m k)) viewed;
       kept = subst (Kept s m) (sym (hands_behind m k)) kept;
-      holds = record { held = holds.held; only = holds.only; owners = holds.owners; access = holds.access };
+      holds = record { held = holds.held; only = holds.only; owners = holds.owners; access = holds.access; own = holds.own };
     },
   )
 
@@ -190,7 +192,7 @@ module _ (t : Turn) (settled : IsSettled (typing t).table) (own_law : OwnsByShap
       viewed = subst (λ z. Viewed (home s depth) (sees_only s) other views (seen s m z (t.state.leaks ++ flat_map (λ (z : List Leak). z) checks)) facts) (sym (hands_behind m 0))
           (subst (λ z. Viewed (home s depth) (sees_only s) other views (seen s m hands (t.state.leaks ++ z)) facts) (sym same) viewed);
       kept = subst (Kept s m) (sym (hands_behind m 0)) kept;
-      holds = record { held = holds.held; only = holds.only; owners = holds.owners; access = holds.access };
+      holds = record { held = holds.held; only = holds.only; owners = holds.owners; access = holds.access; own = holds.own };
     },
   )
 
@@ -274,7 +276,7 @@ module _ (t : Turn) (settled : IsSettled (typing t).table) (own_law : OwnsByShap
   pub assign_on : (ws mid : List (List machine.Word)) (pos p : Pos) (x u : ℕ) (path e : TypedTree) → IsNamed s.table u → Gives s u e
       → Leads s (object_at s x).of path u → GivesPlainly s e → Takes (waits_in e) ws mid → Takes (waits_in path) mid [] → (facts : List Fact) → IsGood v facts t.state
       → AllowsAll facts (acts (assigned_to s pos (whole (Name p x path u)) (Name p x path u) e))
-      → AllKeep (sees_only s) (acts (assigned_to s pos (whole (Name p x path u)) (Name p x path u) e))
+      → AllKeep (is_fixed s) (acts (assigned_to s pos (whole (Name p x path u)) (Name p x path u) e))
       → Leads_on (after (acts (assigned_to s pos (whole (Name p x path u)) (Name p x path u) e)) facts)
       (steps.evaluated t (followed_by (taken_by t u e (at ws)) (λ ws now. followed_by (place_of (here t) (Name p x path u) now) (λ k now. Done (record { words = ws; place = k }) now)))
       (λ (st : Stored) m. leaking_goes (checks_at s (target_pos t (Name p x path u)) m st.place) (goes t (stored s st.place st.words m) 0)))
@@ -291,7 +293,7 @@ module _ (t : Turn) (settled : IsSettled (typing t).table) (own_law : OwnsByShap
       (then_stored (raises facts good) (after (acts (stored_acts s target e)) facts) (target_pos t target) (followed_by (followed_by (evaluate h AsValue e (at ws)) (checked h u)) placed)
       (assigned_on h settled t.state.leaks [] other alone (keeps s settled own_law) index_law own_law v parts_named ws mid [] p x u path e named gives lead calls takes takes'
       t.state.memory hands facts (record { viewed = good.viewed; kept = good.kept; holds = good.holds })
-      (subst (λ z. AllowsAll facts (acts z)) same allowed) (subst (λ z. AllKeep (sees_only s) (acts z)) same keep))))
+      (subst (λ z. AllowsAll facts (acts z)) same allowed) (subst (λ z. AllKeep (is_fixed s) (acts z)) same keep))))
 
   abbrev m : Memory
   m = t.state.memory
@@ -303,7 +305,7 @@ module _ (t : Turn) (settled : IsSettled (typing t).table) (own_law : OwnsByShap
   pub record LeavesOthers (views : Views) (x : ℕ) (facts : List Fact) : Type 0 where
     pub no_value : views.way x ≡ None
     pub roots : (y : ℕ) (w : Way) → views.way y ≡ Some w → Named (home s depth) w → number_of w ≡ x → ⊥
-    pub loans : (y : ℕ) (w : Way) → views.way y ≡ Some w → Named (home s depth) w → sees_only s y ≡ true → HasLoan (sees_only s) true y facts (ways.name_of (views.loan y))
+    pub loans : (y : ℕ) (w : Way) → views.way y ≡ Some w → Named (home s depth) (views.up y) → sees_only s y ≡ true → HasLoan (sees_only s) true y facts (ways.name_of (views.loan y))
     pub unlent : (l : Loan) (n : PlaceName) → other.lent l n → n.root ≡ x → ⊥
 
   -- What is left when a scope ends, with the memory then.

@@ -1,6 +1,6 @@
 -- The source of a borrow, of an observation and of a reborrow: a name that is looked at where it
 -- stands, whose word is null or the number of the cell that it designates.
-use Rattle.std.proofs.Common.{◌≡◌, refl, sym, ap, ◌∙◌, subst, inl, inr, ℕ, suc, Bool, true, false, not, ◌&&◌, ◌||◌, List, [], ◌∷◌, map, get_or, arith}
+use Rattle.std.proofs.Common.{◌≡◌, refl, sym, ap, ◌∙◌, subst, inl, inr, ℕ, Bool, true, false, not, ◌&&◌, ◌||◌, List, [], ◌∷◌, map, get_or}
 use Rattle.spark_base.specs.declared.position.Pos.{Pos}
 use Rattle.place_names.specs.declared.fact.Fact.{Fact}
 use Rattle.place_names.specs.Names.{Name as PlaceName}
@@ -22,7 +22,6 @@ use Rattle.part_offsets.specs.Parts.{IsSettled}
 use Rattle.soundness.specs.Seen.{IsNear, content, trunk, seen, home, is_view_formal}
 use Rattle.soundness.specs.Typed.{OwnsByShape, IsCell, Kept}
 use Rattle.typed_laws.specs.Needed.{Leads, IndexLaw}
-use Rattle.soundness.proofs.Near.{named_near}
 use Rattle.soundness.proofs.Walks.{way_along, Walked}
 use Rattle.soundness.proofs.Scalars.{acts, number_along, named_along}
 use Rattle.soundness.proofs.Stays.{Quiet, quiet_then}
@@ -32,9 +31,10 @@ use Rattle.owned_loans.proofs.Ways.{Lifted, next_of, further, lifted_root, lifte
 use Rattle.owned_loans.proofs.Meeting.{next}
 use Rattle.owned_loans.proofs.Others.{clean_away, seen_away_below}
 use Rattle.owned_loans.proofs.Allowed.{Cleared, cleared_open}
-use Rattle.owned_loans.proofs.Moves.{IsPlace, named_way}
+use Rattle.owned_loans.proofs.Moves.{IsPlace}
 use Rattle.viewed_soundness.specs.Holds.{PartsAreNamed, is_view, sees_only, IsOwners, Holds}
 use Rattle.viewed_soundness.proofs.Walks.{one_slot, cell_spot}
+use Rattle.viewed_soundness.proofs.Spared.{gone_off}
 use Rattle.viewed_soundness.proofs.Names.{Starts, either_true, neither, starts_named, is_place, plain_sees, lifted_place, stands_owners, IsRaised, name_lifted}
 use Rattle.viewed_soundness.proofs.Names as names
 use Rattle.viewed_soundness.proofs.Stays.{Goes, steps_taking}
@@ -84,9 +84,7 @@ module _ (h : Here) (settled : IsSettled h.typing.table) (hands : List Waiting) 
   not_gone x u named root lifted gone = by_kind (sees_only s x) refl
     where
       near : (w : Way) → Named (home s h.frame) w → sees_only s (number_of w) ≡ false → other.gone (expand v w) → ⊥
-      near w named_w plain o =
-          alone (expand v w) (named_near s h.frame (expand v w)
-          (named_way (home s h.frame) (sees_only s) other v view_here facts viewed.views (suc (number_of w)) w (omega arith) (named_w, plain))) o
+      near w named_w plain o = gone_off s h.frame other v view_here facts viewed alone w (expand v w) named_w plain (inl (under_itself (expand v w))) o
 
       through : (l : Lifted v u) → ⊥
       through l = elim (viewed.views l.object l.way l.has) [
@@ -170,7 +168,7 @@ module _ (h : Here) (settled : IsSettled h.typing.table) (hands : List Waiting) 
             (stands_owners s h.frame v m u holds named
             (inl (ap (is_view_formal s) root ∙ (neither (is_anonymous (view_of s y)) (is_view_formal s y) plain).1)))
             (is_place s v (home s h.frame y) y t way starts (λ e b q shape_is. named_is d e c b q (sym is ∙ shape_is))
-            (neither (is_anonymous (view_of s y)) (is_view_formal s y) plain).1 holds.only)
+            (λ formal none. true_false (is_view_formal s y) formal (neither (is_anonymous (view_of s y)) (is_view_formal s y) plain).1) holds.only)
             (λ e. absurd (true_false (is_view s y) e plain))
             (walked s way (variable_place h y) (at on)) there
         | inr more ↦ elim more [

@@ -23,7 +23,7 @@ use Rattle.machine.specs.Memory.{Slot, Memory, Place, slots_of, words_of, moved_
 use Rattle.machine.specs.Evaluate.{Here, Now, Use, AsValue, AsView, Evaluated, Done, Raises, Traps, followed_by, evaluate, steps_of, variable_place, walked, held_or_taken, indexed, operated, operated_alone, given, decides, truth}
 use Rattle.machine.specs.Evaluate as run
 use Rattle.machine.specs.States.{Waiting, Leak}
-use Rattle.owned_ways.specs.Ways.{OfVariable, Loc, OfRoot, Way, Object, Into, All, Reaches, IsRooted, Past, Named, Allows, after, AllowsAll, sels_of}
+use Rattle.owned_ways.specs.Ways.{OfVariable, OfHand, Loc, OfRoot, Way, Object, Into, All, Reaches, IsRooted, Past, Named, Allows, after, AllowsAll, sels_of}
 use Rattle.owned_ways.specs.Ways as ways
 use Rattle.part_offsets.specs.Parts.{IsSettled}
 use Rattle.soundness.specs.Seen.{IsNear, content, trunk, seen, home}
@@ -68,6 +68,11 @@ two_operands op (a ∷ c ∷ xs) ys now = refl
 pub record Goes (table : Table) (t u : ℕ) (steps : TypedTree) (way : List run.Step) : Type 0 where
   pub lead : Starts table t way u
   pub sels : (w : Way) → sels_of (way_along way w) ≡ sels_of w ++ selectors steps
+
+-- no steps are those of a name without selectors
+pub no_selectors : (table : Table) (t u : ℕ) (steps : TypedTree) (way : List run.Step) → Goes table t u steps way → way ≡ [] → selectors steps ≡ []
+no_selectors table t u steps way goes none =
+    sym (goes.sels (Object (OfHand 0))) ∙ ap (λ z. sels_of (way_along z (Object (OfHand 0)))) none
 
 -- a left operand decides, or the right one is evaluated
 decided_quiet : {A : Type 0} (before now : Now) (P : A → Type 0) → before ≡ now → (b : Bool) (x : A) (y : Evaluated A) → P x → Quiet now P y

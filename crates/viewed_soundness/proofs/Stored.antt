@@ -8,7 +8,7 @@ use Rattle.place_names.specs.declared.fact.Fact.{Fact}
 use Rattle.place_names.specs.Facts.{effect}
 use Rattle.type_definitions.specs.Types.{shape_of, words}
 use Rattle.typed_tree.specs.Trees.{TypedTree, Name}
-use Rattle.flow_paths.specs.Objects.{object_at, is_observer, is_anonymous, view_of}
+use Rattle.flow_paths.specs.Objects.{object_at, is_anonymous, view_of}
 use Rattle.flow_paths.specs.Names.{has_call, waiting, name_of}
 use Rattle.flow_paths.specs.Acts.{acts_in, stored_acts}
 use Rattle.machine.specs.Words as machine
@@ -36,9 +36,9 @@ use Rattle.soundness.proofs.Memories.{put_other}
 use Rattle.soundness.proofs.Steps.{plain_end}
 use Rattle.owned_loans.specs.Views.{Around, Views, expand, Viewed}
 use Rattle.owned_loans.proofs.Allowed.{write_open}
-use Rattle.viewed_soundness.specs.Holds.{IsNamed, PartsAreNamed, is_view, sees_only, Holds, AllKeep}
-use Rattle.viewed_soundness.proofs.Names.{either, neither, stands_owners, view_access, not_view, is_place}
-use Rattle.viewed_soundness.proofs.Stays.{Goes, steps_taking, name_on}
+use Rattle.viewed_soundness.specs.Holds.{IsNamed, PartsAreNamed, is_view, sees_only, is_fixed, Holds, AllKeep}
+use Rattle.viewed_soundness.proofs.Names.{Starts, either, free_sees, free_formal, changed_owners, view_access, not_view, is_place}
+use Rattle.viewed_soundness.proofs.Stays.{Goes, no_selectors, steps_taking, name_on}
 use Rattle.viewed_soundness.proofs.Moments.{stored_viewed}
 use Rattle.viewed_soundness.specs.Taken.{GivesPlainly}
 use Rattle.viewed_soundness.proofs.Evaluated.{keep_both, matches_named, gives_plainly, Ready, GivenOn, live_trunk, checked_on, evaluated_on}
@@ -61,17 +61,17 @@ module _ (h : Here) (settled : IsSettled h.typing.table) (leaks : List Leak) (wa
   Assigns hands facts (Raises e n) = Unit {0}
   Assigns hands facts (Traps t n) = ⊥
 
-  -- where a name leads that is rooted in no formal that owns nothing
-  pub place_owns : (m : Memory) (hands : List Waiting) (facts : List Fact) (x : ℕ) (way : List run.Step)
-      → Ready h settled leaks waits other alone keeps index_law own_law v parts_named m hands facts → sees_only h.typing x ≡ false → (l : Loc)
+  -- where a name leads that isn't a formal itself that owns nothing
+  pub place_owns : (m : Memory) (hands : List Waiting) (facts : List Fact) (x t : ℕ) (way : List run.Step)
+      → Ready h settled leaks waits other alone keeps index_law own_law v parts_named m hands facts → (is_view_formal h.typing x ≡ true → way ≡ [] → ⊥)
+      → Starts h.typing.table (object_at h.typing x).of way t → (l : Loc)
       → Reaches (seen h.typing m hands leaks) (expand v (way_along way (Object (OfVariable (home h.typing h.frame x) x)))) l
       → (content h.typing m hands (trunk l)).owns ≡ true
-  place_owns m hands facts x way ready plain l reaches =
+  place_owns m hands facts x t way ready whole starts l reaches =
       let w : Way = way_along way (Object (OfVariable (home h.typing h.frame x) x)) in
-      live_trunk h settled leaks waits other alone keeps index_law own_law v parts_named m hands ready.viewed.owned (expand v w) l
-      (stands_owners h.typing h.frame v m w ready.holds (named_along (home h.typing h.frame) way (Object (OfVariable (home h.typing h.frame x) x)) refl)
-      (inl (ap (is_view_formal h.typing) (number_along way (Object (OfVariable (home h.typing h.frame x) x)))
-      ∙ (neither (is_observer h.typing x) (is_view_formal h.typing x) plain).1))) reaches
+      let live = live_trunk h settled leaks waits other alone keeps index_law own_law v parts_named m hands ready.viewed.owned in
+      live (expand v w) l
+      (changed_owners h settled hands leaks m waits other facts v ready.kept ready.viewed ready.holds alone live x t way whole starts l reaches) reaches
 
   -- no place of a named type is in the variable of a view
   pub no_view_place : (m : Memory) (hands : List Waiting) (t : ℕ) (k : Place) (l : Loc) → IsNamed h.typing.table t → k.of ≡ t → Spot h.typing m hands k l
@@ -104,6 +104,7 @@ module _ (h : Here) (settled : IsSettled h.typing.table) (leaks : List Leak) (wa
     only = holds.only;
     owners = holds.owners;
     access = holds.access;
+    own = holds.own;
   }
     where
       same : (y : ℕ) → is_view h.typing y ≡ true → (b : Base) → (b ≡ memory.OfVariable (home h.typing h.frame y) y → ⊥)
@@ -114,14 +115,20 @@ module _ (h : Here) (settled : IsSettled h.typing.table) (leaks : List Leak) (wa
           put_other h.typing f x (home h.typing h.frame y) y (λ e. ne (other_base f x (home h.typing h.frame y) y e))
           (take k.at (slots_at h.typing m k.base) ++ fresh ws ++ drop (k.at + length (fresh ws)) (slots_at h.typing m k.base)) m.variables
 
+  -- what is written isn't a formal itself
+  pub whole : (x t : ℕ) (steps : TypedTree) (way : List run.Step) → is_fixed h.typing (name_of x steps) ≡ false
+      → Goes h.typing.table (object_at h.typing x).of t steps way → is_view_formal h.typing x ≡ true → way ≡ [] → ⊥
+  whole x t steps way free goes formal none =
+      free_formal h.typing (name_of x steps) free formal (no_selectors h.typing.table (object_at h.typing x).of t steps way goes none)
+
   -- the place is found, with the value in hand
   found : (on : List (List machine.Word)) (m : Memory) (hands : List Waiting) (facts : List Fact) (x t : ℕ) (steps : TypedTree) (ws : List machine.Word)
       → Ready h settled leaks waits other alone keeps index_law own_law v parts_named m (record { of = t; words = ws } ∷ hands) facts
-      → length ws ≡ words h.typing.table t → IsNamed h.typing.table t → sees_only h.typing x ≡ false
+      → length ws ≡ words h.typing.table t → IsNamed h.typing.table t → is_fixed h.typing (name_of x steps) ≡ false
       → (way : List run.Step) → Goes h.typing.table (object_at h.typing x).of t steps way → Allows facts (act.Write (name_of x steps))
       → (y : Evaluated Place) → Walked h.typing settled (record { of = t; words = ws } ∷ hands) leaks m on (expand v (way_along way (Object (OfVariable (home h.typing h.frame x) x)))) t y
       → Assigns hands (effect (act.Write (name_of x steps)) facts) (followed_by y (λ k now. Done (record { words = ws; place = k }) now))
-  found on m hands facts x t steps ws ready long own plain way goes allowed (Done k n) (l, same, spot, reaches, of) = (
+  found on m hands facts x t steps ws ready long own free way goes allowed (Done k n) (l, same, spot, reaches, of) = (
     λ pos. (
         let w : Way = way_along way (Object (OfVariable (home h.typing h.frame x) x)) in
         let named : Named (home h.typing h.frame) w = named_along (home h.typing h.frame) way (Object (OfVariable (home h.typing h.frame x) x)) refl in
@@ -133,9 +140,9 @@ module _ (h : Here) (settled : IsSettled h.typing.table) (leaks : List Leak) (wa
         (sym same)
         (subst (λ z. Viewed (home h.typing h.frame) (sees_only h.typing) other v (seen h.typing (stored h.typing k ws m) hands (leaks ++ leaks_at h.typing pos m k)) (effect (act.Write z) facts)) called
         (stored_viewed h.typing settled (home h.typing h.frame) (sees_only h.typing) other v m (record { of = t; words = ws }) hands leaks facts k l w pos ready.viewed (λ z b u o. alone b (near_under h.frame (Object (OfHand z)) b u tt) o)
-        ready.kept spot named (ap (sees_only h.typing) (number_along way (Object (OfVariable (home h.typing h.frame x) x))) ∙ plain)
-        (is_place h.typing v (home h.typing h.frame x) x t way goes.lead own (neither (is_observer h.typing x) (is_view_formal h.typing x) plain).1 ready.holds.only) reaches
-        (place_owns m (record { of = t; words = ws } ∷ hands) facts x way ready plain l reaches)
+        ready.kept spot named (ap (sees_only h.typing) (number_along way (Object (OfVariable (home h.typing h.frame x) x))) ∙ free_sees h.typing (name_of x steps) free)
+        (is_place h.typing v (home h.typing h.frame x) x t way goes.lead own (whole x t steps way free goes) ready.holds.only) reaches
+        (place_owns m (record { of = t; words = ws } ∷ hands) facts x t way ready (whole x t steps way free goes) goes.lead l reaches)
         (subst (λ z. Allows facts (act.Write z)) (sym called) allowed)
         (long ∙ ap (words h.typing.table) (sym of)) (inl (ap (shape_of h.typing.table) (sym of)))))),
     subst (λ z. Kept h.typing (stored h.typing k ws z.memory) hands) (sym same)
@@ -143,10 +150,10 @@ module _ (h : Here) (settled : IsSettled h.typing.table) (leaks : List Leak) (wa
         (inl (ap (shape_of h.typing.table) (sym of)))),
     subst (λ z. Holds h.typing h.frame v (stored h.typing k ws z.memory)) (sym same)
         (holds_stored m k ws (no_view_place m (record { of = t; words = ws } ∷ hands) t k l own of spot
-        (place_owns m (record { of = t; words = ws } ∷ hands) facts x way ready plain l reaches)) ready.holds),
+        (place_owns m (record { of = t; words = ws } ∷ hands) facts x t way ready (whole x t steps way free goes) goes.lead l reaches)) ready.holds),
   )
-  found on m hands facts x t steps ws ready long own plain way goes allowed (Raises e n) is = tt
-  found on m hands facts x t steps ws ready long own plain way goes allowed (Traps e n) none = none
+  found on m hands facts x t steps ws ready long own free way goes allowed (Raises e n) is = tt
+  found on m hands facts x t steps ws ready long own free way goes allowed (Traps e n) none = none
 
   then_found : {A : Type 0} (now : Now) (P : A → Type 0) (hands : List Waiting) (facts : List Fact) (y : Evaluated A) (f : A → Now → Evaluated Stored)
       → Quiet now P y → ((a : A) → P a → Assigns hands facts (f a now)) → Assigns hands facts (followed_by y f)
@@ -156,12 +163,12 @@ module _ (h : Here) (settled : IsSettled h.typing.table) (leaks : List Leak) (wa
 
   -- the value is there
   pub then_placed : (mid on : List (List machine.Word)) (p : Pos) (x t : ℕ) (steps : TypedTree) (hands : List Waiting) (facts : List Fact) → IsNamed h.typing.table t
-      → sees_only h.typing x ≡ false → Leads h.typing (object_at h.typing x).of steps t
+      → is_fixed h.typing (name_of x steps) ≡ false → Leads h.typing (object_at h.typing x).of steps t
       → Takes (waiting steps) mid on → AllowsAll facts (acts (acts_in h.typing steps) ++ act.Write (name_of x steps) ∷ []) → (y : Evaluated (List machine.Word))
       → GivenOn h settled leaks waits other alone keeps index_law own_law v parts_named mid t hands facts y
       → Assigns hands (effect (act.Write (name_of x steps)) (after (acts (acts_in h.typing steps)) facts))
       (followed_by y (λ ws now. followed_by (place_of h (Name p x steps t) now) (λ k now. Done (record { words = ws; place = k }) now)))
-  then_placed mid on p x t steps hands facts own plain lead takes allowed (Done ws n) (ready, long, same) =
+  then_placed mid on p x t steps hands facts own free lead takes allowed (Done ws n) (ready, long, same) =
       let now : Now = record { memory = n.memory; waits = mid } in
       let got : Waiting = record { of = t; words = ws } in
       let each = allows_both facts (acts (acts_in h.typing steps)) (act.Write (name_of x steps) ∷ []) allowed in
@@ -177,18 +184,18 @@ module _ (h : Here) (settled : IsSettled h.typing.table) (leaks : List Leak) (wa
       (sym (regrouped (steps_of h steps now) (λ way now. walked h.typing way (variable_place h x) now) (λ k now. Done (record { words = ws; place = k }) now)))
       (then_found (record { memory = n.memory; waits = on }) (λ way. Goes h.typing.table (object_at h.typing x).of t steps way) hands (effect (act.Write (name_of x steps)) facts) (steps_of h steps now)
       (λ way now. followed_by (walked h.typing way (variable_place h x) now) (λ k now. Done (record { words = ws; place = k }) now)) inner.0
-      (λ way goes. found on n.memory hands facts x t steps ws ready long own plain way goes writes (walked h.typing way (variable_place h x) (record { memory = n.memory; waits = on }))
+      (λ way goes. found on n.memory hands facts x t steps ws ready long own free way goes writes (walked h.typing way (variable_place h x) (record { memory = n.memory; waits = on }))
       (name_on h settled (got ∷ hands) leaks n.memory waits other facts v ready.kept ready.viewed ready.holds alone live index_law own_law parts_named on x steps t way goes
       (λ w named same. write_open facts w (subst (λ z. Allows facts (act.Write z)) (sym same) writes)))))))
-  then_placed mid on p x t steps hands facts own plain lead takes allowed (Raises e n) given = tt
-  then_placed mid on p x t steps hands facts own plain lead takes allowed (Traps e n) none = none
+  then_placed mid on p x t steps hands facts own free lead takes allowed (Raises e n) given = tt
+  then_placed mid on p x t steps hands facts own free lead takes allowed (Traps e n) none = none
 
   -- k := e, for a target that isn't a borrower or observer
   pub assigned_on : (before mid on : List (List machine.Word)) (p : Pos) (x t : ℕ) (steps e : TypedTree) → IsNamed h.typing.table t → Gives h.typing t e
       → Leads h.typing (object_at h.typing x).of steps t
       → GivesPlainly h.typing e → Takes (waiting e) before mid → Takes (waiting steps) mid on → (m : Memory) (hands : List Waiting) (facts : List Fact)
       → Ready h settled leaks waits other alone keeps index_law own_law v parts_named m hands facts
-      → AllowsAll facts (acts (stored_acts h.typing (Name p x steps t) e)) → AllKeep (sees_only h.typing) (acts (stored_acts h.typing (Name p x steps t) e))
+      → AllowsAll facts (acts (stored_acts h.typing (Name p x steps t) e)) → AllKeep (is_fixed h.typing) (acts (stored_acts h.typing (Name p x steps t) e))
       → Assigns hands (after (acts (stored_acts h.typing (Name p x steps t) e)) facts)
       (followed_by (followed_by (evaluate h AsValue e (record { memory = m; waits = before })) (checked h t))
       (λ ws now. followed_by (place_of h (Name p x steps t) now) (λ k now. Done (record { words = ws; place = k }) now)))
@@ -200,8 +207,8 @@ module _ (h : Here) (settled : IsSettled h.typing.table) (leaks : List Leak) (wa
       ∙ ap (λ z. z ++ (act.Write (name_of x steps) ∷ [])) (acts_append (acts_in h.typing e) (acts_in h.typing steps))
       ∙ append_assoc a b (act.Write (name_of x steps) ∷ []) in
       let each = allows_both facts a (b ++ act.Write (name_of x steps) ∷ []) (subst (AllowsAll facts) whole allowed) in
-      let names = keep_both (sees_only h.typing) a (b ++ act.Write (name_of x steps) ∷ []) (subst (AllKeep (sees_only h.typing)) whole keep) in
-      let last = keep_both (sees_only h.typing) b (act.Write (name_of x steps) ∷ []) names.1 in
+      let names = keep_both (is_fixed h.typing) a (b ++ act.Write (name_of x steps) ∷ []) (subst (AllKeep (is_fixed h.typing)) whole keep) in
+      let last = keep_both (is_fixed h.typing) b (act.Write (name_of x steps) ∷ []) names.1 in
       let given = checked_on h settled leaks waits other alone keeps index_law own_law v parts_named mid t t hands (after a facts)
       (evaluate h AsValue e (record { memory = m; waits = before }))
       (evaluated_on h settled leaks waits other alone keeps index_law own_law v parts_named e t gives calls before mid takes m hands facts ready each.0 own names.0) in
@@ -215,7 +222,7 @@ module _ (h : Here) (settled : IsSettled h.typing.table) (leaks : List Leak) (wa
   pub assigned : (p : Pos) (x t : ℕ) (steps e : TypedTree) → IsNamed h.typing.table t → Gives h.typing t e → Leads h.typing (object_at h.typing x).of steps t
       → has_call e ≡ false → has_call steps ≡ false → (m : Memory) (hands : List Waiting) (facts : List Fact)
       → Ready h settled leaks waits other alone keeps index_law own_law v parts_named m hands facts
-      → AllowsAll facts (acts (stored_acts h.typing (Name p x steps t) e)) → AllKeep (sees_only h.typing) (acts (stored_acts h.typing (Name p x steps t) e))
+      → AllowsAll facts (acts (stored_acts h.typing (Name p x steps t) e)) → AllKeep (is_fixed h.typing) (acts (stored_acts h.typing (Name p x steps t) e))
       → Assigns hands (after (acts (stored_acts h.typing (Name p x steps t) e)) facts)
       (followed_by (followed_by (evaluate h AsValue e (record { memory = m; waits = waits })) (checked h t))
       (λ ws now. followed_by (place_of h (Name p x steps t) now) (λ k now. Done (record { words = ws; place = k }) now)))

@@ -10,7 +10,7 @@ use Rattle.place_names.specs.Facts.{effect}
 use Rattle.type_definitions.specs.declared.table.Shape.{Shape}
 use Rattle.type_definitions.specs.declared.table.Shape.TheVariants as shape
 use Rattle.type_definitions.specs.Types.{Table, shape_of, words, full, view_of as view_of_shape}
-use Rattle.flow_paths.specs.Objects.{Typing, object_at, is_anonymous, is_observer, view_of}
+use Rattle.flow_paths.specs.Objects.{Typing, object_at, is_anonymous, view_of}
 use Rattle.machine.specs.Words.{component_type, element_type}
 use Rattle.machine.specs.Words as machine
 use Rattle.machine.specs.Memory.{Slot, Memory, Place, fresh, no_slot, slots_at, variable_slots, declared}
@@ -24,15 +24,15 @@ use Rattle.soundness.proofs.Contents.{word_no}
 use Rattle.soundness.proofs.Joined.{trunk_trunk, not_inside}
 use Rattle.soundness.proofs.Memories.{put_same, put_other}
 use Rattle.soundness.proofs.Steps.{plain_end}
-use Rattle.owned_loans.specs.Views.{Around, Views, expand_root, expand, ExcusedBy, Viewed, Becomes, Unused, AreClear}
-use Rattle.owned_loans.proofs.Ways.{Lifted, next_of}
+use Rattle.owned_loans.specs.Views.{Go, on, Around, Views, expand_root, expand, ExcusedBy, Viewed, Becomes, Unused, AreClear}
+use Rattle.owned_loans.proofs.Ways.{Lifted, next_of, named_on}
 use Rattle.owned_loans.proofs.Allowed.{LoansStay}
 use Rattle.owned_loans.proofs.Taken.{rebound, borrowed, observed, observed_again, reborrowed}
 use Rattle.owned_ways.proofs.Locations.{same_loc}
 use Rattle.owned_loans.proofs.Moves.{IsPlace, reached, same_viewed}
-use Rattle.viewed_soundness.specs.Holds.{is_view, sees_only, IsOwners, Holds}
+use Rattle.viewed_soundness.specs.Holds.{is_view, sees_only, IsOwners, Holds, is_given}
 use Rattle.viewed_soundness.proofs.Walks.{held_there}
-use Rattle.viewed_soundness.proofs.Names.{neither, stands_owners, view_access}
+use Rattle.viewed_soundness.proofs.Names.{true_false, stands_owners, view_access}
 
 -- ---- the way of what a name designates
 
@@ -51,20 +51,23 @@ abbrev pub number_in : machine.Word → ℕ
 number_in (machine.Cell n) = n
 number_in z = 0
 
--- What a name with this word designates is reached.
-abbrev pub IsDesignated : Views → View → Way → machine.Word → Type 0
-IsDesignated v s u z = (n : ℕ) → z ≡ machine.Cell n → Reaches s (expand v (All u)) (OfCell n)
+-- The cell of a word is reached by what a name stands for; by what a name designates.
+abbrev pub IsReached : Views → View → Way → machine.Word → Type 0
+IsReached v s k z = (n : ℕ) → z ≡ machine.Cell n → Reaches s (expand v k) (OfCell n)
 
-pub designates : (v : Views) (s : View) (u : Way) (z : machine.Word) → IsDesignated v s u z
-    → (w : Way) → way_from z (expand v (All u)) ≡ Some w → (w ≡ expand v (All u)) × Reaches s w (OfCell (number_in z))
-designates v s u (machine.Cell n) is w e =
-    let same = same_some (expand v (All u)) w e in (sym same, subst (λ k. Reaches s k (OfCell n)) same (is n refl))
+abbrev pub IsDesignated : Views → View → Way → machine.Word → Type 0
+IsDesignated v s u z = IsReached v s (All u) z
+
+pub reached_by : (v : Views) (s : View) (k : Way) (z : machine.Word) → IsReached v s k z
+    → (w : Way) → way_from z (expand v k) ≡ Some w → (w ≡ expand v k) × Reaches s w (OfCell (number_in z))
+reached_by v s k (machine.Cell n) is w e =
+    let same = same_some (expand v k) w e in (sym same, subst (λ q. Reaches s q (OfCell n)) same (is n refl))
   where
     same_some : (a b : Way) → Some a ≡ Some b → a ≡ b
     same_some a b e = cc
-designates v s u (machine.Int k) is w e = cc
-designates v s u (machine.Enumerated k) is w e = cc
-designates v s u machine.Null is w e = cc
+reached_by v s k (machine.Int n) is w e = cc
+reached_by v s k (machine.Enumerated n) is w e = cc
+reached_by v s k machine.Null is w e = cc
 
 -- ---- names that have the number of a cell
 
@@ -154,13 +157,15 @@ module _ (s : Typing) (settled : IsSettled s.table) where
 
   -- the variables of views, where one of them gets a word
   pub holds_declared : (frame : ℕ) (v t : Views) (m : Memory) (x : ℕ) (z : machine.Word) (w loan up : Way) → home s frame x ≡ frame
-      → is_view s x ≡ true → Becomes v t x (way_from z w) loan up (number_in z) → ((q : Way) → way_from z w ≡ Some q → IsOwners s q) → Holds s frame v m
+      → is_view s x ≡ true → Becomes v t x (way_from z w) loan up (number_in z) → ((q : Way) → way_from z w ≡ Some q → IsOwners s q)
+      → ((q : Way) → way_from z w ≡ Some q → sees_only s x ≡ false → Named (home s frame) up) → Holds s frame v m
       → Holds s frame t (declared frame x (z ∷ []) m)
-  holds_declared frame v t m x z w loan up mine view becomes owned holds = record {
+  holds_declared frame v t m x z w loan up mine view becomes owned taken holds = record {
     held = λ y n is e. by_object y n is e (y == x) refl;
     only = λ y way e. only y way e (y == x) refl;
     owners = λ y way e. owners y way e (y == x) refl;
     access = holds.access;
+    own = λ y way e sees none. own y way e sees none (y == x) refl;
   }
     where
       got : (z : machine.Word) (n : ℕ) → z ≡ machine.Cell n → (way_from z w ≡ Some w) × (number_in z ≡ n)
@@ -198,6 +203,14 @@ module _ (s : Typing) (settled : IsSettled s.table) where
       only : (y : ℕ) (way : Way) → t.way y ≡ Some way → (b : Bool) → (y == x) ≡ b → is_view s y ≡ true
       only y way e true b = ap (is_view s) (eqb-true y x b) ∙ view
       only y way e false b = holds.only y way (sym (becomes.ways y (off y b)) ∙ e)
+
+      own : (y : ℕ) (way : Way) → t.way y ≡ Some way → sees_only s y ≡ false → is_given s y ≡ false → (b : Bool) → (y == x) ≡ b → Named (home s frame) (t.up y)
+      own y way e sees none true b =
+          let same = eqb-true y x b in
+          subst (Named (home s frame)) (sym (ap t.up same ∙ becomes.up_is))
+          (taken way (sym becomes.way_is ∙ ap t.way (sym same) ∙ e) (ap (sees_only s) (sym same) ∙ sees))
+      own y way e sees none false b =
+          subst (Named (home s frame)) (sym (becomes.ups y (off y b))) (holds.own y way (sym (becomes.ways y (off y b)) ∙ e) sees none)
 
       owners : (y : ℕ) (way : Way) → t.way y ≡ Some way → (b : Bool) → (y == x) ≡ b → IsOwners s way
       owners y way e true b = owned way (sym becomes.way_is ∙ ap t.way (sym (eqb-true y x b)) ∙ e)
@@ -260,68 +273,80 @@ module _ (s : Typing) (settled : IsSettled s.table) (frame : ℕ) (other : Aroun
     pub views_held : Holds s frame t (declared frame x (z ∷ []) m)
 
   became : (facts' : List Fact) (w loan up : Way) → Becomes v t x (way_from z w) loan up (number_in z)
-      → ((q : Way) → way_from z w ≡ Some q → IsOwners s q) → Viewed (home s frame) (sees_only s) other t (seen s m hands leaks) facts' → Became facts'
-  became facts' w loan up becomes owned sound = record {
+      → ((q : Way) → way_from z w ≡ Some q → IsOwners s q) → ((q : Way) → way_from z w ≡ Some q → sees_only s x ≡ false → Named (home s frame) up)
+      → Viewed (home s frame) (sees_only s) other t (seen s m hands leaks) facts' → Became facts'
+  became facts' w loan up becomes owned taken sound = record {
     sound = same_viewed (home s frame) (sees_only s) other t (seen s m hands leaks) (seen s (declared frame x (z ∷ []) m) hands leaks) facts'
         (view_unseen s settled m hands leaks frame x (z ∷ []) view) sound;
     words_kept = view_kept s settled m hands frame x z view one typed kept;
-    views_held = holds_declared s settled frame v t m x z w loan up mine (ap (λ b. b || is_view_formal s x) view) becomes owned holds;
+    views_held = holds_declared s settled frame v t m x z w loan up mine (ap (λ b. b || is_view_formal s x) view) becomes owned taken holds;
   }
 
   -- the way that a view gets begins at an owner
-  owned_way : (u : Way) → Named (home s frame) u → (is_view_formal s (number_of u) ≡ false) ⊎ Lifted v (All u)
-      → (q : Way) → way_from z (expand v (All u)) ≡ Some q → IsOwners s q
-  owned_way u named plain q e = subst (IsOwners s) (of_word z (expand v (All u)) q e) (stands_owners s frame v m (All u) holds named plain)
+  owned_way : (k : Way) → Named (home s frame) k → (is_view_formal s (number_of k) ≡ true → (n : ℕ) → z ≡ machine.Cell n → Lifted v k)
+      → (q : Way) → way_from z (expand v k) ≡ Some q → IsOwners s q
+  owned_way k named lifts q e =
+      let word = of_word z (expand v k) q e in
+      subst (IsOwners s) word.1 (stands_owners s frame v m k holds named (by_kind (is_view_formal s (number_of k)) refl word.0.0 word.0.1))
     where
-      of_word : (z : machine.Word) (w q : Way) → way_from z w ≡ Some q → w ≡ q
-      of_word (machine.Cell n) w q e = cc
+      of_word : (z : machine.Word) (w q : Way) → way_from z w ≡ Some q → ((n : ℕ) × (z ≡ machine.Cell n)) × (w ≡ q)
+      of_word (machine.Cell n) w q e = ((n, refl), cc)
       of_word (machine.Int k) w q e = cc
       of_word (machine.Enumerated k) w q e = cc
       of_word machine.Null w q e = cc
 
-  owned_plain : (u : Way) → Named (home s frame) u → sees_only s (number_of u) ≡ false
-      → (q : Way) → way_from z (expand v (All u)) ≡ Some q → IsOwners s q
-  owned_plain u named plain = owned_way u named (inl (neither (is_observer s (number_of u)) (is_view_formal s (number_of u)) plain).1)
+      by_kind : (b : Bool) → is_view_formal s (number_of k) ≡ b → (n : ℕ) → z ≡ machine.Cell n → (is_view_formal s (number_of k) ≡ false) ⊎ Lifted v k
+      by_kind false is n e = inl is
+      by_kind true is n e = inr (lifts is n e)
 
-  pub borrower_declared : (u : Way) → Becomes v t x (way_from z (expand v (All u))) u (All u) (number_in z) → Unused (home s frame) other.lent v facts x → sees_only s x ≡ false
-      → Named (home s frame) u → sees_only s (number_of u) ≡ false → number_of u < x → IsDesignated v (seen s m hands leaks) u z
+  -- What a name through a formal designates goes by the way of the formal.
+  abbrev pub IsFound : Way → Type 0
+  IsFound k = is_view_formal s (number_of k) ≡ true → (n : ℕ) → z ≡ machine.Cell n → Lifted v k
+
+  pub borrower_declared : (u : Way) (r : List Go) → Becomes v t x (way_from z (expand v (on (All u) r))) u (on (All u) r) (number_in z)
+      → Unused (home s frame) other.lent v facts x → sees_only s x ≡ false → IsFound (on (All u) r)
+      → Named (home s frame) u → sees_only s (number_of u) ≡ false → number_of u < x → IsReached v (seen s m hands leaks) (on (All u) r) z
       → Allows facts (Borrow x (name_of u)) → Became (effect (Borrow x (name_of u)) facts)
-  borrower_declared u becomes unused borrows named plain older is allowed =
-      became (effect (Borrow x (name_of u)) facts) (expand v (All u)) u (All u) becomes (owned_plain u named plain)
-      (borrowed (home s frame) (sees_only s) other v t (seen s m hands leaks) facts viewed x (way_from z (expand v (All u))) u (number_in z) becomes unused borrows
-      named plain older (designates v (seen s m hands leaks) u z is) allowed)
+  borrower_declared u r becomes unused borrows found named plain older is allowed =
+      became (effect (Borrow x (name_of u)) facts) (expand v (on (All u) r)) u (on (All u) r) becomes
+      (owned_way (on (All u) r) (named_on (home s frame) (All u) r named) found) (λ q e sees. named_on (home s frame) (All u) r named)
+      (borrowed (home s frame) (sees_only s) other v t (seen s m hands leaks) facts viewed x (way_from z (expand v (on (All u) r))) u r (number_in z) becomes unused borrows
+      named plain older (reached_by v (seen s m hands leaks) (on (All u) r) z is) allowed)
 
-  pub observer_stored : (u : Way) → Becomes v t x (way_from z (expand v (All u))) u (All u) (number_in z) → sees_only s x ≡ true
-      → Named (home s frame) u → sees_only s (number_of u) ≡ false → IsDesignated v (seen s m hands leaks) u z
+  pub observer_stored : (u : Way) (r : List Go) → Becomes v t x (way_from z (expand v (on (All u) r))) u (on (All u) r) (number_in z) → sees_only s x ≡ true → IsFound (on (All u) r)
+      → Named (home s frame) u → sees_only s (number_of u) ≡ false → IsReached v (seen s m hands leaks) (on (All u) r) z
       → Allows facts (Observe x (name_of u) false) → Became (effect (Observe x (name_of u) false) facts)
-  observer_stored u becomes observes named plain is allowed =
-      became (effect (Observe x (name_of u) false) facts) (expand v (All u)) u (All u) becomes (owned_plain u named plain)
-      (observed (home s frame) (sees_only s) other v t (seen s m hands leaks) facts viewed x (way_from z (expand v (All u))) u (number_in z) becomes observes
-      named plain (designates v (seen s m hands leaks) u z is) allowed)
+  observer_stored u r becomes observes found named plain is allowed =
+      became (effect (Observe x (name_of u) false) facts) (expand v (on (All u) r)) u (on (All u) r) becomes
+      (owned_way (on (All u) r) (named_on (home s frame) (All u) r named) found) (λ q e sees. absurd (true_false (sees_only s x) observes sees))
+      (observed (home s frame) (sees_only s) other v t (seen s m hands leaks) facts viewed x (way_from z (expand v (on (All u) r))) u r (number_in z) becomes observes
+      named plain (reached_by v (seen s m hands leaks) (on (All u) r) z is) allowed)
 
-  pub observer_again : (u : Way) (l : Lifted v (All u)) → sees_only s l.object ≡ true
-      → Becomes v t x (way_from z (expand v (All u))) (v.loan l.object) (next_of v (All u) l) (number_in z) → sees_only s x ≡ true
-      → Named (home s frame) u → IsDesignated v (seen s m hands leaks) u z → (b : Bool) → Allows facts (Observe x (name_of u) b)
-      → Became (effect (Observe x (name_of u) b) facts)
-  observer_again u l sees becomes observes named is b allowed =
-      became (effect (Observe x (name_of u) b) facts) (expand v (All u)) (v.loan l.object) (next_of v (All u) l) becomes (owned_way u named (inr l))
-      (observed_again (home s frame) (sees_only s) other v t (seen s m hands leaks) facts viewed x (way_from z (expand v (All u))) u (number_in z) l sees becomes observes
-      named (designates v (seen s m hands leaks) u z is) b allowed)
+  pub observer_again : (name : PlaceName) (k : Way) (l : Lifted v k) → sees_only s l.object ≡ true
+      → Becomes v t x (way_from z (expand v k)) (v.loan l.object) (next_of v k l) (number_in z) → sees_only s x ≡ true
+      → Named (home s frame) k → IsReached v (seen s m hands leaks) k z → (b : Bool) → Allows facts (Observe x name b)
+      → Became (effect (Observe x name b) facts)
+  observer_again name k l sees becomes observes named is b allowed =
+      became (effect (Observe x name b) facts) (expand v k) (v.loan l.object) (next_of v k l) becomes (owned_way k named (λ f n e. l)) (λ q e no. absurd (true_false (sees_only s x) observes no))
+      (observed_again (home s frame) (sees_only s) other v t (seen s m hands leaks) facts viewed x (way_from z (expand v k)) name k (number_in z) l sees becomes observes
+      named (reached_by v (seen s m hands leaks) k z is) b allowed)
 
-  pub borrower_stored : (u : Way) (l : Lifted v (All u)) → l.object ≡ x
-      → Becomes v t x (way_from z (expand v (All u))) (v.loan l.object) (next_of v (All u) l) (number_in z) → sees_only s x ≡ false
-      → Named (home s frame) u → IsDesignated v (seen s m hands leaks) u z → Allows facts (Reborrow x (name_of u)) → Became (effect (Reborrow x (name_of u)) facts)
-  borrower_stored u l same becomes borrows named is allowed =
-      became (effect (Reborrow x (name_of u)) facts) (expand v (All u)) (v.loan l.object) (next_of v (All u) l) becomes (owned_way u named (inr l))
-      (reborrowed (home s frame) (sees_only s) other v t (seen s m hands leaks) facts viewed x (way_from z (expand v (All u))) u (number_in z) l same becomes borrows
-      named (designates v (seen s m hands leaks) u z is) allowed)
+  pub borrower_stored : (name : PlaceName) (k : Way) (l : Lifted v k) → l.object ≡ x
+      → Becomes v t x (way_from z (expand v k)) (v.loan l.object) (next_of v k l) (number_in z) → sees_only s x ≡ false → is_given s x ≡ false
+      → Named (home s frame) k → IsReached v (seen s m hands leaks) k z → Allows facts (Reborrow x name)
+      → Became (effect (Reborrow x name) facts)
+  borrower_stored name k l same becomes borrows own named is allowed =
+      let up : Named (home s frame) (v.up l.object) = holds.own l.object l.way l.has (ap (sees_only s) same ∙ borrows) (ap (is_given s) same ∙ own) in
+      became (effect (Reborrow x name) facts) (expand v k) (v.loan l.object) (next_of v k l) becomes (owned_way k named (λ f n e. l)) (λ q e sees. named_on (home s frame) (v.up l.object) l.rest up)
+      (reborrowed (home s frame) (sees_only s) other v t (seen s m hands leaks) facts viewed x (way_from z (expand v k)) name k (number_in z) l same becomes borrows up
+      named (reached_by v (seen s m hands leaks) k z is) allowed)
 
   -- a view that becomes null
   pub view_emptied : (facts' : List Fact) (w loan up : Way) → Becomes v t x (way_from z w) loan up (number_in z) → ((k : ℕ) → z ≡ machine.Cell k → ⊥)
       → Unused (home s frame) other.lent v facts x → ((n : PlaceName) → Has facts (Moved n) → Has facts' (Moved n))
       → LoansStay facts facts' → AreClear (sees_only s) facts' → Became facts'
   view_emptied facts' w loan up becomes null unused stays loans clear =
-      became facts' w loan up becomes (λ q e. absurd (no_way z q e null))
+      became facts' w loan up becomes (λ q e. absurd (no_way z q e null)) (λ q e sees. absurd (no_way z q e null))
       (rebound (home s frame) (sees_only s) other v t x (way_from z w) loan up (number_in z) becomes (seen s m hands leaks) facts facts' viewed unused stays loans clear
       (λ y e. absurd (no_way z y e null)))
     where

@@ -1,14 +1,20 @@
 -- What the variables of borrowers, observers and formals that own nothing have, and which types may
 -- be those of views.
-use Rattle.std.specs.Prelude.{◌≡◌, ℕ, Bool, true, false, ◌||◌, List, [], ◌∷◌, Some, get_or}
+use Rattle.std.specs.Prelude.{◌≡◌, ℕ, Bool, true, false, not, ◌&&◌, ◌||◌, ◌==◌, List, [], ◌∷◌, Some, get_or, is_some}
+use Rattle.std.specs.List.{list_any}
+use Rattle.place_names.specs.declared.selector.Sel.TheVariants.{Deref}
+use Rattle.place_names.specs.declared.act.Mode.TheVariants.{In}
+use Rattle.place_names.specs.Names.{Name, extend}
 use Rattle.place_names.specs.declared.act.Act.{Act}
-use Rattle.place_names.specs.declared.act.Act.TheVariants.{Move, Write, Free}
+use Rattle.place_names.specs.declared.act.Act.TheVariants.{Move, Write, Free, Actual}
 use Rattle.type_definitions.specs.declared.table.Shape.TheVariants as shape
-use Rattle.type_definitions.specs.Types.{Table, shape_of}
-use Rattle.flow_paths.specs.Objects.{Typing, object_at, is_anonymous, is_observer, view_of}
+use Rattle.type_definitions.specs.Types.{Table, shape_of, is_nil}
+use Rattle.flow_paths.specs.Acts.{gives_variable}
+use Rattle.machine.specs.Owners.{is_in_formal}
+use Rattle.flow_paths.specs.Objects.{Signature, Typing, object_at, is_anonymous, is_named_access, is_observer, view_of}
 use Rattle.machine.specs.Words.{Cell, component_type, element_type}
 use Rattle.machine.specs.Memory.{Memory, variable_slots, no_slot}
-use Rattle.owned_ways.specs.Ways.{OfVariable, OfHand, Way, Object, Lost, Into, All}
+use Rattle.owned_ways.specs.Ways.{OfVariable, OfHand, Way, Object, Lost, Into, All, Named}
 use Rattle.owned_loans.specs.Views.{Views}
 use Rattle.soundness.specs.Seen.{home, is_view_formal}
 
@@ -28,9 +34,32 @@ pub record PartsAreNamed (table : Table) : Type 0 where
 abbrev pub is_view : Typing → ℕ → Bool
 is_view s x = is_anonymous (view_of s x) || is_view_formal s x
 
--- Nothing is changed through observers and such formals.
+-- Such a formal, whether its type owns or is an anonymous access type.
+abbrev pub is_given : Typing → ℕ → Bool
+is_given s x = is_view_formal s x || (is_in_formal s x && is_anonymous (view_of s x))
+
+-- A formal of a procedure lends what it designates: of a named access type, it is changed through. So
+-- does the first one of a function that gives a borrower.
+abbrev pub is_of_procedure : ℕ → Signature → Bool
+is_of_procedure x sub = not (is_some sub.result) && list_any (λ y. y == x) sub.formals
+
+abbrev pub is_first : ℕ → List ℕ → Bool
+is_first x [] = false
+is_first x (y ∷ rest) = y == x
+
+abbrev pub lends_first : Typing → ℕ → Signature → Bool
+lends_first s x sub = gives_variable s sub.result && is_first x sub.formals
+
+abbrev pub is_exclusive : Typing → ℕ → Bool
+is_exclusive s x = (is_named_access (view_of s x) && list_any (is_of_procedure x) s.subs) || list_any (lends_first s x) s.subs
+
+-- Nothing is changed through observers and other such formals.
 abbrev pub sees_only : Typing → ℕ → Bool
-sees_only s x = is_observer s x || is_view_formal s x
+sees_only s x = is_observer s x || (is_given s x && not (is_exclusive s x))
+
+-- Nor is such a formal itself changed.
+abbrev pub is_fixed : Typing → Name → Bool
+is_fixed s m = sees_only s m.root || (is_given s m.root && is_nil m.sels)
 
 -- A way begins at what owns: at a variable that is no such formal, or at a hand.
 abbrev pub IsOwners : Typing → Way → Type 0
@@ -44,7 +73,7 @@ abbrev pub IsAccess : Typing → ℕ → Type 0
 IsAccess s x = (d : ℕ) × (c : Bool) × (n : Bool) × (shape_of s.table (object_at s x).of ≡ shape.Access d c n)
 
 -- A view is of an access type. One whose word is the number of a cell has a value, and its way is
--- one of owners to the cell; no other objects are views.
+-- one of owners to the cell; no other objects are views. A borrower was taken from a name.
 pub record Holds (s : Typing) (frame : ℕ) (v : Views) (m : Memory) : Type 0 where
   pub held : (x n : ℕ) → is_view s x ≡ true
       → (get_or (variable_slots s (home s frame x) x m.variables) 0 no_slot).word ≡ Cell n
@@ -52,14 +81,16 @@ pub record Holds (s : Typing) (frame : ℕ) (v : Views) (m : Memory) : Type 0 wh
   pub only : (x : ℕ) (w : Way) → v.way x ≡ Some w → is_view s x ≡ true
   pub owners : (x : ℕ) (w : Way) → v.way x ≡ Some w → IsOwners s w
   pub access : (x : ℕ) → is_view s x ≡ true → IsAccess s x
+  pub own : (x : ℕ) (w : Way) → v.way x ≡ Some w → sees_only s x ≡ false → is_given s x ≡ false → Named (home s frame) (v.up x)
 
--- What is moved, written or freed isn't named through an observer.
-abbrev pub KeepsObserved : (ℕ → Bool) → Act → Type 0
-KeepsObserved observer (Move m parts) = observer m.root ≡ false
-KeepsObserved observer (Write m) = observer m.root ≡ false
-KeepsObserved observer (Free m) = observer m.root ≡ false
-KeepsObserved observer _ = Unit {0}
+-- What is moved, written or freed isn't fixed, nor is what is designated by what is lent.
+abbrev pub KeepsObserved : (Name → Bool) → Act → Type 0
+KeepsObserved fixed (Move m parts) = fixed m ≡ false
+KeepsObserved fixed (Write m) = fixed m ≡ false
+KeepsObserved fixed (Free m) = fixed m ≡ false
+KeepsObserved fixed (Actual m In owning true) = fixed (extend m (Deref ∷ [])) ≡ false
+KeepsObserved fixed _ = Unit {0}
 
-abbrev pub AllKeep : (ℕ → Bool) → List Act → Type 0
-AllKeep observer [] = Unit {0}
-AllKeep observer (a ∷ acts) = KeepsObserved observer a × AllKeep observer acts
+abbrev pub AllKeep : (Name → Bool) → List Act → Type 0
+AllKeep fixed [] = Unit {0}
+AllKeep fixed (a ∷ acts) = KeepsObserved fixed a × AllKeep fixed acts

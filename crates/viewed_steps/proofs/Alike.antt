@@ -1,9 +1,10 @@
 -- Scalar places and formals of scalar types: owners see nothing of what is put into them, nor of what is
 -- copied back.
-use Rattle.std.proofs.Common.{◌≡◌, refl, sym, ap, ◌∙◌, subst, inl, ℕ, ◌+◌, Bool, true, false, List, [], ◌∷◌, ◌++◌, take, drop, length, get_or, if◌then◌else◌}
+use Rattle.std.proofs.Common.{◌≡◌, refl, sym, ap, ◌∙◌, subst, inl, inr, ℕ, ◌+◌, Bool, true, false, List, [], ◌∷◌, ◌++◌, take, drop, length, get_or, if◌then◌else◌}
 use Rattle.std.proofs.lemmas.List.{length-map}
-use Rattle.type_definitions.specs.Types.{shape_of, words, full, is_scalar}
-use Rattle.flow_paths.specs.Objects.{Typing, object_at, is_anonymous, view_of}
+use Rattle.spark_base.specs.Lists.{Has}
+use Rattle.type_definitions.specs.Types.{words, full, is_scalar, components_of}
+use Rattle.flow_paths.specs.Objects.{Typing, object_at}
 use Rattle.machine.specs.Words.{access_offsets, fits_type}
 use Rattle.machine.specs.Words as machine
 use Rattle.machine.specs.Memory.{Slot, Memory, Base, Place, fresh, no_slot, variable_slots, slots_at, slots_of, words_of, gone_at, with_slots, stored, moved_out, declared}
@@ -11,44 +12,43 @@ use Rattle.machine.specs.Memory as memory
 use Rattle.machine.specs.Evaluate.{Now, Evaluated, Done, Raises, Traps, ConstraintError, followed_by}
 use Rattle.machine.specs.Calls.{Passed, Value, From, To, with_formal}
 use Rattle.machine.specs.States.{Waiting, Leak}
-use Rattle.owned_ways.specs.Ways.{Step, OfVariable, Loc, OfRoot, IsSame}
-use Rattle.part_offsets.specs.Parts.{type_in, has_part, IsSettled}
-use Rattle.soundness.specs.Seen.{content, word_in, seen}
+use Rattle.owned_ways.specs.Ways.{Step, OfVariable, Loc, OfRoot, OfCell, IsSame, Reaches, part, base_of}
+use Rattle.part_offsets.specs.Parts.{type_in, offset_in, has_part, IsSettled}
+use Rattle.soundness.specs.Seen.{Content, content, trunk, steps_in, word_in, seen}
 use Rattle.soundness.specs.Typed.{Matches, OwnsByShape, Kept, Spot, IsFixed}
 use Rattle.soundness.proofs.Memories.{put_other, marked_length}
-use Rattle.soundness.proofs.Steps.{plain_end, room, taken_slots}
+use Rattle.soundness.proofs.Steps.{plain_end, room, taken_slots, same_there as same_content}
 use Rattle.soundness.proofs.Keeping.{scalar}
 use Rattle.soundness.proofs.Lasting.{lengths, less_kept, put_away, declared_kept, keeps}
-use Rattle.soundness.proofs.Fixed.{matches_scalar, plain_word, fixed_at, fixed_spot, fixed_one, put_word, put_same_view}
+use Rattle.soundness.proofs.Fixed.{matches_scalar, plain_word, fixed_at, fixed_spot, put_word, put_same_view}
 use Rattle.soundness.proofs.Loops.{same_word, scalar_same}
 use Rattle.soundness.proofs.Stays.{One}
-use Rattle.soundness.proofs.Passing.{IsLaid}
 use Rattle.soundness.proofs.Returning.{Backs}
-use Rattle.viewed_soundness.proofs.Names.{true_false, view_access}
-use Rattle.viewed_soundness.proofs.Outcomes.{named_plain}
-use Rattle.viewed_steps.proofs.Read.{scalar_named}
+use Rattle.viewed_steps.specs.Taken.{Lodge, IsLodged, IsPlainPlace}
+use Rattle.viewed_soundness.specs.Holds.{is_view}
+use Rattle.viewed_steps.proofs.Views.{AreAccess, view_access, scalar_no_view}
 use Rattle.viewed_steps.proofs.Beside.{put_beside}
+use Rattle.viewed_steps.proofs.Lodged.{lodged_spot}
 
 -- ---- memories that owners see alike
 
 -- a scalar place isn't in the variable of a view
-no_view_fixed : (s : Typing) (settled : IsSettled s.table) (k : Place) → IsFixed s k → (g y : ℕ) → is_anonymous (view_of s y) ≡ true
+no_view_fixed : (s : Typing) (settled : IsSettled s.table) → AreAccess s → (k : Place) → IsFixed s k → (g y : ℕ) → is_view s y ≡ true
     → k.base ≡ memory.OfVariable g y → ⊥
-no_view_fixed s settled k fixed g y view base =
+no_view_fixed s settled in_formals k fixed g y view base =
     let same : fixed.object ≡ y = same_variable fixed.frame fixed.object g y (sym fixed.base ∙ base) in
-    let access = view_access (shape_of s.table (object_at s y).of) view in
+    let access = view_access s in_formals y view in
     let there : has_part s.table (object_at s y).of fixed.steps ≡ true = subst (λ z. has_part s.table (object_at s z).of fixed.steps ≡ true) same fixed.there in
-    let none = plain_end s.table settled (object_at s y).of access.0 access.1 fixed.steps there in
+    let none = plain_end s.table settled (object_at s y).of (ap components_of access.3) (ap machine.count_of access.3) fixed.steps there in
     let fits : Matches s.table k.of (object_at s y).of =
     subst (λ p. Matches s.table k.of (type_in s.table (object_at s y).of p)) none
     (subst (λ z. Matches s.table k.of (type_in s.table (object_at s z).of fixed.steps)) same fixed.of) in
-    true_false (is_anonymous (view_of s y)) view
-    (named_plain s.table (object_at s y).of (scalar_named s.table (object_at s y).of (matches_scalar s k.of (object_at s y).of fits fixed.scalar)))
+    scalar_no_view s in_formals y (matches_scalar s k.of (object_at s y).of fits fixed.scalar) view
   where
     same_variable : (f x g y : ℕ) → memory.OfVariable f x ≡ memory.OfVariable g y → x ≡ y
     same_variable f x g y e = cc
 
-module _ (s : Typing) (settled : IsSettled s.table) (own_law : OwnsByShape s.table) (hands : List Waiting) (leaks : List Leak) where
+module _ (s : Typing) (settled : IsSettled s.table) (own_law : OwnsByShape s.table) (in_formals : AreAccess s) (hands : List Waiting) (leaks : List Leak) where
   abbrev Scalar : ℕ → Type 0
   Scalar x = is_scalar (full s.table (object_at s x).of) ≡ true
 
@@ -57,7 +57,7 @@ module _ (s : Typing) (settled : IsSettled s.table) (own_law : OwnsByShape s.tab
     pub same : IsSame (seen s m hands leaks) (seen s n hands leaks)
     pub typed : Kept s n hands
     pub hold : (g y : ℕ) (p : List Step) → word_in s.table (content s n [] (OfRoot (OfVariable g y))) p ≡ word_in s.table (content s m [] (OfRoot (OfVariable g y))) p
-    pub views : (g y : ℕ) → is_anonymous (view_of s y) ≡ true
+    pub views : (g y : ℕ) → is_view s y ≡ true
         → (get_or (variable_slots s g y n.variables) 0 no_slot).word ≡ (get_or (variable_slots s g y m.variables) 0 no_slot).word
 
   pub nothing : (m : Memory) → Kept s m hands → Enters m m
@@ -81,39 +81,87 @@ module _ (s : Typing) (settled : IsSettled s.table) (own_law : OwnsByShape s.tab
     views = λ g y view. second.views g y view ∙ first.views g y view;
   }
 
-  -- ---- scalar places in variables
+  -- ---- scalar places
+
+  -- A scalar place, in a variable that is no view's, or in a cell.
+  pub record IsPlainSpot (m : Memory) (k : Place) : Type 0 where
+    pub loc : Loc
+    pub spot : Spot s m hands k loc
+    pub scalar : is_scalar (full s.table k.of) ≡ true
+    pub off : (g y : ℕ) → is_view s y ≡ true → k.base ≡ memory.OfVariable g y → ⊥
+
+  pub fixed_plain : (k : Place) → IsFixed s k → (m : Memory) → IsPlainSpot m k
+  fixed_plain k fixed m = record {
+    loc = fixed_at s settled k fixed;
+    spot = fixed_spot s settled k fixed m hands;
+    scalar = fixed.scalar;
+    off = no_view_fixed s settled in_formals k fixed;
+  }
+
+  pub lodged_plain : (k : Place) (c : Lodge) → IsLodged s k c → is_scalar (full s.table k.of) ≡ true → (f x : ℕ) → base_of c.way ≡ OfRoot (OfVariable f x)
+      → (m : Memory) → Kept s m hands → Reaches (seen s m hands leaks) c.way (OfCell c.cell) → IsPlainSpot m k
+  lodged_plain k c lodged plain f x base m typed reach = record {
+    loc = part (OfCell c.cell) lodged.steps;
+    spot = lodged_spot s settled m hands leaks typed k c lodged f x base reach;
+    scalar = plain;
+    off = λ g y view is. no_cell c.cell g y (sym lodged.base ∙ is);
+  }
+    where
+      no_cell : (n g y : ℕ) → memory.OfCell n ≡ memory.OfVariable g y → ⊥
+      no_cell n g y e = cc
+
+  -- one in a variable, or in one of these cells, which are there
+  pub plain_place : (f : ℕ) (cells : List Lodge) → ((c : Lodge) → Has cells c → (g : ℕ) × (y : ℕ) × (base_of c.way ≡ OfRoot (OfVariable g y)) × (g ≡ f → ⊥))
+      → (m : Memory) (k : Place) → IsPlainPlace s cells k → Kept s m hands → ((c : Lodge) → Has cells c → Reaches (seen s m hands leaks) c.way (OfCell c.cell))
+      → IsPlainSpot m k
+  plain_place f cells begins m k (inl fixed) typed there = fixed_plain k fixed m
+  plain_place f cells begins m k (inr (c, has, lodged, plain)) typed there =
+      let begin = begins c has in lodged_plain k c lodged plain begin.0 begin.1 begin.2 m typed (there c has)
+
+  -- one word stands there
+  pub one_there : (m : Memory) (k : Place) → IsPlainSpot m k → Kept s m hands → length (words_of s m k) ≡ 1
+  one_there m k plain typed =
+      length-map (slots_of s m k) (λ (x : Slot). x.word) ∙ (taken_slots s settled m k (room s settled m hands typed k plain.loc plain.spot)).0
+      ∙ plain_word s settled k.of plain.scalar
 
   -- what has other slots there
-  put_there : (k : Place) (fixed : IsFixed s k) (slots : List Slot) (m : Memory) → length slots ≡ words s.table k.of → Kept s m hands
+  put_there : (k : Place) (m : Memory) (plain : IsPlainSpot m k) (slots : List Slot) → length slots ≡ words s.table k.of → Kept s m hands
       → Kept s (with_slots s k slots m) hands → Enters m (with_slots s k slots m)
-  put_there k fixed slots m long typed typed_then =
-      let l : Loc = fixed_at s settled k fixed in
-      let spot : Spot s m hands k l = fixed_spot s settled k fixed m hands in
-      record {
-        same = put_same_view s settled m hands k l spot typed fixed.scalar slots long leaks;
-        typed = typed_then;
-        hold = λ g y p. put_word s settled m hands k l spot typed fixed.scalar slots long (OfRoot (OfVariable g y)) p refl;
-        views = λ g y view. ap (λ z. (get_or z 0 no_slot).word)
-            (put_beside s 0 k.base (take k.at (slots_at s m k.base) ++ slots ++ drop (k.at + length slots) (slots_at s m k.base)) m g y
-            (no_view_fixed s settled k fixed g y view));
-      }
+  put_there k m plain slots long typed typed_then = record {
+    same = put_same_view s settled m hands k plain.loc plain.spot typed plain.scalar slots long leaks;
+    typed = typed_then;
+    hold = λ g y p. put_word s settled m hands k plain.loc plain.spot typed plain.scalar slots long (OfRoot (OfVariable g y)) p refl;
+    views = λ g y view. ap (λ z. (get_or z 0 no_slot).word)
+        (put_beside s 0 k.base (take k.at (slots_at s m k.base) ++ slots ++ drop (k.at + length slots) (slots_at s m k.base)) m g y (plain.off g y view));
+  }
 
-  pub moved_there : (k : Place) → IsFixed s k → (m : Memory) → Kept s m hands → Enters m (moved_out s k m)
-  moved_there k fixed m typed =
-      let l : Loc = fixed_at s settled k fixed in
-      let spot : Spot s m hands k l = fixed_spot s settled k fixed m hands in
+  pub moved_there : (k : Place) (m : Memory) → IsPlainSpot m k → Kept s m hands → Enters m (moved_out s k m)
+  moved_there k m plain typed =
       let marks : List Slot = gone_at (access_offsets s.table k.of) (slots_of s m k) in
       let long : length marks ≡ words s.table k.of =
-      marked_length (access_offsets s.table k.of) (slots_of s m k) ∙ (taken_slots s settled m k (room s settled m hands typed k l spot)).0 in
-      put_there k fixed marks m long typed
-      (less_kept s settled (moved_out s k m) (record { of = k.of; words = words_of s m k }) hands ((keeps s settled own_law).moved m hands k l spot typed))
+      marked_length (access_offsets s.table k.of) (slots_of s m k) ∙ (taken_slots s settled m k (room s settled m hands typed k plain.loc plain.spot)).0 in
+      put_there k m plain marks long typed
+      (less_kept s settled (moved_out s k m) (record { of = k.of; words = words_of s m k }) hands ((keeps s settled own_law).moved m hands k plain.loc plain.spot typed))
 
-  pub stored_there : (k : Place) → IsFixed s k → (ws : List machine.Word) → length ws ≡ 1 → (m : Memory) → Kept s m hands → Enters m (stored s k ws m)
-  stored_there k fixed ws one m typed =
+  -- a place is where it is, whatever is in hand
+  more_spot : (m : Memory) (v : Waiting) (k : Place) (l : Loc) → Spot s m hands k l → Spot s m (v ∷ hands) k l
+  more_spot m v k l spot =
+      let same : content s m hands (trunk l) ≡ content s m (v ∷ hands) (trunk l) =
+      ap (content s m hands) spot.base ∙ same_content s m hands (v ∷ hands) k.base ∙ ap (content s m (v ∷ hands)) (sym spot.base) in
+      record {
+        base = spot.base;
+        made = spot.made;
+        at = spot.at ∙ ap (λ (z : Content). offset_in s.table z.of (steps_in l)) same;
+        there = ap (λ (z : Content). has_part s.table z.of (steps_in l)) (sym same) ∙ spot.there;
+        of = subst (λ (z : Content). Matches s.table k.of (type_in s.table z.of (steps_in l))) same spot.of;
+      }
+
+  pub stored_there : (k : Place) (m : Memory) → IsPlainSpot m k → (ws : List machine.Word) → length ws ≡ 1 → Kept s m hands → Enters m (stored s k ws m)
+  stored_there k m plain ws one typed =
       let got : Waiting = record { of = k.of; words = ws } in
-      put_there k fixed (fresh ws) m (length-map ws (λ w. record { word = w; gone = false }) ∙ one ∙ sym (plain_word s settled k.of fixed.scalar)) typed
-      (put_away s settled m got hands k (fixed_at s settled k fixed) (scalar s settled m got hands fixed.scalar typed) (fixed_spot s settled k fixed m (got ∷ hands))
-      (one ∙ sym (plain_word s settled k.of fixed.scalar)) (inl refl))
+      put_there k m plain (fresh ws) (length-map ws (λ w. record { word = w; gone = false }) ∙ one ∙ sym (plain_word s settled k.of plain.scalar)) typed
+      (put_away s settled m got hands k plain.loc (scalar s settled m got hands plain.scalar typed) (more_spot m got k plain.loc plain.spot)
+      (one ∙ sym (plain_word s settled k.of plain.scalar)) (inl refl))
 
   -- ---- the formals
 
@@ -132,18 +180,23 @@ module _ (s : Typing) (settled : IsSettled s.table) (own_law : OwnsByShape s.tab
         typed = declared_kept s settled m f x got hands (scalar s settled m got hands plain typed) long (inl refl);
         hold = λ g y p. same_word s settled m [] [] f x plain (declared f x ws m).variables others (OfRoot (OfVariable g y)) p refl;
         views = λ g y view. ap (λ z. (get_or z 0 no_slot).word) (others g y (λ e.
-            true_false (is_anonymous (view_of s y)) view
-            (ap (λ z. is_anonymous (view_of s z)) (sym (same_object f x g y e)) ∙ named_plain s.table u (scalar_named s.table u plain))));
+            scalar_no_view s in_formals x plain (subst (λ z. is_view s z ≡ true) (sym (same_object f x g y e)) view)));
       }
 
-  pub with_one : (f x : ℕ) (a : Passed) (m : Memory) → Scalar x → IsLaid s a → Kept s m hands → Enters m (with_formal s f x a m)
+  -- What is passed for a formal of a scalar type: a value, or a scalar place.
+  abbrev pub IsLaidIn : Memory → Passed → Type 0
+  IsLaidIn m (Value ws) = One ws
+  IsLaidIn m (From k) = IsPlainSpot m k
+  IsLaidIn m (To k) = IsPlainSpot m k
+
+  pub with_one : (f x : ℕ) (a : Passed) (m : Memory) → Scalar x → IsLaidIn m a → Kept s m hands → Enters m (with_formal s f x a m)
   with_one f x (Value ws) m plain laid typed = one_formal f x ws m plain laid typed
   with_one f x (From k) m plain laid typed =
-      let first = moved_there k laid m typed in
+      let first = moved_there k m laid typed in
       one_then m (moved_out s k m) (declared f x (words_of s m k) (moved_out s k m)) first
-      (one_formal f x (words_of s m k) (moved_out s k m) plain (fixed_one s settled k laid m hands typed) first.typed)
+      (one_formal f x (words_of s m k) (moved_out s k m) plain (one_there m k laid typed) first.typed)
   with_one f x (To k) m plain laid typed =
-      let first = moved_there k laid m typed in
+      let first = moved_there k m laid typed in
       one_then m (moved_out s k m) (declared f x (machine.default s.table (object_at s x).of) (moved_out s k m)) first
       (one_formal f x (machine.default s.table (object_at s x).of) (moved_out s k m) plain
       (lengths s.table (object_at s x).of ∙ plain_word s settled (object_at s x).of plain) first.typed)

@@ -1,9 +1,9 @@
 -- What a function gave is taken alone: an object is declared with it, or it is assigned or returned. It may own.
+use Rattle.flow_paths.specs.Views.{sub_acts}
 use Rattle.place_names.specs.Facts.{effect}
 use Rattle.soundness.proofs.Fading.{FadesTo}
 use Rattle.viewed_soundness.proofs.Stored.{Assigns, then_placed}
-use Rattle.viewed_steps.proofs.Sources.{leads_or}
-use Rattle.soundness.proofs.Following.{Each}
+use Rattle.viewed_steps.specs.Traversals.{IsSourceIn}
 use Rattle.machine.specs.Calls.{checks_at}
 use Rattle.spark_base.specs.declared.position.Pos.{Pos}
 use Rattle.viewed_soundness.proofs.Names.{plain_named, true_false}
@@ -27,7 +27,7 @@ use Rattle.flow_paths.specs.Points.{NamedPoint}
 use Rattle.flow_paths.specs.Laid.{FlowProgram, NamedSub, typing_of, flow_typing, flow_program, flow_named, number_in}
 use Rattle.flow_paths.specs.Paths.{ControlPath}
 use Rattle.flow_paths.specs.Effects.{path_points}
-use Rattle.flow_paths.specs.Scopes.{taken, brought, scope_behind}
+use Rattle.flow_paths.specs.Scopes.{taken, scope_behind}
 use Rattle.machine.specs.Words.{fits_type}
 use Rattle.machine.specs.Words as machine
 use Rattle.machine.specs.Memory.{declared, stored}
@@ -38,10 +38,10 @@ use Rattle.machine.specs.Step.{Turn, turn, start, successor}
 use Rattle.machine.specs.Step as steps
 use Rattle.machine.specs.Owners.{waiting_in}
 use Rattle.owned_ways.specs.Ways.{Step, OfVariable, OfRoot, Way, Held, after, AllowsAll}
-use Rattle.soundness.specs.Seen.{IsNear, is_view_formal, content, word_in, home, seen}
+use Rattle.soundness.specs.Seen.{IsNear, content, word_in, home, seen}
 use Rattle.soundness.specs.Typed.{Kept, Matches}
 use Rattle.typed_laws.specs.Needed.{IsFine, Source, Gives, Leads}
-use Rattle.soundness.specs.Sound.{IsNoCall, Stage, facts_of, AreStages, IsRunnable, returns_value, InScope, IsNamedSub, IsAtPoint, view_of as view_here, is_temporary_object, temporaries_in}
+use Rattle.soundness.specs.Sound.{IsNoCall, Stage, facts_of, AreStages, IsRunnable, InScope, IsNamedSub, IsAtPoint, view_of as view_here, is_temporary_object, temporaries_in}
 use Rattle.soundness.proofs.Scalars.{acts, acts_append, after_append}
 use Rattle.soundness.proofs.Scoped.{Inside}
 use Rattle.soundness.proofs.Around.{IsFar}
@@ -49,17 +49,15 @@ use Rattle.soundness.proofs.Waits.{drop_none, no_waits, take_none, waits_of}
 use Rattle.soundness.proofs.Taking.{no_takes}
 use Rattle.soundness.proofs.Waited.{FillsNone}
 use Rattle.soundness.proofs.Eased.{eased, goes_same}
-use Rattle.soundness.proofs.Successors.{below_one}
 use Rattle.owned_loans.specs.Views.{Around, known_gone, Views, Viewed}
-use Rattle.viewed_soundness.specs.Holds.{IsNamed, AllKeep, sees_only}
+use Rattle.viewed_soundness.specs.Holds.{IsNamed, AllKeep, is_view, sees_only, is_fixed}
 use Rattle.viewed_soundness.proofs.Outcomes.{named_plain, Leads_on, stored_goes, not_views, assigned_acts}
 use Rattle.viewed_steps.specs.Awaited.{AreFor, AreValues, temporaries_of, lasting_of, AreAwaited, TakesAlone}
 use Rattle.viewed_steps.proofs.Waited.{temporary_first, Shares, others_only}
-use Rattle.viewed_steps.specs.Sound.{IsResting, HoldsAt, ArePlaced, NoneAbove, ViewStage, stages_of, GoneElsewhere, AreWaiting, IsStoredAt, LeadsAlong}
+use Rattle.viewed_steps.specs.Sound.{ArePast, IsResting, HoldsAt, ArePlaced, NoneAbove, ViewStage, stages_of, GoneElsewhere, AreWaiting, IsStoredAt, LeadsAlong, HasTraversals}
 use Rattle.viewed_steps.specs.Ready.{IsReady, AreOrderly}
 use Rattle.viewed_steps.proofs.Lent.{Spare}
 use Rattle.viewed_steps.proofs.Placed.{MayBe}
-use Rattle.viewed_steps.proofs.Beside.{IsOther, others_keep}
 use Rattle.viewed_steps.proofs.Waiting.{StandsBetween, beside_them, handed, apart_elsewhere}
 use Rattle.viewed_steps.proofs.Standing.{or_right}
 use Rattle.viewed_steps.proofs.Standing as standing
@@ -71,15 +69,14 @@ use Rattle.machine.specs.Step.{led}
 use Rattle.machine.specs.Evaluate.{Raises, Traps}
 use Rattle.soundness.specs.Seen.{seen}
 use Rattle.soundness.specs.Sound.{is_temporary_object, temporaries_in}
-use Rattle.soundness.specs.Ready.{IsSupplied, Fills}
-use Rattle.soundness.proofs.Onward.{GoesOn, declare_follows, assign_follows}
+use Rattle.soundness.specs.Ready.{IsSupplied}
 use Rattle.soundness.proofs.Waits.{take_none, waits_of}
 use Rattle.soundness.proofs.Numbers.{index_law}
 use Rattle.soundness.proofs.Lasting.{keeps}
 use Rattle.viewed_soundness.proofs.Evaluated.{Given, Ready, checked_given, call_given, keep_both}
 use Rattle.viewed_steps.proofs.Declared.{declared_goes, first_fades}
 use Rattle.viewed_steps.proofs.EachInstruction as each
-use Rattle.viewed_steps.proofs.Views.{all_held}
+use Rattle.viewed_steps.proofs.Views.{AreAccess, all_held}
 
 module _ (table : Table) (typed : TypedProgram) (effects : Effects) (input : List ℕ) (ready : IsReady table typed effects) where
   abbrev program : FlowProgram
@@ -91,10 +88,10 @@ module _ (table : Table) (typed : TypedProgram) (effects : Effects) (input : Lis
   abbrev own : Typing
   own = typing_of table typed
 
-  abbrev no_in_formals : (x : ℕ) → is_view_formal s x ≡ false
-  no_in_formals = standing.no_in_formals table typed effects input ready
+  abbrev in_formals : AreAccess s
+  in_formals = standing.in_formals table typed effects input ready
 
-  abbrev local : (x : ℕ) → is_anonymous (view_of s x) ≡ true → is_package_object s x ≡ false
+  abbrev local : (x : ℕ) → is_view s x ≡ true → is_package_object s x ≡ false
   local = standing.local table typed effects input ready
 
   abbrev unmoved_stage : (e : Stage) → e.frame.sub ≡ 0 → (name : PlaceName) → Has (facts_of program effects e) (Moved name) → ⊥
@@ -110,7 +107,8 @@ module _ (table : Table) (typed : TypedProgram) (effects : Effects) (input : Lis
       (viewed_before : Viewed (home s (suc (length rest))) (sees_only s) (known_gone (home s (suc (length rest))) (GoneElsewhere program effects (below ∷ more_frames))) views
       (view_here s state) (facts_of program effects top))
       (kept : Kept s state.memory (waiting_in state)) (scope : InScope s state.memory (suc (length rest)) (lasting_of s p.scope)) (holds : HoldsAt s (suc (length rest)) views state.memory p)
-      (placed_before : ArePlaced program (facts_of program effects top) views p.scope) (above : NoneAbove s (suc (length rest)) state.memory) where
+      (placed_before : ArePlaced program (suc (length rest)) (facts_of program effects top) views p.scope × ArePast s (suc (length rest)) views (below ∷ more_frames)) (above : NoneAbove s (suc (length rest)) state.memory
+      × HasTraversals table typed (view_here s state) (record { stage = top; views = views; cells = [] } ∷ (below ∷ more_frames))) where
     abbrev outer : List Frame
     outer = below.stage.frame ∷ rest
 
@@ -182,10 +180,10 @@ module _ (table : Table) (typed : TypedProgram) (effects : Effects) (input : Lis
 
     -- where it leads, and how the frames come from those before
     abbrev Along : Outcome → Type 0
-    Along outcome = LeadsAlong table typed effects p.instr state.memory (record { stage = top; views = views }) (below ∷ more_frames) outcome
+    Along outcome = LeadsAlong table typed effects p.instr state.memory (record { stage = top; views = views; cells = [] }) (below ∷ more_frames) outcome
 
     abbrev may : ℕ → ℕ → Type 0
-    may x y = MayBe program (scope_behind p) x y × IsStoredAt p.instr x
+    may x y = MayBe program (scope_behind p) x y × IsStoredAt p.instr x × IsSourceIn (sub_acts (sub_of program top.frame.sub)) x y
 
     abbrev LeadsFrom : Instruction → Outcome → Type 0
     LeadsFrom i outcome = Leads_on easy ready.accepted.settled ready.owns other alone views ready.class.parts_named may refl refl (after (acts_of_main i) facts_now) outcome
@@ -232,7 +230,7 @@ module _ (table : Table) (typed : TypedProgram) (effects : Effects) (input : Lis
       abbrev pub IsFirst : Waiting → Type 0
       IsFirst v =
           (v.of ≡ (object_at s x).of) × (length v.words ≡ words s.table v.of) × (waiting_in state ≡ v ∷ waiting_in easy.state)
-          × (given_words ≡ v.words ∷ [])
+          × (given_words ≡ v.words ∷ []) × (vs : List Waiting) × (top.frame.waits ≡ v ∷ vs)
 
       pub first_value : (v : Waiting) × IsFirst v
       first_value = by_waits top.frame.waits refl
@@ -255,6 +253,8 @@ module _ (table : Table) (typed : TypedProgram) (effects : Effects) (input : Lis
                   (mine.0).1,
                   ap (flat_map waits_of) frames ∙ ap (λ z. z ++ flat_map waits_of outer) some ∙ ap (λ z. v ∷ (z ++ flat_map waits_of outer)) (sym others),
                   (λ j. map (λ (w : Waiting). w.words) (reverse (take (one_taken j) (some j)))) ∙ ap (λ z. map (λ (w : Waiting). w.words) (reverse (v ∷ z))) (take_none vs),
+                  vs,
+                  some,
                 ),
               )
 
@@ -263,7 +263,7 @@ module _ (table : Table) (typed : TypedProgram) (effects : Effects) (input : Lis
       ready_value = record {
         viewed = subst (λ z. Viewed (home s depth) (sees_only s) other views (seen s state.memory z state.leaks) facts_now) first_value.1.2 viewed;
         kept = subst (Kept s state.memory) first_value.1.2 kept;
-        holds = all_held s no_in_formals depth views state.memory (λ y n view e. holds.held y n (λ fading. going fading.0 fading.1) view e) holds.only holds.named;
+        holds = all_held s in_formals depth views state.memory (λ y n view e. holds.held y n (λ fading. going fading.0 fading.1) view e) holds.only holds.owners holds.own;
       }
 
       pub source_alone : (u : ℕ) → IsNamed s.table u → Source s u call
@@ -302,23 +302,13 @@ module _ (table : Table) (typed : TypedProgram) (effects : Effects) (input : Lis
           allowed_now (each.spares table typed effects input ready state top below more_frames rest named p frames deep stages running awaiting of_sub at_point path views viewed_before kept scope holds placed_before above going no_calls end)
           (standing.allowed table typed effects input ready state top older outer named p frames of_sub at_point path no_calls)
 
-      keeps_there : AllKeep (sees_only s) (acts_of_main p.instr)
+      keeps_there : AllKeep (is_fixed s) (acts_of_main p.instr)
       keeps_there = standing.keeps_there table typed effects input ready state top older outer named p frames of_sub at_point
 
-      no_name : (r : Pos) (y : ℕ) (steps : TypedTree) (w : ℕ) → ◌≡◌ {A = TypedTree} (More held_call NoMore) (More (Name r y steps w) NoMore) → ⊥
-      no_name r y steps w e = cc
-
       -- an object that is no view
-      module _ (y : ℕ) (is : p.instr ≡ Declare y (More held_call NoMore)) where
+      module _ (y : ℕ) (is : p.instr ≡ Declare y (More held_call NoMore)) (owner : is_anonymous (view_of s y) ≡ false) where
         abbrev v : TypedTree
         v = More held_call NoMore
-
-        owner : is_anonymous (view_of s y) ≡ false
-        owner = by_kind (is_anonymous (view_of s y)) refl
-          where
-            by_kind : (b : Bool) → is_anonymous (view_of s y) ≡ b → b ≡ false
-            by_kind true view = (let found = orderly.declared y v is view in absurd (no_name found.0 found.1 found.2 found.3 found.4))
-            by_kind false e = refl
 
         pub named_object : IsNamed s.table (object_at s y).of
         named_object = plain_named s.table (object_at s y).of owner
@@ -345,28 +335,29 @@ module _ (table : Table) (typed : TypedProgram) (effects : Effects) (input : Lis
         declared_value (Done ws n) given faint =
             each.goes_too table typed effects input ready state top below more_frames rest named p frames deep stages running awaiting of_sub at_point path views viewed_before kept scope holds placed_before above going no_calls
             (Declare y v) (declared depth y ws n.memory) 0
-            (declared_goes easy ready.accepted.settled ready.owns other alone no_in_formals views ready.class.parts_named may refl refl y (after (acts_of_main (Declare y v)) facts_now)
-            named_object ws n given faint
+            (declared_goes easy ready.accepted.settled ready.owns other alone in_formals views ready.class.parts_named may refl refl y (after (acts_of_main (Declare y v)) facts_now)
+            named_object (orderly.begun y v is) ws n given faint
             (λ q. each.blank table typed effects input ready state top below more_frames rest named p frames deep stages running awaiting of_sub at_point path views viewed_before kept scope holds placed_before above going no_calls y v is q
             (word_in s.table (content s state.memory [] (OfRoot (OfVariable depth y))) q) refl)
             (each.after_it table typed effects input ready state top below more_frames rest named p frames deep stages running awaiting of_sub at_point path views viewed_before kept scope holds placed_before above going no_calls y v is)
             (each.free table typed effects input ready state top below more_frames rest named p frames deep stages running awaiting of_sub at_point path views viewed_before kept scope holds placed_before above going no_calls y v is)
-            (λ w n keeps base. apart_elsewhere table typed effects unmoved_stage local state depth older between y w n keeps base))
+            (apart_elsewhere table typed effects unmoved_stage local state depth older between y))
         declared_value (Raises how n) given faint =
             each.ends_so table typed effects input ready state top below more_frames rest named p frames deep stages running awaiting of_sub at_point path views viewed_before kept scope holds placed_before above going no_calls (Declare y v) how n.memory
         declared_value (Traps how n) never faint = absurd never
 
-        declares_alone : LeadsFrom (Declare y v) (turn main_turn (Declare y v))
+        pub declares_alone : LeadsFrom (Declare y v) (turn main_turn (Declare y v))
         unfolding initial
         declares_alone =
             declared_value (steps.first_value main_turn (object_at s y).of v (start main_turn))
             (subst (λ z. Given (steps.here main_turn) ready.accepted.settled state.leaks [] other alone (keeps s ready.accepted.settled ready.owns) index_law ready.owns views
             ready.class.parts_named (object_at s y).of (waiting_in easy.state) z (steps.taken_by main_turn (object_at s y).of held_call (start main_turn))) facts_same
             (source_alone going alone_taken (object_at s y).of named_object source_here))
-            (first_fades easy ready.accepted.settled ready.owns other alone no_in_formals views ready.class.parts_named may refl refl given_words (object_at s y).of v (refl, source_here))
+            (first_fades easy ready.accepted.settled ready.owns other alone in_formals views ready.class.parts_named may refl refl given_words (object_at s y).of v (refl, source_here))
 
       -- a place that is no view
-      module _ (r : Pos) (y : ℕ) (path_there : TypedTree) (u : ℕ) (is : p.instr ≡ Assign (Name r y path_there u) held_call) (calls : has_call path_there ≡ false) (end : p.instr ≡ Finish → ⊥) where
+      module _ (r : Pos) (y : ℕ) (path_there : TypedTree) (u : ℕ) (is : p.instr ≡ Assign (Name r y path_there u) held_call) (calls : has_call path_there ≡ false) (end : p.instr ≡ Finish → ⊥)
+          (plain_target : is_anonymous (full s.table u) ≡ false) where
         abbrev target : TypedTree
         target = Name r y path_there u
 
@@ -378,23 +369,6 @@ module _ (table : Table) (typed : TypedProgram) (effects : Effects) (input : Lis
 
         pub source_there : Source s u held_call
         source_there = subst (λ z. Source s z held_call) (sym text_there.1.1) text_there.2
-
-        plain_target : is_anonymous (full s.table u) ≡ false
-        plain_target = by_kind (is_anonymous (full s.table u)) refl
-          where
-            no_source : (q : Pos) (w : ℕ) (steps : TypedTree) (z : ℕ) → ◌≡◌ {A = TypedTree} held_call (Name q w steps z) → ⊥
-            no_source q w steps z e = cc
-
-            by_kind : (b : Bool) → is_anonymous (full s.table u) ≡ b → b ≡ false
-            by_kind false e = refl
-            by_kind true view = absurd (elim (leads_or s ready.class.parts_named path_there (object_at s y).of u leads_there) [
-              | inr own_type ↦ true_false (is_anonymous (full s.table u)) view (named_plain s.table u own_type)
-              | inl whole ↦ (
-                  let target_is : target ≡ Name r y NoMore (object_at s y).of = (λ j. Name r y (whole.0 j) (sym whole.1 j)) in
-                  let found = orderly.assigned r y (object_at s y).of held_call (is ∙ ap (λ z. Assign z held_call) target_is)
-                  (ap (λ z. is_anonymous (full s.table z)) whole.1 ∙ view) in
-                  no_source found.0 found.1 found.2 found.3 found.4)
-            ])
 
         pub named_target : IsNamed s.table u
         named_target = plain_named s.table u plain_target
@@ -408,10 +382,10 @@ module _ (table : Table) (typed : TypedProgram) (effects : Effects) (input : Lis
         pub allowed_steps : AllowsAll facts_now (acts (acts_in s path_there) ++ act.Write (name_of y path_there) ∷ [])
         allowed_steps = subst (AllowsAll facts_now) acts_there (subst (λ i. AllowsAll facts_now (acts_of_main i)) is (allowed_there end))
 
-        pub plain_root : sees_only s y ≡ false
+        pub plain_root : is_fixed s (name_of y path_there) ≡ false
         plain_root =
-            (keep_both (sees_only s) (acts (acts_in s path_there)) (act.Write (name_of y path_there) ∷ [])
-            (subst (AllKeep (sees_only s)) acts_there (subst (λ i. AllKeep (sees_only s) (acts_of_main i)) is keeps_there))).1.0
+            (keep_both (is_fixed s) (acts (acts_in s path_there)) (act.Write (name_of y path_there) ∷ [])
+            (subst (AllKeep (is_fixed s)) acts_there (subst (λ i. AllKeep (is_fixed s) (acts_of_main i)) is keeps_there))).1.0
 
         abbrev facts_then : List Fact
         facts_then = effect (act.Write (name_of y path_there)) (after (acts (acts_in s path_there)) facts_now)
@@ -434,7 +408,7 @@ module _ (table : Table) (typed : TypedProgram) (effects : Effects) (input : Lis
             each.ends_so table typed effects input ready state top below more_frames rest named p frames deep stages running awaiting of_sub at_point path views viewed_before kept scope holds placed_before above going no_calls (Assign target held_call) how n.memory
         stored_value (Traps how n) never = absurd never
 
-        assigns_alone : LeadsFrom (Assign target held_call) (turn main_turn (Assign target held_call))
+        pub assigns_alone : LeadsFrom (Assign target held_call) (turn main_turn (Assign target held_call))
         unfolding acts_in
         assigns_alone =
             stored_value (followed_by (steps.taken_by main_turn u held_call (start main_turn))
@@ -446,32 +420,3 @@ module _ (table : Table) (typed : TypedProgram) (effects : Effects) (input : Lis
             ready.class.parts_named [] [] r y u path_there (waiting_in easy.state) facts_now named_target plain_root leads_there (no_takes path_there calls [])
             allowed_steps (steps.taken_by main_turn u held_call (start main_turn))
             (source_alone going alone_taken u named_target source_there)))
-
-      -- ---- what follows
-
-      pub goes_alone : IsOther p.instr → FillsNone s p.instr → (p.instr ≡ Finish → ⊥) → returns_value p.instr ≡ false → Along (turn main_turn p.instr)
-      goes_alone other_one fills end none = elim alone_taken.8 [
-        | inl (y, is) ↦ finish (Declare y (More held_call NoMore)) is (declares_alone y is)
-            (declare_follows main_turn Left left IsOld (lasting_of s left_scope) (lasting_of s (y ∷ left_scope)) inside_left
-            (innermost.one_more table typed effects input ready state top below more_frames rest named p frames deep stages running awaiting of_sub at_point path views viewed_before kept scope holds placed_before above y) y (More held_call NoMore)
-            (innermost.new_one table typed effects input ready state top below more_frames rest named p frames deep stages running awaiting of_sub at_point path views viewed_before kept scope holds placed_before above y
-            (subst (λ i. Fills s i left_scope) is supplied_here.1))
-            (innermost.with_successors table typed effects input ready state top below more_frames rest named p frames deep stages running awaiting of_sub at_point path views viewed_before kept scope holds placed_before above (Declare y (More held_call NoMore)) 0 is below_one))
-        | inr (inl (r, y, steps, u, is, calls)) ↦ finish (Assign (Name r y steps u) held_call) is (assigns_alone r y steps u is calls end)
-            (assign_follows main_turn Left left IsOld (lasting_of s left_scope) (lasting_of s left_scope) inside_left (λ x within. within) r y u steps held_call
-            (innermost.stored_there table typed effects input ready state top below more_frames rest named p frames deep stages running awaiting of_sub at_point path views viewed_before kept scope holds placed_before above (Assign (Name r y steps u) held_call) is y (inl refl))
-            (innermost.with_successors table typed effects input ready state top below more_frames rest named p frames deep stages running awaiting of_sub at_point path views viewed_before kept scope holds placed_before above (Assign (Name r y steps u) held_call) 0 is below_one))
-        | inr (inr is) ↦ absurd (subst IsOther is other_one)
-      ]
-        where
-          left : Left (steps.waiting main_turn)
-          left = left_after fills
-
-          finish : (i : Instruction) → p.instr ≡ i → LeadsFrom i (turn main_turn i)
-              → Each (GoesOn main_turn Left left IsOld (lasting_of s left_scope) (lasting_of s (brought i left_scope)) inside_left) (turn main_turn i) → Along (turn main_turn p.instr)
-          finish i is leads on =
-              each.then_on table typed effects input ready state top below more_frames rest named p frames deep stages running awaiting of_sub at_point path views viewed_before kept scope holds placed_before above going no_calls left
-              (each.spares table typed effects input ready state top below more_frames rest named p frames deep stages running awaiting of_sub at_point path views viewed_before kept scope holds placed_before above going no_calls end) end none
-              (turn main_turn p.instr) (subst (λ z. LeadsFrom z (turn main_turn z)) (sym is) leads)
-              (subst (λ z. Each (GoesOn main_turn Left left IsOld (lasting_of s left_scope) (lasting_of s (brought z left_scope)) inside_left) (turn main_turn z)) (sym is) on)
-              (others_keep main_turn named.sub.result p.instr (standing.fine table typed effects input ready state top older outer named p frames of_sub at_point) other_one)

@@ -2,8 +2,8 @@
 --
 -- All of it is seen from the frame of the caller: what is gone in the variables of the frame that ends is
 -- known as such.
-use Rattle.viewed_soundness.specs.Holds.{sees_only}
-use Rattle.std.proofs.Common.{◌≡◌, refl, sym, ap, ◌∙◌, subst, ◌⊎◌, inl, inr, ℕ, suc, ◌<◌, ◌+◌, Bool, true, false, not, List, [], ◌∷◌, ◌++◌, take, drop, length, get_or, arith, append-nil, if◌then◌else◌, Some}
+use Rattle.viewed_soundness.specs.Holds.{is_view, sees_only}
+use Rattle.std.proofs.Common.{◌≡◌, refl, sym, ap, ◌∙◌, subst, ◌⊎◌, inl, inr, ℕ, suc, ◌+◌, Bool, true, false, not, List, [], ◌∷◌, ◌++◌, take, drop, length, get_or, arith, append-nil, if◌then◌else◌, Some}
 use Rattle.std.proofs.lemmas.List.{length-map}
 use Rattle.spark_base.specs.Lists.{Has}
 use Rattle.place_names.specs.declared.fact.Fact.{Fact}
@@ -12,57 +12,72 @@ use Rattle.flow_paths.specs.Objects.{Typing, object_at, is_anonymous, is_package
 use Rattle.flow_paths.specs.Scopes.{is_within}
 use Rattle.machine.specs.Words.{access_offsets, fits_type}
 use Rattle.machine.specs.Words as machine
-use Rattle.machine.specs.Memory.{Slot, Memory, Place, fresh, no_slot, variable_slots, slots_at, slots_of, words_of, gone_at, moved_out, stored}
+use Rattle.machine.specs.Memory.{Slot, Memory, Place, cell, fresh, no_slot, variable_slots, slots_at, slots_of, words_of, gone_at, moved_out, stored}
 use Rattle.machine.specs.Memory as memory
 use Rattle.machine.specs.Evaluate.{Now, Evaluated, followed_by, variable_place, checked}
 use Rattle.machine.specs.States.{Waiting, Leak, Return}
 use Rattle.machine.specs.Step.{Turn, typing, here, copied_back}
-use Rattle.owned_ways.specs.Ways.{Step, OfVariable, OfHand, Loc, OfRoot, OfCell, Inside, Way, Object, Empty, Held, Under, Past, Named, Reaches, part, along, base_of, number_of, name_of}
+use Rattle.owned_ways.specs.Ways.{Step, OfVariable, OfHand, Loc, OfRoot, OfCell, Inside, Way, Object, Empty, Held, Under, Past, Named, Owned, Reaches, part, along, base_of, number_of, name_of}
 use Rattle.owned_ways.proofs.Moving.{parts_apart}
 use Rattle.owned_ways.proofs.Unique.{one_way}
 use Rattle.owned_ways.proofs.Locations.{reaches_along}
 use Rattle.part_offsets.specs.Parts.{IsSettled}
 use Rattle.soundness.specs.Seen.{content, trunk, steps_in, word_in, seen, home, is_view_formal}
-use Rattle.soundness.specs.Typed.{Matches, OwnsByShape, Kept, Spot, IsFixed}
-use Rattle.soundness.specs.Sound.{IsCopied}
+use Rattle.soundness.specs.Typed.{Matches, OwnsByShape, Kept, Spot}
 use Rattle.soundness.proofs.Joined.{trunk_part}
 use Rattle.soundness.proofs.Contents.{word_no}
 use Rattle.soundness.proofs.Steps.{matches_words, no_leaf, taken_slots, room}
 use Rattle.soundness.proofs.Lasting.{keeps, put_away}
-use Rattle.soundness.proofs.Fixed.{fixed_one}
-use Rattle.soundness.proofs.Returning.{Backs, copied_is, formal_fixed}
-use Rattle.owned_loans.specs.Views.{Around, Views, ExcusedBy, Viewed, IsForeign}
+use Rattle.soundness.proofs.Returning.{Backs, formal_fixed}
+use Rattle.owned_loans.specs.Views.{Around, Views, ExcusedBy, Viewed, IsForeign, expand}
 use Rattle.owned_loans.proofs.Safe.{off_view}
-use Rattle.owned_loans.proofs.Moves.{named_way, same_viewed}
-use Rattle.viewed_soundness.proofs.Names.{true_false}
+use Rattle.owned_loans.proofs.Moves.{same_viewed}
+use Rattle.owned_loans.proofs.Meeting.{stands}
+use Rattle.viewed_soundness.proofs.Names.{both_no, true_false, owner_sees}
 use Rattle.viewed_soundness.proofs.Evaluated.{matches_named}
 use Rattle.viewed_steps.proofs.Left.{cells_same}
-use Rattle.viewed_steps.specs.Taken.{AreCarried, TakenBy, IsInside, IsPassedOn, IsBare, IsTaken, IsApartFrom, IsAnother, AreTaken}
-use Rattle.viewed_steps.proofs.Between.{carried_same, carried_then, taken_more, same_reaches, gone_also, more_gone, IsClearOf, base_along, base_under, same_variable, not_named, taken_less}
-use Rattle.viewed_steps.proofs.Carried.{trunk_is, carried_gone, carried_cells, carried_gone_to, carried_cells_to, inside_at, inside_spot, inside_reached, inside_base, inside_owns, inside_word, variable_clear, carried_bare, carried_held, carried_off, carried_off_low, carried_holds, carried_to, carried_to_low}
+use Rattle.viewed_steps.specs.Taken.{Lodge, IsPlainPlace, IsCopiedTo, AreCarried, TakenBy, IsInside, IsPassedOn, IsBare, IsTaken, IsApartFrom, IsAnother, AreTaken}
+use Rattle.viewed_steps.proofs.Between.{IsHomed, home_low, carried_same, carried_then, taken_more, same_reaches, gone_also, more_gone, IsClearOf, base_along, base_under, same_variable, not_named, taken_less}
+use Rattle.viewed_steps.proofs.Carried.{inside_homed, inside_low, trunk_is, carried_gone, carried_cells, carried_gone_to, carried_cells_to, inside_at, inside_spot, inside_reached, inside_base, inside_owns, inside_word, variable_clear, carried_bare, carried_held, carried_off, carried_off_stays, carried_holds, carried_to, carried_to_stays, past_other}
 use Rattle.viewed_steps.proofs.Beside.{put_beside}
-use Rattle.viewed_steps.proofs.Alike.{Enters, moved_there, stored_there, one_then, if_back, backs_on}
-use Rattle.viewed_steps.proofs.Entered.{matches_back, not_observing, inside_plain, inside_named, inside_number, inside_itself}
-use Rattle.viewed_steps.proofs.Views.{observes_not, AreFar, apart_by_base}
+use Rattle.viewed_steps.proofs.Alike.{Enters, moved_there, stored_there, one_then, if_back, backs_on, IsPlainSpot, fixed_plain, plain_place, one_there}
+use Rattle.viewed_steps.proofs.Entered.{matches_back, inside_plain, inside_named, inside_number, inside_itself}
+use Rattle.viewed_steps.proofs.Lodged.{cell_live}
+use Rattle.viewed_steps.proofs.Views.{AreAccess, AreFar, apart_by_base}
 
 same_names : {f x g y : ℕ} → memory.OfVariable f x ≡ memory.OfVariable g y → (f ≡ g) × (x ≡ y)
 same_names e = (cc, cc)
 
--- a place in a variable is there
+-- A place in a variable is there, and one in a cell that isn't freed.
+abbrev pub IsThere : Memory → memory.Base → Type 0
+IsThere m (memory.OfVariable f x) = Unit {0}
+IsThere m (memory.OfCell n) = (cell m n).freed ≡ false
+
+pub place_is : (t : Turn) (r : Return) (rest : List Return) (begun : Now) (b : memory.Base) → r.to.base ≡ b → IsThere begun.memory b → copied_back t (r ∷ rest) begun
+    ≡ followed_by (checked (here t) r.to.of (words_of (typing t) begun.memory (variable_place (here t) r.formal)) begun)
+    (λ ws n. copied_back t rest (record n { memory = stored (typing t) r.to ws (moved_out (typing t) (variable_place (here t) r.formal) n.memory) }))
+place_is t r rest begun (memory.OfVariable f x) base there = rw base refl
+place_is t r rest begun (memory.OfCell n) base there = rw (base, there) refl
+
 pub given_is : (t : Turn) (r : Return) (rest : List Return) (begun : Now) (f x : ℕ) → r.to.base ≡ memory.OfVariable f x → copied_back t (r ∷ rest) begun
     ≡ followed_by (checked (here t) r.to.of (words_of (typing t) begun.memory (variable_place (here t) r.formal)) begun)
     (λ ws n. copied_back t rest (record n { memory = stored (typing t) r.to ws (moved_out (typing t) (variable_place (here t) r.formal) n.memory) }))
 given_is t r rest begun f x base = rw base refl
 
-module _ (t : Turn) (settled : IsSettled (typing t).table) (own_law : OwnsByShape (typing t).table) (no_formals : (x : ℕ) → is_view_formal (typing t) x ≡ false)
+module _ (t : Turn) (settled : IsSettled (typing t).table) (own_law : OwnsByShape (typing t).table) (in_formals : AreAccess (typing t))
     (hands : List Waiting) (leaks : List Leak) (depth : ℕ) (deep : length t.outer ≡ suc depth) (v : Views)
     (far : AreFar (home (typing t) depth) v depth) (facts : List Fact) (scope : List ℕ)
     (other : Around (home (typing t) depth))
     (free : (h : ℕ) (w : Way) → Under (Object (OfHand h)) w → other.gone w → ⊥)
     (whole : (x : ℕ) (w : Way) → base_of w ≡ OfRoot (OfVariable (suc depth) x) → other.gone w → ⊥)
-    (none : (w : Way) (n : ℕ) → other.kept w n → ⊥) where
+    (none : (w : Way) (n : ℕ) → other.kept w n → ⊥)
+    (cells : List Lodge) (begins : (c : Lodge) → Has cells c → (g : ℕ) × (y : ℕ) × (base_of c.way ≡ OfRoot (OfVariable g y)) × (g ≡ suc depth → ⊥)) where
   abbrev s : Typing
   s = typing t
+
+  -- The cells of places are there, and no way that is to be given back goes before one.
+  abbrev pub AreThere : List Way → Memory → Type 0
+  AreThere ways m = (c : Lodge) → Has cells c → Reaches (seen (typing t) m hands leaks) c.way (OfCell c.cell) × ((to : Way) → Has ways to → Past to c.way → ⊥)
 
   -- It begins at a variable of the frame that ends, but at none of these formals.
   abbrev pub IsLeft : List Return → Way → Type 0
@@ -84,14 +99,14 @@ module _ (t : Turn) (settled : IsSettled (typing t).table) (own_law : OwnsByShap
     pub typed : Kept (typing t) n hands
     pub viewed : ViewedAway [] [] n
     pub held : (g y : ℕ) (p : List Step) (c : ℕ) → word_in (typing t).table (content (typing t) n [] (OfRoot (OfVariable g y))) p ≡ Held c
-        → (word_in (typing t).table (content (typing t) m [] (OfRoot (OfVariable g y))) p ≡ Held c) ⊎ ((g ≡ depth) × (is_within y scope ≡ true))
+        → (word_in (typing t).table (content (typing t) m [] (OfRoot (OfVariable g y))) p ≡ Held c) ⊎ ((g ≡ home (typing t) depth y) × (is_package_object (typing t) y ≡ false → is_within y scope ≡ true))
     pub empty : (r : Return) → Has returns r → (p : List Step) (c : ℕ)
         → word_in (typing t).table (content (typing t) n [] (OfRoot (OfVariable (suc depth) r.formal))) p ≡ Held c → ⊥
-    pub views : (g y : ℕ) → is_anonymous (view_of (typing t) y) ≡ true
+    pub views : (g y : ℕ) → is_view (typing t) y ≡ true
         → (get_or (variable_slots (typing t) g y n.variables) 0 no_slot).word ≡ (get_or (variable_slots (typing t) g y m.variables) 0 no_slot).word
     pub carried : AreCarried (typing t) (λ g. g ≡ suc depth → ⊥) ways m n
-    -- ways from the variables of frames around reach what they reached
-    pub low : (w : Way) (g y : ℕ) → base_of w ≡ OfRoot (OfVariable g y) → g < depth → (c : ℕ)
+    -- ways from the variables of other frames that don't go on after a place reach what they reached
+    pub stays : (w : Way) (g y : ℕ) → base_of w ≡ OfRoot (OfVariable g y) → (g ≡ suc depth → ⊥) → ((to : Way) → Has ways to → Past to w → ⊥) → (c : ℕ)
         → Reaches (seen (typing t) m hands leaks) w (OfCell c) → Reaches (seen (typing t) n hands leaks) w (OfCell c)
 
   pub left_more : (r : Return) (rest : List Return) (w : Way) → IsLeft (r ∷ rest) w → IsLeft rest w
@@ -118,7 +133,7 @@ module _ (t : Turn) (settled : IsSettled (typing t).table) (own_law : OwnsByShap
   -- ---- one that is given back
 
   module _ (r : Return) (rest : List Return) (to : Way) (ways : List Way) (m : Memory) (taken : IsTaken (typing t) m depth facts scope r to)
-      (apart : IsApartFrom to ways) (another : IsAnother r.formal rest) (begin : (k : Way) → Has ways k → (y : ℕ) × (base_of k ≡ OfRoot (OfVariable depth y)))
+      (apart : IsApartFrom to ways) (another : IsAnother r.formal rest) (begin : (k : Way) → Has ways k → IsHomed s depth k)
       (typed : Kept (typing t) m hands) (viewed : ViewedAway (r ∷ rest) (to ∷ ways) m) where
     abbrev passed : IsPassedOn (typing t) depth facts scope r.formal r.to to
     passed = taken.0
@@ -148,9 +163,11 @@ module _ (t : Turn) (settled : IsSettled (typing t).table) (own_law : OwnsByShap
     formal_inside = record {
       object = r.formal;
       steps = [];
+      frame = suc depth;
+      at_home = sym (ap (λ b. if b then 0 else suc depth) passed.formal);
       way = refl;
       base = ap (λ z. memory.OfVariable z r.formal) (ap (λ b. if b then 0 else length t.outer) passed.formal ∙ deep);
-      own = passed.formal;
+      owner = passed.owner;
       there = refl;
       at = refl;
       of = inl refl;
@@ -162,7 +179,7 @@ module _ (t : Turn) (settled : IsSettled (typing t).table) (own_law : OwnsByShap
     spot = inside_spot s (suc depth) formal root formal_inside m hands
 
     owns : (content s m hands (OfRoot (OfVariable (suc depth) r.formal))).owns ≡ true
-    owns = ap not (no_formals r.formal)
+    owns = ap not passed.owner
 
     first_apart : (y : ℕ) (w z : Way) → v.way y ≡ Some w → IsForeign (home s depth) w → AwayBy rest (to ∷ ways) z → Under z w ⊎ Under w z → ⊥
     first_apart = apart_by (r ∷ rest) rest (to ∷ ways) m viewed
@@ -183,18 +200,23 @@ module _ (t : Turn) (settled : IsSettled (typing t).table) (own_law : OwnsByShap
         let t = first.through w gone_there in
         not_named (home s depth) (suc depth) r.formal not_above t.0 t.1 (sym (base_under t.0 w t.2) ∙ base_under root w under)
     clean w under (inl (inl (u, moved, same))) =
-        not_named (home s depth) (suc depth) r.formal not_above w
-        (subst (Named (home s depth)) same
-        (named_way (home s depth) observer first v (seen s m hands leaks) facts viewed.views (suc (number_of u)) u (omega arith) (moved.0, viewed.clear.owned (name_of u) moved.1)))
-        (base_under root w under)
+        elim (stands (home s depth) observer v (seen s m hands leaks) facts viewed.views u (moved.0, viewed.clear.owned (name_of u) moved.1)) [
+          | inl own ↦ not_named (home s depth) (suc depth) r.formal not_above w (subst (Named (home s depth)) same own.0) (base_under root w under)
+          | inr held ↦ (
+              let foreign = held.passed.foreign in
+              let low = far held.object held.way held.has foreign in
+              let at = sym foreign.2 ∙ sym (base_under held.way (expand v u) held.under) ∙ ap base_of same ∙ base_under root w under in
+              let frames = (same_variable foreign.0 foreign.1 (suc depth) r.formal at).0 in omega (arith, low, frames))
+        ]
     clean w under (inr (inl o)) = whole r.formal w (base_under root w under) o
     clean w under (inr (inr (inl (k, has, p, is)))) =
         let base = from_depth k has in
-        let frames = (same_variable (suc depth) r.formal depth base.0
-        (sym (base_under root w under) ∙ ap base_of is ∙ base_along k p ∙ base.1)).0 in omega (arith, frames)
+        let frames = (same_variable (suc depth) r.formal base.0 base.1
+        (sym (base_under root w under) ∙ ap base_of is ∙ base_along k p ∙ base.2)).0 in
+        let at_home = base.3 in let low = home_low s depth base.1 in omega (arith, frames, at_home, low)
       where
-        from_depth : (k : Way) → Has (to ∷ ways) k → (y : ℕ) × (base_of k ≡ OfRoot (OfVariable depth y))
-        from_depth k (inl same) = (inside.object, ap base_of (sym same) ∙ inside_base s depth r.to to inside)
+        from_depth : (k : Way) → Has (to ∷ ways) k → IsHomed s depth k
+        from_depth k (inl same) = subst (IsHomed s depth) same (inside_homed s depth r.to to inside)
         from_depth k (inr has) = begin k has
     clean w under (inr (inr (inr (x, base, none)))) =
         none r (inl refl) (same_variable (suc depth) r.formal (suc depth) x (sym (base_under root w under) ∙ base)).1
@@ -239,7 +261,7 @@ module _ (t : Turn) (settled : IsSettled (typing t).table) (own_law : OwnsByShap
     reached = inside_reached s depth r.to to inside (seen s mid (got ∷ hands) leaks)
 
     owns_to : (content s mid (got ∷ hands) (trunk at)).owns ≡ true
-    owns_to = inside_owns s depth r.to to inside mid (got ∷ hands) (no_formals inside.object)
+    owns_to = inside_owns s depth r.to to inside mid (got ∷ hands) inside.owner
 
     long : length got.words ≡ words s.table r.to.of
     long =
@@ -251,10 +273,10 @@ module _ (t : Turn) (settled : IsSettled (typing t).table) (own_law : OwnsByShap
     fits = matches_back s r.to.of (object_at s r.formal).of passed.fits
 
     bare : (p : List Step) (c : ℕ) → word_in s.table (content s mid (got ∷ hands) (trunk at)) (p ++ steps_in at) ≡ Held c → ⊥
-    bare p c held = taken.1 p c (held_mid depth inside.object (p ++ inside.steps) c (sym (inside_word s depth r.to to inside mid (got ∷ hands) p) ∙ held))
+    bare p c held = taken.1 p c (held_mid inside.frame inside.object (p ++ inside.steps) c (sym (inside_word s depth r.to to inside mid (got ∷ hands) p) ∙ held))
 
     plain_name : observer (number_of to) ≡ false
-    plain_name = ap observer (inside_number s settled depth r.to to inside) ∙ observes_not s no_formals inside.object (not_observing s inside.object (inside_plain s settled depth r.to to inside))
+    plain_name = ap observer (inside_number s settled depth r.to to inside) ∙ owner_sees s inside.object (inside_plain s settled depth r.to to inside) inside.owner
 
     clear_to : IsClearOf (home s depth) observer v second (AwayBy rest ways) second_apart to
     clear_to = record {
@@ -269,10 +291,10 @@ module _ (t : Turn) (settled : IsSettled (typing t).table) (own_law : OwnsByShap
     free_hands w under (inl o) = free (length hands) w under o
     free_hands w under (inr (inl (k, has, p, is))) =
         let base = from_depth k has in
-        hand_base (sym (base_under (Object (OfHand (length hands))) w under) ∙ ap base_of is ∙ base_along k p ∙ base.1)
+        hand_base (sym (base_under (Object (OfHand (length hands))) w under) ∙ ap base_of is ∙ base_along k p ∙ base.2)
       where
-        from_depth : (k : Way) → Has (to ∷ ways) k → (y : ℕ) × (base_of k ≡ OfRoot (OfVariable depth y))
-        from_depth k (inl same) = (inside.object, ap base_of (sym same) ∙ inside_base s depth r.to to inside)
+        from_depth : (k : Way) → Has (to ∷ ways) k → IsHomed s depth k
+        from_depth k (inl same) = subst (IsHomed s depth) same (inside_homed s depth r.to to inside)
         from_depth k (inr has) = begin k has
 
         hand_base : {h f x : ℕ} → OfRoot (OfHand h) ≡ OfRoot (OfVariable f x) → ⊥
@@ -285,7 +307,7 @@ module _ (t : Turn) (settled : IsSettled (typing t).table) (own_law : OwnsByShap
     pub one_viewed : ViewedAway rest ways next
     one_viewed =
         carried_to s settled (home s depth) observer v second (AwayBy rest ways) second_apart mid got hands leaks facts r.to at to viewed_mid kept_mid spot_to reached owns_to
-        long fits bare depth inside.object (inside_base s depth r.to to inside) free_hands clear_to
+        long fits bare inside.frame inside.object (inside_base s depth r.to to inside) free_hands clear_to
         (λ w o off. elim o [
           | inl away_there ↦ inl away_there
           | inr more ↦ elim more [ inl taken_there ↦ inr (inl (taken_less to ways w taken_there off)) | inr left ↦ inr (inr left) ]
@@ -300,10 +322,10 @@ module _ (t : Turn) (settled : IsSettled (typing t).table) (own_law : OwnsByShap
         carried_holds s settled (home s depth) observer v second (AwayBy rest ways) second_apart mid got hands leaks facts r.to at to viewed_mid kept_mid spot_to reached owns_to
         long fits bare g y p c held
 
-    in_place : (g y : ℕ) (p q : List Step) → part (OfRoot (OfVariable g y)) p ≡ part at q → (g ≡ depth) × (y ≡ inside.object)
+    in_place : (g y : ℕ) (p q : List Step) → part (OfRoot (OfVariable g y)) p ≡ part at q → (g ≡ inside.frame) × (y ≡ inside.object)
     in_place g y p q is =
-        same_variable g y depth inside.object
-        (sym (trunk_part (OfRoot (OfVariable g y)) p) ∙ ap trunk is ∙ trunk_part at q ∙ trunk_part (OfRoot (OfVariable depth inside.object)) inside.steps)
+        same_variable g y inside.frame inside.object
+        (sym (trunk_part (OfRoot (OfVariable g y)) p) ∙ ap trunk is ∙ trunk_part at q ∙ trunk_part (OfRoot (OfVariable inside.frame inside.object)) inside.steps)
 
     -- the way of what is in the place
     in_place_way : (g y : ℕ) (p q : List Step) → part (OfRoot (OfVariable g y)) p ≡ part at q → along (Object (OfVariable g y)) p ≡ along to q
@@ -327,7 +349,7 @@ module _ (t : Turn) (settled : IsSettled (typing t).table) (own_law : OwnsByShap
           (OfRoot (OfVariable (suc depth) r.formal)) root viewed typed spot tt refl owns clean g y p gone);
       cells = λ c p.
           carried_cells_to s settled (home s depth) observer v second (AwayBy rest ways) second_apart mid got hands leaks facts r.to at to viewed_mid kept_mid spot_to reached owns_to
-          long fits bare depth inside.object (trunk_is s depth r.to to inside) c p
+          long fits bare inside.frame inside.object (trunk_is s depth r.to to inside) c p
           ∙ carried_cells s settled (home s depth) observer v first (AwayBy rest (to ∷ ways)) first_apart m hands leaks facts formal
           (OfRoot (OfVariable (suc depth) r.formal)) root viewed typed spot tt refl owns clean (suc depth) r.formal refl c p;
     }
@@ -346,71 +368,75 @@ module _ (t : Turn) (settled : IsSettled (typing t).table) (own_law : OwnsByShap
             no_number e = cc
 
     pub one_held : (g y : ℕ) (p : List Step) (c : ℕ) → word_in s.table (content s next [] (OfRoot (OfVariable g y))) p ≡ Held c
-        → (word_in s.table (content s m [] (OfRoot (OfVariable g y))) p ≡ Held c) ⊎ ((g ≡ depth) × (is_within y scope ≡ true))
+        → (word_in s.table (content s m [] (OfRoot (OfVariable g y))) p ≡ Held c) ⊎ ((g ≡ home s depth y) × (is_package_object s y ≡ false → is_within y scope ≡ true))
     one_held g y p c held = elim (holds_next g y p c held) [
       | inl before ↦ inl (held_mid g y p c before)
       | inr (q, is) ↦ (let there = in_place g y p q is in
-          inr (there.0, ap (λ z. is_within z scope) there.1 ∙ passed.within (ap (λ z. is_owning s.table (object_at s z).of) (sym there.1) ∙ owning_there y g p c held)))
+          inr (
+            there.0 ∙ inside.at_home ∙ ap (home s depth) (sym there.1),
+            (λ local. ap (λ z. is_within z scope) there.1
+                ∙ passed.within (ap (is_package_object s) (sym there.1) ∙ local) (ap (λ z. is_owning s.table (object_at s z).of) (sym there.1) ∙ owning_there y g p c held)),
+          ))
     ]
 
     pub one_empty : (p : List Step) (c : ℕ) → word_in s.table (content s next [] (OfRoot (OfVariable (suc depth) r.formal))) p ≡ Held c → ⊥
     one_empty p c held = elim (holds_next (suc depth) r.formal p c held) [
       | inl before ↦ empty_mid p c before
-      | inr (q, is) ↦ (let frames = (in_place (suc depth) r.formal p q is).0 in omega (arith, frames))
+      | inr (q, is) ↦ (let frames = (in_place (suc depth) r.formal p q is).0 in let low = inside_low s depth r.to to inside in omega (arith, frames, low))
     ]
 
     -- the other places have none still
     pub one_bare : (k : Place) (w : Way) → Has ways w → (there : IsInside s depth k w) → IsBare s depth k w m there → IsBare s depth k w next there
-    one_bare k w has there none p c held = elim (holds_next depth there.object (p ++ there.steps) c held) [
-      | inl before ↦ none p c (held_mid depth there.object (p ++ there.steps) c before)
+    one_bare k w has there none p c held = elim (holds_next there.frame there.object (p ++ there.steps) c held) [
+      | inl before ↦ none p c (held_mid there.frame there.object (p ++ there.steps) c before)
       | inr (q, is) ↦
           parts_apart (seen s mid (got ∷ hands) leaks) to w at (inside_at s depth k w there) viewed_mid.owned reached
           (inside_reached s depth k w there (seen s mid (got ∷ hands) leaks)) (apart w has).0 (apart w has).1 q p
-          (sym is ∙ part_append (OfRoot (OfVariable depth there.object)) p there.steps)
+          (sym is ∙ part_append (OfRoot (OfVariable there.frame there.object)) p there.steps)
     ]
       where
         part_append : (l : Loc) (p q : List Step) → part l (p ++ q) ≡ part (part l q) p
         part_append l [] q = refl
         part_append l (i ∷ p) q = ap (λ z. Inside z i) (part_append l p q)
 
-    pub one_low : (w : Way) (g y : ℕ) → base_of w ≡ OfRoot (OfVariable g y) → g < depth → (c : ℕ)
+    pub one_stays : (w : Way) (g y : ℕ) → base_of w ≡ OfRoot (OfVariable g y) → (g ≡ suc depth → ⊥) → (Past to w → ⊥) → (c : ℕ)
         → Reaches (seen s m hands leaks) w (OfCell c) → Reaches (seen s next hands leaks) w (OfCell c)
-    one_low w g y base less c reach =
-        carried_to_low s settled (home s depth) observer v second (AwayBy rest ways) second_apart mid got hands leaks facts r.to at to viewed_mid kept_mid spot_to reached owns_to
-        long fits bare depth inside.object (inside_base s depth r.to to inside) w g y base (λ e. omega (arith, less, e)) c
-        (carried_off_low s settled (home s depth) observer v first (AwayBy rest (to ∷ ways)) first_apart m hands leaks facts formal
-        (OfRoot (OfVariable (suc depth) r.formal)) root viewed typed spot tt refl owns clean (suc depth) r.formal refl w g y base (λ e. omega (arith, less, e)) c reach)
+    one_stays w g y base off aside c reach =
+        carried_to_stays s settled (home s depth) observer v second (AwayBy rest ways) second_apart mid got hands leaks facts r.to at to viewed_mid kept_mid spot_to reached owns_to
+        long fits bare inside.frame inside.object (inside_base s depth r.to to inside) w g y base aside c
+        (carried_off_stays s settled (home s depth) observer v first (AwayBy rest (to ∷ ways)) first_apart m hands leaks facts formal
+        (OfRoot (OfVariable (suc depth) r.formal)) root viewed typed spot tt refl owns clean (suc depth) r.formal refl w g y base (past_other root w (suc depth) r.formal g y refl base off) c reach)
 
-    pub one_views : (g y : ℕ) → is_anonymous (view_of s y) ≡ true
+    pub one_views : (g y : ℕ) → is_view s y ≡ true
         → (get_or (variable_slots s g y next.variables) 0 no_slot).word ≡ (get_or (variable_slots s g y m.variables) 0 no_slot).word
     unfolding formal_inside
     one_views g y view =
         ap (λ z. (get_or z 0 no_slot).word)
         (put_beside s 0 r.to.base (take r.to.at (slots_at s mid r.to.base) ++ fresh (words_of s m formal) ++ drop (r.to.at + length (fresh (words_of s m formal))) (slots_at s mid r.to.base)) mid g y
-        (λ e. no_view inside.object (inside_plain s settled depth r.to to inside) (same_names (sym inside.base ∙ e)).1)
+        (λ e. no_view inside.object (inside_plain s settled depth r.to to inside) inside.owner (same_names (sym inside.base ∙ e)).1)
         ∙ put_beside s 0 formal.base (take 0 (slots_at s m formal.base) ++ marks ++ drop (0 + length marks) (slots_at s m formal.base)) m g y
-        (λ e. no_view r.formal (inside_plain s settled (suc depth) formal root formal_inside) (same_names (sym formal_inside.base ∙ e)).1))
+        (λ e. no_view r.formal (inside_plain s settled (suc depth) formal root formal_inside) passed.owner (same_names (sym formal_inside.base ∙ e)).1))
       where
-        no_view : (x : ℕ) → is_anonymous (view_of s x) ≡ false → x ≡ y → ⊥
-        no_view x plain same = true_false (is_anonymous (view_of s y)) view (ap (λ z. is_anonymous (view_of s z)) (sym same) ∙ plain)
+        no_view : (x : ℕ) → is_anonymous (view_of s x) ≡ false → is_view_formal s x ≡ false → x ≡ y → ⊥
+        no_view x plain owner same = true_false (is_view s y) view (ap (is_view s) (sym same) ∙ both_no (is_anonymous (view_of s x)) (is_view_formal s x) plain owner)
 
         marks : List Slot
         marks = gone_at (access_offsets s.table (object_at s r.formal).of) (slots_of s m formal)
 
   -- ---- all of them
 
-  pub taken_base : (m : Memory) (returns : List Return) (ways : List Way) → AreTaken s m depth facts scope returns ways → (k : Way) → Has ways k
-      → (y : ℕ) × (base_of k ≡ OfRoot (OfVariable depth y))
+  pub taken_base : (m : Memory) (returns : List Return) (ways : List Way) → AreTaken s cells m depth facts scope returns ways → (k : Way) → Has ways k
+      → IsHomed s depth k
   taken_base m [] ways none k has = absurd (subst (λ z. Has z k) none has)
   taken_base m (r ∷ rest) [] taken k has = absurd has
   taken_base m (r ∷ rest) (to ∷ ways) (inl copied) k has = taken_base m rest (to ∷ ways) copied.1 k has
   taken_base m (r ∷ rest) (to ∷ ways) (inr (one, apart, another, more)) k (inl same) =
-      ((one.0).inside.object, ap base_of (sym same) ∙ inside_base s depth r.to to (one.0).inside)
+      subst (IsHomed s depth) same (inside_homed s depth r.to to (one.0).inside)
   taken_base m (r ∷ rest) (to ∷ ways) (inr (one, apart, another, more)) k (inr has) = taken_base m rest ways more k has
 
   pub taken_on : (m n : Memory) (returns : List Return) (ways : List Way)
       → ((k : Place) (w : Way) → Has ways w → (there : IsInside s depth k w) → IsBare s depth k w m there → IsBare s depth k w n there)
-      → AreTaken s m depth facts scope returns ways → AreTaken s n depth facts scope returns ways
+      → AreTaken s cells m depth facts scope returns ways → AreTaken s cells n depth facts scope returns ways
   taken_on m n [] ways bare none = none
   taken_on m n (r ∷ rest) [] bare taken = (taken.0, taken_on m n rest [] bare taken.1)
   taken_on m n (r ∷ rest) (to ∷ ways) bare (inl copied) = inl (copied.0, taken_on m n rest (to ∷ ways) bare copied.1)
@@ -429,7 +455,7 @@ module _ (t : Turn) (settled : IsSettled (typing t).table) (own_law : OwnsByShap
       no_number : {c : ℕ} → Empty ≡ Held c → ⊥
       no_number e = cc
 
-  copied_then : (r : Return) (rest : List Return) (ways : List Way) (m later : Memory) → IsCopied s r → Enters s settled own_law hands leaks m later → (n : Memory)
+  copied_then : (r : Return) (rest : List Return) (ways : List Way) (m later : Memory) → IsCopiedTo s cells r → Enters s settled own_law in_formals hands leaks m later → (n : Memory)
       → IsBack rest ways later n → IsBack (r ∷ rest) ways m n
   copied_then r rest ways m later copied on n back = record {
     typed = back.typed;
@@ -442,50 +468,59 @@ module _ (t : Turn) (settled : IsSettled (typing t).table) (own_law : OwnsByShap
     views = λ g y view. back.views g y view ∙ on.views g y view;
     carried = carried_then s (λ g. g ≡ suc depth → ⊥) ways ways ways m later n (λ w taken. taken) (λ w taken. taken)
         (carried_same s (λ g. g ≡ suc depth → ⊥) ways m later on.hold (λ c p. cells_same s m later hands leaks on.same c p)) back.carried;
-    low = λ w g y base less c reach. back.low w g y base less c (same_reaches (seen s m hands leaks) (seen s later hands leaks) on.same w (OfCell c) reach);
+    stays = λ w g y base off aside c reach. back.stays w g y base off aside c (same_reaches (seen s m hands leaks) (seen s later hands leaks) on.same w (OfCell c) reach);
   }
 
-  copied_first : (r : Return) (rest : List Return) (ways : List Way) (begun : Now) → IsCopied s r → Kept s begun.memory hands
-      → ViewedAway (r ∷ rest) ways begun.memory → AreTaken s begun.memory depth facts scope rest ways
-      → ((next : Memory) → Kept s next hands → ViewedAway rest ways next → AreTaken s next depth facts scope rest ways
+  -- a scalar place that is copied back to
+  place_there : (m : Memory) (k : Place) → IsPlainPlace s cells k → Kept s m hands → Owned (seen s m hands leaks)
+      → ((c : Lodge) → Has cells c → Reaches (seen s m hands leaks) c.way (OfCell c.cell)) → IsThere m k.base
+  place_there m k (inl fixed) typed owned there = subst (IsThere m) (sym fixed.base) tt
+  place_there m k (inr (c, has, lodged, plain)) typed owned there =
+      let begin = begins c has in subst (IsThere m) (sym lodged.base) (cell_live s settled m hands leaks typed c.way begin.0 begin.1 c.cell begin.2 owned (there c has))
+
+  copied_first : (r : Return) (rest : List Return) (ways : List Way) (begun : Now) → IsCopiedTo s cells r → AreThere ways begun.memory → Kept s begun.memory hands
+      → ViewedAway (r ∷ rest) ways begun.memory → AreTaken s cells begun.memory depth facts scope rest ways
+      → ((next : Memory) → AreThere ways next → Kept s next hands → ViewedAway rest ways next → AreTaken s cells next depth facts scope rest ways
       → GivenBack rest ways next (copied_back t rest (record begun { memory = next })))
       → GivenBack (r ∷ rest) ways begun.memory (copied_back t (r ∷ rest) begun)
-  copied_first r rest ways begun copied typed viewed taken more =
+  copied_first r rest ways begun copied cells_there typed viewed taken more =
       let formal : Place = variable_place (here t) r.formal in
       let ws : List machine.Word = words_of s begun.memory formal in
-      let fixed : IsFixed s formal = formal_fixed t r.formal copied.0 in
+      let fixed : IsPlainSpot s settled own_law in_formals hands leaks begun.memory formal = fixed_plain s settled own_law in_formals hands leaks formal (formal_fixed t r.formal copied.0) begun.memory in
       let mid : Memory = moved_out s formal begun.memory in
       let next : Memory = stored s r.to ws mid in
-      let first = moved_there s settled own_law hands leaks formal fixed begun.memory typed in
-      let second = stored_there s settled own_law hands leaks r.to copied.1 ws (fixed_one s settled formal fixed begun.memory hands typed) mid first.typed in
-      let on : Enters s settled own_law hands leaks begun.memory next = one_then s settled own_law hands leaks begun.memory mid next first second in
-      subst (GivenBack (r ∷ rest) ways begun.memory) (sym (copied_is t r rest begun copied.1))
+      let first = moved_there s settled own_law in_formals hands leaks formal begun.memory fixed typed in
+      let second = stored_there s settled own_law in_formals hands leaks r.to mid
+      (plain_place s settled own_law in_formals hands leaks (suc depth) cells begins mid r.to copied.1 first.typed (λ c has. same_reaches (seen s begun.memory hands leaks) (seen s mid hands leaks) first.same c.way (OfCell c.cell) (cells_there c has).0))
+      ws (one_there s settled own_law in_formals hands leaks begun.memory formal fixed typed) first.typed in
+      let on : Enters s settled own_law in_formals hands leaks begun.memory next = one_then s settled own_law in_formals hands leaks begun.memory mid next first second in
+      subst (GivenBack (r ∷ rest) ways begun.memory) (sym (place_is t r rest begun r.to.base refl (place_there begun.memory r.to copied.1 typed viewed.owned (λ c has. (cells_there c has).0))))
       (if_back (λ n. IsBack (r ∷ rest) ways begun.memory n) (fits_type s.table r.to.of ws) ws begun
       (λ us n. copied_back t rest (record n { memory = stored s r.to us (moved_out s formal n.memory) }))
       (backs_on (λ n. IsBack rest ways next n) (λ n. IsBack (r ∷ rest) ways begun.memory n) (λ n back. copied_then r rest ways begun.memory next copied on n back)
       (copied_back t rest (record begun { memory = next }))
-      (more next on.typed
+      (more next (λ c has. (same_reaches (seen s begun.memory hands leaks) (seen s next hands leaks) on.same c.way (OfCell c.cell) (cells_there c has).0, (cells_there c has).1)) on.typed
       (more_gone (home s depth) (sees_only s) v (away (r ∷ rest) ways) (AwayBy rest ways) (apart_by (r ∷ rest) rest ways begun.memory viewed) (seen s next hands leaks) facts
       (λ w o. elim o [
         | inl away_there ↦ inl away_there
         | inr later ↦ elim later [ inl taken_there ↦ inr (inl taken_there) | inr left ↦ inr (inr (left_more r rest w left)) ]
       ])
       (same_viewed (home s depth) (sees_only s) (away (r ∷ rest) ways) v (seen s begun.memory hands leaks) (seen s next hands leaks) facts on.same viewed))
-      (taken_on begun.memory next rest ways (λ k w has there none p c held. none p c (sym (on.hold depth there.object (p ++ there.steps)) ∙ held)) taken))))
+      (taken_on begun.memory next rest ways (λ k w has there none p c held. none p c (sym (on.hold there.frame there.object (p ++ there.steps)) ∙ held)) taken))))
 
   taken_first : (r : Return) (rest : List Return) (to : Way) (ways : List Way) (begun : Now) → (taken : IsTaken s begun.memory depth facts scope r to)
-      → IsApartFrom to ways → IsAnother r.formal rest → AreTaken s begun.memory depth facts scope rest ways → Kept s begun.memory hands
+      → IsApartFrom to ways → IsAnother r.formal rest → AreTaken s cells begun.memory depth facts scope rest ways → AreThere (to ∷ ways) begun.memory → Kept s begun.memory hands
       → ViewedAway (r ∷ rest) (to ∷ ways) begun.memory
-      → ((next : Memory) → Kept s next hands → ViewedAway rest ways next → AreTaken s next depth facts scope rest ways
+      → ((next : Memory) → AreThere ways next → Kept s next hands → ViewedAway rest ways next → AreTaken s cells next depth facts scope rest ways
       → GivenBack rest ways next (copied_back t rest (record begun { memory = next })))
       → GivenBack (r ∷ rest) (to ∷ ways) begun.memory (copied_back t (r ∷ rest) begun)
-  taken_first r rest to ways begun taken apart another later typed viewed more =
+  taken_first r rest to ways begun taken apart another later cells_there typed viewed more =
       let m : Memory = begun.memory in
       let formal : Place = variable_place (here t) r.formal in
       let ws : List machine.Word = words_of s begun.memory formal in
-      let begin = taken_base m rest ways later in
+      let begin_ways = taken_base m rest ways later in
       let next : Memory = stored s r.to ws (moved_out s formal begun.memory) in
-      subst (GivenBack (r ∷ rest) (to ∷ ways) begun.memory) (sym (given_is t r rest begun depth (taken.0).inside.object (taken.0).inside.base))
+      subst (GivenBack (r ∷ rest) (to ∷ ways) begun.memory) (sym (given_is t r rest begun (taken.0).inside.frame (taken.0).inside.object (taken.0).inside.base))
       (if_back (λ n. IsBack (r ∷ rest) (to ∷ ways) begun.memory n) (fits_type s.table r.to.of ws) ws begun
       (λ us n. copied_back t rest (record n { memory = stored s r.to us (moved_out s formal n.memory) }))
       (backs_on (λ n. IsBack rest ways next n) (λ n. IsBack (r ∷ rest) (to ∷ ways) begun.memory n)
@@ -493,43 +528,48 @@ module _ (t : Turn) (settled : IsSettled (typing t).table) (own_law : OwnsByShap
         typed = back.typed;
         viewed = back.viewed;
         held = λ g y p c held. elim (back.held g y p c held) [
-          | inl h ↦ one_held r rest to ways m taken apart another begin typed viewed g y p c h
+          | inl h ↦ one_held r rest to ways m taken apart another begin_ways typed viewed g y p c h
           | inr h ↦ inr h
         ];
         empty = λ q has. elim has [
           | inr there ↦ back.empty q there
           | inl same ↦ (λ p c held. elim (back.held (suc depth) r.formal p c (subst (λ (z : Return). word_in s.table (content s n [] (OfRoot (OfVariable (suc depth) z.formal))) p ≡ Held c) (sym same) held)) [
-            | inl h ↦ one_empty r rest to ways m taken apart another begin typed viewed p c h
-            | inr h ↦ (let frames = h.0 in omega (arith, frames))
+            | inl h ↦ one_empty r rest to ways m taken apart another begin_ways typed viewed p c h
+            | inr h ↦ (let frames = h.0 in let low = home_low s depth r.formal in omega (arith, frames, low))
           ])
         ];
-        views = λ g y view. back.views g y view ∙ one_views r rest to ways m taken apart another begin typed viewed g y view;
+        views = λ g y view. back.views g y view ∙ one_views r rest to ways m taken apart another begin_ways typed viewed g y view;
         carried = carried_then s (λ g. g ≡ suc depth → ⊥) (to ∷ []) ways (to ∷ ways) m next n
             (λ w there. elim there.1 [ inl same ↦ (there.0, inl same, there.2, there.3) | inr never ↦ absurd never ]) (λ w there. taken_more to ways w there)
-            (one_carried r rest to ways m taken apart another begin typed viewed) back.carried;
-        low = λ w g y base less c reach. back.low w g y base less c (one_low r rest to ways m taken apart another begin typed viewed w g y base less c reach);
+            (one_carried r rest to ways m taken apart another begin_ways typed viewed) back.carried;
+        stays = λ w g y base off aside c reach. back.stays w g y base off (λ k has. aside k (inr has)) c
+            (one_stays r rest to ways m taken apart another begin_ways typed viewed w g y base off (aside to (inl refl)) c reach);
       })
       (copied_back t rest (record begun { memory = next }))
-      (more next (one_kept r rest to ways m taken apart another begin typed viewed) (one_viewed r rest to ways m taken apart another begin typed viewed)
-      (taken_on m next rest ways (λ k w has there none. one_bare r rest to ways m taken apart another begin typed viewed k w has there none) later))))
+      (more next (λ c has. (
+        (let begin = begins c has in one_stays r rest to ways m taken apart another begin_ways typed viewed c.way begin.0 begin.1 begin.2 begin.3
+            ((cells_there c has).1 to (inl refl)) c.cell (cells_there c has).0),
+        (λ k there. (cells_there c has).1 k (inr there)),
+      )) (one_kept r rest to ways m taken apart another begin_ways typed viewed) (one_viewed r rest to ways m taken apart another begin_ways typed viewed)
+      (taken_on m next rest ways (λ k w has there none. one_bare r rest to ways m taken apart another begin_ways typed viewed k w has there none) later))))
 
-  pub all_given_back : (returns : List Return) (ways : List Way) (begun : Now) → AreTaken s begun.memory depth facts scope returns ways
-      → Kept s begun.memory hands → ViewedAway returns ways begun.memory → GivenBack returns ways begun.memory (copied_back t returns begun)
-  all_given_back [] ways begun taken typed viewed = record {
+  pub all_given_back : (returns : List Return) (ways : List Way) (begun : Now) → AreTaken s cells begun.memory depth facts scope returns ways
+      → AreThere ways begun.memory → Kept s begun.memory hands → ViewedAway returns ways begun.memory → GivenBack returns ways begun.memory (copied_back t returns begun)
+  all_given_back [] ways begun taken there typed viewed = record {
     typed = typed;
     viewed = subst (λ z. ViewedAway [] z begun.memory) taken viewed;
     held = λ g y p c held. inl held;
     empty = λ r has. absurd has;
     views = λ g y view. refl;
     carried = carried_same s (λ g. g ≡ suc depth → ⊥) ways begun.memory begun.memory (λ g y p. refl) (λ c p. refl);
-    low = λ w g y base less c reach. reach;
+    stays = λ w g y base off aside c reach. reach;
   }
-  all_given_back (r ∷ rest) [] begun taken typed viewed =
-      copied_first r rest [] begun taken.0 typed viewed taken.1
-      (λ next kept there later. all_given_back rest [] (record begun { memory = next }) later kept there)
-  all_given_back (r ∷ rest) (to ∷ ways) begun (inl copied) typed viewed =
-      copied_first r rest (to ∷ ways) begun copied.0 typed viewed copied.1
-      (λ next kept there later. all_given_back rest (to ∷ ways) (record begun { memory = next }) later kept there)
-  all_given_back (r ∷ rest) (to ∷ ways) begun (inr (taken, apart, another, more)) typed viewed =
-      taken_first r rest to ways begun taken apart another more typed viewed
-      (λ next kept there later. all_given_back rest ways (record begun { memory = next }) later kept there)
+  all_given_back (r ∷ rest) [] begun taken there typed viewed =
+      copied_first r rest [] begun taken.0 there typed viewed taken.1
+      (λ next there kept seen_next later. all_given_back rest [] (record begun { memory = next }) later there kept seen_next)
+  all_given_back (r ∷ rest) (to ∷ ways) begun (inl copied) there typed viewed =
+      copied_first r rest (to ∷ ways) begun copied.0 there typed viewed copied.1
+      (λ next there kept seen_next later. all_given_back rest (to ∷ ways) (record begun { memory = next }) later there kept seen_next)
+  all_given_back (r ∷ rest) (to ∷ ways) begun (inr (taken, apart, another, more)) there typed viewed =
+      taken_first r rest to ways begun taken apart another more there typed viewed
+      (λ next there kept seen_next later. all_given_back rest ways (record begun { memory = next }) later there kept seen_next)

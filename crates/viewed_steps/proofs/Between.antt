@@ -1,8 +1,11 @@
 -- A move that a call makes, or its end: no fact changes, and what is gone after it is known otherwise.
-use Rattle.std.proofs.Common.{◌≡◌, refl, sym, ap, ◌∙◌, subst, ◌⊎◌, inl, inr, ℕ, Bool, List, [], ◌∷◌, ◌++◌, Some}
+use Rattle.std.proofs.Common.{◌≡◌, refl, sym, ap, ◌∙◌, subst, ◌⊎◌, inl, inr, ℕ, suc, ◌<◌, Bool, true, false, List, [], ◌∷◌, ◌++◌, Some, arith, if◌then◌else◌}
 use Rattle.spark_base.specs.Lists.{Has}
 use Rattle.place_names.specs.declared.fact.Fact.{Fact}
-use Rattle.owned_ways.specs.Ways.{Step, OfVariable, OfHand, Loc, OfRoot, OfCell, Way, Object, Lost, Into, All, Gone, Held, View, Reaches, IsSame, part, along, IsRooted, Under, Past, Named, base_of, number_of}
+use Rattle.place_names.specs.declared.fact.Fact.TheVariants.{Lent}
+use Rattle.place_names.specs.declared.rule.Loan.{Loan}
+use Rattle.place_names.specs.Names.{Name as PlaceName, overlaps}
+use Rattle.owned_ways.specs.Ways.{Root, Step, OfVariable, OfHand, Loc, OfRoot, OfCell, Way, Object, Lost, Into, All, Gone, Held, View, Reaches, IsSame, part, along, IsRooted, Under, Past, Named, base_of, number_of, name_of}
 use Rattle.owned_ways.proofs.Locations.{under_along, under_itself}
 use Rattle.owned_ways.proofs.Named.{longer}
 use Rattle.owned_ways.proofs.Moving.{Given, keeps, owned_after, covered_after, known_after}
@@ -10,11 +13,11 @@ use Rattle.owned_ways.proofs.Dropped.{named_base}
 use Rattle.owned_loans.specs.Views.{Around, Views, ExcusedBy, Viewed, IsForeign}
 use Rattle.owned_loans.proofs.Ways.{beginnings}
 use Rattle.owned_loans.proofs.Moves.{view_on, reached}
-use Rattle.flow_paths.specs.Objects.{Typing}
-use Rattle.machine.specs.Memory.{Memory}
+use Rattle.flow_paths.specs.Objects.{Typing, is_package_object}
+use Rattle.machine.specs.Memory.{Memory, Place}
 use Rattle.machine.specs.States.{Return}
-use Rattle.soundness.specs.Seen.{IsNear, content, word_in}
-use Rattle.viewed_steps.specs.Taken.{TakenBy, AreTaken, AreCarried}
+use Rattle.soundness.specs.Seen.{IsNear, content, word_in, home}
+use Rattle.viewed_steps.specs.Taken.{last_steps, Lodge, IsInside, IsBare, TakenBy, AreTaken, AreCarried}
 
 -- where owners see the same, ways reach the same
 pub same_reaches : (s t : View) → IsSame s t → (w : Way) (l : Loc) → Reaches s w l → Reaches t w l
@@ -34,6 +37,10 @@ gone_also home other gone = record {
   through = other.through;
   kept = other.kept;
   begins = other.begins;
+  bare = λ w l p. ⊥;
+  rests = λ w l p none. absurd none;
+  bares = λ w l p none. absurd none;
+  emptied = λ w l p none q. absurd none;
 }
 
 module _ (home : ℕ → ℕ) (observer : ℕ → Bool) (v : Views) (other : Around home) (gone : Way → Type 0)
@@ -49,8 +56,10 @@ module _ (home : ℕ → ℕ) (observer : ℕ → Bool) (v : Views) (other : Aro
     views = λ x w has. view_on home observer other v s s facts facts x w (viewed.views x w has) (λ seen n loan. loan)
         (reached home observer other v s facts x w (viewed.views x w has));
     whole = apart;
+    past = viewed.past;
     lends = viewed.lends;
     far = viewed.far;
+    bare = λ w n p none. absurd none;
   }
 
   -- No way of a view of the frame goes past one, and none of others.
@@ -74,8 +83,10 @@ module _ (home : ℕ → ℕ) (observer : ℕ → Bool) (v : Views) (other : Aro
         view_on home observer other v s t facts facts x w view (λ seen n loan. loan)
         (keeps s t f k from to given w (OfCell (v.cell x)) (reached home observer other v s facts x w view) (λ p. off.own x w has p) (λ p. away.own x w has p)));
     whole = apart;
+    past = viewed.past;
     lends = viewed.lends;
     far = λ w n held. keeps s t f k from to given w (OfCell n) (viewed.far w n held) (λ p. off.far w n held p) (λ p. away.far w n held p);
+    bare = λ w n p none. absurd none;
   }
 
 -- ---- ways that were taken
@@ -131,40 +142,105 @@ base_under t w under = (longer t w under).base
 pub same_variable : (f x g y : ℕ) → OfRoot (OfVariable f x) ≡ OfRoot (OfVariable g y) → (f ≡ g) × (x ≡ y)
 same_variable f x g y e = (cc, cc)
 
+-- so does its name
+pub number_under : (home : ℕ → ℕ) (t w : Way) → Named home t → Named home w → Under t w → number_of t ≡ number_of w
+number_under home t w named_t named_w under =
+    (same_variable (home (number_of t)) (number_of t) (home (number_of w)) (number_of w)
+    (sym (named_base home t named_t) ∙ sym (base_under t w under) ∙ named_base home w named_w)).1
+
+-- A way begins at a variable of a frame, or at a package object.
+abbrev pub IsHomed : Typing → ℕ → Way → Type 0
+IsHomed s depth to = (f : ℕ) × (y : ℕ) × (base_of to ≡ OfRoot (OfVariable f y)) × (f ≡ home s depth y)
+
+-- it meets none that begins elsewhere
+pub homed_apart : (s : Typing) (depth : ℕ) (to : Way) → IsHomed s depth to → (w z : Way) → IsForeign (home s depth) w → Under to z → Under z w ⊎ Under w z → ⊥
+homed_apart s depth to (f, y, base, at_home) w z foreign under meets =
+    let there : base_of w ≡ OfRoot (OfVariable f y) = elim meets [
+      | inl above ↦ base_under z w above ∙ base_under to z under ∙ base
+      | inr below ↦ sym (base_under w z below) ∙ base_under to z under ∙ base
+    ] in
+    let same = same_variable foreign.0 foreign.1 f y (sym foreign.2 ∙ there) in
+    foreign.3 (same.0 ∙ at_home ∙ ap (home s depth) (sym same.1))
+
+pub number_based : (home : ℕ → ℕ) (w : Way) (y : ℕ) → Named home w → base_of w ≡ OfRoot (OfVariable (home y) y) → number_of w ≡ y
+number_based home w y named base = (same_variable (home (number_of w)) (number_of w) (home y) y (sym (named_base home w named) ∙ base)).1
+
 -- a name of a frame isn't rooted in another one
 pub not_named : (home : ℕ → ℕ) (e x : ℕ) → ((y : ℕ) → home y ≡ e → ⊥) → (w : Way) → Named home w → base_of w ≡ OfRoot (OfVariable e x) → ⊥
 not_named home e x other w named base =
     other (number_of w) (same_variable (home (number_of w)) (number_of w) e x (sym (named_base home w named) ∙ base)).0
 
--- what was taken is in variables of the frame
-pub taken_from : (s : Typing) (m : Memory) (depth : ℕ) (facts : List Fact) (scope : List ℕ) (returns : List Return) (ways : List Way)
-    → AreTaken s m depth facts scope returns ways → (k : Way) → Has ways k → (y : ℕ) × (base_of k ≡ OfRoot (OfVariable depth y))
-taken_from s m depth facts scope [] ways none k has = absurd (subst (λ z. Has z k) none has)
-taken_from s m depth facts scope (r ∷ rest) [] taken k has = absurd has
-taken_from s m depth facts scope (r ∷ rest) (to ∷ ways) (inl copied) k has = taken_from s m depth facts scope rest (to ∷ ways) copied.1 k has
-taken_from s m depth facts scope (r ∷ rest) (to ∷ ways) (inr (one, apart, another, more)) k (inl same) = (
+-- what was taken is in variables of the frame, or in package objects
+pub taken_from : (s : Typing) (cells : List Lodge) (m : Memory) (depth : ℕ) (facts : List Fact) (scope : List ℕ) (returns : List Return) (ways : List Way)
+    → AreTaken s cells m depth facts scope returns ways → (k : Way) → Has ways k → IsHomed s depth k
+taken_from s cells m depth facts scope [] ways none k has = absurd (subst (λ z. Has z k) none has)
+taken_from s cells m depth facts scope (r ∷ rest) [] taken k has = absurd has
+taken_from s cells m depth facts scope (r ∷ rest) (to ∷ ways) (inl copied) k has = taken_from s cells m depth facts scope rest (to ∷ ways) copied.1 k has
+taken_from s cells m depth facts scope (r ∷ rest) (to ∷ ways) (inr (one, apart, another, more)) k (inl same) = (
+  (one.0).inside.frame,
   (one.0).inside.object,
-  ap base_of (sym same ∙ (one.0).inside.way) ∙ base_along (Object (OfVariable depth (one.0).inside.object)) (one.0).inside.steps,
+  ap base_of (sym same ∙ (one.0).inside.way) ∙ base_along (Object (OfVariable (one.0).inside.frame (one.0).inside.object)) (one.0).inside.steps,
+  (one.0).inside.at_home,
 )
-taken_from s m depth facts scope (r ∷ rest) (to ∷ ways) (inr (one, apart, another, more)) k (inr has) = taken_from s m depth facts scope rest ways more k has
+taken_from s cells m depth facts scope (r ∷ rest) (to ∷ ways) (inr (one, apart, another, more)) k (inr has) = taken_from s cells m depth facts scope rest ways more k has
 
-pub taken_base : (ways : List Way) (depth : ℕ) → ((k : Way) → Has ways k → (y : ℕ) × (base_of k ≡ OfRoot (OfVariable depth y))) → (w : Way) → TakenBy ways w
-    → (y : ℕ) × (base_of w ≡ OfRoot (OfVariable depth y))
-taken_base ways depth begin w (k, has, p, is) = (let base = begin k has in (base.0, ap base_of is ∙ base_along k p ∙ base.1))
+-- nor is it lent
+pub taken_unlent : (s : Typing) (cells : List Lodge) (m : Memory) (depth : ℕ) (facts : List Fact) (scope : List ℕ) (returns : List Return) (ways : List Way)
+    → AreTaken s cells m depth facts scope returns ways → (k : Way) → Has ways k → (l : Loan) (h : ℕ) (n : PlaceName) → Has facts (Lent l h n) → overlaps n (name_of k) ≡ true → ⊥
+taken_unlent s cells m depth facts scope [] ways none k has l h n lent over = absurd (subst (λ z. Has z k) none has)
+taken_unlent s cells m depth facts scope (r ∷ rest) [] taken k has l h n lent over = absurd has
+taken_unlent s cells m depth facts scope (r ∷ rest) (to ∷ ways) (inl copied) k has l h n lent over = taken_unlent s cells m depth facts scope rest (to ∷ ways) copied.1 k has l h n lent over
+taken_unlent s cells m depth facts scope (r ∷ rest) (to ∷ ways) (inr (one, apart, another, more)) k (inl same) l h n lent over =
+    (one.0).unlent l h n lent (subst (λ z. overlaps n (name_of z) ≡ true) (sym same) over)
+taken_unlent s cells m depth facts scope (r ∷ rest) (to ∷ ways) (inr (one, apart, another, more)) k (inr has) l h n lent over =
+    taken_unlent s cells m depth facts scope rest ways more k has l h n lent over
 
--- it stays so where nothing gets a number in them
-pub still_taken : (s : Typing) (m n : Memory) (depth : ℕ) (facts : List Fact) (scope : List ℕ)
-    → ((y : ℕ) (p : List Step) (c : ℕ) → word_in s.table (content s n [] (OfRoot (OfVariable depth y))) p ≡ Held c
-    → word_in s.table (content s m [] (OfRoot (OfVariable depth y))) p ≡ Held c)
-    → (returns : List Return) (ways : List Way) → AreTaken s m depth facts scope returns ways → AreTaken s n depth facts scope returns ways
-still_taken s m n depth facts scope still [] ways none = none
-still_taken s m n depth facts scope still (r ∷ rest) [] taken = (taken.0, still_taken s m n depth facts scope still rest [] taken.1)
-still_taken s m n depth facts scope still (r ∷ rest) (to ∷ ways) (inl copied) = inl (copied.0, still_taken s m n depth facts scope still rest (to ∷ ways) copied.1)
-still_taken s m n depth facts scope still (r ∷ rest) (to ∷ ways) (inr (one, apart, another, more)) = inr (
-  (one.0, (λ p c held. one.1 p c (still (one.0).inside.object (p ++ (one.0).inside.steps) c held))),
+pub taken_base : (s : Typing) (ways : List Way) (depth : ℕ) → ((k : Way) → Has ways k → IsHomed s depth k)
+    → (w : Way) → TakenBy ways w → IsHomed s depth w
+taken_base s ways depth begin w (k, has, p, is) = (let base = begin k has in (base.0, base.1, ap base_of is ∙ base_along k p ∙ base.2, base.3))
+
+-- a frame of its own, or that of the package objects
+pub home_low : (s : Typing) (d y : ℕ) → home s d y < suc d
+home_low s d y = by_package (is_package_object s y)
+  where
+    by_package : (b : Bool) → (if b then 0 else d) < suc d
+    by_package true = omega arith
+    by_package false = omega arith
+
+pub last_along : (r : Root) (p : List Step) → last_steps (along (Object r) p) ≡ p
+last_along r [] = refl
+last_along r (i ∷ p) = ap (λ z. i ∷ z) (last_along r p)
+
+-- no number stands in what was taken
+pub taken_bare : (s : Typing) (cells : List Lodge) (m : Memory) (depth : ℕ) (facts : List Fact) (scope : List ℕ) (returns : List Return) (ways : List Way)
+    → AreTaken s cells m depth facts scope returns ways → (f y : ℕ) (p : List Step) → Has ways (along (Object (OfVariable f y)) p) → (q : List Step) (c : ℕ)
+    → word_in s.table (content s m [] (OfRoot (OfVariable f y))) (q ++ p) ≡ Held c → ⊥
+taken_bare s cells m depth facts scope [] ways none f y p has q c held = absurd (subst (λ z. Has z (along (Object (OfVariable f y)) p)) none has)
+taken_bare s cells m depth facts scope (r ∷ rest) [] taken f y p has q c held = absurd has
+taken_bare s cells m depth facts scope (r ∷ rest) (to ∷ ways) (inl copied) f y p has q c held =
+    taken_bare s cells m depth facts scope rest (to ∷ ways) copied.1 f y p has q c held
+taken_bare s cells m depth facts scope (r ∷ rest) (to ∷ ways) (inr (one, apart, another, more)) f y p (inl same) q c held =
+    let inside = (one.0).inside in
+    let is : along (Object (OfVariable inside.frame inside.object)) inside.steps ≡ along (Object (OfVariable f y)) p = sym inside.way ∙ same in
+    let base = same_variable inside.frame inside.object f y (sym (base_along (Object (OfVariable inside.frame inside.object)) inside.steps) ∙ ap base_of is
+    ∙ base_along (Object (OfVariable f y)) p) in
+    let steps : inside.steps ≡ p = sym (last_along (OfVariable inside.frame inside.object) inside.steps) ∙ ap last_steps is ∙ last_along (OfVariable f y) p in
+    one.1 q c ((λ j. word_in s.table (content s m [] (OfRoot (OfVariable (base.0 j) (base.1 j)))) (q ++ steps j)) ∙ held)
+taken_bare s cells m depth facts scope (r ∷ rest) (to ∷ ways) (inr (one, apart, another, more)) f y p (inr has) q c held =
+    taken_bare s cells m depth facts scope rest ways more f y p has q c held
+
+-- it stays so where no number comes to them
+pub still_taken : (s : Typing) (cells : List Lodge) (m n : Memory) (depth : ℕ) (facts : List Fact) (scope : List ℕ) (returns : List Return) (ways : List Way)
+    → ((k : Place) (to : Way) → Has ways to → (inside : IsInside s depth k to) → IsBare s depth k to m inside → IsBare s depth k to n inside)
+    → AreTaken s cells m depth facts scope returns ways → AreTaken s cells n depth facts scope returns ways
+still_taken s cells m n depth facts scope [] ways still none = none
+still_taken s cells m n depth facts scope (r ∷ rest) [] still taken = (taken.0, still_taken s cells m n depth facts scope rest [] still taken.1)
+still_taken s cells m n depth facts scope (r ∷ rest) (to ∷ ways) still (inl copied) = inl (copied.0, still_taken s cells m n depth facts scope rest (to ∷ ways) still copied.1)
+still_taken s cells m n depth facts scope (r ∷ rest) (to ∷ ways) still (inr (one, apart, another, more)) = inr (
+  (one.0, still r.to to (inl refl) (one.0).inside one.1),
   apart,
   another,
-  still_taken s m n depth facts scope still rest ways more,
+  still_taken s cells m n depth facts scope rest ways (λ k w has. still k w (inr has)) more,
 )
 
 -- what begins at a variable of a frame between isn't near

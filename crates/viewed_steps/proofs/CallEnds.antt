@@ -1,5 +1,8 @@
 -- The end of a call leads on, in the frame below.
-use Rattle.std.proofs.Common.{◌≡◌, refl, sym, ap, ◌∙◌, subst, ◌⊎◌, inl, inr, ℕ, suc, ◌<◌, ◌≤◌, Bool, true, false, ◌||◌, ◌==◌, eq-eqb, List, [], ◌∷◌, ◌++◌, length, get_or, arith, Option, Some, None, if◌then◌else◌}
+use Rattle.viewed_steps.proofs.Traversed.{none_given}
+use Rattle.viewed_steps.proofs.Low.{given_again}
+use Rattle.std.specs.List.{AllByRecursion}
+use Rattle.std.proofs.Common.{◌≡◌, refl, sym, ap, ◌∙◌, subst, ◌⊎◌, inl, inr, ℕ, suc, ◌<◌, ◌≤◌, Bool, true, false, ◌||◌, ◌==◌, eq-eqb, List, [], ◌∷◌, ◌++◌, length, get_or, arith, Option, Some, None, if◌then◌else◌, not}
 use Rattle.std.proofs.Math.Nat.{eq-or-lt_of_le}
 use Rattle.std.specs.Prelude.{is_some}
 use Rattle.spark_base.specs.Lists.{Has}
@@ -7,13 +10,14 @@ use Rattle.place_names.specs.declared.act.Act.{Act}
 use Rattle.place_names.specs.declared.fact.Fact.{Fact}
 use Rattle.place_names.specs.declared.fact.Fact.TheVariants.{Moved}
 use Rattle.place_names.specs.Names.{Name as PlaceName}
+use Rattle.place_names.specs.Facts.{place}
 use Rattle.type_definitions.specs.Types.{Table}
 use Rattle.typed_tree.specs.declared.object.ObjectKind.{ObjectKind}
 use Rattle.typed_tree.specs.declared.object.ObjectKind.TheVariants as object_kind
 use Rattle.typed_tree.specs.Programs.{TypedProgram}
 use Rattle.flow_paths.specs.declared.report.Effects.{Effects}
 use Rattle.flow_paths.specs.Instructions.{Instruction, Call, Finish}
-use Rattle.flow_paths.specs.Objects.{Typing, object_at, is_anonymous, is_package_object, is_formal_kind, view_of, Signature, sub_at, is_formal}
+use Rattle.flow_paths.specs.Objects.{Typing, object_at, is_package_object, is_formal_kind, Signature, sub_at, is_formal}
 use Rattle.flow_paths.specs.Points.{NamedPoint}
 use Rattle.flow_paths.specs.Laid.{FlowProgram, NamedSub, typing_of, flow_typing, flow_program, flow_named, FlowSub}
 use Rattle.flow_paths.specs.Paths.{ControlPath}
@@ -21,7 +25,7 @@ use Rattle.flow_paths.specs.Effects.{path_points}
 use Rattle.flow_paths.specs.Scopes.{is_temporary, is_within}
 use Rattle.machine.specs.Words as machine
 use Rattle.machine.specs.Memory.{Memory, no_slot, variable_slots, without_frame}
-use Rattle.machine.specs.Evaluate.{Exception}
+use Rattle.machine.specs.Evaluate.{Exception, Now, Evaluated, Done, Raises, Traps}
 use Rattle.machine.specs.States.{Waiting, Frame, State, sub_of, Outcome, Goes, Return, Normal, Ends}
 use Rattle.machine.specs.Run.{no_point}
 use Rattle.machine.specs.Step.{Turn, turn, counted}
@@ -29,25 +33,25 @@ use Rattle.machine.specs.Step as steps
 use Rattle.machine.specs.Owners.{waiting_in}
 use Rattle.owned_ways.specs.Ways.{Step, OfVariable, OfRoot, Way, Held, AllowsAll, number_of}
 use Rattle.owned_ways.specs.Ways as ways
-use Rattle.soundness.specs.Seen.{content, word_in, seen, home, is_view_formal}
+use Rattle.soundness.specs.Seen.{content, word_in, seen, home}
 use Rattle.soundness.specs.Typed.{Kept}
 use Rattle.soundness.specs.Sound.{Stage, facts_of, AreStages, IsRunnable, is_temporary_object, has_returned, InScope, IsNamedSub, IsAtPoint, view_of as view_here}
-use Rattle.soundness.proofs.Contents.{bool_cases, word_no}
+use Rattle.soundness.proofs.Contents.{bool_cases, word_no, word_dead}
 use Rattle.soundness.proofs.Steps.{no_leaf}
 use Rattle.soundness.proofs.Typings.{package_same, formal_same}
 use Rattle.soundness.proofs.Around.{same_or_not}
+use Rattle.owned_ways.proofs.Locations.{under_itself, past_under}
 use Rattle.soundness.proofs.Returning.{returned_kept, left_same, left_held, returns_lead, ends_lead, left_waits, ended_owned, Backs}
-use Rattle.owned_loans.specs.Views.{known_gone, Views, IsMovedBy, Viewed, ExcusedBy, Around, IsAway}
+use Rattle.owned_loans.specs.Views.{known_gone, Views, IsMovedBy, IsForeign, Viewed, ExcusedBy, Around, IsAway}
 use Rattle.owned_loans.proofs.Moves.{view_on, reached}
 use Rattle.owned_loans.proofs.Ended.{stands_itself}
-use Rattle.viewed_soundness.proofs.Names.{true_false}
-use Rattle.viewed_soundness.proofs.Outcomes.{named_plain}
+use Rattle.viewed_soundness.proofs.Names.{neither, true_false}
 use Rattle.viewed_steps.specs.Awaited.{AreFor, AreValues, temporaries_of, lasting_of, awaited, AreAwaited}
 use Rattle.viewed_steps.proofs.Waited.{others_only, lasting_within}
-use Rattle.viewed_steps.specs.Sound.{HoldsAt, ArePlaced, NoneAbove, ViewStage, stages_of, GoneElsewhere, IsWaiting, AreWaiting, ends_one, LeadsAlong, IsResting, IsKindOfFormal}
+use Rattle.viewed_steps.specs.Sound.{loan_by, ArePast, HoldsAt, ArePlaced, NoneAbove, ViewStage, stages_of, GoneElsewhere, IsWaiting, AreWaiting, ends_one, LeadsAlong, IsResting, HasTraversals, NoneGiven, AreTraversals}
 use Rattle.viewed_steps.specs.Ready.{IsReady}
-use Rattle.viewed_steps.proofs.Read.{scalar_named}
-use Rattle.viewed_steps.proofs.Waiting.{StandsBetween, all_between, handed, all_on, gone_low, kept_low, far}
+use Rattle.viewed_steps.proofs.Waiting.{StandsBetween, all_between, handed, gone_low, kept_low, far, theirs, bare_still, some_frames, unused_there}
+use Rattle.viewed_steps.proofs.Onward.{all_on}
 use Rattle.viewed_steps.proofs.Left.{owned_left, covered_left, reach_left, reach_before, gone_before, other_word, no_word, whole_there}
 use Rattle.viewed_steps.proofs.Standing.{or_right}
 use Rattle.viewed_steps.proofs.Standing as standing
@@ -55,12 +59,17 @@ use Rattle.viewed_steps.proofs.Packages as packages
 use Rattle.viewed_steps.proofs.Innermost as innermost
 use Rattle.soundness.proofs.Passing.{signature_is}
 use Rattle.owned_ways.proofs.Dropped.{named_base}
-use Rattle.viewed_soundness.specs.Holds.{IsNamed, sees_only}
-use Rattle.viewed_steps.specs.Taken.{TakenBy, AreCarried}
-use Rattle.viewed_steps.proofs.Between.{base_under, same_variable}
+use Rattle.viewed_soundness.specs.Holds.{sees_only, is_view}
+use Rattle.viewed_steps.specs.Taken.{TakenBy, Lodge, AreCarried}
+use Rattle.viewed_steps.proofs.Between.{home_low, homed_apart, base_under, same_variable, taken_from as words_taken, taken_base, IsHomed, number_based, base_along}
+use Rattle.viewed_steps.proofs.Outside.{IsSpared, kept_clear, bare_clear}
+use Rattle.viewed_steps.proofs.Apart.{kept_there, written_disturbs}
+use Rattle.viewed_steps.proofs.Views.{base_named}
+use Rattle.flow_paths.specs.Effects.{written_by}
 use Rattle.viewed_steps.proofs.Backed.{AwayBy, ViewedAway, IsBack, all_given_back}
 use Rattle.viewed_steps.proofs.Whole.{leaves_whole}
-use Rattle.viewed_steps.proofs.Views.{not_elsewhere, AreFar}
+use Rattle.viewed_steps.proofs.Views.{AreAccess, AreFar, lies_far, apart_by_base}
+use Rattle.soundness.proofs.Lasting.{keeps}
 
 smaller : (f b low : ℕ) → f < suc b → (f ≡ low → ⊥) → low ≡ b → f < low
 smaller f b low less ne is =
@@ -82,11 +91,11 @@ module _ (table : Table) (typed : TypedProgram) (effects : Effects) (input : Lis
   abbrev own : Typing
   own = typing_of table typed
 
-  abbrev local : (x : ℕ) → is_anonymous (view_of s x) ≡ true → is_package_object s x ≡ false
+  abbrev local : (x : ℕ) → is_view s x ≡ true → is_package_object s x ≡ false
   local = standing.local table typed effects input ready
 
-  abbrev no_in_formals : (x : ℕ) → is_view_formal s x ≡ false
-  no_in_formals = standing.no_in_formals table typed effects input ready
+  abbrev in_formals : AreAccess s
+  in_formals = standing.in_formals table typed effects input ready
 
   abbrev unmoved_stage : (e : Stage) → e.frame.sub ≡ 0 → (name : PlaceName) → Has (facts_of program effects e) (Moved name) → ⊥
   unmoved_stage = packages.unmoved_stage table typed effects input ready
@@ -101,7 +110,8 @@ module _ (table : Table) (typed : TypedProgram) (effects : Effects) (input : Lis
       (viewed_before : Viewed (home s (suc (length rest))) (sees_only s) (known_gone (home s (suc (length rest))) (GoneElsewhere program effects (below ∷ more_frames))) views
       (view_here s state) (facts_of program effects top))
       (kept : Kept s state.memory (waiting_in state)) (scope : InScope s state.memory (suc (length rest)) (lasting_of s p.scope)) (holds : HoldsAt s (suc (length rest)) views state.memory p)
-      (placed_before : ArePlaced program (facts_of program effects top) views p.scope) (above : NoneAbove s (suc (length rest)) state.memory) where
+      (placed_before : ArePlaced program (suc (length rest)) (facts_of program effects top) views p.scope × ArePast s (suc (length rest)) views (below ∷ more_frames)) (above : NoneAbove s (suc (length rest)) state.memory
+      × HasTraversals table typed (view_here s state) (record { stage = top; views = views; cells = [] } ∷ (below ∷ more_frames))) where
     abbrev outer : List Frame
     outer = below.stage.frame ∷ rest
 
@@ -138,7 +148,7 @@ module _ (table : Table) (typed : TypedProgram) (effects : Effects) (input : Lis
     abbrev viewed_own : Viewed (home s depth) (sees_only s) (known_gone (home s depth) (GoneElsewhere program effects older)) views (view_here s state) own_facts
     viewed_own = innermost.viewed_own table typed effects input ready state top below more_frames rest named p frames deep stages running awaiting of_sub at_point path views viewed_before kept scope holds placed_before above
 
-    abbrev placed : ArePlaced program facts_now views p.scope
+    abbrev placed : ArePlaced program (suc (length rest)) facts_now views p.scope
     placed = innermost.placed table typed effects input ready state top below more_frames rest named p frames deep stages running awaiting of_sub at_point path views viewed_before kept scope holds placed_before above
 
     abbrev named_there : Has (flow_named table typed) named
@@ -149,7 +159,7 @@ module _ (table : Table) (typed : TypedProgram) (effects : Effects) (input : Lis
 
     -- where it leads, and how the frames come from those before
     abbrev Along : Outcome → Type 0
-    Along outcome = LeadsAlong table typed effects p.instr state.memory (record { stage = top; views = views }) (below ∷ more_frames) outcome
+    Along outcome = LeadsAlong table typed effects p.instr state.memory (record { stage = top; views = views; cells = [] }) (below ∷ more_frames) outcome
 
     abbrev ends_raised : (how : Exception) (m : Memory) → Along (steps.raised main_turn how m)
     ends_raised = innermost.ends_raised table typed effects input ready state top below more_frames rest named p frames deep stages running awaiting of_sub at_point path views viewed_before kept scope holds placed_before above
@@ -167,7 +177,16 @@ module _ (table : Table) (typed : TypedProgram) (effects : Effects) (input : Lis
       | inr mine ↦ (
           let own_formal = ready.passing.finishes named named_there p point_there_now is x (lasting_within s x p.scope mine.1).0 in
           elim ((running.1).0 x (subst (λ z. Has z x) (sym formals_are) own_formal)) [
-            | inr copied ↦ copied
+            | inr other_kind ↦ elim other_kind [
+              | inl copied ↦ copied
+              | inr (inl shown) ↦ (
+                  let none = word_dead s.table (content s state.memory [] (OfRoot (OfVariable depth x))) q (ap not shown) in
+                  let no_number : ways.Empty ≡ Held n = sym none ∙ held in cc)
+              | inr (inr plain) ↦ (
+                  let none = word_no s.table (content s state.memory [] (OfRoot (OfVariable depth x))) q
+                  ((keeps s ready.accepted.settled ready.owns).ownerless (object_at s x).of plain q) in
+                  let no_number : ways.Empty ≡ Held n = sym none ∙ held in cc)
+            ]
             | inl plain_type ↦ (
                 let none = word_no s.table (content s state.memory [] (OfRoot (OfVariable depth x))) q
                 (no_leaf s.table ready.accepted.settled (object_at s x).of plain_type q) in
@@ -214,19 +233,14 @@ module _ (table : Table) (typed : TypedProgram) (effects : Effects) (input : Lis
             ap (λ z. if z then None else (sub_of program top.frame.sub).result)
             ((ready.returning top.frame.sub (running.0).entered (ap is_some e) top.before top.frame.next path).1 (instr_there ∙ is))
 
-    -- no view has a way then
-    no_view_left : p.instr ≡ Finish → (x : ℕ) → views.way x ≡ None
-    no_view_left is x = by_way (views.way x) refl
+    -- no view but a formal has a way then
+    pub no_view_left : p.instr ≡ Finish → (x : ℕ) → is_formal s x ≡ false → views.way x ≡ None
+    no_view_left is x no_formal = by_way (views.way x) refl
       where
-        named_formal : IsKindOfFormal s x → IsNamed s.table (object_at s x).of
-        named_formal (inl plain_type) = scalar_named s.table (object_at s x).of plain_type
-        named_formal (inr (in_out, own_type)) = own_type
-
         by_way : (o : Option Way) → views.way x ≡ o → views.way x ≡ None
         by_way None e = e
         by_way (Some w) e =
-            let formal = ready.scoped.finishes named named_there p point_there_now is x (placed x w e).within in
-            absurd (true_false (is_anonymous (view_of s x)) (holds.only x w e) (named_plain s.table (object_at s x).of (named_formal (ready.class.formals x formal))))
+            absurd (true_false (is_formal s x) (ready.scoped.finishes named named_there p point_there_now is x (placed x w e).within) no_formal)
 
     -- no part of a formal or package object is moved then
     whole_roots : p.instr ≡ Finish → (name : PlaceName) → Has own_facts (Moved name) → is_formal s name.root || is_package_object s name.root ≡ true → ⊥
@@ -283,18 +297,26 @@ module _ (table : Table) (typed : TypedProgram) (effects : Effects) (input : Lis
       deep_low = ap suc (sym low_is)
 
       pub far_low : AreFar (home s below.stage.depth) below.views below.stage.depth
-      far_low x w has foreign = absurd (not_elsewhere (home s below.stage.depth) w (waits.holds.named x w has) foreign)
+      far_low = lies_far s below.stage.depth below.views waits.holds.lies
+
+      -- where the cells of places are: their ways begin at variables of the frames that wait
+      pub begins_low : (c : Lodge) → Has below.cells c → (g : ℕ) × (y : ℕ) × (ways.base_of c.way ≡ OfRoot (OfVariable g y)) × (g ≡ suc below.stage.depth → ⊥)
+      begins_low c has =
+          let root = kept_low table typed effects unmoved_stage local state depth (below ∷ (h ∷ others))
+          (all_between table typed effects unmoved_stage local state top.frame.sub depth top.frame.returns (below ∷ (h ∷ others)) (below.stage.frame ∷ rest) stages_there (omega arith) waiting)
+          c.way c.cell (below, inl refl, inr (c, has, refl, refl)) in
+          (root.0, root.1, root.2, λ same. (let less = root.3 in let same_depth = low_is in omega (arith, less, same, same_depth)))
 
       -- the state as the frame below sees it
       abbrev ViewedLow : List Return → List Way → Memory → Type 0
       ViewedLow returns ways_left m =
-          ViewedAway main_turn ready.accepted.settled ready.owns no_in_formals (waiting_in state) state.leaks below.stage.depth deep_low below.views far_low their_facts
-          (lasting_of s waits.point.scope) around_low free_low whole_low none_kept returns ways_left m
+          ViewedAway main_turn ready.accepted.settled ready.owns in_formals (waiting_in state) state.leaks below.stage.depth deep_low below.views far_low their_facts
+          (lasting_of s waits.point.scope) around_low free_low whole_low none_kept below.cells begins_low returns ways_left m
 
       abbrev Away : Way → Type 0
       Away w =
-          AwayBy main_turn ready.accepted.settled ready.owns no_in_formals (waiting_in state) state.leaks below.stage.depth deep_low below.views far_low their_facts
-          (lasting_of s waits.point.scope) around_low free_low whole_low none_kept top.frame.returns below.stage.returns w
+          AwayBy main_turn ready.accepted.settled ready.owns in_formals (waiting_in state) state.leaks below.stage.depth deep_low below.views far_low their_facts
+          (lasting_of s waits.point.scope) around_low free_low whole_low none_kept below.cells begins_low top.frame.returns below.stage.returns w
 
       known_low : (w : Way) (l : ways.Loc) → ways.IsRooted w → ways.Reaches (view_here s state) w l → (view_here s state).word l ≡ ways.Gone
           → IsAway (home s below.stage.depth) below.views around_low their_facts w ⊎ Away w
@@ -303,20 +325,21 @@ module _ (table : Table) (typed : TypedProgram) (effects : Effects) (input : Lis
         | inr (g, inl same_stage, inl moved) ↦ inl (inl (subst (λ (z : ViewStage). IsMovedBy (home s z.stage.depth) z.views (facts_of program effects z.stage) w) (sym same_stage) moved))
         | inr (g, inl same_stage, inr taken) ↦ inr (inr (inl (subst (λ (z : ViewStage). TakenBy z.stage.returns w) (sym same_stage) taken)))
         | inr (g, inr has, what) ↦ inr (inl (g, has, what))
-        | inl (inl (u, moved, leads)) ↦ (
-            let same_way : u ≡ w =
-            sym (stands_itself (home s depth) (sees_only s) (known_gone (home s depth) (λ z. ⊥)) views u moved.0 (no_view_left is (number_of u))) ∙ leads in
-            elim (bool_cases (is_formal s (number_of u) || is_package_object s (number_of u))) [
-              | inl shared ↦ absurd (whole_roots is (ways.name_of u) moved.1 shared)
-              | inr neither ↦ inr (inr (inr (
+        | inl (inl (u, moved, leads)) ↦ elim (bool_cases (is_formal s (number_of u) || is_package_object s (number_of u))) [
+          | inl shared ↦ absurd (whole_roots is (ways.name_of u) moved.1 shared)
+          | inr neither ↦ (
+              let same_way : u ≡ w =
+              sym (stands_itself (home s depth) (sees_only s) (known_gone (home s depth) (λ z. ⊥)) views u moved.0
+              (no_view_left is (number_of u) (first (is_formal s (number_of u)) (is_package_object s (number_of u)) neither))) ∙ leads in
+              inr (inr (inr (
                 number_of w,
                 own_base w (subst (ways.Named (home s depth)) same_way moved.0)
                     (second (is_formal s (number_of w)) (is_package_object s (number_of w)) (ap (λ z. is_formal s (number_of z) || is_package_object s (number_of z)) (sym same_way) ∙ neither)),
                 λ r has formal. true_false (is_formal s r.formal) ((running.1).1 r has)
                     (ap (is_formal s) formal
                     ∙ first (is_formal s (number_of w)) (is_package_object s (number_of w)) (ap (λ z. is_formal s (number_of z) || is_package_object s (number_of z)) (sym same_way) ∙ neither)),
-              )))
-            ])
+              ))))
+        ]
       ]
         where
           first : (a b : Bool) → a || b ≡ false → a ≡ false
@@ -332,6 +355,19 @@ module _ (table : Table) (typed : TypedProgram) (effects : Effects) (input : Lis
               named_base (home s depth) w at_home
               ∙ ap (λ f. OfRoot (OfVariable f (number_of w))) (ap (λ z. if z then 0 else depth) own_object ∙ deep_low)
 
+      -- nothing of that meets what views of the frame see that belongs to others
+      whole_away : (x : ℕ) (w z : Way) → below.views.way x ≡ Some w → IsForeign (home s below.stage.depth) w
+          → GoneElsewhere program effects (h ∷ others) z ⊎ (TakenBy below.stage.returns z
+          ⊎ ((y : ℕ) × (ways.base_of z ≡ OfRoot (OfVariable (suc below.stage.depth) y)) × ((r : Return) → Has top.frame.returns r → r.formal ≡ y → ⊥)))
+          → ways.Under z w ⊎ ways.Under w z → ⊥
+      whole_away x w z has foreign (inl gone) meets = waiting.2 x w z has foreign gone meets
+      whole_away x w z has foreign (inr (inl taken)) meets =
+          let base = taken_base s below.stage.returns below.stage.depth
+          (words_taken s below.cells state.memory below.stage.depth their_facts (lasting_of s waits.point.scope) top.frame.returns below.stage.returns waits.taken) z taken in
+          homed_apart s below.stage.depth z base w z foreign (under_itself z) meets
+      whole_away x w z has foreign (inr (inr (y, base, none))) meets =
+          apart_by_base w z foreign.0 foreign.1 (suc below.stage.depth) y foreign.2 base (λ same. (let under = far_low x w has foreign in omega (arith, under, same))) meets
+
       pub viewed_low : ViewedLow top.frame.returns below.stage.returns state.memory
       viewed_low = record {
         owned = well.owned;
@@ -339,22 +375,25 @@ module _ (table : Table) (typed : TypedProgram) (effects : Effects) (input : Lis
         known = known_low;
         clear = waits.clear;
         views = waits.views;
-        whole = λ x w z has foreign gone meets. not_elsewhere (home s below.stage.depth) w (waits.holds.named x w has) foreign;
+        whole = whole_away;
+        past = λ x w has given plain k n none. absurd none;
         lends = λ l n none. absurd none;
         far = λ w n none. absurd none;
+        bare = λ w n p none. absurd none;
       }
 
       abbrev Backed : Memory → Type 0
       Backed m =
-          IsBack main_turn ready.accepted.settled ready.owns no_in_formals (waiting_in state) state.leaks below.stage.depth deep_low below.views far_low their_facts
-          (lasting_of s waits.point.scope) around_low free_low whole_low none_kept top.frame.returns below.stage.returns state.memory m
+          IsBack main_turn ready.accepted.settled ready.owns in_formals (waiting_in state) state.leaks below.stage.depth deep_low below.views far_low their_facts
+          (lasting_of s waits.point.scope) around_low free_low whole_low none_kept below.cells begins_low top.frame.returns below.stage.returns state.memory m
 
       given_back : Backs Backed (steps.copied_back main_turn top.frame.returns (steps.start main_turn))
       given_back =
-          all_given_back main_turn ready.accepted.settled ready.owns no_in_formals (waiting_in state) state.leaks below.stage.depth deep_low below.views far_low their_facts
-          (lasting_of s waits.point.scope) around_low free_low whole_low none_kept top.frame.returns below.stage.returns (steps.start main_turn) waits.taken kept viewed_low
+          all_given_back main_turn ready.accepted.settled ready.owns in_formals (waiting_in state) state.leaks below.stage.depth deep_low below.views far_low their_facts
+          (lasting_of s waits.point.scope) around_low free_low whole_low none_kept below.cells begins_low top.frame.returns below.stage.returns (steps.start main_turn) waits.taken
+          (λ c has. ((waits.kept c has).reaches, (waits.kept c has).aside)) kept viewed_low
 
-      module _ (mid : Memory) (on : Backed mid) where
+      module _ (mid : Memory) (on : Backed mid) (same_mid : top.frame.returns ≡ [] → mid ≡ state.memory) where
         abbrev left_state : State
         left_state = counted (record state { frames = below.stage.frame ∷ rest; memory = without_frame depth mid })
 
@@ -363,7 +402,7 @@ module _ (table : Table) (typed : TypedProgram) (effects : Effects) (input : Lis
 
         nothing_mid : (x : ℕ) (q : List Step) (n : ℕ) → word_in s.table (content s mid (waiting_in state) (OfRoot (OfVariable depth x))) q ≡ Held n → ⊥
         nothing_mid x q n held = elim (on.held depth x q n held) [
-          | inr same_low ↦ (let a = same_low.0 in let b = low_is in omega (arith, a, b))
+          | inr same_low ↦ (let a = same_low.0 in let b = home_low s low x in let c = low_is in omega (arith, a, b, c))
           | inl before ↦ (
               let copied = left_formal is x q n before in
               on.empty copied.0 copied.1 q n
@@ -397,16 +436,26 @@ module _ (table : Table) (typed : TypedProgram) (effects : Effects) (input : Lis
         held_before f x q n held = left_held s mid depth (waiting_in state) state.leaks nothing_mid f x q n held
 
         -- and views have there what they had
-        words_before : (f x : ℕ) → (f ≡ depth → ⊥) → is_anonymous (view_of s x) ≡ true
+        words_before : (f x : ℕ) → (f ≡ depth → ⊥) → is_view s x ≡ true
             → (get_or (variable_slots s f x left_memory.variables) 0 no_slot).word ≡ (get_or (variable_slots s f x state.memory.variables) 0 no_slot).word
         words_before f x ne view = other_word s mid depth f x ne ∙ on.views f x view
+
+        -- a frame of the caller, or that of the package objects
+        home_left : (f x : ℕ) → f ≡ home s low x → (f < low) ⊎ ((f ≡ low) × (is_package_object s x ≡ false))
+        home_left f x at_home = elim (bool_cases (is_package_object s x)) [
+          | inr own ↦ inr (at_home ∙ ap (λ b. if b then 0 else low) own, own)
+          | inl shared ↦ (
+              let none : f ≡ 0 = at_home ∙ ap (λ b. if b then 0 else low) shared in
+              let some = some_frames h others rest stages_there.2 in
+              let same_depth = low_is in inl (omega (arith, none, some, same_depth)))
+        ]
 
         scope_left : (f x : ℕ) (q : List Step) (n : ℕ) → word_in s.table (content s left_memory [] (OfRoot (OfVariable f x))) q ≡ Held n
             → (f < low) ⊎ ((f ≡ low) × (is_within x (lasting_of s (waits.point).scope) ≡ true))
         scope_left f x q n held =
             let before = held_before f x q n held in
             elim (on.held f x q n before.1) [
-              | inr mine ↦ inr mine
+              | inr mine ↦ elim (home_left f x mine.0) [ inl less ↦ inl less | inr at ↦ inr (at.0, mine.1 at.1) ]
               | inl first ↦ elim (same_or_not f low) [
                 | inl e ↦ inr (e, waits.scope x q n (subst (λ z. word_in s.table (content s state.memory [] (OfRoot (OfVariable z x))) q ≡ Held n) e first))
                 | inr other_low ↦ inl (elim (scope f x q n first) [
@@ -441,9 +490,11 @@ module _ (table : Table) (typed : TypedProgram) (effects : Effects) (input : Lis
               (facts_of program effects below.stage) (facts_of program effects below.stage) x w (on.viewed.views x w has) (λ b n loan. loan)
               (reach_left s mid depth (waiting_in state) state.leaks nothing_mid w (ways.OfCell (below.views.cell x))
               (reached (home s low) (sees_only s) (known_gone (home s low) (λ z. ⊥)) below.views mid_view (facts_of program effects below.stage) x w (on.viewed.views x w has)));
-          whole = λ x w z has foreign gone meets. not_elsewhere (home s low) w (waits.holds.named x w has) foreign;
+          whole = λ x w z has foreign gone meets. waiting.2 x w z has foreign gone meets;
+          past = λ x w has given plain k n none. absurd none;
           lends = λ l n none. absurd none;
           far = λ w n none. absurd none;
+          bare = λ w n p none. absurd none;
         }
 
         holds_there : HoldsAt s low below.views left_memory waits.point
@@ -451,10 +502,13 @@ module _ (table : Table) (typed : TypedProgram) (effects : Effects) (input : Lis
           held = λ x n lasts view e. waits.holds.held x n lasts view (word_there x n view e);
           within = λ x n view e. waits.holds.within x n view (word_there x n view e);
           only = waits.holds.only;
-          named = waits.holds.named;
+          lies = waits.holds.lies;
+          owners = waits.holds.owners;
+          passed = waits.holds.passed;
+          own = waits.holds.own;
         }
           where
-            word_there : (x n : ℕ) → is_anonymous (view_of s x) ≡ true
+            word_there : (x n : ℕ) → is_view s x ≡ true
                 → (get_or (variable_slots s (home s low x) x left_memory.variables) 0 no_slot).word ≡ machine.Cell n
                 → (get_or (variable_slots s (home s low x) x state.memory.variables) 0 no_slot).word ≡ machine.Cell n
             word_there x n view e =
@@ -466,21 +520,8 @@ module _ (table : Table) (typed : TypedProgram) (effects : Effects) (input : Lis
         above_left f x n less view e = elim (same_or_not f depth) [
           | inl same_depth ↦ no_word s mid depth x n
               (subst (λ z. (get_or (variable_slots s z x left_memory.variables) 0 no_slot).word ≡ machine.Cell n) same_depth e)
-          | inr ne ↦ above f x n (higher f low (length rest) less low_is ne) view (sym (words_before f x ne view) ∙ e)
+          | inr ne ↦ above.0 f x n (higher f low (length rest) less low_is ne) view (sym (words_before f x ne view) ∙ e)
         ]
-
-        others_left : AreWaiting table typed effects left_state below.stage.frame.sub below.stage.frame.returns (h ∷ others)
-        others_left =
-            all_on table typed effects unmoved_stage local state left_state low
-            (λ f x q n some less held. elim (on.held f x q n (held_before f x q n held).1) [
-              | inl before ↦ before
-              | inr mine ↦ (let same_low = mine.0 in absurd (omega (arith, less, same_low)))
-            ])
-            (λ f x some less view. words_before f x (λ same_depth. (let below_it = low_is in omega (arith, less, same_depth, below_it))) view)
-            below.stage.frame.sub below.stage.frame.returns (h ∷ others) rest stages_there.2 (let same_depth = low_is in omega (arith, same_depth))
-            (λ g has x w there. (let root = kept_low table typed effects unmoved_stage local state below.stage.depth (h ∷ others) between_low w (g.views.cell x) (g, has, x, there, refl) in
-            reach_on w (g.views.cell x) (on.low w root.0 root.1 root.2 root.3 (g.views.cell x)
-            (far table typed effects unmoved_stage local state below.stage.depth (h ∷ others) between_low w (g.views.cell x) (g, has, x, there, refl))))) waiting.1
 
         -- what was gone stays so in the frames that are left, but in the places that were taken
         left_carried : AreCarried s (λ f. f ≡ top.depth → ⊥) below.stage.returns state.memory left_memory
@@ -493,6 +534,54 @@ module _ (table : Table) (typed : TypedProgram) (effects : Effects) (input : Lis
               gone = λ f x q off out gone. left_there.0 f x q (others_off f off) ∙ on.carried.gone f x q (above_off f off) out gone;
               cells = λ c q. left_there.1 c q ∙ on.carried.cells c q;
             }
+
+        -- what was taken begins at variables of the frame, or at package objects of which the others keep nothing
+        homed : (to : Way) → Has below.stage.returns to → IsHomed s below.stage.depth to
+        homed to has = words_taken s below.cells state.memory below.stage.depth their_facts (lasting_of s waits.point.scope) top.frame.returns below.stage.returns waits.taken to has
+
+        spared_to : (to : Way) (has : Has below.stage.returns to)
+            → IsSpared table typed effects unmoved_stage local state below.stage.depth (h ∷ others) between_low (homed to has).1
+        spared_to to has l name lent root =
+            let begin = homed to has in
+            let at : ways.base_of to ≡ OfRoot (OfVariable (home s below.stage.depth begin.1) begin.1) =
+            begin.2 ∙ ap (λ f. OfRoot (OfVariable f begin.1)) begin.3 in
+            let number : number_of to ≡ begin.1 = number_based (home s below.stage.depth) to begin.1 (base_named (home s below.stage.depth) to begin.1 at) at in
+            let (g, there, some, f, keeps, shared, kind, name_is) = lent in
+            let written = waits.written to has (ap (is_package_object s) (number ∙ sym root) ∙ shared) in
+            kept_there table typed effects ready.accepted.effects_are (unused_there table typed effects unmoved_stage local) state below.stage.frame.sub below.stage.frame.returns
+            (h ∷ others) waiting.1 g there some f keeps (ap (λ (z : PlaceName). is_package_object s z.root) name_is ∙ shared)
+            (written_disturbs table typed effects ready.accepted.effects_are (loan_by f) below.stage.frame.sub (place f).root
+            (subst (Has (written_by effects below.stage.frame.sub)) (number ∙ sym root ∙ ap (λ (z : PlaceName). z.root) (sym name_is)) written))
+
+        -- nothing given waits in others
+        none_in : more_frames ≡ h ∷ others → NoneGiven s h × AllByRecursion (NoneGiven s) others
+        none_in same_more = subst (AllByRecursion (NoneGiven s)) same_more (above.1).0.2
+
+        others_left : AreWaiting table typed effects left_state below.stage.frame.sub below.stage.frame.returns (h ∷ others)
+        others_left =
+            all_on table typed effects unmoved_stage local state left_state low
+            (λ f x q n some less held. elim (on.held f x q n (held_before f x q n held).1) [
+              | inl before ↦ before
+              | inr mine ↦ absurd (elim (bool_cases (is_package_object s x)) [
+                | inl shared ↦ (let none : f ≡ 0 = mine.0 ∙ ap (λ b. if b then 0 else low) shared in omega (arith, some, none))
+                | inr own ↦ (let same_low : f ≡ low = mine.0 ∙ ap (λ b. if b then 0 else low) own in omega (arith, less, same_low))
+              ])
+            ])
+            (λ f x some less view. words_before f x (λ same_depth. (let below_it = low_is in omega (arith, less, same_depth, below_it))) view)
+            below.stage.frame.sub below.stage.frame.returns (h ∷ others) rest stages_there.2 (let same_depth = low_is in omega (arith, same_depth))
+            (record {
+              far = λ w n keeps. (let root = kept_low table typed effects unmoved_stage local state below.stage.depth (h ∷ others) between_low w n keeps in
+                  reach_on w n (on.stays w root.0 root.1 root.2 (λ same_depth. (let less = root.3 in omega (arith, less, same_depth)))
+                  (λ to has past. kept_clear table typed effects unmoved_stage local state below.stage.depth (h ∷ others) between_low to (homed to has) (spared_to to has) w n keeps
+                  (base_under to w (past_under to w past))) n
+                  (far table typed effects unmoved_stage local state below.stage.depth (h ∷ others) between_low w n keeps)));
+              bare = bare_still table typed effects unmoved_stage local (h ∷ others) state left_state (λ c q k held. sym (left_carried.cells c q) ∙ held)
+                  (λ y q r k there shared held. left_carried.held 0 y (r ++ q) k (λ same_depth. (let at = deep in omega (arith, same_depth, at)))
+                  (λ (to, has, steps_on, goes). bare_clear table typed effects unmoved_stage local state below.stage.depth (h ∷ others) between_low to (homed to has) (spared_to to has)
+                  (ways.Object (OfVariable 0 y)) (OfRoot (OfVariable 0 y)) q there
+                  (sym (base_along (ways.Object (OfVariable 0 y)) (r ++ q)) ∙ ap ways.base_of goes ∙ base_along to steps_on)) held)
+                  (theirs table typed effects unmoved_stage local state below.stage.depth (h ∷ others) between_low).bare;
+            }) waiting.1
 
         -- the frame below goes on
         returns_to : more_frames ≡ h ∷ others → Along (Goes left_state)
@@ -516,10 +605,33 @@ module _ (table : Table) (typed : TypedProgram) (effects : Effects) (input : Lis
             scope = scope_left;
             holds = holds_there;
             placed = waits.placed;
+            past = waiting.3;
             none_above = above_left;
+            traversals = (
+              (
+                elim (above.1).0.1 [
+                  | inl none ↦ none_given table typed (view_here s left_state) (record { stage = below.stage; views = below.views; cells = [] }) none
+                  | inr (some, returned, none_back, was) ↦ λ other_named other_of q at_q w others same_first seen_there.
+                      given_again s below.stage.depth below.views q.instr (view_here s state) (view_here s left_state) w (was other_named other_of q at_q w others same_first seen_there)
+                      (λ u same_way k reach. reach_on u k (subst (λ z. ways.Reaches (seen s z (waiting_in state) state.leaks) u (ways.OfCell k)) (sym (same_mid none_back)) reach))
+                ],
+                inl (none_in same_more).0,
+                (none_in same_more).1,
+              ),
+              (subst (λ z. AreTraversals table typed (below ∷ z)) same_more (above.1).1.1),
+            );
           },
-          ends_one (ap (λ z. below ∷ z) same_more) left_carried,
+          ends_one below.cells (ap (λ z. below ∷ z) same_more) left_carried,
         )
+
+    -- what is done, and more
+    backs_with : (Q R : Memory → Type 0) (y : Evaluated Memory) → Backs Q y → ((m : Memory) (now : Now) → y ≡ Done m now → R m) → Backs (λ m. Q m × R m) y
+    backs_with Q R (Done m now) back more = (back, more m now refl)
+    backs_with Q R (Raises e now) back more = tt
+    backs_with Q R (Traps e now) never more = never
+
+    done_memory : (m k : Memory) (now begun : Now) → ◌≡◌ {A = Evaluated Memory} (Done m now) (Done k begun) → m ≡ k
+    done_memory m k now begun e = cc
 
     pub ends_call : p.instr ≡ Finish → Along (turn main_turn Finish)
     ends_call is = by_rest rest more_frames refl refl stages running.2 viewed_own awaiting.1
@@ -542,7 +654,10 @@ module _ (table : Table) (typed : TypedProgram) (effects : Effects) (input : Lis
         by_rest (k ∷ r) (h ∷ m) same_rest same_more stages_there waiting well still =
             let there : AreStages (stages_of (below ∷ (h ∷ m))) (below.stage.frame ∷ rest) =
             subst (λ z. AreStages (stages_of (below ∷ (h ∷ m))) (below.stage.frame ∷ z)) (sym same_rest) stages_there in
-            returns_lead main_turn Along (λ mid. Backed h m there waiting well still is mid)
+            returns_lead main_turn Along (λ mid. Backed h m there waiting well still is mid × (top.frame.returns ≡ [] → mid ≡ state.memory))
             ends_raised below.stage.frame k r (ap (λ z. below.stage.frame ∷ z) same_rest)
-            (λ mid on. returns_to h m there waiting well still is mid on same_more)
-            (given_back h m there waiting well still is)
+            (λ mid on. returns_to h m there waiting well still is mid on.0 on.1 same_more)
+            (backs_with (λ mid. Backed h m there waiting well still is mid) (λ mid. top.frame.returns ≡ [] → mid ≡ state.memory)
+            (steps.copied_back main_turn top.frame.returns (steps.start main_turn)) (given_back h m there waiting well still is)
+            (λ mid now e none. done_memory mid state.memory now (steps.start main_turn)
+            (sym e ∙ ap (λ z. steps.copied_back main_turn z (steps.start main_turn)) none)))

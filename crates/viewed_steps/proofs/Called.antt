@@ -1,6 +1,6 @@
 -- Calls: what the actuals are, and how they are passed. Each is a value of one word, a scalar place in a
 -- variable, or another place in a variable of the caller.
-use Rattle.std.proofs.Common.{◌≡◌, refl, ◌&&◌, not, is_some, sym, ap, ◌∙◌, subst, ◌⊎◌, inl, inr, ℕ, append-nil, Bool, true, false, List, [], ◌∷◌, ◌++◌, map, Option, Some, None, if◌then◌else◌}
+use Rattle.std.proofs.Common.{◌≡◌, refl, ◌&&◌, ◌||◌, not, is_some, sym, ap, ◌∙◌, subst, ◌⊎◌, inl, inr, ℕ, append-nil, Bool, true, false, List, [], ◌∷◌, ◌++◌, map, Option, Some, None, if◌then◌else◌, arith, ◌<◌}
 use Rattle.spark_base.specs.Lists.{Has}
 use Rattle.spark_base.proofs.Lists.{Has-append_cases}
 use Rattle.spark_base.specs.declared.position.Pos.{Pos}
@@ -11,12 +11,11 @@ use Rattle.place_names.specs.declared.act.Mode.TheVariants as mode
 use Rattle.place_names.specs.declared.act.Placed.{Placed}
 use Rattle.place_names.specs.declared.fact.Fact.{Fact}
 use Rattle.place_names.specs.Names.{Name as PlaceName}
-use Rattle.place_names.specs.Facts.{adds, effect}
-use Rattle.type_definitions.specs.Types.{Table, full, is_scalar, is_owning, parts}
+use Rattle.place_names.specs.Facts.{adds}
+use Rattle.type_definitions.specs.Types.{shape_of, full, is_scalar, is_owning, parts, owns_of, words}
 use Rattle.typed_tree.specs.Trees.{TypedTree, Number, Literal, Text, Name, Component as IntoComponent, Designated, Element, Call, EndOfFile, Parens, Image, Unary, Binary, Short, IsNull, Aggregate, Alike, New, NoMore, More}
 use Rattle.typed_tree.specs.Trees as typed
-use Rattle.flow_paths.specs.Objects.{Typing, Signature, object_at, sub_at, is_anonymous, is_observer, is_named_access, is_package_object, view_of, traverses, first_traversed, Passing, ByValue, passing, passing_by, passings}
-use Rattle.flow_paths.specs.Objects as objects
+use Rattle.flow_paths.specs.Objects.{Typing, object_at, sub_at, is_anonymous, is_named_access, is_package_object, view_of, traverses, first_traversed, Passing, ByValue, passing, passing_by, passings}
 use Rattle.flow_paths.specs.Names.{Written, written, is_empty, has_call, waiting as waits_in, name_of}
 use Rattle.flow_paths.specs.Laid.{FlowProgram, flow_typing}
 use Rattle.flow_paths.specs.Acts.{placed, naming, used, acts_in, index_acts, actual_act, actual_acts, actual_values}
@@ -24,124 +23,53 @@ use Rattle.machine.specs.Words.{access_offsets, fits_type}
 use Rattle.machine.specs.Words as machine
 use Rattle.machine.specs.Memory.{Slot, Memory, Base, Place, fresh, no_slot, variable_slots, slots_at, slots_of, words_of, gone_at, with_slots, stored, moved_out, declared}
 use Rattle.machine.specs.Memory as memory
-use Rattle.machine.specs.Evaluate.{Here, Now, AsValue, AsView, Evaluated, Done, Raises, Traps, ConstraintError, followed_by, evaluate, indexed, steps_of, walked, place_of, variable_place, component_place, element_place, checked, value, viewed}
+use Rattle.machine.specs.Evaluate.{Here, Now, AsValue, AsView, Evaluated, Done, Raises, Traps, ConstraintError, followed_by, evaluate, indexed, steps_of, walked, place_of, variable_place, component_place, element_place, checked, value, viewed, Use, held_or_taken}
 use Rattle.machine.specs.Evaluate as run
 use Rattle.machine.specs.Calls.{Passed, Value, From, To, type_of, value_passed, passed, all_passed}
 use Rattle.machine.specs.States.{Waiting, Leak, sub_of}
 use Rattle.machine.specs.Owners.{is_in}
-use Rattle.owned_ways.specs.Ways.{Step, Root, Component, OfVariable, Loc, OfRoot, Way, Object, Into, Empty, Named, Past, IsRooted, Reaches, IsSame, AllowsAll, after, part, along}
+use Rattle.owned_ways.specs.Ways.{Step, Root, Component, OfVariable, Loc, OfRoot, Way, Object, Into, Empty, Named, Past, Under, IsRooted, Reaches, IsSame, AllowsAll, after, part, along, Allows}
 use Rattle.owned_ways.specs.Ways as ways
+use Rattle.owned_ways.proofs.Locations.{under_along, under_itself}
 use Rattle.part_offsets.specs.Parts.{type_in, offset_in, has_part, IsSettled}
-use Rattle.soundness.specs.Seen.{IsNear, Content, content, trunk, steps_in, seen, home, is_view_formal}
-use Rattle.soundness.specs.Typed.{Matches, OwnsByShape, Kept, Spot, IsFixed, loc_of}
-use Rattle.soundness.specs.Sound.{goes_through_none, AreCopied}
+use Rattle.soundness.specs.Seen.{IsNear, content, trunk, steps_in, seen, home, is_view_formal, in_hand}
+use Rattle.soundness.specs.Typed.{Matches, OwnsByShape, Kept, Spot, IsFixed, loc_of, Points}
+use Rattle.soundness.specs.Sound.{goes_through_none}
 use Rattle.typed_laws.specs.Needed.{Stays, Leads, IndexLaw, IsPlace as IsPlaceOf}
-use Rattle.soundness.proofs.Contents.{bool_cases, word_no, word_part}
-use Rattle.soundness.proofs.Joined.{leaf_join, steps_part}
-use Rattle.soundness.proofs.Steps.{no_leaf}
-use Rattle.soundness.proofs.Fixed.{matches_scalar}
-use Rattle.soundness.proofs.Scalars.{acts, acts_append, after_append, allows_both, read_effect, number_along, named_along}
+use Rattle.soundness.proofs.Contents.{bool_cases}
+use Rattle.soundness.proofs.Joined.{steps_part}
+use Rattle.soundness.proofs.Steps.{matches_words, taken_slots, room}
+use Rattle.soundness.proofs.Fixed.{matches_scalar, plain_word}
+use Rattle.soundness.proofs.Scalars.{acts, acts_append, allows_both, number_along, named_along}
 use Rattle.soundness.proofs.Stays.{One, Quiet, quiet_then, quiet_from}
 use Rattle.soundness.proofs.Taking.{Takes}
-use Rattle.soundness.proofs.Walks.{Lead, way_along, Walked}
+use Rattle.soundness.proofs.Walks.{way_along, Walked}
 use Rattle.viewed_soundness.proofs.Walks.{walk}
 use Rattle.soundness.proofs.Passing.{IsRead, AreReads, AddNone, IsValue, TakesAll, plain_type, reads_keep, read_adds_none, signature_is}
-use Rattle.owned_loans.specs.Views.{Around, Views, expand, ExcusedBy, Viewed}
-use Rattle.owned_loans.proofs.Moves.{IsPlace}
+use Rattle.owned_loans.specs.Views.{Around, Views, expand, ExcusedBy, Viewed, IsForeign}
+use Rattle.owned_loans.proofs.Moves.{IsPlace, expand_along, reached}
+use Rattle.owned_loans.proofs.Meeting.{stands_base}
 use Rattle.viewed_soundness.specs.Holds.{IsNamed, PartsAreNamed, Holds, sees_only, IsOwners}
-use Rattle.viewed_soundness.proofs.Names.{Starts, true_false, is_place}
-use Rattle.viewed_soundness.proofs.Stays.{Goes as GoesAlong, taking, steps_taking}
+use Rattle.viewed_soundness.proofs.Names.{Starts, true_false, no_parts_in, plain_named, is_place}
+use Rattle.viewed_soundness.proofs.Stays.{Goes as GoesAlong, taking, steps_taking, name_quiet}
 use Rattle.viewed_soundness.proofs.Evaluated.{matches_named}
-use Rattle.viewed_steps.specs.Taken.{IsInside}
-use Rattle.viewed_steps.specs.Sound.{IsScalarObject, IsKindOfFormal}
-use Rattle.viewed_steps.specs.Ready.{IsOwnPlace, IsActualTo, AreActualsTo}
+use Rattle.viewed_steps.specs.Taken.{Lodge}
+use Rattle.viewed_steps.specs.Sound.{IsScalarObject, IsShown, IsKindOfFormal}
+use Rattle.viewed_steps.specs.Ready.{IsOwnPlace, IsSeen, IsActualTo, AreActualsTo, IsCopyOf}
+use Rattle.viewed_steps.proofs.Views.{AreAccess, formal_view, scalar_no_view}
+use Rattle.viewed_steps.proofs.Seeing.{IsSeenAs, IsClear, AreClear, seen_given}
 use Rattle.viewed_steps.proofs.Read.{scalar_named}
-use Rattle.viewed_steps.proofs.Released.{nothing_written}
+use Rattle.viewed_steps.proofs.Between.{base_along}
+use Rattle.viewed_steps.proofs.Lodged.{spot_lodged}
+use Rattle.viewed_steps.proofs.Aside.{cell_name}
+use Rattle.viewed_steps.proofs.Direct.{IsDirect, steps_direct, past_none, direct_leads, direct_itself, IsIn, walked_in, both_quiet, direct_part, part_reached}
+use Rattle.viewed_steps.proofs.LaidOut.{IsOwnPut, IsPlainAt, IsOpenActual, AreOpenActuals}
+use Rattle.viewed_steps.proofs.Entered.{IsFit}
 use Rattle.viewed_steps.proofs.Lent.{ends, Spare, spare_both, spare_naming}
-
--- ---- names that go through no access value
-
--- Steps of a name that dereference nothing.
-abbrev IsDirect : List run.Step → Type 0
-IsDirect [] = Unit {0}
-IsDirect (run.ToComponent i ∷ way) = IsDirect way
-IsDirect (run.ToElement n ∷ way) = IsDirect way
-IsDirect (run.ToDesignated ∷ way) = ⊥
-
-abbrev GivesDirect : Evaluated (List run.Step) → Type 0
-GivesDirect (Done way n) = IsDirect way
-GivesDirect (Raises e n) = Unit {0}
-GivesDirect (Traps t n) = Unit {0}
-
-direct_then : {A : Type 0} (y : Evaluated A) (f : A → Now → Evaluated (List run.Step)) → ((a : A) (n : Now) → GivesDirect (f a n)) → GivesDirect (followed_by y f)
-direct_then (Done a n) f each = each a n
-direct_then (Raises e n) f each = tt
-direct_then (Traps t n) f each = tt
-
-direct_on : (y : Evaluated (List run.Step)) (f : List run.Step → Now → Evaluated (List run.Step)) → GivesDirect y
-    → ((way : List run.Step) (n : Now) → IsDirect way → GivesDirect (f way n)) → GivesDirect (followed_by y f)
-direct_on (Done way n) f direct each = each way n direct
-direct_on (Raises e n) f direct each = tt
-direct_on (Traps t n) f direct each = tt
-
-steps_direct : (h : Here) (path : TypedTree) → goes_through_none path ≡ true → (now : Now) → GivesDirect (steps_of h path now)
-unfolding goes_through_none steps_of
-steps_direct h (IntoComponent i rest) direct now =
-    direct_on (steps_of h rest now) (λ way n. Done (run.ToComponent i ∷ way) n) (steps_direct h rest direct now) (λ way n d. d)
-steps_direct h (Designated rest) direct now = cc
-steps_direct h (Element index low high rest) direct now =
-    direct_then (evaluate h AsValue index now)
-    (λ ws n. followed_by (indexed low high ws n) (λ i n. followed_by (steps_of h rest n) (λ way n. Done (run.ToElement i ∷ way) n)))
-    (λ ws n. direct_then (indexed low high ws n) (λ i n. followed_by (steps_of h rest n) (λ way n. Done (run.ToElement i ∷ way) n))
-    (λ i m. direct_on (steps_of h rest m) (λ way n. Done (run.ToElement i ∷ way) n) (steps_direct h rest direct m) (λ way n d. d)))
-steps_direct h path direct now = tt
-
--- they stay in their variable, and go through nothing
-past_none : (way : List run.Step) → IsDirect way → (w : Way) → ((v : Way) → Past v w → ⊥) → (v : Way) → Past v (way_along way w) → ⊥
-past_none [] direct w none v past = none v past
-past_none (run.ToComponent i ∷ way) direct w none v past = past_none way direct (Into w (Component i)) none v past
-past_none (run.ToElement n ∷ way) direct w none v past = past_none way direct (Into w (ways.Element n)) none v past
-past_none (run.ToDesignated ∷ way) direct w none v past = direct
-
-direct_leads : (table : Table) (t u : ℕ) (way : List run.Step) → IsDirect way → Starts table t way u → Lead table t way u
-direct_leads table t u [] direct lead = lead
-direct_leads table t u (run.ToComponent i ∷ way) direct lead = lead
-direct_leads table t u (run.ToElement n ∷ way) direct lead = lead
-direct_leads table t u (run.ToDesignated ∷ way) direct lead = absurd direct
-
--- and stand for themselves
-direct_itself : (v : Views) (way : List run.Step) → IsDirect way → (w : Way) → expand v w ≡ w → expand v (way_along way w) ≡ way_along way w
-direct_itself v [] direct w e = e
-direct_itself v (run.ToComponent i ∷ way) direct w e = direct_itself v way direct (Into w (Component i)) (ap (λ z. Into z (Component i)) e)
-direct_itself v (run.ToElement n ∷ way) direct w e = direct_itself v way direct (Into w (ways.Element n)) (ap (λ z. Into z (ways.Element n)) e)
-direct_itself v (run.ToDesignated ∷ way) direct w e = absurd direct
-
-abbrev IsIn : Base → Evaluated Place → Type 0
-IsIn b (Done k n) = k.base ≡ b
-IsIn b (Raises e n) = Unit {0}
-IsIn b (Traps t n) = Unit {0}
-
-walked_in : (s : Typing) (way : List run.Step) → IsDirect way → (k : Place) (now : Now) → IsIn k.base (walked s way k now)
-walked_in s [] direct k now = refl
-walked_in s (run.ToComponent i ∷ way) direct k now = walked_in s way direct (component_place s.table i k) now
-walked_in s (run.ToElement n ∷ way) direct k now = walked_in s way direct (element_place s.table n k) now
-walked_in s (run.ToDesignated ∷ way) direct k now = absurd direct
-
-both_quiet : (now : Now) (P : List run.Step → Type 0) (y : Evaluated (List run.Step)) → Quiet now P y → GivesDirect y → Quiet now (λ way. P way × IsDirect way) y
-both_quiet now P (Done way n) is direct = (is.0, (is.1, direct))
-both_quiet now P (Raises e n) is direct = is
-both_quiet now P (Traps t n) is direct = is
-
--- the ways of such names are parts of variables
-direct_part : (r : Root) (way : List run.Step) → IsDirect way → (p : List Step) → (q : List Step) × (way_along way (along (Object r) p) ≡ along (Object r) q)
-direct_part r [] direct p = (p, refl)
-direct_part r (run.ToComponent i ∷ way) direct p = direct_part r way direct (Component i ∷ p)
-direct_part r (run.ToElement n ∷ way) direct p = direct_part r way direct (ways.Element n ∷ p)
-direct_part r (run.ToDesignated ∷ way) direct p = absurd direct
-
-part_reached : (view : ways.View) (r : Root) (q : List Step) (l : Loc) → Reaches view (along (Object r) q) l → l ≡ part (OfRoot r) q
-part_reached view r [] l is = is
-part_reached view r (i ∷ q) l (m, reach, is) = is ∙ ap (λ z. ways.Inside z i) (part_reached view r q m reach)
+use Rattle.soundness.proofs.Keeping.{top_points, retyped_points, scalar}
+use Rattle.soundness.proofs.Lasting.{keeps}
+use Rattle.owned_loans.proofs.Allowed.{read_open}
+use Rattle.std.proofs.lemmas.List.{length-map}
 
 -- ---- acts that read
 
@@ -167,6 +95,14 @@ naming_adds (Some w) act_of none p (inr never) f new = never
 module _ (s : Typing) (own_law : OwnsByShape s.table) where
   used_read : (m : PlaceName) (t : ℕ) → is_scalar (full s.table t) ≡ true → used s m t ≡ act.Read m
   used_read m t e = ap (λ b. if b then act.Move m (parts s.table t) else act.Read m) (plain_type s own_law t e)
+
+  -- a type that matches one that owns nothing owns nothing
+  pub unowned : (t u : ℕ) → Matches s.table t u → is_owning s.table u ≡ false → is_owning s.table t ≡ false
+  unowned t u (inl e) none = own_law t ∙ ap (owns_of (is_owning s.table)) e ∙ sym (own_law u) ∙ none
+  unowned t u (inr both) none = plain_type s own_law t both.0
+
+  pub unowned_read : (m : PlaceName) (t u : ℕ) → Matches s.table t u → is_owning s.table u ≡ false → used s m t ≡ act.Read m
+  unowned_read m t u fits none = ap (λ b. if b then act.Move m (parts s.table t) else act.Read m) (unowned t u fits none)
 
   mutual
     unfolding Stays Leads acts_in
@@ -215,62 +151,66 @@ module _ (s : Typing) (own_law : OwnsByShape s.table) where
 
 -- ---- how actuals are passed to a procedure
 
--- By the mode: those of mode `in` by value.
-abbrev pub ByModeFor : Mode → Bool → Type 0
-ByModeFor m owning = m ≡ mode.In → owning ≡ false
-
 module _ (s : Typing) (own_law : OwnsByShape s.table) (procedure : Bool) where
   abbrev pub way_to : ℕ → Passing
   way_to x = passing s procedure x
 
-  -- a formal of mode `in` is of a scalar type
-  pub in_plain : (x : ℕ) → IsKindOfFormal s x → ByModeFor (object_at s x).mode (is_owning s.table (object_at s x).of)
-  in_plain x (inl plain) is = plain_type s own_law (object_at s x).of plain
-  in_plain x (inr (in_out, own)) is = (let no : mode.InOut ≡ mode.In = sym in_out ∙ is in cc)
+  abbrev pub owning_of : ℕ → Bool
+  owning_of x = is_owning s.table (object_at s x).of
 
-  abbrev pub head_of : Mode → TypedTree → List Placed
-  head_of mode.In e = acts_in s e
-  head_of m e = index_acts s e
+  -- Those of mode `in` are evaluated where the formal owns nothing of them by its type; of others the indexes are.
+  abbrev pub head_of : Mode → Bool → TypedTree → List Placed
+  head_of mode.In false e = acts_in s e
+  head_of m owning e = index_acts s e
 
-  head_is : (m : Mode) (owning access : Bool) → ByModeFor m owning → (e : TypedTree) (ways : List Passing) (rest : TypedTree)
-      → actual_values s (passing_by m owning access ∷ ways) (More e rest) ≡ head_of m e ++ actual_values s ways rest
-  head_is mode.In owning access fits e ways rest =
-      ap (λ b. actual_values s ((if b then objects.Place mode.In b access else ByValue) ∷ ways) (More e rest)) (fits refl)
-  head_is mode.Out owning access fits e ways rest = refl
-  head_is mode.InOut owning access fits e ways rest = refl
+  head_is : (m : Mode) (owning access : Bool) → (e : TypedTree) (ways : List Passing) (rest : TypedTree)
+      → actual_values s (passing_by m owning access ∷ ways) (More e rest) ≡ head_of m owning e ++ actual_values s ways rest
+  head_is mode.In false access e ways rest = refl
+  head_is mode.In true access e ways rest = refl
+  head_is mode.Out owning access e ways rest = refl
+  head_is mode.InOut owning access e ways rest = refl
 
-  pub head_values_are : (x : ℕ) → IsKindOfFormal s x → (e : TypedTree) (ways : List Passing) (rest : TypedTree)
-      → actual_values s (way_to x ∷ ways) (More e rest) ≡ head_of (object_at s x).mode e ++ actual_values s ways rest
-  head_values_are x kind e ways rest =
-      head_is (object_at s x).mode (is_owning s.table (object_at s x).of) (procedure && is_named_access (view_of s x)) (in_plain x kind) e ways rest
+  pub head_values_are : (x : ℕ) → (e : TypedTree) (ways : List Passing) (rest : TypedTree)
+      → actual_values s (way_to x ∷ ways) (More e rest) ≡ head_of (object_at s x).mode (owning_of x) e ++ actual_values s ways rest
+  head_values_are x e ways rest = head_is (object_at s x).mode (owning_of x) (procedure && is_named_access (view_of s x)) e ways rest
 
-  pub head_of_reads : (x : ℕ) (m : Mode) (e : TypedTree) → IsActualTo s x m e → AreReads (head_of m e)
-  head_of_reads x mode.In e stays = reads_in s own_law e stays
-  head_of_reads x mode.Out e place = index_reads s own_law e place.0 place.1
-  head_of_reads x mode.InOut e place = index_reads s own_law e place.0 place.1
+  seen_reads : (x : ℕ) (e : TypedTree) → IsSeen s x e → AreReads (index_acts s e)
+  seen_reads x typed.Null seen = no_reads
+  seen_reads x (Name p y path u) seen = index_reads s own_law (Name p y path u) u (seen.0, refl)
+  seen_reads x e seen = absurd seen
 
-  none_of : (m : Mode) (owning access : Bool) → ByModeFor m owning → (ways : List Passing) (actuals : TypedTree) → is_empty actuals ≡ true
+  copy_reads : (x : ℕ) (e : TypedTree) → owning_of x ≡ false → IsCopyOf s x e → AreReads (acts_in s e)
+  unfolding acts_in
+  copy_reads x (Name p y path u) plain (leads, fits) =
+      both_reads (acts_in s path) (placed p (used s (name_of y path) u) ∷ []) (index_reads s own_law (Name p y path u) u (leads, refl))
+      (one_read (placed p (used s (name_of y path) u)) (name_of y path, inl (unowned_read s own_law (name_of y path) u (object_at s x).of fits plain)))
+  copy_reads x e plain never = absurd never
+
+  pub head_of_reads : (x : ℕ) (m : Mode) (owning : Bool) (e : TypedTree) → owning_of x ≡ owning → IsActualTo s x m e → AreReads (head_of m owning e)
+  head_of_reads x mode.In false e is stays = elim (stays.0 is) [ inl plain ↦ reads_in s own_law e plain.1 | inr copy ↦ copy_reads x e is copy.1 ]
+  head_of_reads x mode.In true e is stays = seen_reads x e (stays.1 is)
+  head_of_reads x mode.Out owning e is place = index_reads s own_law e place.0 place.1
+  head_of_reads x mode.InOut owning e is place = index_reads s own_law e place.0 place.1
+
+  none_of : (m : Mode) (owning access : Bool) (ways : List Passing) (actuals : TypedTree) → is_empty actuals ≡ true
       → AreReads (actual_values s (passing_by m owning access ∷ ways) actuals)
-  none_of mode.In owning access fits ways actuals none =
-      subst (λ b. AreReads (actual_values s ((if b then objects.Place mode.In b access else ByValue) ∷ ways) actuals)) (sym (fits refl)) (by_value ways actuals none)
-    where
-      by_value : (ways : List Passing) (actuals : TypedTree) → is_empty actuals ≡ true → AreReads (actual_values s (ByValue ∷ ways) actuals)
-      by_value ways (More e rest) none = cc
-      by_value ways actuals none = λ p has. absurd has
-  none_of mode.Out owning access fits ways (More e rest) none = cc
-  none_of mode.Out owning access fits ways actuals none = λ p has. absurd has
-  none_of mode.InOut owning access fits ways (More e rest) none = cc
-  none_of mode.InOut owning access fits ways actuals none = λ p has. absurd has
+  none_of mode.In false access ways (More e rest) none = cc
+  none_of mode.In false access ways actuals none = λ p has. absurd has
+  none_of mode.In true access ways (More e rest) none = cc
+  none_of mode.In true access ways actuals none = λ p has. absurd has
+  none_of mode.Out owning access ways (More e rest) none = cc
+  none_of mode.Out owning access ways actuals none = λ p has. absurd has
+  none_of mode.InOut owning access ways (More e rest) none = cc
+  none_of mode.InOut owning access ways actuals none = λ p has. absurd has
 
-  pub values_are_read : (formals : List ℕ) (actuals : TypedTree) → ((x : ℕ) → Has formals x → IsKindOfFormal s x) → AreActualsTo s formals actuals
-      → AreReads (actual_values s (map way_to formals) actuals)
-  values_are_read [] actuals kinds stay = λ p has. absurd has
-  values_are_read (x ∷ formals) (More e rest) kinds stay =
-      subst AreReads (sym (head_values_are x (kinds x (inl refl)) e (map way_to formals) rest))
-      (both_reads (head_of (object_at s x).mode e) (actual_values s (map way_to formals) rest)
-      (head_of_reads x (object_at s x).mode e stay.0) (values_are_read formals rest (λ y has. kinds y (inr has)) stay.1))
-  values_are_read (x ∷ formals) actuals kinds stay =
-      none_of (object_at s x).mode (is_owning s.table (object_at s x).of) (procedure && is_named_access (view_of s x)) (in_plain x (kinds x (inl refl))) (map way_to formals) actuals refl
+  pub values_are_read : (formals : List ℕ) (actuals : TypedTree) → AreActualsTo s formals actuals → AreReads (actual_values s (map way_to formals) actuals)
+  values_are_read [] actuals stay = λ p has. absurd has
+  values_are_read (x ∷ formals) (More e rest) stay =
+      subst AreReads (sym (head_values_are x e (map way_to formals) rest))
+      (both_reads (head_of (object_at s x).mode (owning_of x) e) (actual_values s (map way_to formals) rest)
+      (head_of_reads x (object_at s x).mode (owning_of x) e refl stay.0) (values_are_read formals rest stay.1))
+  values_are_read (x ∷ formals) actuals stay =
+      none_of (object_at s x).mode (owning_of x) (procedure && is_named_access (view_of s x)) (map way_to formals) actuals refl
 
   -- those of places that are copied back to add no fact, and end no scope
   copy_adds : (m : Mode) (owning access : Bool) (e : TypedTree) → AddNone (actual_act (passing_by m owning access) e)
@@ -288,11 +228,11 @@ module _ (s : Typing) (own_law : OwnsByShape s.table) (procedure : Bool) where
       ]
   copies_add (x ∷ formals) actuals p has f new = has
 
-  pub call_adds_none : (formals : List ℕ) (actuals : TypedTree) → ((x : ℕ) → Has formals x → IsKindOfFormal s x) → AreActualsTo s formals actuals
+  pub call_adds_none : (formals : List ℕ) (actuals : TypedTree) → AreActualsTo s formals actuals
       → AddNone (actual_values s (map way_to formals) actuals ++ actual_acts (map way_to formals) actuals)
-  call_adds_none formals actuals kinds stay p has f new =
+  call_adds_none formals actuals stay p has f new =
       elim (Has-append_cases (actual_values s (map way_to formals) actuals) (actual_acts (map way_to formals) actuals) p has) [
-        | inl l ↦ read_adds_none p (values_are_read formals actuals kinds stay p l) f new
+        | inl l ↦ read_adds_none p (values_are_read formals actuals stay p l) f new
         | inr r ↦ copies_add formals actuals p r f new
       ]
 
@@ -329,26 +269,8 @@ spare_reads s (p ∷ ps) reads = (one p (reads p (inl refl)), spare_reads s ps (
     one p (m, inl e) = ap (ends s) e
     one p (m, inr e) = ap (ends s) e
 
--- ---- what is passed
-
--- A place in a variable of a frame: the way of the name.
-abbrev pub IsOwnPut : Typing → ℕ → ℕ → TypedTree → Place → Type 0
-IsOwnPut s depth x (Name p y path u) k =
-    (to : Way) × (inside : IsInside s depth k to) × (ways.name_of to ≡ name_of y path) × (inside.object ≡ y) × Matches s.table k.of (object_at s x).of
-IsOwnPut s depth x e k = ⊥
-
--- By the mode: a scalar value, a scalar place in a variable, or another place in a variable of the frame.
-abbrev pub IsLaidOne : Typing → ℕ → ℕ → Mode → TypedTree → Passed → Type 0
-IsLaidOne s depth x mode.In e (Value ws) = One ws
-IsLaidOne s depth x mode.Out e (To k) = IsFixed s k
-IsLaidOne s depth x mode.InOut e (From k) =
-    (IsScalarObject s x × IsFixed s k) ⊎ ((is_scalar (full s.table (object_at s x).of) ≡ false) × IsOwnPut s depth x e k)
-IsLaidOne s depth x m e a = ⊥
-
-abbrev pub AreLaidOut : Typing → ℕ → List ℕ → TypedTree → List Passed → Type 0
-AreLaidOut s depth (x ∷ formals) (More e rest) (a ∷ passed) = IsLaidOne s depth x (object_at s x).mode e a × AreLaidOut s depth formals rest passed
-AreLaidOut s depth (x ∷ formals) (More e rest) [] = ⊥
-AreLaidOut s depth formals actuals passed = passed ≡ []
+pub neither : (a b : Bool) → a ≡ false → b ≡ false → a || b ≡ false
+neither a b e f = ap (λ z. z || b) e ∙ f
 
 -- ---- the actuals
 
@@ -359,14 +281,16 @@ module _ (h : Here) (settled : IsSettled h.typing.table) (hands : List Waiting) 
     (holds : Holds h.typing h.frame v m)
     (alone : (w : Way) → IsNear h.frame w → other.gone w → ⊥)
     (live : (w : Way) (l : Loc) → IsOwners h.typing w → Reaches (seen h.typing m hands leaks) w l → (content h.typing m hands (trunk l)).owns ≡ true)
-    (no_formals : (x : ℕ) → is_view_formal h.typing x ≡ false)
+    (in_formals : AreAccess h.typing)
     (index_law : IndexLaw)
     (own_law : OwnsByShape h.typing.table)
-    (parts_named : PartsAreNamed h.typing.table) (procedure : Bool) where
+    (parts_named : PartsAreNamed h.typing.table)
+    (formals_low : (x : ℕ) (w : Way) → v.way x ≡ Some w → is_view_formal h.typing x ≡ true → (foreign : IsForeign (home h.typing h.frame) w) × (foreign.0 < h.frame) × (0 < foreign.0))
+    (procedure : Bool) where
   abbrev at : List (List machine.Word) → Now
   at ws = record { memory = m; waits = ws }
 
-  abbrev ways_of : List ℕ → List Passing
+  abbrev pub ways_of : List ℕ → List Passing
   ways_of formals = map (way_to h.typing own_law procedure) formals
 
   abbrev IsKind : ℕ → Type 0
@@ -396,6 +320,77 @@ module _ (h : Here) (settled : IsSettled h.typing.table) (hands : List Waiting) 
       (λ ws one. quiet_then (at on) One (λ a. IsValue a) (checked h (type_of h x) ws (at on)) value_passed (checked_quiet on One (type_of h x) ws one)
       (λ us single. (refl, single)))
 
+  -- a scalar value fits
+  scalar_fit : (x : ℕ) (ws : List machine.Word) → is_scalar (full h.typing.table (object_at h.typing x).of) ≡ true → One ws → IsFit h.typing m (object_at h.typing x).of ws
+  scalar_fit x ws plain one =
+      let waiting : Waiting = record { of = (object_at h.typing x).of; words = ws } in (
+        one ∙ sym (plain_word h.typing settled (object_at h.typing x).of plain),
+        top_points h.typing settled m waiting hands (scalar h.typing settled m waiting hands plain kept).points,
+      )
+
+  -- and so does a copy of what a place has
+  held_fit : (on : List (List machine.Word)) (u : Use) (w : Way) (t x : ℕ) → is_owning h.typing.table t ≡ false → Matches h.typing.table t (object_at h.typing x).of → (y : Evaluated Place)
+      → Walked h.typing settled hands leaks m on w t y → Quiet (at on) (IsFit h.typing m (object_at h.typing x).of) (followed_by y (held_or_taken h u))
+  held_fit on u w t x none fits (Done k n) (l, same, spot, reaches, of) = by_use u
+    where
+      fit : IsFit h.typing m (object_at h.typing x).of (words_of h.typing m k)
+      fit = (
+        length-map (slots_of h.typing m k) (λ (z : Slot). z.word)
+            ∙ (taken_slots h.typing settled m k (room h.typing settled m hands kept k l spot)).0
+            ∙ ap (words h.typing.table) of ∙ matches_words h.typing.table settled t (object_at h.typing x).of fits,
+        retyped_points h.typing settled m t (object_at h.typing x).of (words_of h.typing m k) fits
+            (subst (λ z. Points h.typing m (in_hand (record { of = z; words = words_of h.typing m k }))) of
+            (top_points h.typing settled m (record { of = k.of; words = words_of h.typing m k }) hands ((keeps h.typing settled own_law).copied m hands k l spot kept).points)),
+      )
+
+      by_use : (u : Use) → Quiet (at on) (IsFit h.typing m (object_at h.typing x).of) (held_or_taken h u k n)
+      by_use AsView = (same, subst (λ (z : Now). IsFit h.typing m (object_at h.typing x).of (words_of h.typing z.memory k)) (sym same) fit)
+      by_use AsValue = (
+        ap (λ b. if b then record n { memory = moved_out h.typing k n.memory } else n) (ap (is_owning h.typing.table) of ∙ none) ∙ same,
+        subst (λ (z : Now). IsFit h.typing m (object_at h.typing x).of (words_of h.typing z.memory k)) (sym same) fit,
+      )
+  held_fit on u w t x none fits (Raises e n) is = is
+  held_fit on u w t x none fits (Traps e n) never = absurd never
+
+  copy_evaluated : (before on : List (List machine.Word)) (u : Use) (x : ℕ) (e : TypedTree) → is_owning h.typing.table (object_at h.typing x).of ≡ false → IsCopyOf h.typing x e
+      → Takes (waits_in e) before on → AllowsAll facts (acts (acts_in h.typing e)) → Quiet (at on) (IsFit h.typing m (object_at h.typing x).of) (evaluate h u e (at before))
+  unfolding evaluate waits_in acts_in
+  copy_evaluated before on u x (Name p y path t) plain (leads, fits) takes allowed =
+      let owns = unowned h.typing own_law t (object_at h.typing x).of fits plain in
+      let is : used h.typing (name_of y path) t ≡ act.Read (name_of y path) = unowned_read h.typing own_law (name_of y path) t (object_at h.typing x).of fits plain in
+      let each = allows_both facts (acts (acts_in h.typing path)) (used h.typing (name_of y path) t ∷ [])
+      (subst (AllowsAll facts) (acts_append (acts_in h.typing path) (placed p (used h.typing (name_of y path) t) ∷ [])) allowed) in
+      let inner = steps_taking h settled hands leaks m waits other facts v kept well holds alone live index_law own_law parts_named (object_at h.typing y).of t path leads before on takes each.0 in
+      let reads : Allows facts (act.Read (name_of y path)) = subst (Allows facts) is ((subst (λ z. AllowsAll z (used h.typing (name_of y path) t ∷ [])) inner.1 each.1).0) in
+      quiet_then (at on) (λ way. GoesAlong h.typing.table (object_at h.typing y).of t path way) (IsFit h.typing m (object_at h.typing x).of) (steps_of h path (at before))
+      (λ way now. followed_by (walked h.typing way (variable_place h y) now) (held_or_taken h u)) inner.0
+      (λ way goes. held_fit on u (expand v (way_along way (Object (OfVariable (home h.typing h.frame y) y)))) t x owns fits
+      (walked h.typing way (variable_place h y) (at on))
+      (name_quiet h settled hands leaks m on other facts v kept well holds alone live index_law own_law parts_named y path t way goes
+      (λ w named called. read_open facts w (subst (λ z. Allows facts (act.Read z)) (sym called) reads))))
+  copy_evaluated before on u x e plain never takes allowed = absurd never
+
+  -- what is passed is such a copy
+  abbrev IsCopied : ℕ → Passed → Type 0
+  IsCopied x (Value ws) = IsFit h.typing m (object_at h.typing x).of ws
+  IsCopied x a = ⊥
+
+  copy_given : (before on : List (List machine.Word)) (x : ℕ) (e : TypedTree) → is_owning h.typing.table (object_at h.typing x).of ≡ false → IsCopyOf h.typing x e → Takes (waits_in e) before on
+      → AllowsAll facts (acts (acts_in h.typing e)) → Quiet (at on) (IsCopied x) (passed h ByValue x e (at before))
+  copy_given before on x e plain copy takes allowed =
+      quiet_then (at on) Fits (IsCopied x) (if is_anonymous (view_of h.typing x) then viewed h e (at before) else value h e (at before))
+      (λ ws now. followed_by (checked h (type_of h x) ws now) value_passed)
+      (by_kind (is_anonymous (view_of h.typing x)))
+      (λ ws fit. quiet_then (at on) Fits (IsCopied x) (checked h (type_of h x) ws (at on)) value_passed (checked_quiet on Fits (type_of h x) ws fit)
+      (λ us fits. (refl, fits)))
+    where
+      Fits : List machine.Word → Type 0
+      Fits = IsFit h.typing m (object_at h.typing x).of
+
+      by_kind : (b : Bool) → Quiet (at on) Fits (if b then viewed h e (at before) else value h e (at before))
+      by_kind true = copy_evaluated before on AsView x e plain copy takes allowed
+      by_kind false = copy_evaluated before on AsValue x e plain copy takes allowed
+
   -- ---- places
 
   -- A name that stands for itself leads to the place.
@@ -406,45 +401,116 @@ module _ (h : Here) (settled : IsSettled h.typing.table) (hands : List Waiting) 
   Reached e k = ⊥
 
   abbrev IsPut : TypedTree → Place → Type 0
-  IsPut e k = IsFixed h.typing k × Reached e k
+  IsPut e k = IsPlainAt h.typing h.frame v (seen h.typing m hands leaks) e k × Reached e k
+
+  pub plain_type_at : (e : TypedTree) (k : Place) → IsPlainAt h.typing h.frame v (seen h.typing m hands leaks) e k → is_scalar (full h.typing.table k.of) ≡ true
+  plain_type_at (Name p y path u) k (inl fixed) = fixed.scalar
+  plain_type_at (Name p y path u) k (inr (c, there, plain)) = plain
+  plain_type_at e k never = absurd never
+
+  -- a scalar place in a variable
+  fixed_there : (k : Place) (l : Loc) (f x : ℕ) → Spot h.typing m hands k l → k.base ≡ memory.OfVariable f x → is_scalar (full h.typing.table k.of) ≡ true → IsFixed h.typing k
+  fixed_there k l f x spot base plain =
+      let b : trunk l ≡ OfRoot (OfVariable f x) = spot.base ∙ ap loc_of base in
+      record {
+        frame = f;
+        object = x;
+        steps = steps_in l;
+        base = base;
+        there = ap (λ z. has_part h.typing.table (content h.typing m hands z).of (steps_in l)) (sym b) ∙ spot.there;
+        at = spot.at ∙ ap (λ z. offset_in h.typing.table (content h.typing m hands z).of (steps_in l)) b;
+        of = subst (λ z. Matches h.typing.table k.of (type_in h.typing.table (content h.typing m hands z).of (steps_in l))) b spot.of;
+        scalar = plain;
+      }
+
+  -- a name that may go through access values
+  through_walked : (on : List (List machine.Word)) (p : Pos) (x u : ℕ) (path : TypedTree) (w : Way) → is_scalar (full h.typing.table u) ≡ true → Named (home h.typing h.frame) w
+      → ways.number_of w ≡ x → ways.name_of w ≡ name_of x path → IsPlace v w → is_package_object h.typing x ≡ false → sees_only h.typing x ≡ false
+      → (y : Evaluated Place) → Walked h.typing settled hands leaks m on (expand v w) u y → Quiet (at on) (λ k. IsPut (Name p x path u) k) y
+  through_walked on p x u path w plain named root called place local sees (Raises e n) is = is
+  through_walked on p x u path w plain named root called place local sees (Traps t n) never = absurd never
+  through_walked on p x u path w plain named root called place local sees (Done k n) (l, same, spot, reaches, of) =
+      (same, (by_base k.base refl, (w, l, named, called, place, reaches, spot)))
+    where
+      scalar_there : is_scalar (full h.typing.table k.of) ≡ true
+      scalar_there = ap (λ z. is_scalar (full h.typing.table z)) of ∙ plain
+
+      home_base : (f : ℕ) × (y : ℕ) × (ways.base_of (expand v w) ≡ OfRoot (OfVariable f y))
+      home_base =
+          stands_base (home h.typing h.frame) (sees_only h.typing) v (seen h.typing m hands leaks) facts well.views w (named, ap (sees_only h.typing) root ∙ sees)
+
+      by_base : (b : Base) → k.base ≡ b → IsPlainAt h.typing h.frame v (seen h.typing m hands leaks) (Name p x path u) k
+      by_base (memory.OfVariable f y) base = inl (fixed_there k l f y spot base scalar_there)
+      by_base (memory.OfCell c) base =
+          let found = cell_name v (seen h.typing m hands leaks)
+          (λ y z has. reached (home h.typing h.frame) (sees_only h.typing) other v (seen h.typing m hands leaks) facts y z (well.views y z has)) w l c reaches (spot.base ∙ ap loc_of base) in
+          let cell : Lodge = record { name = found.name; way = expand v found.name; cell = c } in
+          let stands : expand v w ≡ along (expand v found.name) found.rest = ap (expand v) found.is ∙ expand_along v found.name found.rest in
+          inr (
+            cell,
+            record {
+              lodged = spot_lodged h.typing settled m hands leaks kept k l cell home_base.0 home_base.1 spot base
+                  (sym (base_along (expand v found.name) found.rest) ∙ ap ways.base_of (sym stands) ∙ home_base.2) found.reaches;
+              whole = w;
+              named = named;
+              called = called;
+              begins = subst (ways.Under found.name) (sym found.is) (under_along found.name found.name found.rest (under_itself found.name));
+              deep = found.deep;
+              own = local;
+              plain = sees;
+              leads = refl;
+              reaches = found.reaches;
+            },
+            scalar_there,
+          )
 
   from_walked : (on : List (List machine.Word)) (p : Pos) (x u : ℕ) (path : TypedTree) (w : Way) → is_scalar (full h.typing.table u) ≡ true → Named (home h.typing h.frame) w
       → ways.name_of w ≡ name_of x path → IsPlace v w → expand v w ≡ w → (y : Evaluated Place) → Walked h.typing settled hands leaks m on w u y
       → IsIn (memory.OfVariable (home h.typing h.frame x) x) y → Quiet (at on) (λ k. IsPut (Name p x path u) k) y
-  from_walked on p x u path w plain named called place itself (Done k n) (l, same, spot, reaches, of) base =
-      let b : trunk l ≡ OfRoot (OfVariable (home h.typing h.frame x) x) = spot.base ∙ ap loc_of base in (
-        same,
-        (
-          record {
-            frame = home h.typing h.frame x;
-            object = x;
-            steps = steps_in l;
-            base = base;
-            there = ap (λ z. has_part h.typing.table (content h.typing m hands z).of (steps_in l)) (sym b) ∙ spot.there;
-            at = spot.at ∙ ap (λ z. offset_in h.typing.table (content h.typing m hands z).of (steps_in l)) b;
-            of = subst (λ z. Matches h.typing.table k.of (type_in h.typing.table (content h.typing m hands z).of (steps_in l))) b spot.of;
-            scalar = ap (λ z. is_scalar (full h.typing.table z)) of ∙ plain;
-          },
-          (w, l, named, called, place, subst (λ z. Reaches (seen h.typing m hands leaks) z l) (sym itself) reaches, spot),
-        ),
-      )
+  from_walked on p x u path w plain named called place itself (Done k n) (l, same, spot, reaches, of) base = (
+    same,
+    (
+      inl (fixed_there k l (home h.typing h.frame x) x spot base (ap (λ z. is_scalar (full h.typing.table z)) of ∙ plain)),
+      (w, l, named, called, place, subst (λ z. Reaches (seen h.typing m hands leaks) z l) (sym itself) reaches, spot),
+    ),
+  )
   from_walked on p x u path w plain named called place itself (Raises e n) is base = is
   from_walked on p x u path w plain named called place itself (Traps t n) never base = absurd never
+
+  -- a name of a scalar place that goes through no access value isn't that of a formal of an access type
+  direct_owner : (x u : ℕ) (way : List run.Step) → is_scalar (full h.typing.table u) ≡ true → Starts h.typing.table (object_at h.typing x).of way u → IsDirect way
+      → is_view_formal h.typing x ≡ false
+  direct_owner x u way plain starts direct = by_kind (is_view_formal h.typing x) refl
+    where
+      by_steps : (way : List run.Step) → Starts h.typing.table (object_at h.typing x).of way u → IsDirect way → is_view_formal h.typing x ≡ true → ⊥
+      by_steps [] starts direct formal =
+          scalar_no_view h.typing in_formals x (subst (λ z. is_scalar (full h.typing.table z) ≡ true) (sym starts) plain) (formal_view h.typing x formal)
+      by_steps (run.ToComponent i ∷ way) (less, lead) direct formal =
+          let none = no_parts_in (shape_of h.typing.table (object_at h.typing x).of) (in_formals x formal).0 in absurd (omega (arith, none.0, less))
+      by_steps (run.ToElement n ∷ way) (less, lead) direct formal =
+          let none = no_parts_in (shape_of h.typing.table (object_at h.typing x).of) (in_formals x formal).0 in absurd (omega (arith, none.1, less))
+      by_steps (run.ToDesignated ∷ way) starts direct formal = direct
+
+      by_kind : (b : Bool) → is_view_formal h.typing x ≡ b → b ≡ false
+      by_kind false e = refl
+      by_kind true e = absurd (by_steps way starts direct e)
 
   walk_given : (on : List (List machine.Word)) (p : Pos) (x u : ℕ) (path : TypedTree) (way : List run.Step) → is_scalar (full h.typing.table u) ≡ true
       → GoesAlong h.typing.table (object_at h.typing x).of u path way → IsDirect way
       → Quiet (at on) (λ k. IsPut (Name p x path u) k) (walked h.typing way (variable_place h x) (at on))
   walk_given on p x u path way plain goes direct =
       let root : Way = Object (OfVariable (home h.typing h.frame x) x) in
+      let owner = direct_owner x u way plain goes.lead direct in
       let named : Named (home h.typing h.frame) (way_along way root) = named_along (home h.typing h.frame) way root refl in
       from_walked on p x u path (way_along way root) plain named
       (λ j. record { root = number_along way root j; sels = goes.sels root j })
-      (is_place h.typing v (home h.typing h.frame x) x u way goes.lead (scalar_named h.typing.table u plain) (no_formals x) holds.only)
+      (is_place h.typing v (home h.typing h.frame x) x u way goes.lead (scalar_named h.typing.table u plain)
+      (λ formal none. true_false (is_view_formal h.typing x) formal owner) holds.only)
       (direct_itself v way direct root refl)
       (walked h.typing way (variable_place h x) (at on))
       (walk h.typing settled hands leaks m on (ExcusedBy (home h.typing h.frame) v other facts) kept well.owned well.known live way (variable_place h x)
       (OfRoot (OfVariable (home h.typing h.frame x) x)) root u
-      (record { base = refl; made = tt; at = refl; there = refl; of = inl refl }) (no_formals x) refl (direct_leads h.typing.table (object_at h.typing x).of u way direct goes.lead)
+      (record { base = refl; made = tt; at = refl; there = refl; of = inl refl }) owner refl (direct_leads h.typing.table (object_at h.typing x).of u way direct goes.lead)
       (λ z past moved. past_none way direct root (λ y never. never) z past))
       (walked_in h.typing way direct (variable_place h x) (at on))
 
@@ -459,14 +525,34 @@ module _ (h : Here) (settled : IsSettled h.typing.table) (hands : List Waiting) 
       (λ way both. walk_given on p x u path way (subst (λ z. is_scalar (full h.typing.table z) ≡ true) (sym type) plain) both.0 both.1)
   place_given before on e t place plain takes direct allowed = absurd place
 
+  through_given : (before on : List (List machine.Word)) (e : TypedTree) (t : ℕ) → IsPlaceOf h.typing e t → is_scalar (full h.typing.table t) ≡ true → Takes (waits_in e) before on
+      → IsOpenActual h.typing h.frame facts e → AllowsAll facts (acts (index_acts h.typing e)) → Quiet (at on) (λ k. IsPut e k) (place_of h e (at before))
+  unfolding waits_in goes_through_none
+  through_given before on (Name p x path u) t (leads, type) plain takes (inl direct) allowed = place_given before on (Name p x path u) t (leads, type) plain takes direct allowed
+  through_given before on (Name p x path u) t (leads, type) plain takes (inr (local, sees, opens)) allowed =
+      let inner = steps_taking h settled hands leaks m waits other facts v kept well holds alone live index_law own_law parts_named (object_at h.typing x).of u path leads before on takes allowed in
+      let plain_there : is_scalar (full h.typing.table u) ≡ true = subst (λ z. is_scalar (full h.typing.table z) ≡ true) (sym type) plain in
+      quiet_then (at on) (λ way. GoesAlong h.typing.table (object_at h.typing x).of u path way) (λ k. IsPut (Name p x path u) k) (steps_of h path (at before))
+      (λ way now. walked h.typing way (variable_place h x) now) inner.0
+      (λ way goes.
+      let root : Way = Object (OfVariable (home h.typing h.frame x) x) in
+      through_walked on p x u path (way_along way root) plain_there (named_along (home h.typing h.frame) way root refl) (number_along way root)
+      (λ j. record { root = number_along way root j; sels = goes.sels root j })
+      (is_place h.typing v (home h.typing h.frame x) x u way goes.lead (scalar_named h.typing.table u plain_there)
+      (λ formal none. scalar_no_view h.typing in_formals x
+      (subst (λ z. is_scalar (full h.typing.table z) ≡ true) (sym (subst (λ z. Starts h.typing.table (object_at h.typing x).of z u) none goes.lead)) plain_there)
+      (formal_view h.typing x formal)) holds.only) local sees
+      (walked h.typing way (variable_place h x) (at on))
+      (name_quiet h settled hands leaks m on other facts v kept well holds alone live index_law own_law parts_named x path u way goes opens))
+  through_given before on e t place plain takes opens allowed = absurd place
+
   own_walked : (on : List (List machine.Word)) (p : Pos) (x y u : ℕ) (path : TypedTree) (q : List Step) (w : Way) → IsNamed h.typing.table u → Matches h.typing.table u (object_at h.typing x).of
-      → is_package_object h.typing y ≡ false → w ≡ along (Object (OfVariable (home h.typing h.frame y) y)) q
+      → is_view_formal h.typing y ≡ false → w ≡ along (Object (OfVariable (home h.typing h.frame y) y)) q
       → ways.name_of w ≡ name_of y path → (z : Evaluated Place) → Walked h.typing settled hands leaks m on w u z
       → IsIn (memory.OfVariable (home h.typing h.frame y) y) z → Quiet (at on) (λ k. IsOwnPut h.typing h.frame x (Name p y path u) k) z
-  own_walked on p x y u path q w own fits local is called (Done k n) (l, same, spot, reaches, of) base =
+  own_walked on p x y u path q w own fits owner is called (Done k n) (l, same, spot, reaches, of) base =
       let root : Root = OfVariable (home h.typing h.frame y) y in
       let b : trunk l ≡ OfRoot root = spot.base ∙ ap loc_of base in
-      let at_home : home h.typing h.frame y ≡ h.frame = ap (λ z. if z then 0 else h.frame) local in
       let stands : l ≡ part (OfRoot root) q = part_reached (seen h.typing m hands leaks) root q l (subst (λ z. Reaches (seen h.typing m hands leaks) z l) is reaches) in
       let steps_are : steps_in l ≡ q = ap steps_in stands ∙ steps_part (OfRoot root) q ∙ append-nil q in (
         same,
@@ -475,9 +561,11 @@ module _ (h : Here) (settled : IsSettled h.typing.table) (hands : List Waiting) 
           record {
             object = y;
             steps = steps_in l;
-            way = is ∙ (λ j. along (Object (OfVariable (at_home j) y)) (sym steps_are j));
-            base = base ∙ ap (λ z. memory.OfVariable z y) at_home;
-            own = local;
+            frame = home h.typing h.frame y;
+            at_home = refl;
+            way = is ∙ ap (along (Object (OfVariable (home h.typing h.frame y) y))) (sym steps_are);
+            base = base;
+            owner = owner;
             there = ap (λ z. has_part h.typing.table (content h.typing m hands z).of (steps_in l)) (sym b) ∙ spot.there;
             at = spot.at ∙ ap (λ z. offset_in h.typing.table (content h.typing m hands z).of (steps_in l)) b;
             of = subst (λ z. Matches h.typing.table k.of (type_in h.typing.table (content h.typing m hands z).of (steps_in l))) b spot.of;
@@ -488,21 +576,21 @@ module _ (h : Here) (settled : IsSettled h.typing.table) (hands : List Waiting) 
           subst (λ z. Matches h.typing.table z (object_at h.typing x).of) (sym of) fits,
         ),
       )
-  own_walked on p x y u path q w own fits local is called (Raises e n) there base = there
-  own_walked on p x y u path q w own fits local is called (Traps t n) never base = absurd never
+  own_walked on p x y u path q w own fits owner is called (Raises e n) there base = there
+  own_walked on p x y u path q w own fits owner is called (Traps t n) never base = absurd never
 
   own_given : (on : List (List machine.Word)) (x : ℕ) (p : Pos) (y u : ℕ) (path : TypedTree) (way : List run.Step) → IsNamed h.typing.table u → Matches h.typing.table u (object_at h.typing x).of
-      → is_package_object h.typing y ≡ false → GoesAlong h.typing.table (object_at h.typing y).of u path way → IsDirect way
+      → is_view_formal h.typing y ≡ false → GoesAlong h.typing.table (object_at h.typing y).of u path way → IsDirect way
       → Quiet (at on) (λ k. IsOwnPut h.typing h.frame x (Name p y path u) k) (walked h.typing way (variable_place h y) (at on))
-  own_given on x p y u path way own fits local goes direct =
+  own_given on x p y u path way own fits owner goes direct =
       let root : Way = Object (OfVariable (home h.typing h.frame y) y) in
       let flat = direct_part (OfVariable (home h.typing h.frame y) y) way direct [] in
-      own_walked on p x y u path flat.0 (way_along way root) own fits local flat.1
+      own_walked on p x y u path flat.0 (way_along way root) own fits owner flat.1
       (λ j. record { root = number_along way root j; sels = goes.sels root j })
       (walked h.typing way (variable_place h y) (at on))
       (walk h.typing settled hands leaks m on (ExcusedBy (home h.typing h.frame) v other facts) kept well.owned well.known live way (variable_place h y)
       (OfRoot (OfVariable (home h.typing h.frame y) y)) root u
-      (record { base = refl; made = tt; at = refl; there = refl; of = inl refl }) (no_formals y) refl (direct_leads h.typing.table (object_at h.typing y).of u way direct goes.lead)
+      (record { base = refl; made = tt; at = refl; there = refl; of = inl refl }) owner refl (direct_leads h.typing.table (object_at h.typing y).of u way direct goes.lead)
       (λ z past moved. past_none way direct root (λ y never. never) z past))
       (walked_in h.typing way direct (variable_place h y) (at on))
 
@@ -510,24 +598,34 @@ module _ (h : Here) (settled : IsSettled h.typing.table) (hands : List Waiting) 
       → IsOwnPlace h.typing e → Takes (waits_in e) before on → goes_through_none e ≡ true
       → AllowsAll facts (acts (index_acts h.typing e)) → Quiet (at on) (λ k. IsOwnPut h.typing h.frame x e k) (place_of h e (at before))
   unfolding waits_in goes_through_none
-  own_place_given before on x (Name p y path u) t (leads, type) own fits local takes direct allowed =
+  own_place_given before on x (Name p y path u) t (leads, type) own fits owner takes direct allowed =
       let inner = steps_taking h settled hands leaks m waits other facts v kept well holds alone live index_law own_law parts_named (object_at h.typing y).of u path leads before on takes allowed in
       quiet_then (at on) (λ way. GoesAlong h.typing.table (object_at h.typing y).of u path way × IsDirect way) (λ k. IsOwnPut h.typing h.frame x (Name p y path u) k) (steps_of h path (at before))
       (λ way now. walked h.typing way (variable_place h y) now)
       (both_quiet (at on) (λ way. GoesAlong h.typing.table (object_at h.typing y).of u path way) (steps_of h path (at before)) inner.0 (steps_direct h path direct (at before)))
       (λ way both. own_given on x p y u path way (subst (IsNamed h.typing.table) (sym type) own) (subst (λ z. Matches h.typing.table z (object_at h.typing x).of) (sym type) fits)
-      (local y (inl refl)) both.0 both.1)
-  own_place_given before on x e t place own fits local takes direct allowed = absurd place
+      (owner y (inl refl)) both.0 both.1)
+  own_place_given before on x e t place own fits owner takes direct allowed = absurd place
 
   -- ---- all of them
 
   -- What is passed for an actual, by the mode: a scalar value, a scalar place in a variable, or another
   -- place in a variable of the frame.
-  abbrev pub IsGiven : ℕ → Mode → TypedTree → Passed → Type 0
-  IsGiven x mode.In e (Value ws) = One ws
-  IsGiven x mode.Out e (To k) = IsPut e k
-  IsGiven x mode.InOut e (From k) =
+  abbrev pub IsPlaceGiven : ℕ → TypedTree → Place → Type 0
+  IsPlaceGiven x e k =
       (IsScalarObject h.typing x × IsPut e k) ⊎ ((is_scalar (full h.typing.table (object_at h.typing x).of) ≡ false) × IsOwnPut h.typing h.frame x e k)
+
+  -- A scalar value; or null, or the number of a cell that a way leads to.
+  abbrev pub IsValueGiven : ℕ → TypedTree → List machine.Word → Type 0
+  IsValueGiven x e ws =
+      (is_owning h.typing.table (object_at h.typing x).of ≡ false → IsFit h.typing m (object_at h.typing x).of ws)
+      × (is_owning h.typing.table (object_at h.typing x).of ≡ true
+      → IsSeenAs h settled hands leaks m waits other facts v kept well holds alone live index_law own_law parts_named formals_low x e ws)
+
+  abbrev pub IsGiven : ℕ → Mode → TypedTree → Passed → Type 0
+  IsGiven x mode.In e (Value ws) = IsValueGiven x e ws
+  IsGiven x mode.Out e (To k) = IsPlaceGiven x e k
+  IsGiven x mode.InOut e (From k) = IsPlaceGiven x e k
   IsGiven x m' e a = ⊥
 
   abbrev pub AreGiven : List ℕ → TypedTree → List Passed → Type 0
@@ -535,149 +633,143 @@ module _ (h : Here) (settled : IsSettled h.typing.table) (hands : List Waiting) 
   AreGiven (x ∷ formals) (More e rest) [] = ⊥
   AreGiven formals actuals passed = passed ≡ []
 
-  value_is : (on : List (List machine.Word)) (x : ℕ) (e : TypedTree) (y : Evaluated Passed) → Quiet (at on) (λ a. IsValue a) y → Quiet (at on) (λ a. IsGiven x mode.In e a) y
-  value_is on x e (Done (Value ws) n) is = is
-  value_is on x e (Done (From k) n) is = absurd is.1
-  value_is on x e (Done (To k) n) is = absurd is.1
-  value_is on x e (Raises y n) is = is
-  value_is on x e (Traps y n) is = is
+  value_is : (on : List (List machine.Word)) (x : ℕ) (e : TypedTree) → is_owning h.typing.table (object_at h.typing x).of ≡ false → IsScalarObject h.typing x → (y : Evaluated Passed)
+      → Quiet (at on) (λ a. IsValue a) y → Quiet (at on) (λ a. IsGiven x mode.In e a) y
+  value_is on x e plain scalar_type (Done (Value ws) n) is =
+      (is.0, ((λ own. scalar_fit x ws scalar_type is.1), λ own. absurd (true_false (is_owning h.typing.table (object_at h.typing x).of) own plain)))
+  value_is on x e plain scalar_type (Done (From k) n) is = absurd is.1
+  value_is on x e plain scalar_type (Done (To k) n) is = absurd is.1
+  value_is on x e plain scalar_type (Raises y n) is = is
+  value_is on x e plain scalar_type (Traps y n) is = is
 
-  abbrev IsCopiedName : Mode → TypedTree → Type 0
-  IsCopiedName m' e = is_in m' ≡ false → goes_through_none e ≡ true
+  copy_is : (on : List (List machine.Word)) (x : ℕ) (e : TypedTree) → is_owning h.typing.table (object_at h.typing x).of ≡ false → (y : Evaluated Passed)
+      → Quiet (at on) (IsCopied x) y → Quiet (at on) (λ a. IsGiven x mode.In e a) y
+  copy_is on x e plain (Done (Value ws) n) is = (is.0, ((λ own. is.1), λ own. absurd (true_false (is_owning h.typing.table (object_at h.typing x).of) own plain)))
+  copy_is on x e plain (Done (From k) n) is = absurd is.1
+  copy_is on x e plain (Done (To k) n) is = absurd is.1
+  copy_is on x e plain (Raises y n) is = is
+  copy_is on x e plain (Traps y n) is = is
+
+  shown_given : (before on : List (List machine.Word)) (x : ℕ) (e : TypedTree) → IsShown h.typing x → is_owning h.typing.table (object_at h.typing x).of ≡ true → IsSeen h.typing x e
+      → Takes (waits_in e) before on → AllowsAll facts (acts (index_acts h.typing e))
+      → IsClear h.typing facts e
+      → Quiet (at on) (λ a. IsGiven x mode.In e a) (followed_by (viewed h e (at before)) value_passed)
+  shown_given before on x e shown owning seen takes allowed clears =
+      quiet_then (at on) (λ ws. IsSeenAs h settled hands leaks m waits other facts v kept well holds alone live index_law own_law parts_named formals_low x e ws)
+      (λ a. IsGiven x mode.In e a) (viewed h e (at before)) value_passed
+      (seen_given h settled hands leaks m waits other facts v kept well holds alone live index_law own_law parts_named formals_low before on x e shown.1 seen takes allowed clears)
+      (λ ws is. (refl, ((λ plain. absurd (true_false (is_owning h.typing.table (object_at h.typing x).of) owning plain)), λ own. is)))
+
+  abbrev IsCopiedName : ℕ → Mode → TypedTree → Type 0
+  IsCopiedName x m' e = is_in m' ≡ false → (goes_through_none e ≡ true) ⊎ (IsScalarObject h.typing x × IsOpenActual h.typing h.frame facts e)
 
   abbrev from_place : ℕ → Place → Now → Evaluated Passed
   from_place x k now = followed_by (checked h (type_of h x) (words_of h.typing now.memory k) now) (λ ws now. Done (From k) now)
 
-  from_given : (before on : List (List machine.Word)) (x : ℕ) (e : TypedTree) (P : Place → Type 0) → ((k : Place) → P k → IsGiven x mode.InOut e (From k)) → Quiet (at on) P (place_of h e (at before))
+  from_given : (before on : List (List machine.Word)) (x : ℕ) (e : TypedTree) → Quiet (at on) (λ k. IsPlaceGiven x e k) (place_of h e (at before))
       → Quiet (at on) (λ a. IsGiven x mode.InOut e a) (followed_by (place_of h e (at before)) (from_place x))
-  from_given before on x e P gives there =
-      quiet_then (at on) P (λ a. IsGiven x mode.InOut e a) (place_of h e (at before)) (from_place x) there
+  from_given before on x e there =
+      quiet_then (at on) (λ k. IsPlaceGiven x e k) (λ a. IsGiven x mode.InOut e a) (place_of h e (at before)) (from_place x) there
       (λ k put. quiet_then (at on) (λ (ws : List machine.Word). Unit {0}) (λ a. IsGiven x mode.InOut e a) (checked h (type_of h x) (words_of h.typing m k) (at on))
-      (λ ws now. Done (From k) now) (checked_quiet on (λ ws. Unit {0}) (type_of h x) (words_of h.typing m k) tt) (λ ws any. (refl, gives k put)))
+      (λ ws now. Done (From k) now) (checked_quiet on (λ ws. Unit {0}) (type_of h x) (words_of h.typing m k) tt) (λ ws any. (refl, put)))
+
+  quiet_on : (on : List (List machine.Word)) (P Q : Place → Type 0) → ((k : Place) → P k → Q k) → (y : Evaluated Place) → Quiet (at on) P y → Quiet (at on) Q y
+  quiet_on on P Q each (Done k n) is = (is.0, each k is.1)
+  quiet_on on P Q each (Raises e n) is = is
+  quiet_on on P Q each (Traps e n) is = is
 
   scalar_type : (t u : ℕ) → Matches h.typing.table t u → is_scalar (full h.typing.table u) ≡ true → is_scalar (full h.typing.table t) ≡ true
   scalar_type t u (inl e) plain = matches_scalar h.typing u t (inl (sym e)) plain
   scalar_type t u (inr both) plain = both.0
 
-  in_out_given : (before on : List (List machine.Word)) (x : ℕ) (e : TypedTree) → IsKind x → IsActualTo h.typing x mode.InOut e → goes_through_none e ≡ true
+  scalar_given : (before on : List (List machine.Word)) (x : ℕ) (e : TypedTree) (t : ℕ) → IsPlaceOf h.typing e t → is_scalar (full h.typing.table t) ≡ true → Takes (waits_in e) before on
+      → (goes_through_none e ≡ true) ⊎ (IsScalarObject h.typing x × IsOpenActual h.typing h.frame facts e)
+      → AllowsAll facts (acts (index_acts h.typing e)) → Quiet (at on) (λ k. IsPut e k) (place_of h e (at before))
+  scalar_given before on x e t place plain takes (inl direct) allowed = place_given before on e t place plain takes direct allowed
+  scalar_given before on x e t place plain takes (inr (scalar, opens)) allowed = through_given before on e t place plain takes opens allowed
+
+  copied_given : (before on : List (List machine.Word)) (x : ℕ) (e : TypedTree) → IsKind x → IsActualTo h.typing x mode.InOut e
+      → (goes_through_none e ≡ true) ⊎ (IsScalarObject h.typing x × IsOpenActual h.typing h.frame facts e)
       → Takes (waits_in e) before on
-      → AllowsAll facts (acts (index_acts h.typing e)) → Quiet (at on) (λ a. IsGiven x mode.InOut e a) (followed_by (place_of h e (at before)) (from_place x))
-  in_out_given before on x e kind (t, place, fits, which) direct takes allowed = elim (bool_cases (is_scalar (full h.typing.table (object_at h.typing x).of))) [
-    | inl plain ↦ from_given before on x e (λ k. IsPut e k) (λ k put. inl (plain, put))
-        (place_given before on e t place (scalar_type t (object_at h.typing x).of fits plain) takes direct allowed)
-    | inr other_type ↦ from_given before on x e (λ k. IsOwnPut h.typing h.frame x e k) (λ k put. inr (other_type, put))
+      → AllowsAll facts (acts (index_acts h.typing e)) → Quiet (at on) (λ k. IsPlaceGiven x e k) (place_of h e (at before))
+  copied_given before on x e kind (t, place, fits, which) direct takes allowed = elim (bool_cases (is_scalar (full h.typing.table (object_at h.typing x).of))) [
+    | inl plain ↦ quiet_on on (λ k. IsPut e k) (λ k. IsPlaceGiven x e k) (λ k put. inl (plain, put)) (place_of h e (at before))
+        (scalar_given before on x e t place (scalar_type t (object_at h.typing x).of fits plain) takes direct allowed)
+    | inr other_type ↦ quiet_on on (λ k. IsOwnPut h.typing h.frame x e k) (λ k. IsPlaceGiven x e k) (λ k put. inr (other_type, put)) (place_of h e (at before))
         (own_place_given before on x e t place
-        (matches_named h.typing.table (object_at h.typing x).of t (matches_flip t (object_at h.typing x).of fits) (named_there kind other_type)) fits (own_there which other_type) takes direct allowed)
+        (matches_named h.typing.table (object_at h.typing x).of t (matches_flip t (object_at h.typing x).of fits) (named_there kind other_type)) fits (own_there which other_type) takes (direct_there direct other_type) allowed)
   ]
     where
       matches_flip : (t u : ℕ) → Matches h.typing.table t u → Matches h.typing.table u t
       matches_flip t u (inl e) = inl (sym e)
       matches_flip t u (inr (a, b)) = inr (b, a)
 
+      direct_there : (goes_through_none e ≡ true) ⊎ (IsScalarObject h.typing x × IsOpenActual h.typing h.frame facts e)
+          → is_scalar (full h.typing.table (object_at h.typing x).of) ≡ false → goes_through_none e ≡ true
+      direct_there (inl none) other_type = none
+      direct_there (inr (scalar, opens)) other_type = absurd (true_false (is_scalar (full h.typing.table (object_at h.typing x).of)) scalar other_type)
+
       named_there : IsKind x → is_scalar (full h.typing.table (object_at h.typing x).of) ≡ false → IsNamed h.typing.table (object_at h.typing x).of
       named_there (inl plain) other_type = absurd (true_false (is_scalar (full h.typing.table (object_at h.typing x).of)) plain other_type)
-      named_there (inr (in_out, own)) other_type = own
+      named_there (inr (inl (back, own))) other_type = own
+      named_there (inr (inr (inr plain))) other_type = plain.2
+      named_there (inr (inr (inl shown))) other_type =
+          plain_named h.typing.table (object_at h.typing x).of (not_anonymous (is_anonymous (view_of h.typing x)) refl)
+        where
+          not_anonymous : (b : Bool) → is_anonymous (view_of h.typing x) ≡ b → is_anonymous (view_of h.typing x) ≡ false
+          not_anonymous false e = e
+          not_anonymous true e = absurd ((in_formals x shown.0).1 e)
 
       own_there : (is_scalar (full h.typing.table t) ≡ true) ⊎ IsOwnPlace h.typing e → is_scalar (full h.typing.table (object_at h.typing x).of) ≡ false → IsOwnPlace h.typing e
       own_there (inl plain) other_type = absurd (true_false (is_scalar (full h.typing.table (object_at h.typing x).of))
           (matches_scalar h.typing t (object_at h.typing x).of fits plain) other_type)
       own_there (inr own) other_type = own
 
-  pub one_given : (before on : List (List machine.Word)) (mode_of : Mode) (owning access : Bool) (x : ℕ) (e : TypedTree) → ByModeFor mode_of owning → IsKind x → IsActualTo h.typing x mode_of e
-      → IsCopiedName mode_of e → Takes (waits_in e) before on
-      → AllowsAll facts (acts (head_of h.typing own_law procedure mode_of e)) → Quiet (at on) (λ a. IsGiven x mode_of e a) (passed h (passing_by mode_of owning access) x e (at before))
-  one_given before on mode.In owning access x e fits kind actual copied takes allowed =
-      subst (λ b. Quiet (at on) (λ a. IsGiven x mode.In e a) (passed h (if b then objects.Place mode.In b access else ByValue) x e (at before))) (sym (fits refl))
-      (value_is on x e (passed h ByValue x e (at before)) (value_given before on x e actual takes allowed))
-  one_given before on mode.Out owning access x e fits kind actual copied takes allowed =
-      quiet_then (at on) (λ k. IsPut e k) (λ a. IsGiven x mode.Out e a) (place_of h e (at before)) (λ k now. Done (To k) now)
-      (place_given before on e actual.0 actual.1 actual.2 takes (copied refl) allowed) (λ k put. (refl, put))
-  one_given before on mode.InOut owning access x e fits kind actual copied takes allowed = in_out_given before on x e kind actual (copied refl) takes allowed
+  pub one_given : (before on : List (List machine.Word)) (mode_of : Mode) (owning access : Bool) (x : ℕ) (e : TypedTree) → (object_at h.typing x).mode ≡ mode_of
+      → is_owning h.typing.table (object_at h.typing x).of ≡ owning → IsKind x → IsActualTo h.typing x mode_of e
+      → (is_view_formal h.typing x ≡ true → IsClear h.typing facts e)
+      → IsCopiedName x mode_of e → Takes (waits_in e) before on
+      → AllowsAll facts (acts (head_of h.typing own_law procedure mode_of owning e)) → Quiet (at on) (λ a. IsGiven x mode_of e a) (passed h (passing_by mode_of owning access) x e (at before))
+  one_given before on mode.In false access x e is fits kind actual clears copied takes allowed =
+      elim (actual.0 fits) [
+        | inl (plain, stays) ↦ value_is on x e fits plain (passed h ByValue x e (at before)) (value_given before on x e stays takes allowed)
+        | inr (named, copy) ↦ copy_is on x e fits (passed h ByValue x e (at before)) (copy_given before on x e fits copy takes allowed)
+      ]
+  one_given before on mode.In true access x e is fits kind actual clears copied takes allowed = elim kind [
+    | inl plain ↦ absurd (true_false (is_owning h.typing.table (object_at h.typing x).of) fits (plain_type h.typing own_law (object_at h.typing x).of plain))
+    | inr other_kind ↦ elim other_kind [
+      | inl back ↦ absurd (back.0 is)
+      | inr (inl shown) ↦ shown_given before on x e shown fits (actual.1 fits) takes allowed (clears shown.0)
+      | inr (inr plain) ↦ absurd (true_false (is_owning h.typing.table (object_at h.typing x).of) fits plain.1)
+    ]
+  ]
+  one_given before on mode.Out owning access x e is fits kind actual clears copied takes allowed =
+      quiet_then (at on) (λ k. IsPlaceGiven x e k) (λ a. IsGiven x mode.Out e a) (place_of h e (at before)) (λ k now. Done (To k) now)
+      (copied_given before on x e kind actual (copied refl) takes allowed) (λ k put. (refl, put))
+  one_given before on mode.InOut owning access x e is fits kind actual clears copied takes allowed =
+      from_given before on x e (copied_given before on x e kind actual (copied refl) takes allowed)
 
   pub all_given : (before on : List (List machine.Word)) (formals : List ℕ) (actuals : TypedTree) → ((x : ℕ) → Has formals x → IsKind x) → AreActualsTo h.typing formals actuals
-      → AreCopied h.typing formals actuals → TakesAll formals actuals before on
+      → AreClear h.typing facts formals actuals → AreOpenActuals h.typing h.frame facts formals actuals → TakesAll formals actuals before on
       → AllowsAll facts (acts (actual_values h.typing (ways_of formals) actuals))
       → Quiet (at on) (λ passed. AreGiven formals actuals passed) (all_passed h (ways_of formals) formals actuals (at before))
-  all_given before on [] actuals kinds stay copied takes allowed = ((ap at takes), refl)
-  all_given before on (x ∷ formals) (More e rest) kinds stay copied (mid, takes, more) allowed =
+  all_given before on [] actuals kinds stay clears copied takes allowed = ((ap at takes), refl)
+  all_given before on (x ∷ formals) (More e rest) kinds stay clears copied (mid, takes, more) allowed =
       let mode_of : Mode = (object_at h.typing x).mode in
+      let owning : Bool = is_owning h.typing.table (object_at h.typing x).of in
       let kind = kinds x (inl refl) in
-      let both : AllowsAll facts (acts (head_of h.typing own_law procedure mode_of e ++ actual_values h.typing (ways_of formals) rest)) =
-      subst (λ z. AllowsAll facts (acts z)) (head_values_are h.typing own_law procedure x kind e (ways_of formals) rest) allowed in
-      let each = allows_both facts (acts (head_of h.typing own_law procedure mode_of e)) (acts (actual_values h.typing (ways_of formals) rest))
-      (subst (AllowsAll facts) (acts_append (head_of h.typing own_law procedure mode_of e) (actual_values h.typing (ways_of formals) rest)) both) in
-      let same : after (acts (head_of h.typing own_law procedure mode_of e)) facts ≡ facts =
-      reads_keep (head_of h.typing own_law procedure mode_of e) (head_of_reads h.typing own_law procedure x mode_of e stay.0) facts in
+      let both : AllowsAll facts (acts (head_of h.typing own_law procedure mode_of owning e ++ actual_values h.typing (ways_of formals) rest)) =
+      subst (λ z. AllowsAll facts (acts z)) (head_values_are h.typing own_law procedure x e (ways_of formals) rest) allowed in
+      let each = allows_both facts (acts (head_of h.typing own_law procedure mode_of owning e)) (acts (actual_values h.typing (ways_of formals) rest))
+      (subst (AllowsAll facts) (acts_append (head_of h.typing own_law procedure mode_of owning e) (actual_values h.typing (ways_of formals) rest)) both) in
+      let same : after (acts (head_of h.typing own_law procedure mode_of owning e)) facts ≡ facts =
+      reads_keep (head_of h.typing own_law procedure mode_of owning e) (head_of_reads h.typing own_law procedure x mode_of owning e refl stay.0) facts in
       quiet_from (at mid) (at on) (λ a. IsGiven x mode_of e a) (λ passed. AreGiven (x ∷ formals) (More e rest) passed) refl (passed h (way_to h.typing own_law procedure x) x e (at before))
       (λ a now. followed_by (all_passed h (ways_of formals) formals rest now) (λ more now. Done (a ∷ more) now))
-      (one_given before mid mode_of (is_owning h.typing.table (object_at h.typing x).of) (procedure && is_named_access (view_of h.typing x)) x e
-      (in_plain h.typing own_law procedure x kind) kind stay.0 copied.0 takes each.0)
+      (one_given before mid mode_of owning (procedure && is_named_access (view_of h.typing x)) x e refl refl kind stay.0 clears.0 copied.0 takes each.0)
       (λ a is. quiet_then (at on) (λ passed. AreGiven formals rest passed) (λ passed. AreGiven (x ∷ formals) (More e rest) passed)
       (all_passed h (ways_of formals) formals rest (at mid)) (λ more now. Done (a ∷ more) now)
-      (all_given mid on formals rest (λ y has. kinds y (inr has)) stay.1 copied.1 more
+      (all_given mid on formals rest (λ y has. kinds y (inr has)) stay.1 clears.1 copied.1 more
       (subst (λ z. AllowsAll z (acts (actual_values h.typing (ways_of formals) rest))) same each.1))
       (λ more are. (refl, (is, are))))
-  all_given before on (x ∷ formals) actuals kinds stay copied takes allowed = ((ap at takes), refl)
-
-  pub laid_one : (x : ℕ) (mode_of : Mode) (e : TypedTree) (a : Passed) → IsGiven x mode_of e a → IsLaidOne h.typing h.frame x mode_of e a
-  laid_one x mode.In e (Value ws) is = is
-  laid_one x mode.In e (From k) is = absurd is
-  laid_one x mode.In e (To k) is = absurd is
-  laid_one x mode.Out e (Value ws) is = absurd is
-  laid_one x mode.Out e (From k) is = absurd is
-  laid_one x mode.Out e (To k) is = is.0
-  laid_one x mode.InOut e (Value ws) is = absurd is
-  laid_one x mode.InOut e (From k) (inl (plain, put)) = inl (plain, put.0)
-  laid_one x mode.InOut e (From k) (inr own) = inr own
-  laid_one x mode.InOut e (To k) is = absurd is
-
-  pub all_laid_out : (formals : List ℕ) (actuals : TypedTree) (passed : List Passed) → AreGiven formals actuals passed → AreLaidOut h.typing h.frame formals actuals passed
-  all_laid_out (x ∷ formals) (More e rest) (a ∷ passed) are = (laid_one x (object_at h.typing x).mode e a are.0, all_laid_out formals rest passed are.1)
-  all_laid_out (x ∷ formals) (More e rest) [] are = absurd are
-  all_laid_out [] actuals passed are = are
-  all_laid_out (x ∷ formals) actuals passed are = are
-
-  -- ---- what the facts say then
-
-  abbrev ViewedWith : List Fact → Type 0
-  ViewedWith known = Viewed (home h.typing h.frame) (sees_only h.typing) other v (seen h.typing m hands leaks) known
-
-  plain_there : (k : Place) (l : Loc) → Spot h.typing m hands k l → is_scalar (full h.typing.table k.of) ≡ true → (p : List Step)
-      → (seen h.typing m hands leaks).word (part l p) ≡ Empty
-  plain_there k l spot plain p =
-      let c : Content = content h.typing m hands (trunk l) in
-      word_part h.typing.table (content h.typing m hands) l p
-      ∙ word_no h.typing.table c (p ++ steps_in l)
-      (leaf_join h.typing.table c.of (steps_in l) p spot.there
-      ∙ no_leaf h.typing.table settled (type_in h.typing.table c.of (steps_in l)) (matches_scalar h.typing k.of (type_in h.typing.table c.of (steps_in l)) spot.of plain) p)
-
-  naming_keeps : (w : Option Written) (owning access : Bool) (known : List Fact) → after (acts (naming w (λ k. act.Actual k mode.InOut owning access))) known ≡ known
-  naming_keeps None owning access known = refl
-  naming_keeps (Some w) owning access known = read_effect w.name known
-
-  pub head_acted : (mode_of : Mode) (owning access : Bool) (x : ℕ) (e : TypedTree) (a : Passed) (known : List Fact) → ByModeFor mode_of owning → IsGiven x mode_of e a → ViewedWith known
-      → ViewedWith (after (acts (actual_act (passing_by mode_of owning access) e)) known)
-  head_acted mode.In owning access x e a known fits is there =
-      subst (λ b. ViewedWith (after (acts (actual_act (if b then objects.Place mode.In b access else ByValue) e)) known)) (sym (fits refl)) there
-  head_acted mode.InOut owning access x e a known fits is there = subst ViewedWith (sym (naming_keeps (written e) owning access known)) there
-  head_acted mode.Out owning access x (Name p y path u) (To k) known fits (fixed, (w, l, named, called, place, reaches, spot)) there =
-      subst (λ z. ViewedWith (effect (act.Write z) known)) called
-      (nothing_written (home h.typing h.frame) (sees_only h.typing) other v (seen h.typing m hands leaks) known there w l named place reaches
-      (plain_there k l spot fixed.scalar))
-  head_acted mode.Out owning access x e (To k) known fits is there = absurd is.1
-  head_acted mode.Out owning access x e (Value ws) known fits is there = absurd is
-  head_acted mode.Out owning access x e (From k) known fits is there = absurd is
-
-  pub all_acted : (formals : List ℕ) (actuals : TypedTree) (passed : List Passed) (known : List Fact) → ((x : ℕ) → Has formals x → IsKind x)
-      → AreGiven formals actuals passed → ViewedWith known
-      → ViewedWith (after (acts (actual_acts (ways_of formals) actuals)) known)
-  all_acted (x ∷ formals) (More e rest) (a ∷ passed) known kinds are there =
-      let first : List Placed = actual_act (way_to h.typing own_law procedure x) e in
-      let others : List Placed = actual_acts (ways_of formals) rest in
-      subst ViewedWith (sym (ap (λ z. after z known) (acts_append first others) ∙ after_append (acts first) (acts others) known))
-      (all_acted formals rest passed (after (acts first) known) (λ y has. kinds y (inr has)) are.1
-      (head_acted (object_at h.typing x).mode (is_owning h.typing.table (object_at h.typing x).of) (procedure && is_named_access (view_of h.typing x)) x e a known
-      (in_plain h.typing own_law procedure x (kinds x (inl refl))) are.0 there))
-  all_acted (x ∷ formals) (More e rest) [] known kinds are there = absurd are
-  all_acted [] actuals passed known kinds are there = there
-  all_acted (x ∷ formals) actuals passed known kinds are there = there
+  all_given before on (x ∷ formals) actuals kinds stay clears copied takes allowed = ((ap at takes), refl)

@@ -1,12 +1,10 @@
 -- A call leads on, in the frame of what is called.
-use Rattle.typed_tree.specs.declared.object.ObjectKind.{ObjectKind}
-use Rattle.typed_tree.specs.declared.object.ObjectKind.TheVariants as object_kind
 use Rattle.place_names.specs.Facts.{adds}
 use Rattle.spark_base.proofs.Lists.{Has-map_from}
-use Rattle.std.proofs.Common.{◌≡◌, refl, sym, ap, ◌∙◌, subst, ◌⊎◌, inl, inr, ℕ, suc, ◌<◌, true, false, ◌==◌, List, [], ◌∷◌, ◌++◌, map, take, drop, length, get_or, arith, append-nil, Option, Some, None, if◌then◌else◌, is_some, Bool, not, ◌||◌, flat_map}
+use Rattle.std.proofs.Common.{◌≡◌, refl, sym, ap, ◌∙◌, subst, ◌⊎◌, inl, inr, ℕ, suc, ◌<◌, true, false, ◌==◌, List, [], ◌∷◌, ◌++◌, map, take, drop, length, arith, Option, Some, None, is_some, Bool, not, ◌||◌, ◌&&◌}
 use Rattle.std.specs.Prelude.{is_some}
 use Rattle.spark_base.specs.Lists.{Has}
-use Rattle.spark_base.proofs.Lists.{Has-append_left, Has-map_from}
+use Rattle.spark_base.proofs.Lists.{Has-map_from, Has-append_right}
 use Rattle.place_names.specs.declared.act.Act.{Act}
 use Rattle.place_names.specs.declared.act.Act.TheVariants as act
 use Rattle.place_names.specs.declared.act.Placed.{Placed}
@@ -14,13 +12,14 @@ use Rattle.place_names.specs.declared.fact.Fact.{Fact}
 use Rattle.place_names.specs.declared.fact.Fact.TheVariants.{Moved, Lent}
 use Rattle.place_names.specs.declared.rule.Loan.{Loan}
 use Rattle.place_names.specs.declared.rule.Loan.TheVariants.{Observed}
-use Rattle.place_names.specs.Names.{Name as PlaceName}
-use Rattle.type_definitions.specs.Types.{Table, is_owning}
+use Rattle.place_names.specs.Names.{Name as PlaceName, overlaps}
+use Rattle.place_names.specs.declared.act.Mode.TheVariants as mode
+use Rattle.type_definitions.specs.Types.{Table, full, is_scalar, is_owning}
 use Rattle.typed_tree.specs.Trees.{TypedTree, Name, NoMore, More}
 use Rattle.typed_tree.specs.Programs.{TypedProgram}
 use Rattle.flow_paths.specs.declared.report.Effects.{Effects}
 use Rattle.flow_paths.specs.Instructions.{Instruction, Call, EndScope, Declare, Assign, Hold}
-use Rattle.flow_paths.specs.Objects.{Typing, object_at, sub_at, is_anonymous, is_package_object, view_of, traverses, passings, Passing, Signature, passing, is_formal_kind}
+use Rattle.flow_paths.specs.Objects.{Typing, object_at, sub_at, is_anonymous, is_package_object, view_of, traverses, passings, Passing, Signature, passing, is_observer, is_formal}
 use Rattle.place_names.specs.Facts.{adds}
 use Rattle.place_names.specs.Reports.{Report}
 use Rattle.flow_paths.specs.Aliases.{overlap_reports, passed_reports, call_reports}
@@ -28,65 +27,80 @@ use Rattle.flow_paths.specs.Aliases as alias
 use Rattle.flow_paths.specs.Acts as flow
 use Rattle.flow_paths.specs.Points.{NamedPoint}
 use Rattle.flow_paths.specs.Laid.{FlowSub, FlowProgram, NamedSub, flow_sub, typing_of, flow_typing, flow_program, flow_named}
-use Rattle.flow_paths.specs.Paths.{PathPoint, is_some_point, ControlPath, begins, goes_on, facts_before}
+use Rattle.flow_paths.specs.Paths.{is_some_point, ControlPath, facts_before}
 use Rattle.flow_paths.specs.Effects.{flow_sub_at, path_points, globals_of, called_acts}
-use Rattle.flow_paths.specs.Scopes.{taken, brought, scope_behind, is_within, Leads, is_temporary}
+use Rattle.flow_paths.specs.Scopes.{taken, brought, scope_behind, is_within, Leads}
 use Rattle.machine.specs.Words as machine
-use Rattle.machine.specs.Memory.{Memory, no_slot, variable_slots}
+use Rattle.machine.specs.Memory.{Memory}
 use Rattle.machine.specs.Evaluate.{Now, Exception}
-use Rattle.machine.specs.States.{Frame, State, sub_of, frame_at_start, Outcome, Goes}
+use Rattle.machine.specs.States.{Frame, State, sub_of, Outcome}
 use Rattle.machine.specs.Step.{Turn, turn, start, led, successor}
 use Rattle.machine.specs.Step as steps
 use Rattle.machine.specs.Typed.{successors}
-use Rattle.machine.specs.Calls.{Passed, all_passed, with_formals, returns_of}
-use Rattle.machine.specs.Owners.{waiting_in}
-use Rattle.owned_ways.specs.Ways.{Step, Way, after, AllowsAll}
+use Rattle.machine.specs.Calls.{Passed, all_passed}
+use Rattle.machine.specs.Owners.{is_in_formal, waiting_in, is_in}
+use Rattle.place_names.specs.declared.act.Mode.TheVariants as mode
+use Rattle.owned_ways.specs.Ways.{Step, Way, after, AllowsAll, Past}
 use Rattle.owned_ways.specs.Ways as ways
-use Rattle.owned_ways.proofs.Locations.{reaches_along, named_along as rooted_along}
-use Rattle.soundness.specs.Seen.{IsNear, is_view_formal, content, seen, home, trunk, word_in}
-use Rattle.soundness.proofs.Contents.{word_root, word_no}
+use Rattle.owned_ways.proofs.Locations.{reaches_along, named_along as rooted_along, past_under}
+use Rattle.soundness.specs.Seen.{is_view_formal, IsNear, content, seen, home, trunk, word_in}
+use Rattle.owned_ways.proofs.Named.{longer}
+use Rattle.owned_ways.proofs.Dropped.{named_base}
+use Rattle.soundness.proofs.Contents.{word_root}
 use Rattle.soundness.specs.Typed.{Kept}
-use Rattle.soundness.specs.Sound.{Stage, facts_of, AreStages, AreCopied, Uses, IsRunnable, returns_value, InScope, IsNamedSub, IsAtPoint, view_of as view_here}
+use Rattle.soundness.specs.Sound.{Stage, facts_of, AreStages, Uses, IsRunnable, returns_value, InScope, IsNamedSub, IsAtPoint, view_of as view_here}
 use Rattle.soundness.proofs.Stays.{Quiet}
 use Rattle.soundness.proofs.Numbers.{index_law}
 use Rattle.soundness.proofs.Lasting.{keeps}
-use Rattle.soundness.proofs.Passing.{AreReads, reads_keep, entered, TakesAll, takes_each, signature_is}
+use Rattle.soundness.proofs.Passing.{AreReads, reads_keep, TakesAll, takes_each, signature_is}
 use Rattle.soundness.proofs.Scalars.{acts, acts_append, after_append, allows_both}
-use Rattle.soundness.proofs.Points.{sub_in_range, path_there}
+use Rattle.soundness.proofs.Points.{sub_in_range, one_named, one_point}
 use Rattle.soundness.proofs.Inherited.{AreGlobal, global_after, global_allowed, global_apart}
-use Rattle.soundness.proofs.Used.{called_used, used_global, called_are, globals_are, added_after}
+use Rattle.soundness.proofs.Used.{used_global, called_are, globals_are, added_after}
 use Rattle.soundness.proofs.Around.{IsFar}
-use Rattle.soundness.proofs.Waits.{led_waits}
 use Rattle.soundness.proofs.Taking.{Takes}
 use Rattle.soundness.proofs.Eased.{eased}
 use Rattle.soundness.proofs.Scoped.{Inside}
-use Rattle.soundness.proofs.Beginning.{one_named, one_point}
 use Rattle.soundness.proofs.Successors.{below_one, successor_there}
-use Rattle.owned_loans.specs.Views.{Around, known_gone, Views, IsMovedBy, AreClear, AreViews, Viewed}
-use Rattle.owned_loans.proofs.Moves.{named_way}
-use Rattle.viewed_soundness.proofs.Names.{true_false}
-use Rattle.viewed_soundness.specs.Holds.{Holds, sees_only, IsOwners}
-use Rattle.viewed_soundness.proofs.Evaluated.{live_trunk}
+use Rattle.owned_loans.specs.Views.{expand, Around, known_gone, Views, IsForeign, Viewed}
+use Rattle.owned_loans.proofs.Ways.{under_on}
+use Rattle.owned_loans.proofs.Meeting.{stands}
+use Rattle.owned_loans.proofs.Moves.{expand_under}
+use Rattle.owned_loans.proofs.Meeting.{stands}
+use Rattle.viewed_soundness.proofs.Names.{true_false, owner_sees}
+use Rattle.viewed_soundness.specs.Holds.{Holds, is_view, sees_only, IsOwners, is_exclusive, AllKeep, is_fixed}
+use Rattle.viewed_soundness.proofs.Evaluated.{live_trunk, keep_both}
 use Rattle.soundness.specs.Ready.{IsSupplied, Fills}
-use Rattle.viewed_steps.specs.Awaited.{AreFor, AreValuesBut, temporaries_of, lasting_of, awaited, WaitsAt, AreAwaited, AreScalar, FillsTyped, TakesScalars, IsTakenBy}
-use Rattle.viewed_steps.proofs.Waited.{temporary_first, leads_temporaries, within_lasting, lasting_more, Shares, plain_unheld}
-use Rattle.viewed_steps.specs.Sound.{HoldsAt, ArePlaced, NoneAbove, ViewStage, stages_of, GoneElsewhere, Disturbs, IsWaiting, AreWaiting, calls_one, LeadsAlong, IsResting, IsKindOfFormal, IsScalarObject, AreReturned}
+use Rattle.viewed_steps.specs.Awaited.{AreValuesBut, temporaries_of, lasting_of, awaited, WaitsAt, AreAwaited, AreScalar, FillsTyped, TakesScalars, IsTakenBy}
+use Rattle.viewed_steps.proofs.Waited.{late_scope, within_lasting, lasting_more, Shares}
+use Rattle.viewed_steps.specs.Sound.{IsCopiedBack, ArePast, HoldsAt, ArePlaced, NoneAbove, ViewStage, stages_of, GoneElsewhere, Disturbs, AreWaiting, LeadsAlong, IsResting, IsKindOfFormal, IsScalarObject, HasTraversals}
 use Rattle.viewed_steps.specs.Ready.{IsReady, roots_passed, IsCalled}
-use Rattle.viewed_steps.specs.Taken.{TakenBy, AreTaken, AreCarried}
+use Rattle.viewed_steps.specs.Taken.{Lodge}
 use Rattle.viewed_steps.proofs.Lent.{Spare, spare_both, loans_stay}
 use Rattle.viewed_steps.proofs.Placed.{within_on, lasts_more, scope_on, placed_on}
-use Rattle.viewed_steps.proofs.Ended.{none_some}
-use Rattle.viewed_steps.proofs.Waiting.{StandsBetween, gone_low, kept_low, beside_them, handed, all_on}
-use Rattle.viewed_steps.proofs.Between.{gone_also, base_along, base_under, same_variable, not_named}
-use Rattle.viewed_steps.proofs.Called.{AreGiven, AreLaidOut, all_laid_out, all_given, all_acted, values_are_read, call_adds_none, passes_to, spare_reads, spare_copies}
-use Rattle.viewed_steps.proofs.Entered.{ArePassedOn, IsOpen, AreBlank, AreDeclared, Enter, not_above, passed_base, formals_of_returns, all_declared}
-use Rattle.viewed_steps.proofs.Passed.{IsNamedBy, no_call_reports, all_passed_on, no_out_checks, all_returned, call_goes}
+use Rattle.viewed_steps.proofs.Waiting.{StandsBetween, gone_low, beside_them, handed}
+use Rattle.viewed_steps.proofs.Between.{gone_also, more_gone, base_along, base_under, same_variable, not_named, IsHomed, homed_apart, number_based}
+use Rattle.viewed_steps.proofs.Called.{AreGiven, all_given, values_are_read, call_adds_none, passes_to, spare_reads, spare_copies}
+use Rattle.viewed_steps.proofs.Acted.{all_laid_out, all_acted}
+use Rattle.viewed_steps.proofs.Outside.{IsSpared, gone_clear}
+use Rattle.viewed_steps.proofs.Globals.{copied_act, passed_unused}
+use Rattle.viewed_steps.proofs.Apart.{written_disturbs}
+use Rattle.flow_paths.specs.Effects.{written_by}
+use Rattle.viewed_steps.proofs.Aside.{names_off}
+use Rattle.viewed_steps.proofs.LaidOut.{AreLaidOut, outs_of, cells_of, AreOpenActuals}
+use Rattle.viewed_steps.proofs.Outs.{Out, IsUnderOne}
+use Rattle.viewed_steps.proofs.Entered.{ArePassedOn, IsOpen, AreBlank, not_above, passed_base, outs_taken, inside_plain, inside_named, inside_number, inside_itself, passed_one}
+use Rattle.viewed_steps.proofs.Passed.{IsNamedBy, all_passed_on, apart_or, apart_there}
+use Rattle.viewed_steps.proofs.Cells.{passed_apart, passed_formal, are_kept, all_in, all_open, IsCellNamed, named_before, cells_named}
 use Rattle.viewed_steps.proofs.Standing.{or_right}
-use Rattle.viewed_steps.proofs.Uses.{called_writes, lent_spared}
+use Rattle.viewed_steps.proofs.Uses.{lent_spared}
 use Rattle.viewed_steps.proofs.Standing as standing
 use Rattle.viewed_steps.proofs.Packages as packages
 use Rattle.viewed_steps.proofs.Innermost as innermost
-use Rattle.viewed_steps.proofs.Views.{all_held, anonymous_is_view, AreFar, not_elsewhere}
+use Rattle.viewed_steps.proofs.Views.{AreAccess, AreFar, all_held, lies_far, not_elsewhere, base_named}
+use Rattle.viewed_steps.proofs.Seeing.{AreClear}
+use Rattle.viewed_steps.proofs.Clear.{all_clear}
+use Rattle.viewed_steps.proofs.Exclusive.{first_true, second_true, mode_in, sees_shown, AreLent, are_lent, lent_clears}
 
 module _ (table : Table) (typed : TypedProgram) (effects : Effects) (input : List ℕ) (ready : IsReady table typed effects) where
   abbrev program : FlowProgram
@@ -98,10 +112,10 @@ module _ (table : Table) (typed : TypedProgram) (effects : Effects) (input : Lis
   abbrev own : Typing
   own = typing_of table typed
 
-  abbrev no_in_formals : (x : ℕ) → is_view_formal s x ≡ false
-  no_in_formals = standing.no_in_formals table typed effects input ready
+  abbrev in_formals : AreAccess s
+  in_formals = standing.in_formals table typed effects input ready
 
-  abbrev local : (x : ℕ) → is_anonymous (view_of s x) ≡ true → is_package_object s x ≡ false
+  abbrev local : (x : ℕ) → is_view s x ≡ true → is_package_object s x ≡ false
   local = standing.local table typed effects input ready
 
   abbrev unmoved_stage : (e : Stage) → e.frame.sub ≡ 0 → (name : PlaceName) → Has (facts_of program effects e) (Moved name) → ⊥
@@ -124,7 +138,8 @@ module _ (table : Table) (typed : TypedProgram) (effects : Effects) (input : Lis
       (viewed_before : Viewed (home s (suc (length rest))) (sees_only s) (known_gone (home s (suc (length rest))) (GoneElsewhere program effects (below ∷ more_frames))) views
       (view_here s state) (facts_of program effects top))
       (kept : Kept s state.memory (waiting_in state)) (scope : InScope s state.memory (suc (length rest)) (lasting_of s p.scope)) (holds : HoldsAt s (suc (length rest)) views state.memory p)
-      (placed_before : ArePlaced program (facts_of program effects top) views p.scope) (above : NoneAbove s (suc (length rest)) state.memory) where
+      (placed_before : ArePlaced program (suc (length rest)) (facts_of program effects top) views p.scope × ArePast s (suc (length rest)) views (below ∷ more_frames)) (above : NoneAbove s (suc (length rest)) state.memory
+      × HasTraversals table typed (view_here s state) (record { stage = top; views = views; cells = [] } ∷ (below ∷ more_frames))) where
     abbrev outer : List Frame
     outer = below.stage.frame ∷ rest
 
@@ -171,13 +186,12 @@ module _ (table : Table) (typed : TypedProgram) (effects : Effects) (input : Lis
     abbrev viewed : Viewed (home s depth) (sees_only s) other views (view_here s state) facts_now
     viewed = innermost.viewed table typed effects input ready state top below more_frames rest named p frames deep stages running awaiting of_sub at_point path views viewed_before kept scope holds placed_before above
 
-    abbrev apart_from_them : (done : List Act) (v : Views) (view : ways.View) → ((x : ℕ) (w : Way) → v.way x ≡ Some w → is_anonymous (view_of s x) ≡ true)
-        → ((x : ℕ) (w : Way) → v.way x ≡ Some w → ways.Named (home s depth) w)
+    abbrev apart_from_them : (done : List Act) (v : Views) (view : ways.View) → ((x : ℕ) (w : Way) → v.way x ≡ Some w → is_view s x ≡ true)
         → Viewed (home s depth) (sees_only s) other v view (after done facts_now)
         → Viewed (home s depth) (sees_only s) (known_gone (home s depth) (GoneElsewhere program effects older)) v view (after done own_facts)
     apart_from_them = innermost.apart_from_them table typed effects input ready state top below more_frames rest named p frames deep stages running awaiting of_sub at_point path views viewed_before kept scope holds placed_before above
 
-    abbrev placed_own : ArePlaced program own_facts views p.scope
+    abbrev placed_own : ArePlaced program (suc (length rest)) own_facts views p.scope
     placed_own = innermost.placed_own table typed effects input ready state top below more_frames rest named p frames deep stages running awaiting of_sub at_point path views viewed_before kept scope holds placed_before above
 
     abbrev left_scope : List ℕ
@@ -213,7 +227,7 @@ module _ (table : Table) (typed : TypedProgram) (effects : Effects) (input : Lis
     abbrev viewed_easy : Plain → Viewed (home s depth) (sees_only s) other views (view_here s easy.state) facts_now × Kept s state.memory (waiting_in easy.state)
     viewed_easy = innermost.viewed_easy table typed effects input ready state top below more_frames rest named p frames deep stages running awaiting of_sub at_point path views viewed_before kept scope holds placed_before above
 
-    abbrev placed_left : (facts : List Fact) → ArePlaced program facts views p.scope → ArePlaced program facts views left_scope
+    abbrev placed_left : (facts : List Fact) → ArePlaced program (suc (length rest)) facts views p.scope → ArePlaced program (suc (length rest)) facts views left_scope
     placed_left = innermost.placed_left table typed effects input ready state top below more_frames rest named p frames deep stages running awaiting of_sub at_point path views viewed_before kept scope holds placed_before above
 
     abbrev IsOld : ℕ → ℕ → Type 0
@@ -232,7 +246,7 @@ module _ (table : Table) (typed : TypedProgram) (effects : Effects) (input : Lis
 
     -- where it leads, and how the frames come from those before
     abbrev Along : Outcome → Type 0
-    Along outcome = LeadsAlong table typed effects p.instr state.memory (record { stage = top; views = views }) (below ∷ more_frames) outcome
+    Along outcome = LeadsAlong table typed effects p.instr state.memory (record { stage = top; views = views; cells = [] }) (below ∷ more_frames) outcome
 
     abbrev ends_raised : (how : Exception) (m : Memory) → Along (steps.raised main_turn how m)
     ends_raised = innermost.ends_raised table typed effects input ready state top below more_frames rest named p frames deep stages running awaiting of_sub at_point path views viewed_before kept scope holds placed_before above
@@ -245,19 +259,14 @@ module _ (table : Table) (typed : TypedProgram) (effects : Effects) (input : Lis
           ready.called (flow_sub own named) (standing.in_program table typed effects input ready state top older outer named p frames of_sub at_point) main_turn.point
           (standing.in_sub table typed effects input ready state top older outer named p frames of_sub at_point) n actuals result e
 
-      abbrev formals : List ℕ
+      abbrev pub formals : List ℕ
       formals = (sub_of program n).formals
 
       pub kinds : (x : ℕ) → Has formals x → IsKindOfFormal s x
       kinds x has = ready.class.formals x (called.formals x has)
 
-      pub copied_there : AreCopied s formals actuals
-      copied_there =
-          ready.class.copied (flow_sub own named) (standing.in_program table typed effects input ready state top older outer named p frames of_sub at_point) main_turn.point
-          (standing.in_sub table typed effects input ready state top older outer named p frames of_sub at_point) n actuals result e called.formals
-
       -- results are of no anonymous types
-      no_traversal : traverses s.table (sub_of program n).result ≡ false
+      pub no_traversal : traverses s.table (sub_of program n).result ≡ false
       no_traversal = by_result (sub_of program n).result refl
         where
           by_result : (r : Option ℕ) → (sub_of program n).result ≡ r → traverses s.table r ≡ false
@@ -297,7 +306,7 @@ module _ (table : Table) (typed : TypedProgram) (effects : Effects) (input : Lis
           ∙ ap (λ z. flow.actual_values s z actuals ++ flow.actual_acts z actuals) ways_are
 
       pub reads_there : AreReads values
-      reads_there = values_are_read s ready.owns procedure formals actuals kinds called.actuals_stay
+      reads_there = values_are_read s ready.owns procedure formals actuals called.actuals_stay
 
       call_acts : standing.whole_acts table typed effects input ready state top older outer named p frames of_sub at_point p.instr ≡ acts (values ++ copies) ++ globals_of program effects n
       call_acts =
@@ -308,9 +317,6 @@ module _ (table : Table) (typed : TypedProgram) (effects : Effects) (input : Lis
 
       abbrev pub facts_called : List Fact
       facts_called = after (acts (values ++ copies)) own_facts
-
-      abbrev called_beside : List Fact
-      called_beside = after (acts (values ++ copies)) facts_now
 
       pub each_allowed : AllowsAll own_facts (acts (values ++ copies)) × AllowsAll facts_called (globals_of program effects n)
       each_allowed =
@@ -332,11 +338,30 @@ module _ (table : Table) (typed : TypedProgram) (effects : Effects) (input : Lis
       pub copies_allowed : AllowsAll facts_now (acts copies)
       copies_allowed = subst (λ z. AllowsAll z (acts copies)) (reads_keep values reads_there facts_now) both_allowed.1
 
+      -- nothing that was moved leads to what is copied back to
+      pub copied_there : AreOpenActuals s depth facts_now formals actuals
+      copied_there = elim modes_there [
+        | inr modes ↦ all_in s ready.owns depth facts_now procedure formals actuals modes
+        | inl none ↦ all_open s ready.owns depth facts_now procedure formals actuals facts_now []
+            (are_kept s formals actuals
+            (ready.class.copied (flow_sub own named) (standing.in_program table typed effects input ready state top older outer named p frames of_sub at_point) main_turn.point
+            (standing.in_sub table typed effects input ready state top older outer named p frames of_sub at_point) n actuals result e called.formals)
+            ((ready.orderly.points named named_there p point_there_now).copied n actuals result e))
+            none copies_allowed (λ f has. inl has) (λ k never. absurd never)
+      ]
+        where
+          modes_there : ((r : Report) → Has (overlap_reports s (alias.passed formals actuals)) r → ⊥) ⊎ ((x : ℕ) → Has formals x → (object_at s x).mode ≡ mode.In)
+          modes_there =
+              apart_or program effects (λ x. (object_at s x).mode ≡ mode.In) ready.accepted.no_reports (flow_sub own named)
+              (standing.in_program table typed effects input ready state top older outer named p frames of_sub at_point) main_turn.point
+              (standing.in_sub table typed effects input ready state top older outer named p frames of_sub at_point) n actuals result e called.answers
+              (λ of answers x has. ready.class.modes n of answers x has)
+
       not_end : (x : ℕ) → p.instr ≡ EndScope x → ⊥
       not_end x is = (let no : Call n actuals result ≡ EndScope x = sym e ∙ is in cc)
 
       pub holds_now : Holds s depth views state.memory
-      holds_now = all_held s no_in_formals depth views state.memory (λ x k view at. holds.held x k (λ fading. not_end fading.0 fading.1) view at) holds.only holds.named
+      holds_now = all_held s in_formals depth views state.memory (λ x k view at. holds.held x k (λ fading. not_end fading.0 fading.1) view at) holds.only holds.owners holds.own
 
       pub live_now : (w : Way) (l : ways.Loc) → IsOwners s w → ways.Reaches (seen s state.memory (waiting_in easy.state) state.leaks) w l
           → (content s state.memory (waiting_in easy.state) (trunk l)).owns ≡ true
@@ -344,10 +369,75 @@ module _ (table : Table) (typed : TypedProgram) (effects : Effects) (input : Lis
           live_trunk (steps.here main_turn) ready.accepted.settled state.leaks [] other alone (keeps s ready.accepted.settled ready.owns) index_law
           ready.owns views ready.class.parts_named state.memory (waiting_in easy.state) ((viewed_easy plain_there.0).0).owned
 
+      -- formals of the frame see what belongs to frames below
+      pub formals_low : (x : ℕ) (w : Way) → views.way x ≡ Some w → is_view_formal s x ≡ true → (foreign : IsForeign (home s depth) w) × (foreign.0 < depth) × (0 < foreign.0)
+      formals_low x w has formal = elim (viewed.views x w has) [
+        | inl view ↦ absurd (holds.passed x w has (ap (λ b. b || (is_in_formal s x && is_anonymous (view_of s x))) formal) view.named)
+        | inr passed ↦ elim (holds.lies x w has) [
+          | inl named ↦ absurd (not_elsewhere (home s depth) w named passed.foreign)
+          | inr far ↦ far
+        ]
+      ]
+
+      there_formals : (x : ℕ) → Has formals x → Has (sub_at s n).formals x
+      there_formals x has = subst (λ z. Has z x) (sym (ap (λ (z : Signature). z.formals) (signature_is program n))) has
+
+      copies_keep : AllKeep (is_fixed s) (acts copies)
+      copies_keep =
+          (keep_both (is_fixed s) (acts values) (acts copies) (subst (AllKeep (is_fixed s)) (acts_append values copies)
+          (subst (λ z. AllKeep (is_fixed s) (acts z)) values_are
+          (standing.keeps_there table typed effects input ready state top older outer named p frames of_sub at_point)))).1
+
+      -- what formals of a procedure that own nothing are lent
+      lent_there : (sub_of program n).result ≡ None → AreLent s facts_now formals actuals
+      lent_there is =
+          are_lent s facts_now formals actuals called.differ
+          (apart_there program effects ready.accepted.no_reports (flow_sub own named)
+          (standing.in_program table typed effects input ready state top older outer named p frames of_sub at_point) main_turn.point
+          (standing.in_sub table typed effects input ready state top older outer named p frames of_sub at_point) n actuals result e called.answers is)
+          (subst (λ b. AllowsAll facts_now (acts (flow.actual_acts (map (passing s b) formals) actuals))) of_procedure copies_allowed)
+          (subst (λ b. AllKeep (is_fixed s) (acts (flow.actual_acts (map (passing s b) formals) actuals))) of_procedure copies_keep)
+          (λ y has formal. record {
+            of_in = mode_in (object_at s y).mode (second_true (is_formal s y) (is_in (object_at s y).mode) (first_true (is_in_formal s y) (is_owning s.table (object_at s y).of) formal));
+            owning = second_true (is_in_formal s y) (is_owning s.table (object_at s y).of) formal;
+            access = ready.class.procedures n (ap (λ (z : Signature). z.result) (signature_is program n) ∙ is) y (there_formals y has) (called.formals y has) formal;
+          })
+        where
+          of_procedure : procedure ≡ true
+          of_procedure = ap (λ r. not (is_some r)) is
+
+      -- a function has formals of mode `in` alone
+      pub by_callee : (((x : ℕ) → Has formals x → (object_at s x).mode ≡ mode.In) × ((x : ℕ) → Has formals x → IsCopiedBack s x → ⊥)
+          × ((x : ℕ) → Has formals x → is_view_formal s x ≡ true → sees_only s x ≡ true))
+          ⊎ AreLent s facts_now formals actuals
+      by_callee = by_result (sub_of program n).result refl
+        where
+          by_result : (r : Option ℕ) → (sub_of program n).result ≡ r
+              → (((x : ℕ) → Has formals x → (object_at s x).mode ≡ mode.In) × ((x : ℕ) → Has formals x → IsCopiedBack s x → ⊥)
+              × ((x : ℕ) → Has formals x → is_view_formal s x ≡ true → sees_only s x ≡ true))
+              ⊎ AreLent s facts_now formals actuals
+          by_result (Some of) is =
+              let answers : (sub_at s n).result ≡ Some of = ap (λ (z : Signature). z.result) (signature_is program n) ∙ is in
+              let modes : (x : ℕ) → Has formals x → (object_at s x).mode ≡ mode.In = (λ x has. ready.class.modes n of answers x (there_formals x has)) in
+              inl (
+                modes,
+                (λ x has back. back (modes x has)),
+                λ x has formal.
+                    sees_shown (is_observer s x) (is_view_formal s x) (is_in_formal s x && is_anonymous (view_of s x)) (is_exclusive s x) formal
+                    (ready.class.functions n of answers x (there_formals x has) (called.formals x has) formal),
+              )
+          by_result None is = inr (lent_there is)
+
+      pub clear_there : AreClear s facts_now formals actuals
+      clear_there = elim by_callee [
+        | inl modes ↦ all_clear s procedure formals actuals facts_now modes.0 copies_allowed
+        | inr lent ↦ lent_clears s facts_now formals actuals (λ y has formal m of. (lent y has formal m of).clear)
+      ]
+
       abbrev pub Given : List Passed → Type 0
       Given passed =
-          AreGiven (steps.here main_turn) ready.accepted.settled (waiting_in easy.state) state.leaks state.memory [] other facts_now views (viewed_easy plain_there.0).1 (viewed_easy plain_there.0).0 holds_now alone live_now no_in_formals
-          index_law ready.owns ready.class.parts_named procedure formals actuals passed
+          AreGiven (steps.here main_turn) ready.accepted.settled (waiting_in easy.state) state.leaks state.memory [] other facts_now views (viewed_easy plain_there.0).1 (viewed_easy plain_there.0).0 holds_now alone live_now in_formals
+          index_law ready.owns ready.class.parts_named formals_low procedure formals actuals passed
 
       -- the values that the actuals take
       pub taken_there : (on : List (List machine.Word)) × TakesAll formals actuals given_words on
@@ -358,22 +448,16 @@ module _ (table : Table) (typed : TypedProgram) (effects : Effects) (input : Lis
 
       pub passed_quiet : Quiet then_now Given (all_passed (steps.here main_turn) ways_there formals actuals (start main_turn))
       passed_quiet =
-          all_given (steps.here main_turn) ready.accepted.settled (waiting_in easy.state) state.leaks state.memory [] other facts_now views (viewed_easy plain_there.0).1 (viewed_easy plain_there.0).0 holds_now alone live_now no_in_formals
-          index_law ready.owns ready.class.parts_named procedure given_words taken_there.0 formals actuals kinds called.actuals_stay copied_there taken_there.1 values_allowed
+          all_given (steps.here main_turn) ready.accepted.settled (waiting_in easy.state) state.leaks state.memory [] other facts_now views (viewed_easy plain_there.0).1 (viewed_easy plain_there.0).0 holds_now alone live_now in_formals
+          index_law ready.owns ready.class.parts_named formals_low procedure given_words taken_there.0 formals actuals kinds called.actuals_stay clear_there copied_there taken_there.1 values_allowed
 
-      given_laid : (passed : List Passed) → Given passed → AreLaidOut s depth formals actuals passed
+      abbrev pub view_now : ways.View
+      view_now = seen s state.memory (waiting_in easy.state) state.leaks
+
+      abbrev pub given_laid : (passed : List Passed) → Given passed → AreLaidOut s state.memory depth views view_now formals actuals passed
       given_laid passed given =
-          all_laid_out (steps.here main_turn) ready.accepted.settled (waiting_in easy.state) state.leaks state.memory [] other facts_now views (viewed_easy plain_there.0).1 (viewed_easy plain_there.0).0 holds_now alone live_now no_in_formals
-          index_law ready.owns ready.class.parts_named procedure formals actuals passed given
-
-      -- the state is sound with views under the facts after the acts
-      acted_now : (passed : List Passed) → Given passed → Viewed (home s depth) (sees_only s) other views (view_here s easy.state) called_beside
-      acted_now passed given =
-          subst (Viewed (home s depth) (sees_only s) other views (view_here s easy.state))
-          (sym (ap (λ z. after z facts_now) (acts_append values copies) ∙ after_append (acts values) (acts copies) facts_now
-          ∙ ap (after (acts copies)) (reads_keep values reads_there facts_now)))
-          (all_acted (steps.here main_turn) ready.accepted.settled (waiting_in easy.state) state.leaks state.memory [] other facts_now views (viewed_easy plain_there.0).1 (viewed_easy plain_there.0).0 holds_now alone live_now no_in_formals
-          index_law ready.owns ready.class.parts_named procedure formals actuals passed facts_now kinds given (viewed_easy plain_there.0).0)
+          all_laid_out (steps.here main_turn) ready.accepted.settled (waiting_in easy.state) state.leaks state.memory [] other facts_now views (viewed_easy plain_there.0).1 (viewed_easy plain_there.0).0 holds_now alone live_now in_formals
+          index_law ready.owns ready.class.parts_named formals_low procedure formals actuals passed given
 
       -- loans stay
       loans_called : (h : ℕ) (m : PlaceName) → Has own_facts (Lent Observed h m) → Has facts_called (Lent Observed h m)
@@ -386,7 +470,7 @@ module _ (table : Table) (typed : TypedProgram) (effects : Effects) (input : Lis
       pub call_point : (k : ℕ) × (successor main_turn 0 ≡ Some k) × Has main_turn.point.next k
       call_point = successor_there main_turn 0 (subst (λ z. 0 < z) (sym (successors_there ∙ ap successors e)) below_one)
 
-      abbrev waits_with : List Way → Stage
+      abbrev pub waits_with : List Way → Stage
       waits_with ways_taken = record {
         frame = record top.frame { waits = steps.waiting main_turn; next = call_point.0 };
         depth = top.depth;
@@ -394,7 +478,7 @@ module _ (table : Table) (typed : TypedProgram) (effects : Effects) (input : Lis
         returns = ways_taken;
       }
 
-      facts_there : facts_before (path_points program effects (sub_of program top.frame.sub)) (top.frame.next ∷ top.before) ≡ facts_called
+      pub facts_there : facts_before (path_points program effects (sub_of program top.frame.sub)) (top.frame.next ∷ top.before) ≡ facts_called
       facts_there =
           ap (λ (z : FlowSub). facts_before (path_points program effects z) (top.frame.next ∷ top.before)) (standing.sub_is table typed effects input ready state top older outer named p frames of_sub at_point)
           ∙ standing.facts_whole table typed effects input ready state top older outer named p frames of_sub at_point path
@@ -402,28 +486,28 @@ module _ (table : Table) (typed : TypedProgram) (effects : Effects) (input : Lis
           ∙ global_after (globals_of program effects n) facts_called globals
 
       -- nothing is moved by the call
-      none_new : (f : Fact) → Has (facts_before (path_points program effects (sub_of program top.frame.sub)) (top.frame.next ∷ top.before)) f → Has (facts_of program effects top) f
+      pub none_new : (f : Fact) → Has (facts_before (path_points program effects (sub_of program top.frame.sub)) (top.frame.next ∷ top.before)) f → Has (facts_of program effects top) f
       none_new f has =
           subst (λ z. Has z f) (sym (standing.facts_are table typed effects input ready state top older outer named p frames of_sub at_point path))
           (elim (added_after program effects ready.accepted.effects_are (acts (values ++ copies)) own_facts f (subst (λ z. Has z f) facts_there has)) [
             | inl was ↦ was
             | inr (a, there, new) ↦ (
                 let from = Has-map_from (λ (z : Placed). z.act) (values ++ copies) a there in
-                absurd (call_adds_none s ready.owns procedure formals actuals kinds called.actuals_stay from.0 from.1 f (subst (λ z. Has (adds z) f) (sym from.2) new)))
+                absurd (call_adds_none s ready.owns procedure formals actuals called.actuals_stay from.0 from.1 f (subst (λ z. Has (adds z) f) (sym from.2) new)))
           ])
 
       -- what the callee uses isn't moved
-      spared_then : (name : PlaceName) → Has facts_called (Moved name) → is_package_object s name.root ≡ true → Uses effects n name.root → ⊥
+      pub spared_then : (name : PlaceName) → Has facts_called (Moved name) → is_package_object s name.root ≡ true → Uses effects n name.root → ⊥
       spared_then name has shared uses =
           let there = used_global program effects ready.accepted.effects_are n name.root called.text_io shared uses in
           global_apart name name.root refl there.0
           (global_allowed (globals_of program effects n) facts_called globals each_allowed.1 (act.Global name.root there.0) there.1 (Moved name) has)
 
-      callee_less : n < length program.subs
+      pub callee_less : n < length program.subs
       callee_less = sub_in_range table typed n called.runs.named called.runs.stands
 
       -- nor is it disturbed where a part is lent
-      lends_there : (l : Loan) (h : ℕ) (name : PlaceName) → Has (facts_before (path_points program effects (sub_of program top.frame.sub)) (top.frame.next ∷ top.before)) (Lent l h name) → is_package_object s name.root ≡ true
+      pub lends_there : (l : Loan) (h : ℕ) (name : PlaceName) → Has (facts_before (path_points program effects (sub_of program top.frame.sub)) (top.frame.next ∷ top.before)) (Lent l h name) → is_package_object s name.root ≡ true
           → Disturbs effects l n name.root → ⊥
       lends_there l h name has shared disturbs =
           lent_spared program effects ready.accepted.effects_are n called.text_io facts_called each_allowed.1 l h name
@@ -442,42 +526,33 @@ module _ (table : Table) (typed : TypedProgram) (effects : Effects) (input : Lis
       behind_scope : InScope s state.memory depth (lasting_of s (scope_behind p))
       behind_scope f x q k held = elim (inside_left f x q k held) [ inl old ↦ inl old.0 | inr mine ↦ inr (mine.0, lasting_more s left_scope (scope_behind p) more x mine.1) ]
 
-      next_scope : InScope s state.memory depth (lasting_of s (at_successor.0).scope)
+      pub next_scope : InScope s state.memory depth (lasting_of s (at_successor.0).scope)
       next_scope = scope_on s ready.owns state.memory depth (scope_behind p) (at_successor.0).scope behind_scope at_successor.2
 
-      next_placed : ArePlaced program facts_called views (at_successor.0).scope
+      pub next_placed : ArePlaced program (suc (length rest)) facts_called views (at_successor.0).scope
       next_placed =
-          placed_on program facts_called views (scope_behind p) (at_successor.0).scope holds.only at_successor.2
+          placed_on program depth facts_called views (scope_behind p) (at_successor.0).scope holds.only at_successor.2
           (λ x w has. (let own_place = placed_left own_facts placed_own x w has in record {
             within = more x own_place.within;
-            up = lasts_more program left_scope (scope_behind p) (ways.number_of (views.up x)) x more own_place.up;
-            root = lasts_more program left_scope (scope_behind p) (ways.number_of w) x more own_place.root;
-            holder = λ sees. (let h = own_place.holder sees in
+            plain = own_place.plain;
+            up = λ up_named. lasts_more program left_scope (scope_behind p) (ways.number_of (views.up x)) x more (own_place.up up_named);
+            root = λ at_home. lasts_more program left_scope (scope_behind p) (ways.number_of w) x more (own_place.root at_home);
+            holder = λ up_named sees. (let h = own_place.holder up_named sees in
                 (h.0, loans_called h.0 (ways.name_of (views.loan x)) h.1, lasts_more program left_scope (scope_behind p) h.0 x more h.2, h.3));
           }))
 
       -- ---- what waits, before the callee has returned
 
-      late_scope : (r : Option ℕ) → Fills s (Call n actuals r) left_scope → FillsTyped program (Call n actuals r) left_scope → (empty : Option ℕ)
-          → (sub_of program n).result ≡ empty → is_some empty ≡ is_some r → (b : List ℕ) → Leads s (brought (Call n actuals r) left_scope) b
-          → AreValuesBut s empty (steps.waiting main_turn) (temporaries_of s b)
-      late_scope None fills fits None is answers b leads = subst (AreFor s (steps.waiting main_turn)) (leads_temporaries s left_scope b leads) shared.left
-      late_scope None fills fits (Some of) is answers b leads = cc
-      late_scope (Some t) fills fits None is answers b leads = cc
-      late_scope (Some t) fills fits (Some of) is answers b leads =
-          subst (AreValuesBut s (Some of) (steps.waiting main_turn)) (sym (temporary_first s t left_scope fills) ∙ leads_temporaries s (t ∷ left_scope) b leads)
-          (fits of is, shared.left)
-
-      abbrev late : Option ℕ
+      abbrev pub late : Option ℕ
       late = awaited (sub_of program n) []
 
-      waits_late : (ways_taken : List Way) → WaitsAt table typed late (waits_with ways_taken)
+      pub waits_late : (ways_taken : List Way) → WaitsAt table typed late (waits_with ways_taken)
       waits_late ways_taken other_named other_stands q at_q =
           let same_sub : other_named ≡ named = one_named (flow_named table typed) top.frame.sub other_named named other_stands of_sub in
           let same_point : at_successor.0 ≡ q =
           one_point named.points call_point.0 (at_successor.0) q at_successor.1 (subst (λ (z : NamedSub). IsAtPoint z.points call_point.0 q) same_sub at_q) in
           subst (λ (z : NamedPoint). AreValuesBut s late (steps.waiting main_turn) (temporaries_of s z.scope)) same_point
-          (late_scope result (subst (λ i. Fills s i left_scope) e supplied_here.1)
+          (late_scope program n actuals (steps.waiting main_turn) left_scope shared.left result (subst (λ i. Fills s i left_scope) e supplied_here.1)
           (subst (λ i. FillsTyped program i left_scope) e (ready.valued.fills named named_there p point_there_now)) late refl called.answers (at_successor.0).scope
           (subst (λ i. Leads s (brought i left_scope) (at_successor.0).scope) e at_successor.2))
 
@@ -492,33 +567,29 @@ module _ (table : Table) (typed : TypedProgram) (effects : Effects) (input : Lis
         other_all = known_gone (home s depth) (GoneElsewhere program effects older)
 
         pub far_views : AreFar (home s depth) views depth
-        far_views x w has foreign = absurd (not_elsewhere (home s depth) w (holds.named x w has) foreign)
+        far_views = lies_far s depth views holds.lies
 
-        pub well_all : Viewed (home s depth) (sees_only s) other_all views (view_here s easy.state) facts_called
-        well_all = apart_from_them (acts (values ++ copies)) views (view_here s easy.state) holds.only holds.named (acted_now passed given)
+        abbrev pub laid : AreLaidOut s state.memory depth views view_now formals actuals passed
+        laid = given_laid passed given
+
+        -- the places that are emptied
+        abbrev pub outs : List Out
+        outs = outs_of s state.memory depth views view_now formals actuals passed (given_laid passed given)
+
+        -- the cells of places that are copied back to
+        abbrev pub cells : List Lodge
+        cells = cells_of s state.memory depth views view_now formals actuals passed (given_laid passed given)
+
+        well_before : Viewed (home s depth) (sees_only s) other_all views (view_here s easy.state) own_facts
+        well_before = apart_from_them [] views (view_here s easy.state) holds.only (viewed_easy plain_there.0).0
 
         -- what is taken
-        no_overlap : ((r : Report) → Has (overlap_reports s (alias.passed formals actuals)) r → ⊥) ⊎ ((x : ℕ) → Has formals x → IsScalarObject s x)
-        no_overlap = by_result (sub_of program n).result refl
-          where
-            reports_are : (o : Option ℕ) → is_some o ≡ false → call_reports s effects (Call n actuals o)
-                ≡ (if is_some (sub_at s n).result then [] else passed_reports s effects n (alias.passed (sub_at s n).formals actuals))
-            reports_are None none = refl
-            reports_are (Some of) none = cc
-
-            by_result : (o : Option ℕ) → (sub_of program n).result ≡ o
-                → ((r : Report) → Has (overlap_reports s (alias.passed formals actuals)) r → ⊥) ⊎ ((x : ℕ) → Has formals x → IsScalarObject s x)
-            by_result (Some of) answers = inr (λ x has. ready.class.functions n of
-                (ap (λ (z : Signature). z.result) (signature_is program n) ∙ answers) x (subst (λ z. Has z x) (sym (ap (λ (z : Signature). z.formals) (signature_is program n))) has) (called.formals x has))
-            by_result None none = inl (λ r has.
-                no_call_reports program effects ready.accepted.no_reports (flow_sub own named)
-                (standing.in_program table typed effects input ready state top older outer named p frames of_sub at_point) main_turn.point
-                (standing.in_sub table typed effects input ready state top older outer named p frames of_sub at_point) r
-                (subst (λ i. Has (call_reports s effects i) r) (sym e)
-                (subst (λ z. Has z r) (sym (reports_are result (sym called.answers ∙ ap is_some none)))
-                (subst (λ z. Has (if is_some z.result then [] else passed_reports s effects n (alias.passed z.formals actuals)) r) (sym (signature_is program n))
-                (subst (λ z. Has (if is_some z then [] else passed_reports s effects n (alias.passed formals actuals)) r) (sym none)
-                (Has-append_left (overlap_reports s (alias.passed formals actuals)) (flat_map (alias.global_reports s effects n) (alias.passed formals actuals)) r has))))))
+        no_overlap : ((r : Report) → Has (overlap_reports s (alias.passed formals actuals)) r → ⊥) ⊎ ((x : ℕ) → Has formals x → IsCopiedBack s x → IsScalarObject s x)
+        no_overlap =
+            apart_or program effects (λ x. IsCopiedBack s x → IsScalarObject s x) ready.accepted.no_reports (flow_sub own named)
+            (standing.in_program table typed effects input ready state top older outer named p frames of_sub at_point) main_turn.point
+            (standing.in_sub table typed effects input ready state top older outer named p frames of_sub at_point) n actuals result e called.answers
+            (λ of answers x has back. absurd (back (ready.class.modes n of answers x has)))
 
         within_next : (y : ℕ) → Has (roots_passed actuals) y → is_package_object s y ≡ false → is_owning s.table (object_at s y).of ≡ true → is_within y next_there ≡ true
         within_next y has mine owns =
@@ -532,29 +603,159 @@ module _ (table : Table) (typed : TypedProgram) (effects : Effects) (input : Lis
             (ready.valued.passed named (standing.named_in table typed effects input ready state top older outer named p frames of_sub at_point) p
             (standing.point_in_named table typed effects input ready state top older outer named p frames of_sub at_point) n actuals result e y has)
 
-        pub all_passed_ways : (ways_taken : List Way) × ArePassedOn s depth facts_called next_there formals passed ways_taken
+        copies_leave : facts_called ≡ after (acts copies) own_facts
+        copies_leave =
+            ap (λ z. after z own_facts) (acts_append values copies) ∙ after_append (acts values) (acts copies) own_facts
+            ∙ ap (after (acts copies)) (reads_keep values reads_there own_facts)
+
+        copies_own : AllowsAll own_facts (acts copies)
+        copies_own =
+            subst (λ z. AllowsAll z (acts copies)) (reads_keep values reads_there own_facts)
+            (allows_both own_facts (acts values) (acts copies) (subst (AllowsAll own_facts) (acts_append values copies) each_allowed.0)).1
+
+        pub all_passed_ways : (ways_taken : List Way) × ArePassedOn s state.memory cells depth facts_called next_there formals passed ways_taken outs
             × ((k : Way) → Has ways_taken k → IsNamedBy s formals actuals k)
         all_passed_ways =
-            all_passed_on s ready.owns depth facts_called next_there procedure formals actuals passed own_facts (given_laid passed given) kinds
+            all_passed_on s ready.owns ready.accepted.settled state.memory cells depth views view_now facts_called next_there procedure formals actuals passed own_facts laid kinds
             called.local called.differ
-            within_next no_overlap
-            (ap (λ z. after z own_facts) (acts_append values copies) ∙ after_append (acts values) (acts copies) own_facts
-            ∙ ap (after (acts copies)) (reads_keep values reads_there own_facts))
-            (subst (λ z. AllowsAll z (acts copies)) (reads_keep values reads_there own_facts)
-            (allows_both own_facts (acts values) (acts copies) (subst (AllowsAll own_facts) (acts_append values copies) each_allowed.0)).1)
+            within_next no_overlap copies_leave copies_own (λ c has. has)
 
         abbrev pub ways_taken : List Way
         ways_taken = all_passed_ways.0
 
-        pub open_there : IsOpen s ready.accepted.settled ready.owns no_in_formals (waiting_in easy.state) state.leaks depth views far_views facts_called next_there other_all ways_taken
+        -- they begin at variables of the frame, or of package objects
+        pub homed : (to : Way) → Has ways_taken to → IsHomed s depth to
+        homed to has = passed_base s state.memory cells depth facts_called next_there formals passed ways_taken outs all_passed_ways.1 to has
+
+        out_base : (o : Out) → Has outs o → IsHomed s depth o.way
+        out_base o has =
+            passed_base s state.memory cells depth facts_called next_there formals passed ways_taken outs all_passed_ways.1 o.way
+            (outs_taken s state.memory cells depth facts_called next_there formals passed ways_taken outs all_passed_ways.1 o has)
+
+        abbrev outs_gone : Way → Type 0
+        outs_gone w = GoneElsewhere program effects older w ⊎ IsUnderOne outs w
+
+        outs_apart : (y : ℕ) (w z : Way) → views.way y ≡ Some w → IsForeign (home s depth) w → outs_gone z → ways.Under z w ⊎ ways.Under w z → ⊥
+        outs_apart y w z has foreign (inl gone) meets = well_before.whole y w z has foreign gone meets
+        outs_apart y w z has foreign (inr (o, has_o, under)) meets =
+            homed_apart s depth o.way (out_base o has_o) w z foreign under meets
+
+        -- the state is sound with views under the facts after the acts, where what is to be emptied may be gone
+        abbrev pub around_outs : Around (home s depth)
+        around_outs = gone_also (home s depth) other_all outs_gone
+
+        pub well_all : Viewed (home s depth) (sees_only s) around_outs views (view_here s easy.state) facts_called
+        well_all =
+            subst (Viewed (home s depth) (sees_only s) around_outs views (view_here s easy.state))
+            (sym (ap (λ z. after z own_facts) (acts_append values copies) ∙ after_append (acts values) (acts copies) own_facts
+            ∙ ap (after (acts copies)) (reads_keep values reads_there own_facts)))
+            (all_acted (steps.here main_turn) ready.accepted.settled (waiting_in easy.state) state.leaks state.memory [] other facts_now views (viewed_easy plain_there.0).1 (viewed_easy plain_there.0).0 holds_now alone live_now in_formals
+            index_law ready.owns ready.class.parts_named formals_low procedure other_all outs_gone outs_apart formals actuals passed own_facts given (λ w under. inr under)
+            (more_gone (home s depth) (sees_only s) views other_all outs_gone outs_apart (view_here s easy.state) own_facts (λ w gone. inl gone) well_before))
+
+        -- the names of those cells
+        pub named_cell : (c : Lodge) → Has cells c → IsCellNamed s depth facts_called views view_now formals actuals c
+        named_cell c has = cells_named s ready.owns state.memory depth facts_called procedure views view_now formals actuals passed own_facts laid copies_leave copies_own c has
+
+        pub cell_root : (c : Lodge) (has : Has cells c) → ways.number_of c.name ≡ ways.number_of (named_cell c has).whole
+        cell_root c has = sym (longer c.name (named_cell c has).whole (named_cell c has).begins).root
+
+        pub cell_plain : (c : Lodge) → Has cells c → ways.Named (home s depth) c.name × (sees_only s (ways.number_of c.name) ≡ false)
+        cell_plain c has = (
+          named_before (home s depth) c.name (named_cell c has).whole (named_cell c has).begins (named_cell c has).named,
+          ap (sees_only s) (cell_root c has) ∙ (named_cell c has).plain,
+        )
+
+        -- their ways begin at variables of the frame, or of package objects
+        pub cell_begins : (c : Lodge) → Has cells c → (g : ℕ) × (y : ℕ) × (ways.base_of c.way ≡ ways.OfRoot (ways.OfVariable g y)) × (g ≡ suc depth → ⊥)
+        cell_begins c has =
+            elim (stands (home s depth) (sees_only s) views (view_here s easy.state) facts_called well_all.views c.name (cell_plain c has)) [
+              | inl own ↦ (
+                  let named_there : ways.Named (home s depth) c.way = subst (ways.Named (home s depth)) (named_cell c has).leads own.0 in (
+                    home s depth (ways.number_of c.way),
+                    ways.number_of c.way,
+                    named_base (home s depth) c.way named_there,
+                    not_above s ready.accepted.settled ready.owns in_formals (waiting_in easy.state) state.leaks depth views far_views facts_called next_there (ways.number_of c.way),
+                  ))
+              | inr held_there ↦ (
+                  let foreign = held_there.passed.foreign in (
+                    foreign.0,
+                    foreign.1,
+                    ap ways.base_of (sym (named_cell c has).leads) ∙ base_under held_there.way (expand views c.name) held_there.under ∙ foreign.2,
+                    (λ same. (let low = far_views held_there.object held_there.way held_there.has foreign in omega (arith, low, same))),
+                  ))
+            ]
+
+        -- no place that is taken goes before one
+        pub cell_aside : (c : Lodge) → Has cells c → (to : Way) → Has ways_taken to → ways.Past to c.way → ⊥
+        cell_aside c has to taken past =
+            let one = passed_one s state.memory cells depth facts_called next_there formals passed ways_taken outs all_passed_ways.1 to taken in
+            let inside = (one.2).inside in
+            let itself : expand views to ≡ to = inside_itself s ready.accepted.settled depth one.1 to inside views in
+            let plain_to : sees_only s (ways.number_of to) ≡ false =
+            ap (sees_only s) (inside_number s ready.accepted.settled depth one.1 to inside)
+            ∙ owner_sees s inside.object (inside_plain s ready.accepted.settled depth one.1 to inside) inside.owner in
+            let cell = named_cell c has in
+            let below : ways.Under c.way (expand views cell.whole) =
+            subst (λ z. ways.Under z (expand views cell.whole)) cell.leads (expand_under views c.name cell.whole (λ r is. absurd (cell.deep r is)) cell.begins) in
+            names_off (home s depth) (sees_only s) views (view_here s easy.state) facts_called well_all.views well_all.clear to cell.whole
+            (inside_named s ready.accepted.settled depth one.1 to inside, plain_to) (cell.named, cell.plain) (one.2).unlent cell.unlent
+            (λ over. taken_apart to taken c has over)
+            (under_on (expand views to) c.way (expand views cell.whole) (subst (λ z. ways.Under z c.way) (sym itself) (past_under to c.way past)) below)
+          where
+            taken_apart : (to : Way) → Has ways_taken to → (c : Lodge) (has : Has cells c) → overlaps (ways.name_of to) (ways.name_of (named_cell c has).whole) ≡ true → ⊥
+            taken_apart to taken c has over =
+                let by = all_passed_ways.2 to taken in
+                let cell = named_cell c has in
+                elim no_overlap [
+                  | inr plain ↦ true_false (is_scalar (full s.table (object_at s (by.0).formal).of)) (plain (by.0).formal (passed_formal formals actuals by.0 by.1) by.2) by.4
+                  | inl none ↦ passed_apart s formals actuals none by.0 cell.by by.1 cell.among by.2 cell.back
+                      (λ same. true_false (is_scalar (full s.table (object_at s (by.0).formal).of)) (subst (IsScalarObject s) (sym same) cell.scalar) by.4)
+                      (subst (λ z. overlaps z cell.by.actual.name ≡ true) (sym by.3) (subst (λ z. overlaps (ways.name_of to) z ≡ true) (sym cell.called) over))
+                ]
+
+        -- a package object that is passed to be copied back to is written
+        act_of_passed : (b : alias.Passed) → Has (alias.passed formals actuals) b → IsCopiedBack s b.formal → is_package_object s b.actual.name.root ≡ true
+            → Has (written_by effects top.frame.sub) b.actual.name.root
+        act_of_passed b has back shared =
+            let act = copied_act s procedure formals actuals b has back in
+            innermost.act_writes_it table typed effects input ready state top below more_frames rest named p frames deep stages running awaiting of_sub at_point path views viewed_before kept scope holds placed_before above
+            b.actual.name.root shared main_turn.point (standing.in_sub table typed effects input ready state top older outer named p frames of_sub at_point) act.0
+            (subst (λ z. Has z act.0) (sym values_are ∙ standing.acts_agree table typed effects input ready state top older outer named p frames of_sub at_point)
+            (Has-append_right values copies act.0 act.1)) act.2
+
+        pub written_to : (to : Way) → Has ways_taken to → is_package_object s (ways.number_of to) ≡ true → Has (written_by effects top.frame.sub) (ways.number_of to)
+        written_to to has shared =
+            let by = all_passed_ways.2 to has in
+            subst (λ (z : PlaceName). Has (written_by effects top.frame.sub) z.root) by.3
+            (act_of_passed by.0 by.1 by.2 (ap (λ (z : PlaceName). is_package_object s z.root) by.3 ∙ shared))
+
+        -- and the callee doesn't use it
+        pub unused_to : (to : Way) → Has ways_taken to → is_package_object s (ways.number_of to) ≡ true → Uses effects n (ways.number_of to) → ⊥
+        unused_to to has shared uses =
+            let by = all_passed_ways.2 to has in
+            passed_unused program effects ready.accepted.no_reports (flow_sub own named)
+            (standing.in_program table typed effects input ready state top older outer named p frames of_sub at_point) main_turn.point
+            (standing.in_sub table typed effects input ready state top older outer named p frames of_sub at_point) n actuals result e called.answers
+            (λ of answers x has. ready.class.modes n of answers x has) by.0 by.1 by.2 (ap (λ (z : PlaceName). is_package_object s z.root) by.3 ∙ shared)
+            (subst (λ (z : PlaceName). Uses effects n z.root) (sym by.3) uses)
+
+        -- so the frames around keep nothing of it
+        pub spared_to : (to : Way) (has : Has ways_taken to) → IsSpared table typed effects unmoved_stage local state depth older between (homed to has).1
+        spared_to to has l name lent root =
+            let begin = homed to has in
+            let at : ways.base_of to ≡ ways.OfRoot (ways.OfVariable (home s depth begin.1) begin.1) = begin.2 ∙ ap (λ f. ways.OfRoot (ways.OfVariable f begin.1)) begin.3 in
+            let number : ways.number_of to ≡ begin.1 = number_based (home s depth) to begin.1 (base_named (home s depth) to begin.1 at) at in
+            let written = written_to to has (ap (is_package_object s) (number ∙ sym root) ∙ lent.5) in
+            innermost.spared_here table typed effects input ready state top below more_frames rest named p frames deep stages running awaiting of_sub at_point path views viewed_before kept scope holds placed_before above
+            l name lent (written_disturbs table typed effects ready.accepted.effects_are l top.frame.sub name.root
+            (subst (Has (written_by effects top.frame.sub)) (number ∙ sym root) written))
+
+        pub open_there : IsOpen (home s depth) other_all ways_taken
         open_there = record {
           free = λ k w under gone. (let root = gone_low table typed effects unmoved_stage local state depth older between w gone in
               hand_base (sym (base_under (ways.Object (ways.OfHand k)) w under) ∙ root.2));
-          whole = λ to has w under gone. (
-              let root = gone_low table typed effects unmoved_stage local state depth older between w gone in
-              let base = passed_base s depth facts_called next_there formals passed ways_taken all_passed_ways.1 to has in
-              let frames_same = (same_variable root.0 root.1 depth base.0 (sym root.2 ∙ base_under to w under ∙ base.1)).0 in
-              let less = root.3 in omega (arith, frames_same, less));
+          whole = λ to has w under gone. gone_clear table typed effects unmoved_stage local state depth older between to (homed to has) (spared_to to has) w gone (base_under to w under);
           none = λ w k keeps_it. keeps_it;
         }
           where
@@ -562,7 +763,7 @@ module _ (table : Table) (typed : TypedProgram) (effects : Effects) (input : Lis
             hand_base is = cc
 
         -- the formals have nothing yet
-        pub blank_formals : AreBlank s ready.accepted.settled ready.owns no_in_formals (waiting_in easy.state) state.leaks depth views far_views facts_called next_there state.memory formals
+        pub blank_formals : AreBlank s depth state.memory formals
         blank_formals x has q = by_word (word_in s.table (content s state.memory [] (ways.OfRoot (ways.OfVariable (suc depth) x))) q) refl
           where
             by_word : (w : ways.Word) → word_in s.table (content s state.memory [] (ways.OfRoot (ways.OfVariable (suc depth) x))) q ≡ w
@@ -575,7 +776,7 @@ module _ (table : Table) (typed : TypedProgram) (effects : Effects) (input : Lis
             by_word ways.Gone is =
                 let root : ways.Root = ways.OfVariable (suc depth) x in
                 let w : Way = ways.along (ways.Object root) q in
-                absurd (elim (well_all.known w (ways.part (ways.OfRoot root) q) (rooted_along (ways.Object root) q tt)
+                absurd (elim (well_before.known w (ways.part (ways.OfRoot root) q) (rooted_along (ways.Object root) q tt)
                 (reaches_along (view_here s easy.state) (ways.Object root) (ways.OfRoot root) q refl)
                 (word_root s.table (content s state.memory (waiting_in easy.state)) root q ∙ is)) [
                   | inr gone ↦ (
@@ -583,216 +784,15 @@ module _ (table : Table) (typed : TypedProgram) (effects : Effects) (input : Lis
                       let frames_same = (same_variable there.0 there.1 (suc depth) x (sym there.2 ∙ base_along (ways.Object root) q)).0 in
                       let less = there.3 in omega (arith, frames_same, less))
                   | inl (inr none) ↦ absurd none
-                  | inl (inl (u, moved, leads)) ↦ not_named (home s depth) (suc depth) x
-                      (not_above s ready.accepted.settled ready.owns no_in_formals (waiting_in easy.state) state.leaks depth views far_views facts_called next_there) w
-                      (subst (ways.Named (home s depth)) leads
-                      (named_way (home s depth) (sees_only s) other_all views (view_here s easy.state) facts_called well_all.views (suc (ways.number_of u)) u (omega arith)
-                      (moved.0, well_all.clear.owned (ways.name_of u) moved.1))) (base_along (ways.Object root) q)
+                  | inl (inl (u, moved, leads)) ↦ elim (stands (home s depth) (sees_only s) views (view_here s easy.state) own_facts well_before.views u
+                      (moved.0, well_before.clear.owned (ways.name_of u) moved.1)) [
+                        | inl own ↦ not_named (home s depth) (suc depth) x
+                            (not_above s ready.accepted.settled ready.owns in_formals (waiting_in easy.state) state.leaks depth views far_views facts_called next_there) w
+                            (subst (ways.Named (home s depth)) leads own.0) (base_along (ways.Object root) q)
+                        | inr held_there ↦ (
+                            let foreign = held_there.passed.foreign in
+                            let low = far_views held_there.object held_there.way held_there.has foreign in
+                            let at = sym foreign.2 ∙ sym (base_under held_there.way (expand views u) held_there.under) ∙ ap ways.base_of leads ∙ base_along (ways.Object root) q in
+                            let frames_same = (same_variable foreign.0 foreign.1 (suc depth) x at).0 in omega (arith, low, frames_same))
+                      ]
                 ])
-
-        abbrev with_all : Memory
-        with_all = with_formals s (suc depth) formals passed state.memory
-
-        enters : Enter s ready.accepted.settled ready.owns no_in_formals (waiting_in easy.state) state.leaks depth views far_views facts_called next_there other_all formals passed ways_taken
-            state.memory with_all
-        enters =
-            all_declared s ready.accepted.settled ready.owns no_in_formals (waiting_in easy.state) state.leaks depth views far_views facts_called next_there other_all formals passed ways_taken
-            state.memory all_passed_ways.1 open_there (viewed_easy plain_there.0).1 well_all blank_formals
-
-        abbrev declared_there : AreDeclared s ready.accepted.settled ready.owns no_in_formals (waiting_in easy.state) state.leaks depth views far_views facts_called next_there formals
-            state.memory with_all
-        declared_there = enters.0
-
-        abbrev after_call : State
-        after_call = steps.leaking [] (entered main_turn ready.accepted.settled n actuals passed)
-
-        abbrev called_stage : Stage
-        called_stage = record { frame = frame_at_start n (returns_of formals passed); depth = suc depth; before = []; returns = [] }
-
-        abbrev waits_stage : Stage
-        waits_stage = waits_with all_passed_ways.0
-
-        abbrev waits_there : ViewStage
-        waits_there = record { stage = waits_with all_passed_ways.0; views = views }
-
-        frames_there : after_call.frames ≡ frame_at_start n (returns_of formals passed) ∷ (waits_stage.frame ∷ outer)
-        frames_there =
-            ap (λ z. frame_at_start n (returns_of formals passed) ∷ led main_turn (record top.frame { waits = steps.waiting main_turn }) z) call_point.1
-
-        hands_there : waiting_in after_call ≡ waiting_in easy.state
-        hands_there = led_waits main_turn (record top.frame { waits = steps.waiting main_turn }) (successor main_turn 0)
-
-        abbrev called_view : ways.View
-        called_view = seen s with_all (waiting_in easy.state) state.leaks
-
-        view_called : called_view ≡ view_here s after_call
-        view_called = (λ j. seen s with_all (sym hands_there j) (sym (append-nil state.leaks) j))
-
-        abbrev around_taken : Around (home s depth)
-        around_taken = gone_also (home s depth) other_all (λ w. GoneElsewhere program effects older w ⊎ TakenBy all_passed_ways.0 w)
-
-        well_called : Viewed (home s depth) (sees_only s) around_taken views (view_here s after_call) facts_called
-        well_called = subst (λ z. Viewed (home s depth) (sees_only s) around_taken views z facts_called) view_called enters.1
-
-        held_called : (f x : ℕ) (q : List Step) (k : ℕ) → (f ≡ suc depth → ⊥) → word_in s.table (content s with_all [] (ways.OfRoot (ways.OfVariable f x))) q ≡ ways.Held k
-            → word_in s.table (content s state.memory [] (ways.OfRoot (ways.OfVariable f x))) q ≡ ways.Held k
-        held_called f x q k off held = elim (declared_there.held f x q k held) [ inl before ↦ before | inr mine ↦ absurd (off mine.0) ]
-
-        is_waiting : IsWaiting table typed effects after_call n (returns_of formals passed) waits_there
-        is_waiting = record {
-          runs = running.0;
-          plain = running.1;
-          path = subst (λ (z : FlowSub). ControlPath (path_points program effects z) (top.frame.next ∷ top.before) call_point.0)
-              (sym (standing.sub_is table typed effects input ready state top older outer named p frames of_sub at_point))
-              (goes_on top.before top.frame.next call_point.0 (standing.path_here table typed effects input ready state top older outer named p frames of_sub at_point path)
-              (subst (λ (z : PathPoint). Has z.next call_point.0) (sym (path_there own named top.frame.next p at_point program effects)) call_point.2));
-          named = named;
-          of_sub = of_sub;
-          point = at_successor.0;
-          at_point = at_successor.1;
-          scope = λ x q k held. elim (next_scope top.depth x q k (held_called top.depth x q k (λ above_it. (let d = deep in omega (arith, above_it, d))) held)) [
-            | inl less ↦ absurd (omega (arith, less, deep))
-            | inr mine ↦ mine.1
-          ];
-          lends = lends_there;
-          unmoved = λ name has shared uses. spared_then name (subst (λ z. Has z (Moved name)) facts_there has) shared uses;
-          uses = λ x uses. called_used program effects ready.accepted.effects_are top.frame.sub (flow_sub own named) sub_at_all sub_less n callee_less
-              main_turn.point (standing.in_sub table typed effects input ready state top older outer named p frames of_sub at_point) actuals result e x uses;
-          writes = λ x written. called_writes program effects ready.accepted.effects_are top.frame.sub (flow_sub own named) sub_at_all sub_less n callee_less
-              main_turn.point (standing.in_sub table typed effects input ready state top older outer named p frames of_sub at_point) actuals result e x written;
-          clear = subst (AreClear (sees_only s)) (sym facts_there) well_called.clear;
-          views = subst (λ z. AreViews (home s top.depth) (sees_only s) views (view_here s after_call) z) (sym facts_there)
-              (subst (λ d. AreViews (home s d) (sees_only s) views (view_here s after_call) facts_called) (sym deep) well_called.views);
-          holds = subst (λ d. HoldsAt s d views with_all at_successor.0) (sym deep) (record {
-            held = λ x k lasts view at. holds_now.held x k (anonymous_is_view s no_in_formals x view) (sym (declared_there.views (home s depth x) x view) ∙ at);
-            within = λ x k view at. (let own_way = holds_now.held x k (anonymous_is_view s no_in_formals x view) (sym (declared_there.views (home s depth x) x view) ∙ at) in (next_placed x own_way.0 own_way.1).within);
-            only = holds.only;
-            named = holds.named;
-          });
-          placed = subst (λ z. ArePlaced program z views (at_successor.0).scope) (sym facts_there) next_placed;
-          taken = subst (λ z. AreTaken s with_all top.depth z next_there (returns_of formals passed) all_passed_ways.0) (sym facts_there)
-              (subst (λ d. AreTaken s with_all d facts_called next_there (returns_of formals passed) all_passed_ways.0) (sym deep) enters.2);
-        }
-
-        others_wait : AreWaiting table typed effects after_call top.frame.sub top.frame.returns older
-        others_wait =
-            all_on table typed effects unmoved_stage local state after_call depth
-            (λ f x q k some less held. held_called f x q k (λ above_it. omega (arith, less, above_it)) held)
-            (λ f x some less view. declared_there.views f x view)
-            top.frame.sub top.frame.returns older outer stages (omega arith)
-            (λ g has x w is. (let root = kept_low table typed effects unmoved_stage local state depth older between w (g.views.cell x) (g, has, x, is, refl) in
-            subst (λ z. ways.Reaches z w (ways.OfCell (g.views.cell x))) view_called
-            (declared_there.low w root.0 root.1 root.2 root.3 (g.views.cell x)
-            (((viewed_easy plain_there.0).0).far w (g.views.cell x) (g, has, x, is, refl))))) running.2
-
-        -- what is gone then is known to those that wait
-        known_called : (w : Way) (l : ways.Loc) → ways.IsRooted w → ways.Reaches (view_here s after_call) w l → (view_here s after_call).word l ≡ ways.Gone
-            → GoneElsewhere program effects (waits_there ∷ older) w
-        known_called w l rooted r gone = elim (well_called.known w l rooted r gone) [
-          | inr (inl (g, has, what)) ↦ (g, inr has, what)
-          | inr (inr taken_there) ↦ (waits_there, inl refl, inr taken_there)
-          | inl (inr none) ↦ absurd none
-          | inl (inl moved) ↦ (
-            waits_there,
-            inl refl,
-            inl (subst (λ d. IsMovedBy (home s d) views (facts_of program effects waits_stage) w) (sym deep)
-                (subst (λ z. IsMovedBy (home s depth) views z w) (sym facts_there) moved)),
-          )
-        ]
-
-        returned_there : AreReturned s (frame_at_start n (returns_of formals passed))
-        returned_there = (
-          λ x has. all_returned s ready.accepted.settled depth formals actuals passed (given_laid passed given) called.actuals_stay kinds x
-              (subst (λ z. Has z x) (ap (λ (z : Signature). z.formals) (signature_is program n)) has),
-          λ r has. called.formals r.formal
-              (formals_of_returns s ready.accepted.settled ready.owns no_in_formals (waiting_in easy.state) state.leaks depth views far_views facts_called next_there formals passed r has),
-        )
-
-        entered_sound : Along (Goes after_call)
-        entered_sound = (
-          record {
-            top = called_stage;
-            views = blank_views;
-            older = waits_there ∷ older;
-            stages = subst (AreStages (called_stage ∷ stages_of (waits_there ∷ older))) (sym frames_there) (refl, refl, (refl, deep, stages));
-            running = (called.runs, returned_there, (is_waiting, others_wait));
-            awaited = (
-              packages.first_waits table typed effects input ready (suc depth) n (returns_of formals passed) called.runs.named called.runs.stands called.runs.point
-                  called.runs.points called.runs.begins,
-              (waits_late all_passed_ways.0, others_await (ap returns_value e)),
-            );
-            path = begins (first_point n called.runs.named called.runs.stands called.runs.point called.runs.points called.runs.begins);
-            viewed = record {
-              owned = well_called.owned;
-              covered = well_called.covered;
-              known = λ w l rooted r gone. inr (known_called w l rooted r gone);
-              clear = record {
-                moved = λ l h k m has there over. has;
-                lent = λ b h k m has there off over. has;
-                seen = λ b h k m has there over. has;
-                owned = λ k has. absurd has;
-              };
-              views = λ x w has. absurd (none_some w has);
-              whole = λ x w z has. absurd (none_some w has);
-              lends = λ l k none. absurd none;
-              far = λ w k none. absurd none;
-            };
-            kept = subst (Kept s with_all) (sym hands_there) declared_there.typed;
-            named = called.runs.named;
-            of_sub = called.runs.stands;
-            point = called.runs.point;
-            at_point = ([], called.runs.points, called.runs.begins, refl);
-            scope = λ f x q k held. elim (declared_there.held f x q k held) [
-              | inl before ↦ elim (scope f x q k before) [
-                | inl less ↦ inl (omega (arith, less))
-                | inr mine ↦ (let is = mine.0 in inl (omega (arith, is)))
-              ]
-              | inr mine ↦ inr (
-                mine.0,
-                within_lasting s x called.runs.point.scope (called.begins x mine.1 (owning_there f x q k held))
-                    (plain_unheld s x (formal_lasts (object_at s x).kind (called.formals x mine.1))),
-              )
-            ];
-            holds = record {
-              held = λ x k lasts view at. absurd (no_view x k view at);
-              within = λ x k view at. absurd (no_view x k view at);
-              only = λ x w has. absurd (none_some w has);
-              named = λ x w has. absurd (none_some w has);
-            };
-            placed = λ x w has. absurd (none_some w has);
-            none_above = λ f x k less view at. above f x k (omega (arith, less)) view (sym (declared_there.views f x view) ∙ at);
-          },
-          calls_one waits_stage refl (refl, refl, refl) refl none_new (subst (λ d. AreCarried s (λ f. f ≡ suc d → ⊥) [] state.memory with_all) (sym deep) declared_there.carried),
-        )
-          where
-            formal_lasts : (k : ObjectKind) → is_formal_kind k ≡ true → is_temporary k ≡ false
-            formal_lasts object_kind.Formal is = refl
-            formal_lasts k is = cc
-
-            -- what has a number owns
-            owning_there : (f x : ℕ) (q : List Step) (k : ℕ) → word_in s.table (content s with_all [] (ways.OfRoot (ways.OfVariable f x))) q ≡ ways.Held k
-                → is_owning s.table (object_at s x).of ≡ true
-            owning_there f x q k held = by_type (is_owning s.table (object_at s x).of) refl
-              where
-                by_type : (b : Bool) → is_owning s.table (object_at s x).of ≡ b → b ≡ true
-                by_type true is = refl
-                by_type false is =
-                    let none = word_no s.table (content s with_all [] (ways.OfRoot (ways.OfVariable f x))) q
-                    ((keeps s ready.accepted.settled ready.owns).ownerless (object_at s x).of is q) in
-                    absurd (no_number (sym none ∙ held))
-                  where
-                    no_number : ways.Empty ≡ ways.Held k → ⊥
-                    no_number same_word = cc
-
-            no_view : (x k : ℕ) → is_anonymous (view_of s x) ≡ true
-                → (get_or (variable_slots s (home s (suc depth) x) x with_all.variables) 0 no_slot).word ≡ machine.Cell k → ⊥
-            no_view x k view at =
-                let up : home s (suc depth) x ≡ suc depth = ap (λ b. if b then 0 else suc depth) (local x view) in
-                above (home s (suc depth) x) x k (omega (arith, up)) view (sym (declared_there.views (home s (suc depth) x) x view) ∙ at)
-
-      pub calls_it : Along (turn main_turn (Call n actuals result))
-      calls_it =
-          call_goes main_turn ready.accepted.settled n actuals Along ends_raised Given
-          (λ passed given. no_out_checks s ready.accepted.settled depth main_turn.point.pos state.memory formals actuals passed (given_laid passed given))
-          entered_sound ways_there ways_are
-          (start main_turn) then_now refl refl passed_quiet

@@ -1,14 +1,14 @@
 -- What a place has is taken by a call, or by its end, and given to a place that has no number: the
 -- state stays sound with views.
-use Rattle.std.proofs.Common.{◌≡◌, refl, sym, ap, ◌∙◌, subst, ◌⊎◌, inl, inr, ℕ, ◌+◌, Bool, true, false, not, List, [], ◌∷◌, ◌++◌, take, drop, length, get_or, append-nil, Some, arith}
+use Rattle.std.proofs.Common.{◌≡◌, refl, sym, ap, ◌∙◌, subst, ◌⊎◌, inl, inr, ℕ, ◌+◌, Bool, true, false, not, List, [], ◌∷◌, ◌++◌, take, drop, length, get_or, append-nil, Some, arith, suc, ◌<◌, if◌then◌else◌}
 use Rattle.place_names.specs.declared.fact.Fact.{Fact}
 use Rattle.type_definitions.specs.Types.{words}
-use Rattle.flow_paths.specs.Objects.{Typing, object_at}
+use Rattle.flow_paths.specs.Objects.{Typing, object_at, is_package_object}
 use Rattle.machine.specs.Words.{access_offsets}
 use Rattle.machine.specs.Words as machine
 use Rattle.machine.specs.Memory.{Slot, Memory, Place, fresh, cell, no_slot, slots_of, slots_at, words_of, gone_at, stored, moved_out}
 use Rattle.machine.specs.States.{Waiting, Leak}
-use Rattle.owned_ways.specs.Ways.{Step, OfVariable, OfHand, Loc, OfRoot, OfCell, Way, Object, Gone, Held, View, Reaches, IsMove, IsRooted, Root, Below, Under, part, along, base_of}
+use Rattle.owned_ways.specs.Ways.{Step, OfVariable, OfHand, Loc, OfRoot, OfCell, Way, Object, Gone, Held, View, Reaches, IsMove, IsRooted, Root, Below, Under, Past, part, along, base_of}
 use Rattle.owned_ways.proofs.Locations.{below, past_under, reaches_along, under_along, under_itself, named_along}
 use Rattle.owned_ways.proofs.Assigned.{given_apart}
 use Rattle.owned_ways.proofs.Moving.{Given, keeps, owner_before}
@@ -20,9 +20,9 @@ use Rattle.soundness.proofs.Joined.{trunk_part, steps_part}
 use Rattle.soundness.proofs.Contents.{bool_cases, word_yes, word_part, word_root, stored_step, stored_whole, taken_step}
 use Rattle.soundness.proofs.Steps.{put_count, put_freed, stores, takes}
 use Rattle.owned_loans.specs.Views.{Around, Views, ExcusedBy, Viewed, IsForeign}
-use Rattle.owned_loans.proofs.Moves.{no_hand, view_named, view_rooted}
+use Rattle.owned_loans.proofs.Moves.{no_hand, view_rooted}
 use Rattle.viewed_steps.specs.Taken.{IsInside}
-use Rattle.viewed_steps.proofs.Between.{gone_also, IsClearOf, moved_between, base_under, base_along, same_variable, not_named}
+use Rattle.viewed_steps.proofs.Between.{IsHomed, gone_also, IsClearOf, moved_between, base_under, base_along, same_variable, not_named}
 use Rattle.viewed_steps.proofs.Views.{AreFar}
 
 -- ---- places in variables
@@ -30,43 +30,54 @@ use Rattle.viewed_steps.proofs.Views.{AreFar}
 module _ (s : Typing) (depth : ℕ) (k : Place) (to : Way) (inside : IsInside s depth k to) where
   -- where it is
   abbrev pub inside_at : Loc
-  inside_at = part (OfRoot (OfVariable depth inside.object)) inside.steps
+  inside_at = part (OfRoot (OfVariable inside.frame inside.object)) inside.steps
 
-  pub trunk_is : trunk (part (OfRoot (OfVariable depth inside.object)) inside.steps) ≡ OfRoot (OfVariable depth inside.object)
-  trunk_is = trunk_part (OfRoot (OfVariable depth inside.object)) inside.steps
+  pub trunk_is : trunk (part (OfRoot (OfVariable inside.frame inside.object)) inside.steps) ≡ OfRoot (OfVariable inside.frame inside.object)
+  trunk_is = trunk_part (OfRoot (OfVariable inside.frame inside.object)) inside.steps
 
-  pub inside_steps : steps_in (part (OfRoot (OfVariable depth inside.object)) inside.steps) ≡ inside.steps
-  inside_steps = steps_part (OfRoot (OfVariable depth inside.object)) inside.steps ∙ append-nil inside.steps
+  pub inside_steps : steps_in (part (OfRoot (OfVariable inside.frame inside.object)) inside.steps) ≡ inside.steps
+  inside_steps = steps_part (OfRoot (OfVariable inside.frame inside.object)) inside.steps ∙ append-nil inside.steps
 
-  pub inside_spot : (m : Memory) (hands : List Waiting) → Spot s m hands k (part (OfRoot (OfVariable depth inside.object)) inside.steps)
+  pub inside_spot : (m : Memory) (hands : List Waiting) → Spot s m hands k (part (OfRoot (OfVariable inside.frame inside.object)) inside.steps)
   inside_spot m hands = record {
     base = trunk_is ∙ ap loc_of (sym inside.base);
     made = subst (λ b. IsMade m b) (sym inside.base) tt;
     at = inside.at ∙ (λ j. offset_in s.table (content s m hands (sym trunk_is j)).of (sym inside_steps j));
     there = (λ j. has_part s.table (content s m hands (trunk_is j)).of (inside_steps j)) ∙ inside.there;
-    of = subst (λ z. Matches s.table k.of (type_in s.table (content s m hands z).of (steps_in (part (OfRoot (OfVariable depth inside.object)) inside.steps)))) (sym trunk_is)
+    of = subst (λ z. Matches s.table k.of (type_in s.table (content s m hands z).of (steps_in (part (OfRoot (OfVariable inside.frame inside.object)) inside.steps)))) (sym trunk_is)
         (subst (λ z. Matches s.table k.of (type_in s.table (object_at s inside.object).of z)) (sym inside_steps) inside.of);
   }
 
-  pub inside_reached : (view : View) → Reaches view to (part (OfRoot (OfVariable depth inside.object)) inside.steps)
+  pub inside_reached : (view : View) → Reaches view to (part (OfRoot (OfVariable inside.frame inside.object)) inside.steps)
   inside_reached view =
-      subst (λ w. Reaches view w (part (OfRoot (OfVariable depth inside.object)) inside.steps)) (sym inside.way)
-      (reaches_along view (Object (OfVariable depth inside.object)) (OfRoot (OfVariable depth inside.object)) inside.steps refl)
+      subst (λ w. Reaches view w (part (OfRoot (OfVariable inside.frame inside.object)) inside.steps)) (sym inside.way)
+      (reaches_along view (Object (OfVariable inside.frame inside.object)) (OfRoot (OfVariable inside.frame inside.object)) inside.steps refl)
 
-  pub inside_base : base_of to ≡ OfRoot (OfVariable depth inside.object)
-  inside_base = ap base_of inside.way ∙ base_along (Object (OfVariable depth inside.object)) inside.steps
+  pub inside_base : base_of to ≡ OfRoot (OfVariable inside.frame inside.object)
+  inside_base = ap base_of inside.way ∙ base_along (Object (OfVariable inside.frame inside.object)) inside.steps
+
+  -- no frame above
+  pub inside_low : inside.frame < suc depth
+  inside_low = by_package (is_package_object s inside.object) inside.at_home
+    where
+      by_package : (b : Bool) → inside.frame ≡ (if b then 0 else depth) → inside.frame < suc depth
+      by_package true is = omega (arith, is)
+      by_package false is = omega (arith, is)
+
+  pub inside_homed : IsHomed s depth to
+  inside_homed = (inside.frame, inside.object, inside_base, inside.at_home)
 
   pub inside_rooted : IsRooted to
-  inside_rooted = subst IsRooted (sym inside.way) (named_along (Object (OfVariable depth inside.object)) inside.steps tt)
+  inside_rooted = subst IsRooted (sym inside.way) (named_along (Object (OfVariable inside.frame inside.object)) inside.steps tt)
 
   pub inside_owns : (m : Memory) (hands : List Waiting) → is_view_formal s inside.object ≡ false
-      → (content s m hands (trunk (part (OfRoot (OfVariable depth inside.object)) inside.steps))).owns ≡ true
+      → (content s m hands (trunk (part (OfRoot (OfVariable inside.frame inside.object)) inside.steps))).owns ≡ true
   inside_owns m hands plain = ap (λ z. (content s m hands z).owns) trunk_is ∙ ap not plain
 
   -- the words there
   pub inside_word : (m : Memory) (hands : List Waiting) (p : List Step)
-      → word_in s.table (content s m hands (trunk (part (OfRoot (OfVariable depth inside.object)) inside.steps))) (p ++ steps_in (part (OfRoot (OfVariable depth inside.object)) inside.steps))
-      ≡ word_in s.table (content s m [] (OfRoot (OfVariable depth inside.object))) (p ++ inside.steps)
+      → word_in s.table (content s m hands (trunk (part (OfRoot (OfVariable inside.frame inside.object)) inside.steps))) (p ++ steps_in (part (OfRoot (OfVariable inside.frame inside.object)) inside.steps))
+      ≡ word_in s.table (content s m [] (OfRoot (OfVariable inside.frame inside.object))) (p ++ inside.steps)
   inside_word m hands p =
       (λ j. word_in s.table (content s m hands (trunk_is j)) (p ++ inside_steps j))
 
@@ -78,7 +89,7 @@ variable_off g y p h (q, is) = other_trunk (sym (trunk_part (OfRoot (OfVariable 
     other_trunk : {h f x : ℕ} → OfRoot (OfVariable f x) ≡ OfRoot (OfHand h) → ⊥
     other_trunk e = cc
 
-cell_off : (c : ℕ) (p : List Step) (l : Loc) (r : Root) → trunk l ≡ OfRoot r → Below l (part (OfCell c) p) → ⊥
+pub cell_off : (c : ℕ) (p : List Step) (l : Loc) (r : Root) → trunk l ≡ OfRoot r → Below l (part (OfCell c) p) → ⊥
 cell_off c p l r base (q, is) = other_trunk (sym (trunk_part (OfCell c) p) ∙ ap trunk is ∙ trunk_part l q ∙ base)
   where
     other_trunk : {c : ℕ} {r : Root} → OfCell c ≡ OfRoot r → ⊥
@@ -86,6 +97,10 @@ cell_off c p l r base (q, is) = other_trunk (sym (trunk_part (OfCell c) p) ∙ a
 
 hand_differs : {a : Loc} {f x h : ℕ} → a ≡ OfRoot (OfVariable f x) → a ≡ OfRoot (OfHand h) → ⊥
 hand_differs p q = cc
+
+-- what begins in another frame doesn't go on after a way
+pub past_other : (u w : Way) (f x g y : ℕ) → base_of u ≡ OfRoot (OfVariable f x) → base_of w ≡ OfRoot (OfVariable g y) → (g ≡ f → ⊥) → Past u w → ⊥
+past_other u w f x g y base root off past = off (same_variable g y f x (sym root ∙ base_under u w (past_under u w past) ∙ base)).0
 
 frame_of : (f y e x : ℕ) → OfRoot (OfVariable f y) ≡ OfRoot (OfVariable e x) → f ≡ e
 frame_of f y e x is = cc
@@ -107,11 +122,11 @@ module _ (home : ℕ → ℕ) (observer : ℕ → Bool) (v : Views) (other : Aro
   variable_clear e x elsewhere far apart = record {
     own = λ y w has past. (
         let base = base_under (Object (OfVariable e x)) w (past_under (Object (OfVariable e x)) w past) in
-        elim (viewed.views y w has) [
-          | inl own ↦ not_named home e x elsewhere w (view_named home observer other v s facts viewed.views y w own) base
-          | inr passed ↦ (
-              let low = far y w has passed.foreign in
-              let same = frame_of passed.foreign.0 passed.foreign.1 e x (sym passed.foreign.2 ∙ base) in omega (arith, low, same))
+        elim (view_rooted home observer other v s facts viewed.views y w has).3 [
+          | inl named ↦ not_named home e x elsewhere w named base
+          | inr foreign ↦ (
+              let low = far y w has foreign in
+              let same = frame_of foreign.0 foreign.1 e x (sym foreign.2 ∙ base) in omega (arith, low, same))
         ]);
     far = λ w n keeps past. apart w n keeps (base_under (Object (OfVariable e x)) w (past_under (Object (OfVariable e x)) w past));
   }
@@ -176,6 +191,14 @@ module _ (s : Typing) (settled : IsSettled s.table) (home : ℕ → ℕ) (observ
         other_trunk : {h f x : ℕ} → OfRoot (OfVariable f x) ≡ OfRoot (OfHand h) → ⊥
         other_trunk e = cc
 
+    -- beside the place a variable has what it had
+    pub carried_beside : (g y : ℕ) (p : List Step) → (Below l (part (OfRoot (OfVariable g y)) p) → ⊥)
+        → word_in s.table (content s (moved_out s k m) [] (OfRoot (OfVariable g y))) p ≡ word_in s.table (content s m [] (OfRoot (OfVariable g y))) p
+    carried_beside g y p off =
+        sym (word_root s.table b (OfVariable g y) p)
+        ∙ move.off (part (OfRoot (OfVariable g y)) p) (λ there. variable_off g y p (length rest) there) off
+        ∙ word_root s.table a (OfVariable g y) p
+
     -- what is gone in a variable stays so, and cells are as they were
     pub carried_gone : (g y : ℕ) (p : List Step) → word_in s.table (content s m [] (OfRoot (OfVariable g y))) p ≡ Gone
         → word_in s.table (content s (moved_out s k m) [] (OfRoot (OfVariable g y))) p ≡ Gone
@@ -183,10 +206,7 @@ module _ (s : Typing) (settled : IsSettled s.table) (home : ℕ → ℕ) (observ
       | inl (q, is) ↦ absurd (clean (along u q) (under_along u u q (under_itself u))
           (viewed.known (along u q) (part l q) (named_along u q rooted) (reaches_along (seen s m rest leaks) u l q reaches)
           (subst (λ z. (seen s m rest leaks).word z ≡ Gone) is (word_root s.table a (OfVariable g y) p ∙ gone))))
-      | inr off ↦
-          sym (word_root s.table b (OfVariable g y) p)
-          ∙ move.off (part (OfRoot (OfVariable g y)) p) (λ there. variable_off g y p (length rest) there) off
-          ∙ word_root s.table a (OfVariable g y) p ∙ gone
+      | inr off ↦ carried_beside g y p off ∙ gone
     ]
 
     pub carried_cells : (f x : ℕ) → trunk l ≡ OfRoot (OfVariable f x) → (c : ℕ) (p : List Step)
@@ -216,14 +236,19 @@ module _ (s : Typing) (settled : IsSettled s.table) (home : ℕ → ℕ) (observ
         (goes_off f x base) viewed rooted clean (λ w o off. more w o) (λ p is. adds p) clear
         (hand_clear home observer v other gone met_apart (seen s m rest leaks) facts viewed (length rest)))
 
-    -- a way from another variable reaches what it reached
+    -- a way from a variable that doesn't go on after the place reaches what it reached
+    pub carried_off_stays : (f x : ℕ) → base_of u ≡ OfRoot (OfVariable f x) → (w : Way) (g y : ℕ) → base_of w ≡ OfRoot (OfVariable g y) → (Past u w → ⊥) → (n : ℕ)
+        → Reaches (seen s m rest leaks) w (OfCell n) → Reaches (seen s (moved_out s k m) (got ∷ rest) leaks) w (OfCell n)
+    carried_off_stays f x base w g y root off n reach =
+        subst (λ z. Reaches z w (OfCell n)) after_is
+        (keeps (seen s m rest leaks) after u (Object (OfHand (length rest))) l (hand (length rest)) (goes_off f x base) w (OfCell n) reach off
+        (λ past. hand_differs root (base_under (Object (OfHand (length rest))) w (past_under (Object (OfHand (length rest))) w past))))
+
+    -- as one does that begins in another frame
     pub carried_off_low : (f x : ℕ) → base_of u ≡ OfRoot (OfVariable f x) → (w : Way) (g y : ℕ) → base_of w ≡ OfRoot (OfVariable g y) → (g ≡ f → ⊥) → (n : ℕ)
         → Reaches (seen s m rest leaks) w (OfCell n) → Reaches (seen s (moved_out s k m) (got ∷ rest) leaks) w (OfCell n)
     carried_off_low f x base w g y root off n reach =
-        subst (λ z. Reaches z w (OfCell n)) after_is
-        (keeps (seen s m rest leaks) after u (Object (OfHand (length rest))) l (hand (length rest)) (goes_off f x base) w (OfCell n) reach
-        (λ past. off (same_variable g y f x (sym root ∙ base_under u w (past_under u w past) ∙ base)).0)
-        (λ past. hand_differs root (base_under (Object (OfHand (length rest))) w (past_under (Object (OfHand (length rest))) w past))))
+        carried_off_stays f x base w g y root (past_other u w f x g y base root off) n reach
 
   -- What a hand has goes to a place that has no number.
   module _ (m : Memory) (got : Waiting) (rest : List Waiting) (leaks : List Leak) (facts : List Fact) (k : Place) (l : Loc) (u : Way)
@@ -301,11 +326,16 @@ module _ (s : Typing) (settled : IsSettled s.table) (home : ℕ → ℕ) (observ
         (λ p is. absurd (stored_whole s.table settled full given (length rest) got l (length m.cells) (λ n. (cell m n).freed) leaks change p is))
         (hand_clear home observer v other gone met_apart (seen s m (got ∷ rest) leaks) facts viewed (length rest)) clear)
 
-    -- a way from another variable reaches what it reached
+    -- a way from a variable that doesn't go on after the place reaches what it reached
+    pub carried_to_stays : (f x : ℕ) → base_of u ≡ OfRoot (OfVariable f x) → (w : Way) (g y : ℕ) → base_of w ≡ OfRoot (OfVariable g y) → (Past u w → ⊥) → (n : ℕ)
+        → Reaches (seen s m (got ∷ rest) leaks) w (OfCell n) → Reaches (seen s (stored s k got.words m) rest leaks) w (OfCell n)
+    carried_to_stays f x base w g y root off n reach =
+        subst (λ z. Reaches z w (OfCell n)) then_is
+        (keeps (seen s m (got ∷ rest) leaks) then_seen (Object (OfHand (length rest))) u (hand (length rest)) l (goes_to f x base) w (OfCell n) reach
+        (λ past. hand_differs root (base_under (Object (OfHand (length rest))) w (past_under (Object (OfHand (length rest))) w past))) off)
+
+    -- as one does that begins in another frame
     pub carried_to_low : (f x : ℕ) → base_of u ≡ OfRoot (OfVariable f x) → (w : Way) (g y : ℕ) → base_of w ≡ OfRoot (OfVariable g y) → (g ≡ f → ⊥) → (n : ℕ)
         → Reaches (seen s m (got ∷ rest) leaks) w (OfCell n) → Reaches (seen s (stored s k got.words m) rest leaks) w (OfCell n)
     carried_to_low f x base w g y root off n reach =
-        subst (λ z. Reaches z w (OfCell n)) then_is
-        (keeps (seen s m (got ∷ rest) leaks) then_seen (Object (OfHand (length rest))) u (hand (length rest)) l (goes_to f x base) w (OfCell n) reach
-        (λ past. hand_differs root (base_under (Object (OfHand (length rest))) w (past_under (Object (OfHand (length rest))) w past)))
-        (λ past. off (same_variable g y f x (sym root ∙ base_under u w (past_under u w past) ∙ base)).0))
+        carried_to_stays f x base w g y root (past_other u w f x g y base root off) n reach

@@ -1,5 +1,5 @@
 -- The declaration of an object that isn't a view.
-use Rattle.std.proofs.Common.{◌≡◌, refl, sym, ap, ◌∙◌, subst, ◌⊎◌, inl, inr, ℕ, suc, Bool, true, false, not, List, [], ◌∷◌, ◌+◌, ◌++◌, length, get_or, arith, append-nil, Some, if◌then◌else◌}
+use Rattle.std.proofs.Common.{◌≡◌, refl, sym, ap, ◌∙◌, subst, ◌⊎◌, inl, inr, ℕ, Bool, true, false, not, List, [], ◌∷◌, ◌+◌, ◌++◌, length, get_or, append-nil, Some, if◌then◌else◌}
 use Rattle.spark_base.specs.Lists.{Has}
 use Rattle.place_names.specs.declared.act.Act.TheVariants as act
 use Rattle.place_names.specs.declared.fact.Fact.{Fact}
@@ -44,16 +44,17 @@ use Rattle.soundness.proofs.Lasting.{keeps, lengths, declared_kept}
 use Rattle.soundness.proofs.Numbers.{index_law}
 use Rattle.soundness.proofs.Scalars.{acts}
 use Rattle.soundness.proofs.Taking.{Takes, takes_as, takes_zero, no_takes, nothing_more}
-use Rattle.owned_loans.specs.Views.{Around, Views, expand, ExcusedBy, Viewed, IsForeign, IsView, IsPassed}
-use Rattle.owned_loans.proofs.Ways.{lifts, lifted_way, root_on}
-use Rattle.owned_loans.proofs.Moves.{as_sound, all_known, view_on, named_way, view_named}
+use Rattle.owned_loans.specs.Views.{Around, Views, expand, ExcusedBy, Viewed, IsForeign}
+use Rattle.owned_loans.proofs.Ways.{lifts, lifted_way, root_on, base_on}
+use Rattle.owned_loans.proofs.Moves.{as_sound, all_known, view_on, view_rooted, reached}
+use Rattle.owned_loans.proofs.Meeting.{stands}
 use Rattle.viewed_soundness.specs.Taken.{GivesPlainly}
-use Rattle.viewed_soundness.specs.Holds.{IsNamed, PartsAreNamed, Holds, AllKeep, sees_only, is_view}
-use Rattle.viewed_soundness.proofs.Names.{true_false}
+use Rattle.viewed_soundness.specs.Holds.{IsNamed, PartsAreNamed, Holds, AllKeep, sees_only, is_view, is_fixed}
+use Rattle.viewed_soundness.proofs.Names.{both_no, true_false}
 use Rattle.viewed_soundness.proofs.Moments.{hands_spared}
 use Rattle.viewed_soundness.proofs.Evaluated.{gives_plainly, Given, blank_ready, checked_given, evaluated_on}
 use Rattle.viewed_soundness.proofs.Outcomes.{named_plain, not_views, IsGood, Leads_on, raises, start_is, unturned, goes_to}
-use Rattle.viewed_steps.proofs.Views.{is_anonymous_view}
+use Rattle.viewed_steps.proofs.Views.{AreAccess, same_named}
 
 -- ---- a variable that had nothing gets a value
 
@@ -69,13 +70,13 @@ IsOff f x (Inside l i) = IsOff f x l
 
 -- An object of the frame isn't the root of a way.
 abbrev pub IsElsewhere : (ℕ → ℕ) → ℕ → ℕ → Way → Type 0
-IsElsewhere home f x w = home x ≡ f → number_of w ≡ x → ⊥
+IsElsewhere home f x w = Named home w → home x ≡ f → number_of w ≡ x → ⊥
 
 off_there : (home : ℕ → ℕ) (s : View) (f x : ℕ) (w : Way) (l : Loc) → Named home w → IsElsewhere home f x w → Reaches s w l → IsOff f x l
 off_there home s f x (Object (OfVariable g y)) l n off r =
     subst (IsOff f x) (sym r) (λ e. (
     let same = same_root f x g y e in
-    off (ap home same.1 ∙ sym n ∙ sym same.0) (sym same.1)))
+    off n (ap home same.1 ∙ sym n ∙ sym same.0) (sym same.1)))
 off_there home s f x (Object (OfHand h)) l n off r = absurd n
 off_there home s f x (Lost c) l n off r = absurd n
 off_there home s f x (Into w i) l n off (m, r, e) = subst (IsOff f x) (sym e) (off_there home s f x w m n off r)
@@ -130,7 +131,22 @@ declared_low s m got rest leaks f x w g y base off n reach =
 
 -- A variable isn't one that a way of others begins at.
 abbrev pub IsApart : (home : ℕ → ℕ) → Around home → ℕ → ℕ → Type 0
-IsApart home other f x = (w : Way) (n : ℕ) → other.kept w n → base_of w ≡ OfRoot (OfVariable f x) → ⊥
+IsApart home other f x =
+    (w : Way) → ((n : ℕ) × other.kept w n) ⊎ ((l : Loc) × (p : List Step) × other.bare w l p) → base_of w ≡ OfRoot (OfVariable f x) → ⊥
+
+-- nor one in which something is bare
+bare_off : (home : ℕ → ℕ) (other : Around home) (f x : ℕ) → IsApart home other f x → (w : Way) (l : Loc) (p q : List Step) → other.bare w l p → IsOff f x (part l q)
+bare_off home other f x apart w l p q bare = elim (other.rests w l p bare) [
+  | inl (n, keeps, is) ↦ subst (λ z. IsOff f x (part z q)) (sym is) (below q (OfCell n) tt)
+  | inr (r, way, is) ↦
+      let (g, y, base, other_one) = other.bares w l p bare in
+      let root : OfRoot r ≡ OfRoot (OfVariable g y) = sym (ap base_of way) ∙ base in
+      subst (λ z. IsOff f x (part z q)) (sym (is ∙ root)) (below q (OfRoot (OfVariable g y)) (λ e. apart w (inr (l, p, bare)) (base ∙ ap OfRoot (sym e))))
+]
+  where
+    below : (q : List Step) (l : Loc) → IsOff f x l → IsOff f x (part l q)
+    below [] l off = off
+    below (i ∷ q) l off = below q l off
 
 module _ (s : Typing) (settled : IsSettled s.table) (home : ℕ → ℕ) (observer : ℕ → Bool) (other : Around home) (v : Views) where
   pub declared_viewed : (m : Memory) (got : Waiting) (rest : List Waiting) (leaks : List Leak) (facts : List Fact) (f x : ℕ)
@@ -152,33 +168,37 @@ module _ (s : Typing) (settled : IsSettled s.table) (home : ℕ → ℕ) (observ
         lends = viewed.lends;
         views = λ y w has. (let view = viewed.views y w has in
             view_on home observer other v a b facts facts y w view (λ seen n loan. loan)
-            (stays y w has view));
+            (stays y w has (view_rooted home observer other v a facts viewed.views y w has).3 (reached home observer other v a facts y w view)));
         whole = viewed.whole;
+        past = viewed.past;
         far = λ w n keeps. (let root = other.begins w n keeps in
             far_off a b f x root.0 root.1 (λ l off. word_off s m (got ∷ rest) rest leaks f x got.words l off) w (OfCell n) root.2
-            (λ e. apart w n keeps (root.2 ∙ ap OfRoot (sym e))) (viewed.far w n keeps));
+            (λ e. apart w (inl (n, keeps)) (root.2 ∙ ap OfRoot (sym e))) (viewed.far w n keeps));
+        bare = λ w l p bare q c held. viewed.bare w l p bare q c
+            (sym (word_off s m (got ∷ rest) rest leaks f x got.words (part l (q ++ p)) (bare_off home other f x apart w l p (q ++ p) bare)) ∙ held);
       }
     where
       frame_of : (f x g y : ℕ) → OfVariable f x ≡ OfVariable g y → g ≡ f
       frame_of f x g y e = cc
 
       stays : (y : ℕ) (w : Way) → v.way y ≡ Some w
-          → IsView home observer v (seen s m (got ∷ rest) leaks) facts y w ⊎ IsPassed home observer v (seen s m (got ∷ rest) leaks) y w
+          → Named home w ⊎ IsForeign home w → Reaches (seen s m (got ∷ rest) leaks) w (OfCell (v.cell y))
           → Reaches (seen s (declared f x got.words m) rest leaks) w (OfCell (v.cell y))
-      stays y w has (inl own) =
+      stays y w has (inl named) reaches =
           reaches_off home (seen s m (got ∷ rest) leaks) (seen s (declared f x got.words m) rest leaks) f x
           (λ l off. word_off s m (got ∷ rest) rest leaks f x got.words l off) w (OfCell (v.cell y))
-          (view_named home observer other v (seen s m (got ∷ rest) leaks) facts viewed.views y w own) (free y w has) own.reaches
-      stays y w has (inr passed) =
-          far_off (seen s m (got ∷ rest) leaks) (seen s (declared f x got.words m) rest leaks) f x passed.foreign.0 passed.foreign.1
-          (λ l off. word_off s m (got ∷ rest) rest leaks f x got.words l off) w (OfCell (v.cell y)) passed.foreign.2
-          (λ e. far y w has passed.foreign (frame_of f x passed.foreign.0 passed.foreign.1 e)) passed.reaches
+          named (free y w has) reaches
+      stays y w has (inr foreign) reaches =
+          far_off (seen s m (got ∷ rest) leaks) (seen s (declared f x got.words m) rest leaks) f x foreign.0 foreign.1
+          (λ l off. word_off s m (got ∷ rest) rest leaks f x got.words l off) w (OfCell (v.cell y)) foreign.2
+          (λ e. far y w has foreign (frame_of f x foreign.0 foreign.1 e)) reaches
 
 -- the root of what a name stands for
-pub stands_root : (v : Views) (u : Way) → (number_of (expand v u) ≡ number_of u) ⊎ ((y : ℕ) × (k : Way) × (v.way y ≡ Some k) × (number_of (expand v u) ≡ number_of k))
+pub stands_root : (v : Views) (u : Way) → (number_of (expand v u) ≡ number_of u)
+    ⊎ ((y : ℕ) × (k : Way) × (v.way y ≡ Some k) × (number_of (expand v u) ≡ number_of k) × (base_of (expand v u) ≡ base_of k))
 stands_root v u = elim (lifts v u) [
   | inl e ↦ inl (ap number_of e)
-  | inr l ↦ inr (l.object, l.way, l.has, ap number_of (lifted_way v u l) ∙ root_on l.way l.rest)
+  | inr l ↦ inr (l.object, l.way, l.has, ap number_of (lifted_way v u l) ∙ root_on l.way l.rest, ap base_of (lifted_way v u l) ∙ base_on l.way l.rest)
 ]
 
 base_frame : (f x g y : ℕ) → OfRoot (OfVariable f x) ≡ OfRoot (OfVariable g y) → f ≡ g
@@ -201,7 +221,7 @@ OthersStay s m f x n =
 -- ---- the outcome
 
 module _ (t : Turn) (settled : IsSettled (typing t).table) (own_law : OwnsByShape (typing t).table) (other : Around (home (typing t) (length t.outer)))
-    (alone : (w : Way) → IsNear (length t.outer) w → other.gone w → ⊥) (no_formals : (x : ℕ) → is_view_formal (typing t) x ≡ false)
+    (alone : (w : Way) → IsNear (length t.outer) w → other.gone w → ⊥) (in_formals : AreAccess (typing t))
     (v : Views) (parts_named : PartsAreNamed (typing t).table) (may : ℕ → ℕ → Type 0)
     (frames : t.state.frames ≡ t.frame ∷ t.outer) (none : taken t.point.instr ≡ 0) where
   abbrev s : Typing
@@ -259,21 +279,29 @@ module _ (t : Turn) (settled : IsSettled (typing t).table) (own_law : OwnsByShap
       free.1 Borrowed (ways.name_of t.0) t.3 root (sym (base_frame (home s depth (number_of t.0)) (number_of t.0) depth x base) ∙ ap (home s depth) root)
   not_gone x facts z viewed unmoved free p (inl (inl (u, moved, leads))) =
       let root : number_of (expand v u) ≡ x = ap number_of leads ∙ number_part (Object (OfVariable depth x)) p in
-      let named : Named (home s depth) (along (Object (OfVariable depth x)) p) = subst (Named (home s depth)) leads
-      (named_way (home s depth) (sees_only s) other v z facts viewed.views (suc (number_of u)) u (omega arith)
-      (moved.0, viewed.clear.owned (ways.name_of u) moved.1)) in
-      elim (stands_root v u) [
-        | inl e ↦ unmoved (ways.name_of u) moved.1 (sym e ∙ root) (in_home (home s depth) depth x p named)
-        | inr (y, k, has, e) ↦ (free.0 y k has).1 (sym (in_home (home s depth) depth x p named)) (sym e ∙ root)
+      let at : base_of (expand v u) ≡ OfRoot (OfVariable depth x) = ap base_of leads ∙ along_base (Object (OfVariable depth x)) p in
+      elim (stands (home s depth) (sees_only s) v z facts viewed.views u (moved.0, viewed.clear.owned (ways.name_of u) moved.1)) [
+        | inr held ↦ (
+            let foreign = held.passed.foreign in
+            (free.0 held.object held.way held.has).0 foreign
+            (base_frame foreign.0 foreign.1 depth x (sym foreign.2 ∙ sym (longer held.way (expand v u) held.under).base ∙ at)))
+        | inl own ↦ (
+            let named : Named (home s depth) (along (Object (OfVariable depth x)) p) = subst (Named (home s depth)) leads own.0 in
+            elim (stands_root v u) [
+              | inl e ↦ unmoved (ways.name_of u) moved.1 (sym e ∙ root) (in_home (home s depth) depth x p named)
+              | inr (y, k, has, e, base) ↦ (free.0 y k has).1
+                  (same_named (home s depth) k (along (Object (OfVariable depth x)) p) (sym base ∙ ap base_of leads) named)
+                  (sym (in_home (home s depth) depth x p named)) (sym e ∙ root)
+            ])
       ]
 
-  blank_after : (x : ℕ) (facts : List Fact) (ws : List machine.Word) (n : Now) → Given_here (object_at s x).of facts (Done ws n)
+  blank_after : (x : ℕ) → is_view_formal s x ≡ false → (facts : List Fact) (ws : List machine.Word) (n : Now) → Given_here (object_at s x).of facts (Done ws n)
       → FadesTo (here t) {A = List machine.Word} m (Done ws n) → IsBlank x m → IsUnmoved x facts → IsFree x → IsBlank x n.memory
-  blank_after x facts ws n (ready, long, same) faint new unmoved free p = elim (bool_cases (is_leaf s.table (object_at s x).of p)) [
+  blank_after x owner facts ws n (ready, long, same) faint new unmoved free p = elim (bool_cases (is_leaf s.table (object_at s x).of p)) [
     | inr isnt ↦ word_no s.table (content s n.memory [] (OfRoot (OfVariable depth x))) p isnt
     | inl leaf ↦ (
         let one = faint depth x (offset_in s.table (object_at s x).of p) in
-        let own : not (is_view_formal s x) ≡ true = ap not (no_formals x) in
+        let own : not (is_view_formal s x) ≡ true = ap not owner in
         let old : Slot = get_or (variable_slots s depth x m.variables) (offset_in s.table (object_at s x).of p) no_slot in
         let now_there : Slot = get_or (variable_slots s depth x n.memory.variables) (offset_in s.table (object_at s x).of p) no_slot in
         let root : Root = OfVariable depth x in
@@ -301,7 +329,7 @@ module _ (t : Turn) (settled : IsSettled (typing t).table) (own_law : OwnsByShap
   first_fades ws u e gives = absurd gives
 
   pub source_given : (ws : List (List machine.Word)) (u : ℕ) (e : TypedTree) → IsNamed s.table u → Source s u e → GivesPlainly s e → Takes (waits_in e) ws [] → (facts : List Fact) → Good facts
-      → AllowsAll facts (acts (acts_in s e)) → AllKeep (sees_only s) (acts (acts_in s e)) → Given_here u (after (acts (acts_in s e)) facts) (taken_by t u e (at ws))
+      → AllowsAll facts (acts (acts_in s e)) → AllKeep (is_fixed s) (acts (acts_in s e)) → Given_here u (after (acts (acts_in s e)) facts) (taken_by t u e (at ws))
   source_given ws u e named (inl (view, is)) calls takes facts good allowed keep = absurd (true_false (is_anonymous (full s.table u)) view (named_plain s.table u named))
   source_given ws u e named (inr gives) calls takes facts good allowed keep =
       subst (λ b. Given_here u (after (acts (acts_in s e)) facts) (if b then viewed (here t) e (at ws) else followed_by (value (here t) e (at ws)) (checked (here t) u)))
@@ -312,7 +340,7 @@ module _ (t : Turn) (settled : IsSettled (typing t).table) (own_law : OwnsByShap
       m hands facts (record { viewed = good.viewed; kept = good.kept; holds = good.holds }) allowed named keep))
 
   pub first_given : (ws : List (List machine.Word)) (u : ℕ) (e : TypedTree) → IsNamed s.table u → FirstSource s u e → GivesPlainly s e → Takes (waits_in e) ws [] → (facts : List Fact) → Good facts
-      → AllowsAll facts (acts (acts_in s e)) → AllKeep (sees_only s) (acts (acts_in s e)) → Given_here u (after (acts (acts_in s e)) facts) (first_value t u e (at ws))
+      → AllowsAll facts (acts (acts_in s e)) → AllKeep (is_fixed s) (acts (acts_in s e)) → Given_here u (after (acts (acts_in s e)) facts) (first_value t u e (at ws))
   unfolding acts_in GivesPlainly initial waits_in
   first_given ws u (More e rest) named (last, gives) calls takes facts good allowed keep =
       let same : acts_in s e ++ acts_in s rest ≡ acts_in s e = ap (λ z. acts_in s e ++ acts_in s z) last ∙ append-nil (acts_in s e) in
@@ -320,7 +348,7 @@ module _ (t : Turn) (settled : IsSettled (typing t).table) (own_law : OwnsByShap
       subst (λ z. Given_here u (after (acts z) facts) (taken_by t u e (at ws))) (sym same)
       (source_given ws u e named gives calls.0
       (takes_as (waits_in e + waits_in rest) (waits_in e) ws [] alone_there takes) facts good (subst (λ z. AllowsAll facts (acts z)) same allowed)
-      (subst (λ z. AllKeep (sees_only s) (acts z)) same keep))
+      (subst (λ z. AllKeep (is_fixed s) (acts z)) same keep))
   first_given ws u NoMore named gives calls takes facts good allowed keep = (
     blank_ready (here t) settled t.state.leaks [] other alone (keeps s settled own_law) index_law own_law v parts_named
         m hands facts u (default s.table u) (none_default s.table u) (record { viewed = good.viewed; kept = good.kept; holds = good.holds }),
@@ -330,69 +358,70 @@ module _ (t : Turn) (settled : IsSettled (typing t).table) (own_law : OwnsByShap
   first_given ws u e named gives calls takes facts good allowed keep = absurd gives
 
   -- the variables of views stay
-  holds_beside : (n : Memory) (x : ℕ) (ws : List machine.Word) → IsNamed s.table (object_at s x).of → Holds s depth v n → Holds s depth v (declared depth x ws n)
-  holds_beside n x ws named holds = record {
+  holds_beside : (n : Memory) (x : ℕ) (ws : List machine.Word) → IsNamed s.table (object_at s x).of → is_view_formal s x ≡ false → Holds s depth v n → Holds s depth v (declared depth x ws n)
+  holds_beside n x ws named owner holds = record {
     held = λ y k view e. holds.held y k view
         (sym (ap (λ z. (get_or z 0 no_slot).word) (put_other s depth x (home s depth y) y (off y view) (fresh ws) n.variables)) ∙ e);
     only = holds.only;
     owners = holds.owners;
     access = holds.access;
+    own = holds.own;
   }
     where
       off : (y : ℕ) → is_view s y ≡ true → OfVariable depth x ≡ OfVariable (home s depth y) y → ⊥
       off y view e =
           let same = same_root depth x (home s depth y) y e in
-          true_false (is_anonymous (view_of s y)) (is_anonymous_view s no_formals y view)
-          (ap (λ z. is_anonymous (view_of s z)) (sym same.1) ∙ named_plain s.table (object_at s x).of named)
+          true_false (is_view s y) view
+          (ap (is_view s) (sym same.1) ∙ both_no (is_anonymous (view_of s x)) (is_view_formal s x) (named_plain s.table (object_at s x).of named) owner)
 
   -- with this value
-  pub declared_goes : (x : ℕ) (facts : List Fact) → IsNamed s.table (object_at s x).of → (ws : List machine.Word) (n : Now)
+  pub declared_goes : (x : ℕ) (facts : List Fact) → IsNamed s.table (object_at s x).of → is_view_formal s x ≡ false → (ws : List machine.Word) (n : Now)
       → Given_here (object_at s x).of facts (Done ws n) → FadesTo (here t) {A = List machine.Word} m (Done ws n) → IsBlank x m → IsUnmoved x facts → IsFree x
       → IsApart (home s depth) other depth x → LeadsHere facts (goes t (declared depth x ws n.memory) 0)
-  declared_goes x facts named ws n (ready, long, same) faint new unmoved free apart =
+  declared_goes x facts named owner ws n (ready, long, same) faint new unmoved free apart =
       goes_to t settled own_law other alone v parts_named may frames none (declared depth x ws n.memory) 0 v facts
       (unturned t settled own_law other alone v parts_named may frames none facts)
       (declared_viewed s settled (home s depth) (sees_only s) other v n.memory (record { of = (object_at s x).of; words = ws }) hands t.state.leaks facts depth x
-      ready.viewed (λ h w under o. alone w (near_under depth (Object (OfHand h)) w under tt) o) ready.kept (blank_after x facts ws n (ready, long, same) faint new unmoved free) (no_formals x) long
+      ready.viewed (λ h w under o. alone w (near_under depth (Object (OfHand h)) w under tt) o) ready.kept (blank_after x owner facts ws n (ready, long, same) faint new unmoved free) owner long
       (alike s.table settled (object_at s x).of (object_at s x).of (inl refl))
       (λ y w has. (free.0 y w has).0) (λ y w has. (free.0 y w has).1) apart)
       (declared_kept s settled n.memory depth x (record { of = (object_at s x).of; words = ws }) hands ready.kept long (inl refl))
-      (holds_beside n.memory x ws named ready.holds)
+      (holds_beside n.memory x ws named owner ready.holds)
 
   then_declared : ((n : Memory) → WellOwned s (counted (record t.state { memory = given_up t.state.memory n }))) → (x : ℕ) (facts : List Fact)
-      → IsNamed s.table (object_at s x).of → (y : Evaluated (List machine.Word)) → Given_here (object_at s x).of facts y
+      → IsNamed s.table (object_at s x).of → is_view_formal s x ≡ false → (y : Evaluated (List machine.Word)) → Given_here (object_at s x).of facts y
       → FadesTo (here t) m y → IsBlank x m → IsUnmoved x facts → IsFree x → IsApart (home s depth) other depth x
       → LeadsHere facts (steps.evaluated t y (λ ws n. goes t (declared depth x ws n) 0))
-  then_declared well x facts named (Done ws n) given faint new unmoved free apart = declared_goes x facts named ws n given faint new unmoved free apart
-  then_declared well x facts named (Raises e n) given faint new unmoved free apart = (λ trap. trap, well n.memory)
-  then_declared well x facts named (Traps e n) never faint new unmoved free apart = absurd never
+  then_declared well x facts named owner (Done ws n) given faint new unmoved free apart = declared_goes x facts named owner ws n given faint new unmoved free apart
+  then_declared well x facts named owner (Raises e n) given faint new unmoved free apart = (λ trap. trap, well n.memory)
+  then_declared well x facts named owner (Traps e n) never faint new unmoved free apart = absurd never
 
   -- An object is declared. It has nothing yet, and no fact after the evaluation names it.
-  pub declare_on : (ws : List (List machine.Word)) (x : ℕ) (e : TypedTree) → IsNamed s.table (object_at s x).of → FirstSource s (object_at s x).of e
+  pub declare_on : (ws : List (List machine.Word)) (x : ℕ) (e : TypedTree) → IsNamed s.table (object_at s x).of → is_view_formal s x ≡ false → FirstSource s (object_at s x).of e
       → GivesPlainly s e → Takes (waits_in e) ws [] → (facts : List Fact)
-      → Good facts → AllowsAll facts (acts (declared_acts s x e)) → AllKeep (sees_only s) (acts (declared_acts s x e))
+      → Good facts → AllowsAll facts (acts (declared_acts s x e)) → AllKeep (is_fixed s) (acts (declared_acts s x e))
       → IsBlank x m → IsUnmoved x (after (acts (declared_acts s x e)) facts) → IsFree x → IsApart (home s depth) other depth x
       → LeadsHere (after (acts (declared_acts s x e)) facts) (steps.evaluated t (first_value t (object_at s x).of e (at ws)) (λ ws n. goes t (declared depth x ws n) 0))
-  declare_on ws x e named gives calls takes facts good allowed keep new unmoved free apart =
+  declare_on ws x e named owner gives calls takes facts good allowed keep new unmoved free apart =
       let kinds = not_views s x named in
       let same : declared_acts s x e ≡ acts_in s e =
       ap (λ b. if b then source_acts s (first e) (act.Borrow x) else
       (if is_observer s x then source_acts s (first e) (observe s x) else acts_in s e)) kinds.0
       ∙ ap (λ b. if b then source_acts s (first e) (observe s x) else acts_in s e) kinds.1 in
       subst (λ z. LeadsHere (after (acts z) facts) (steps.evaluated t (first_value t (object_at s x).of e (at ws)) (λ ws n. goes t (declared depth x ws n) 0))) (sym same)
-      (then_declared (raises t settled own_law other alone v parts_named may frames none facts good) x (after (acts (acts_in s e)) facts) named
+      (then_declared (raises t settled own_law other alone v parts_named may frames none facts good) x (after (acts (acts_in s e)) facts) named owner
       (first_value t (object_at s x).of e (at ws))
-      (first_given ws (object_at s x).of e named gives calls takes facts good (subst (λ z. AllowsAll facts (acts z)) same allowed) (subst (λ z. AllKeep (sees_only s) (acts z)) same keep))
+      (first_given ws (object_at s x).of e named gives calls takes facts good (subst (λ z. AllowsAll facts (acts z)) same allowed) (subst (λ z. AllKeep (is_fixed s) (acts z)) same keep))
       (first_fades ws (object_at s x).of e gives) new (subst (λ z. IsUnmoved x (after (acts z) facts)) same unmoved) free apart)
 
-  pub declare_leads : (x : ℕ) (e : TypedTree) → IsNamed s.table (object_at s x).of → FirstSource s (object_at s x).of e → has_call e ≡ false → (facts : List Fact)
-      → Good facts → AllowsAll facts (acts (declared_acts s x e)) → AllKeep (sees_only s) (acts (declared_acts s x e))
+  pub declare_leads : (x : ℕ) (e : TypedTree) → IsNamed s.table (object_at s x).of → is_view_formal s x ≡ false → FirstSource s (object_at s x).of e → has_call e ≡ false → (facts : List Fact)
+      → Good facts → AllowsAll facts (acts (declared_acts s x e)) → AllKeep (is_fixed s) (acts (declared_acts s x e))
       → IsBlank x m → IsUnmoved x (after (acts (declared_acts s x e)) facts) → IsFree x → IsApart (home s depth) other depth x
       → LeadsHere (after (acts (declared_acts s x e)) facts) (declare t x e)
-  declare_leads x e named gives calls facts good allowed keep new unmoved free apart =
+  declare_leads x e named owner gives calls facts good allowed keep new unmoved free apart =
       subst (λ z. LeadsHere (after (acts (declared_acts s x e)) facts) (steps.evaluated t (first_value t (object_at s x).of e z) (λ ws n. goes t (declared depth x ws n) 0)))
       (sym (start_is t settled own_law other alone v parts_named may frames none))
-      (declare_on [] x e named gives (gives_plainly s e (inl calls)) (no_takes e calls []) facts good allowed keep new unmoved free apart)
+      (declare_on [] x e named owner gives (gives_plainly s e (inl calls)) (no_takes e calls []) facts good allowed keep new unmoved free apart)
 
   -- ---- variables of other objects
 

@@ -1,5 +1,7 @@
 -- Each instruction leads on, but calls and their ends, operands that wait, returns with a value, and
 -- ends of scopes.
+use Rattle.viewed_steps.proofs.Traversed.{declared_source, assigned_source}
+use Rattle.flow_paths.specs.Views.{sub_acts}
 use Rattle.soundness.proofs.Passing.{plain_type}
 use Rattle.std.proofs.Common.{◌≡◌, refl, sym, ap, ◌∙◌, subst, ◌⊎◌, inl, inr, ℕ, suc, ◌+◌, ◌<◌, Bool, true, false, not, ◌||◌, List, [], ◌∷◌, ◌++◌, map, drop, length, arith, append-nil, Option, Some, None, nat_lt, int_le, ◌&&◌, if◌then◌else◌, take}
 use Rattle.spark_base.specs.Lists.{Has}
@@ -8,17 +10,16 @@ use Rattle.place_names.specs.declared.act.Act.{Act}
 use Rattle.place_names.specs.declared.act.Act.TheVariants as act
 use Rattle.place_names.specs.declared.act.Placed.{Placed}
 use Rattle.place_names.specs.declared.fact.Fact.{Fact}
-use Rattle.place_names.specs.declared.fact.Fact.TheVariants.{Moved, Lent}
+use Rattle.place_names.specs.declared.fact.Fact.TheVariants.{Moved}
 use Rattle.place_names.specs.declared.rule.Loan.{Loan}
-use Rattle.place_names.specs.declared.rule.Loan.TheVariants.{Observed}
 use Rattle.place_names.specs.Names.{Name as PlaceName}
 use Rattle.type_definitions.specs.Types.{Table, is_scalar, full, shape_of}
 use Rattle.type_definitions.specs.declared.table.Shape.TheVariants as shape
-use Rattle.typed_tree.specs.Trees.{TypedTree, TypedCode, Name, NoMore, More}
+use Rattle.typed_tree.specs.Trees.{TypedTree, TypedCode, Name, Call as CallIn, NoMore, More}
 use Rattle.typed_tree.specs.Programs.{TypedProgram}
 use Rattle.flow_paths.specs.declared.report.Effects.{Effects}
 use Rattle.flow_paths.specs.Instructions.{Instruction, Skip, Declare, Assign, Call, Output, Input, Release, Test, Choose, Start, Next, Evaluate, LeaveLoop, Hold, EndScope, Finish, Fall}
-use Rattle.flow_paths.specs.Objects.{Typing, object_at, is_anonymous, is_package_object, is_observer, view_of, has_scope_end}
+use Rattle.flow_paths.specs.Objects.{Typing, object_at, sub_at, is_anonymous, is_package_object, is_observer, view_of, has_scope_end, is_variable}
 use Rattle.flow_paths.specs.Names.{has_call, waiting as waits_in, name_of}
 use Rattle.flow_paths.specs.Acts as flow
 use Rattle.flow_paths.specs.Acts.{acts_in}
@@ -34,7 +35,7 @@ use Rattle.machine.specs.Memory.{Memory, given_up, declared, stored, words_of}
 use Rattle.machine.specs.Evaluate.{Exception, ConstraintError, ProgramError, Evaluated, Done, followed_by, value, place_of, text_of}
 use Rattle.machine.specs.Evaluate as run
 use Rattle.machine.specs.Calls.{checks_at}
-use Rattle.machine.specs.States.{Waiting, Loop, Frame, State, Outcome, Goes, Ends, sub_of}
+use Rattle.machine.specs.States.{Waiting, Frame, State, Outcome, Goes, Ends, sub_of}
 use Rattle.machine.specs.Step.{Turn, turn, start, successor}
 use Rattle.machine.specs.Step as steps
 use Rattle.machine.specs.Typed.{successors}
@@ -42,7 +43,7 @@ use Rattle.machine.specs.Owners.{WellOwned, waiting_in}
 use Rattle.owned_ways.specs.Ways.{Step, OfVariable, OfRoot, Way, Held, after, AllowsAll, along, number_of, Named}
 use Rattle.owned_ways.specs.Ways as ways
 use Rattle.owned_ways.proofs.Locations.{reaches_along, named_along as rooted_along}
-use Rattle.soundness.specs.Seen.{IsNear, is_view_formal, content, word_in, home}
+use Rattle.soundness.specs.Seen.{IsNear, content, word_in, home}
 use Rattle.soundness.specs.Typed.{Kept}
 use Rattle.typed_laws.specs.Needed.{IsFine, Stays, Source, FirstSource, FirstWrites, FirstStays, Returns}
 use Rattle.soundness.specs.Sound.{IsNoCall, Stage, facts_of, AreStages, IsRunnable, returns_value, InScope, IsNamedSub, IsAtPoint, view_of as view_here, is_temporary_object}
@@ -59,30 +60,33 @@ use Rattle.soundness.proofs.Taking.{Takes, takes_as, takes_both, nothing_more}
 use Rattle.soundness.proofs.Waited.{FillsNone}
 use Rattle.soundness.proofs.Eased.{eased, waits_same, goes_same, from_eased}
 use Rattle.soundness.proofs.Continued.{got_with, released_with, started_with, input_eased, release_eased, start_eased}
-use Rattle.soundness.proofs.Successors.{not_true, below_one, below_two, successor_there}
+use Rattle.soundness.proofs.Successors.{not_true, below_one, below_two}
 use Rattle.owned_loans.specs.Views.{Around, known_gone, Views, Viewed, Unused, IsForeign}
-use Rattle.viewed_soundness.specs.Holds.{AllKeep, sees_only}
+use Rattle.viewed_soundness.specs.Holds.{AllKeep, is_view, sees_only, is_fixed}
 use Rattle.viewed_soundness.proofs.Names.{plain_named, true_false}
 use Rattle.viewed_soundness.proofs.Evaluated.{keep_both}
-use Rattle.viewed_soundness.proofs.Outcomes.{named_plain, IsGood, Leads_on, decides_on, choose_on, assign_on, Turned}
+use Rattle.viewed_soundness.proofs.Outcomes.{named_plain, IsGood, Leads_on, decides_on, choose_on, assign_on}
 use Rattle.viewed_steps.specs.Awaited.{AreValues, temporaries_of, is_held, lasting_of, awaited, AreAwaited, AreScalar, TakesScalars}
 use Rattle.viewed_steps.proofs.Waited.{lasting_within, within_lasting}
-use Rattle.viewed_steps.specs.Sound.{Lasts, HoldsAt, ArePlaced, NoneAbove, ViewStage, stages_of, GoneElsewhere, AreWaiting, IsStoredAt, AreTurned, steps_on, LeadsAlong, IsResting}
+use Rattle.viewed_steps.specs.Sound.{ArePast, Lasts, HoldsAt, ArePlaced, NoneAbove, ViewStage, stages_of, GoneElsewhere, AreWaiting, IsStoredAt, LeadsAlong, IsResting, HasTraversals}
 use Rattle.viewed_steps.specs.Ready.{AreOrderly, IsReady}
 use Rattle.viewed_steps.proofs.Declared.{IsElsewhere, not_gone, declare_on}
 use Rattle.viewed_steps.proofs.Released.{released_on}
 use Rattle.viewed_steps.proofs.Read.{got_on, scalar_named}
 use Rattle.viewed_steps.proofs.Rounds.{skip_leads, line_leads, next_leads, output_on, started_on}
-use Rattle.viewed_steps.proofs.Lent.{Spare, loans_stay, spare_acts}
-use Rattle.viewed_steps.proofs.Placed.{brought_more, lasts_more, scope_on, view_ends, placed_on, MayBe, turned_placed, turned_named}
-use Rattle.viewed_steps.proofs.Sources.{leads_or, view_declared, view_assigned}
-use Rattle.viewed_steps.proofs.Beside.{IsOther, OthersKept, others_keep}
-use Rattle.viewed_steps.proofs.Waiting.{StandsBetween, KeptElsewhere, beside_them, handed, apart_elsewhere}
+use Rattle.viewed_steps.proofs.Lent.{Spare, spare_acts}
+use Rattle.viewed_steps.proofs.Placed.{brought_more, lasts_more, MayBe}
+use Rattle.owned_loans.proofs.Meeting.{named_view}
+use Rattle.viewed_soundness.specs.Taken.{GivesPlainly}
+use Rattle.viewed_steps.specs.Traversals.{GivesView, IsSourceIn}
+use Rattle.viewed_steps.proofs.Sources.{leads_or, view_scalar, view_declared, view_assigned}
+use Rattle.viewed_steps.proofs.Beside.{IsOther, OthersKept}
+use Rattle.viewed_steps.proofs.Waiting.{StandsBetween, AreTheirs, beside_them, handed, apart_elsewhere}
 use Rattle.viewed_steps.proofs.Standing.{or_right}
 use Rattle.viewed_steps.proofs.Standing as standing
 use Rattle.viewed_steps.proofs.Packages as packages
 use Rattle.viewed_steps.proofs.Innermost as innermost
-use Rattle.viewed_steps.proofs.Views.{all_held, anonymous_is_view, is_anonymous_view, observes_not, not_elsewhere}
+use Rattle.viewed_steps.proofs.Views.{AreAccess, all_held, anonymous_view, view_ends, lies_far}
 
 last_within : (x : ℕ) (scope : List ℕ) → is_last x scope ≡ true → is_within x scope ≡ true
 last_within x [] last = cc
@@ -95,10 +99,10 @@ module _ (table : Table) (typed : TypedProgram) (effects : Effects) (input : Lis
   abbrev s : Typing
   s = flow_typing program
 
-  abbrev no_in_formals : (x : ℕ) → is_view_formal s x ≡ false
-  no_in_formals = standing.no_in_formals table typed effects input ready
+  abbrev in_formals : AreAccess s
+  in_formals = standing.in_formals table typed effects input ready
 
-  abbrev local : (x : ℕ) → is_anonymous (view_of s x) ≡ true → is_package_object s x ≡ false
+  abbrev local : (x : ℕ) → is_view s x ≡ true → is_package_object s x ≡ false
   local = standing.local table typed effects input ready
 
   abbrev unmoved_stage : (e : Stage) → e.frame.sub ≡ 0 → (name : PlaceName) → Has (facts_of program effects e) (Moved name) → ⊥
@@ -114,7 +118,8 @@ module _ (table : Table) (typed : TypedProgram) (effects : Effects) (input : Lis
       (viewed_before : Viewed (home s (suc (length rest))) (sees_only s) (known_gone (home s (suc (length rest))) (GoneElsewhere program effects (below ∷ more_frames))) views
       (view_here s state) (facts_of program effects top))
       (kept : Kept s state.memory (waiting_in state)) (scope : InScope s state.memory (suc (length rest)) (lasting_of s p.scope)) (holds : HoldsAt s (suc (length rest)) views state.memory p)
-      (placed_before : ArePlaced program (facts_of program effects top) views p.scope) (above : NoneAbove s (suc (length rest)) state.memory) where
+      (placed_before : ArePlaced program (suc (length rest)) (facts_of program effects top) views p.scope × ArePast s (suc (length rest)) views (below ∷ more_frames)) (above : NoneAbove s (suc (length rest)) state.memory
+      × HasTraversals table typed (view_here s state) (record { stage = top; views = views; cells = [] } ∷ (below ∷ more_frames))) where
     abbrev outer : List Frame
     outer = below.stage.frame ∷ rest
 
@@ -154,11 +159,11 @@ module _ (table : Table) (typed : TypedProgram) (effects : Effects) (input : Lis
     abbrev viewed : Viewed (home s depth) (sees_only s) other views (view_here s state) facts_now
     viewed = innermost.viewed table typed effects input ready state top below more_frames rest named p frames deep stages running awaiting of_sub at_point path views viewed_before kept scope holds placed_before above
 
-    abbrev placed : ArePlaced program facts_now views p.scope
+    abbrev placed : ArePlaced program (suc (length rest)) facts_now views p.scope
     placed = innermost.placed table typed effects input ready state top below more_frames rest named p frames deep stages running awaiting of_sub at_point path views viewed_before kept scope holds placed_before above
 
-    abbrev not_at_home : (x : ℕ) (name : PlaceName) → Has handed_on (Moved name) → name.root ≡ x → depth ≡ home s depth x → ⊥
-    not_at_home = innermost.not_at_home table typed effects input ready state top below more_frames rest named p frames deep stages running awaiting of_sub at_point path views viewed_before kept scope holds placed_before above
+    abbrev not_handed : (name : PlaceName) → Has handed_on (Moved name) → ⊥
+    not_handed = innermost.not_handed table typed effects input ready state top below more_frames rest named p frames deep stages running awaiting of_sub at_point path views viewed_before kept scope holds placed_before above
 
     abbrev none_takes : (i : Instruction) → p.instr ≡ i → taken i ≡ 0 → taken main_turn.point.instr ≡ 0
     none_takes = innermost.none_takes table typed effects input ready state top below more_frames rest named p frames deep stages running awaiting of_sub at_point path views viewed_before kept scope holds placed_before above
@@ -184,7 +189,7 @@ module _ (table : Table) (typed : TypedProgram) (effects : Effects) (input : Lis
     abbrev viewed_easy : Plain → Viewed (home s depth) (sees_only s) other views (view_here s easy.state) facts_now × Kept s state.memory (waiting_in easy.state)
     viewed_easy = innermost.viewed_easy table typed effects input ready state top below more_frames rest named p frames deep stages running awaiting of_sub at_point path views viewed_before kept scope holds placed_before above
 
-    abbrev placed_left : (facts : List Fact) → ArePlaced program facts views p.scope → ArePlaced program facts views left_scope
+    abbrev placed_left : (facts : List Fact) → ArePlaced program (suc (length rest)) facts views p.scope → ArePlaced program (suc (length rest)) facts views left_scope
     placed_left = innermost.placed_left table typed effects input ready state top below more_frames rest named p frames deep stages running awaiting of_sub at_point path views viewed_before kept scope holds placed_before above
 
     abbrev Left : List Waiting → Type 0
@@ -226,7 +231,7 @@ module _ (table : Table) (typed : TypedProgram) (effects : Effects) (input : Lis
     still_above = innermost.still_above table typed effects input ready state top below more_frames rest named p frames deep stages running awaiting of_sub at_point path views viewed_before kept scope holds placed_before above
 
     abbrev wait_still : (next : State) (after_scope : List ℕ) → Inside s IsOld next.memory depth after_scope → OthersKept s depth state.memory next.memory
-        → ((w : Way) (n : ℕ) → KeptElsewhere table typed effects unmoved_stage local older w n → ways.Reaches (view_here s next) w (ways.OfCell n))
+        → AreTheirs table typed effects unmoved_stage local older (view_here s next)
         → AreWaiting table typed effects next top.frame.sub top.frame.returns older
     wait_still = innermost.wait_still table typed effects input ready state top below more_frames rest named p frames deep stages running awaiting of_sub at_point path views viewed_before kept scope holds placed_before above
 
@@ -245,8 +250,8 @@ module _ (table : Table) (typed : TypedProgram) (effects : Effects) (input : Lis
     abbrev new_one : (x : ℕ) → is_temporary_object s x ≡ false → is_within x (lasting_of s (x ∷ left_scope)) ≡ true
     new_one = innermost.new_one table typed effects input ready state top below more_frames rest named p frames deep stages running awaiting of_sub at_point path views viewed_before kept scope holds placed_before above
 
-    abbrev view_stays : (x : ℕ) → is_anonymous (view_of s x) ≡ true → is_held s x ≡ false
-    view_stays = innermost.view_stays table typed effects input ready state top below more_frames rest named p frames deep stages running awaiting of_sub at_point path views viewed_before kept scope holds placed_before above
+    abbrev variable_stays : (x : ℕ) → is_variable (object_at s x).kind ≡ true → is_held s x ≡ false
+    variable_stays = innermost.variable_stays table typed effects input ready state top below more_frames rest named p frames deep stages running awaiting of_sub at_point path views viewed_before kept scope holds placed_before above
 
     abbrev supplied_here : IsSupplied s p
     supplied_here = innermost.supplied_here table typed effects input ready state top below more_frames rest named p frames deep stages running awaiting of_sub at_point path views viewed_before kept scope holds placed_before above
@@ -264,16 +269,16 @@ module _ (table : Table) (typed : TypedProgram) (effects : Effects) (input : Lis
 
     -- where it leads, and how the frames come from those before
     abbrev Along : Outcome → Type 0
-    Along outcome = LeadsAlong table typed effects p.instr state.memory (record { stage = top; views = views }) (below ∷ more_frames) outcome
+    Along outcome = LeadsAlong table typed effects p.instr state.memory (record { stage = top; views = views; cells = [] }) (below ∷ more_frames) outcome
 
     module _ (going : (x : ℕ) → p.instr ≡ EndScope x → ⊥) (no_calls : IsNoCall p.instr) where
       abbrev pub may : ℕ → ℕ → Type 0
-      may x y = MayBe program (scope_behind p) x y × IsStoredAt p.instr x
+      may x y = MayBe program (scope_behind p) x y × IsStoredAt p.instr x × IsSourceIn (sub_acts (sub_of program top.frame.sub)) x y
 
-      more : (y : ℕ) → is_within y left_scope ≡ true → is_within y (scope_behind p) ≡ true
+      pub more : (y : ℕ) → is_within y left_scope ≡ true → is_within y (scope_behind p) ≡ true
       more y within = brought_more p.instr going left_scope y within
 
-      lasts_behind : (r z : ℕ) → Lasts program p.scope r z → Lasts program (scope_behind p) r z
+      pub lasts_behind : (r z : ℕ) → Lasts program p.scope r z → Lasts program (scope_behind p) r z
       lasts_behind r z lasts = lasts_more program left_scope (scope_behind p) r z more ((innermost.lasts_left table typed effects input ready state top below more_frames rest named p frames deep stages running awaiting of_sub at_point path views viewed_before kept scope holds placed_before above) r z lasts)
 
       abbrev pub Good : List Fact → State → Type 0
@@ -285,14 +290,14 @@ module _ (table : Table) (typed : TypedProgram) (effects : Effects) (input : Lis
       abbrev pub GoesFrom : Left (steps.waiting main_turn) → Instruction → Outcome → Type 0
       GoesFrom left i outcome = Each (GoesOn main_turn Left left IsOld (lasting_of s left_scope) (lasting_of s (brought i left_scope)) inside_left) outcome
 
-      abbrev Both : Left (steps.waiting main_turn) → Instruction → Type 0
+      abbrev pub Both : Left (steps.waiting main_turn) → Instruction → Type 0
       Both left i = LeadsFrom i (turn main_turn i) × GoesFrom left i (turn main_turn i)
 
       pub good : Plain → Good facts_now easy.state
       good plain = record {
         viewed = (viewed_easy plain).0;
         kept = (viewed_easy plain).1;
-        holds = all_held s no_in_formals depth views state.memory (λ x n view e. holds.held x n (λ fading. going fading.0 fading.1) view e) holds.only holds.named;
+        holds = all_held s in_formals depth views state.memory (λ x n view e. holds.held x n (λ fading. going fading.0 fading.1) view e) holds.only holds.owners holds.own;
       }
 
       pub ends_so : (i : Instruction) (how : Exception) (m : Memory) → LeadsFrom i (steps.raised main_turn how m)
@@ -314,7 +319,7 @@ module _ (table : Table) (typed : TypedProgram) (effects : Effects) (input : Lis
         good_main = record {
           viewed = viewed;
           kept = kept;
-          holds = all_held s no_in_formals depth views state.memory (λ x n view e. holds.held x n (λ fading. going fading.0 fading.1) view e) holds.only holds.named;
+          holds = all_held s in_formals depth views state.memory (λ x n view e. holds.held x n (λ fading. going fading.0 fading.1) view e) holds.only holds.owners holds.own;
         }
 
         to_easy : (fs : List Fact) (outcome : Outcome) → Leads_main fs outcome → Leads_on easy ready.accepted.settled ready.owns other alone views ready.class.parts_named may refl refl fs outcome
@@ -322,7 +327,7 @@ module _ (table : Table) (typed : TypedProgram) (effects : Effects) (input : Lis
           turned_views,
           λ x w e. elim (turned x w e) [
             | inl same_view ↦ inl (record { way = same_view.way; loan = same_view.loan; up = same_view.up })
-            | inr (y, from, comes) ↦ inr (y, from, record { up = comes.up; root = comes.root; loan = comes.loan })
+            | inr (y, from, comes) ↦ inr (y, from, record { up = comes.up; root = comes.root; loan = comes.loan; under = comes.under })
           ],
           record { viewed = well.viewed; kept = well.kept; holds = well.holds },
         )
@@ -331,7 +336,7 @@ module _ (table : Table) (typed : TypedProgram) (effects : Effects) (input : Lis
         skips_so : Leads_on easy ready.accepted.settled ready.owns other alone views ready.class.parts_named may refl refl facts_now (turn main_turn Skip)
         skips_so =
             to_easy facts_now (turn main_turn Skip)
-            (skip_leads main_turn ready.accepted.settled ready.owns other alone no_in_formals views ready.class.parts_named may frames nothing facts_now good_main)
+            (skip_leads main_turn ready.accepted.settled ready.owns other alone in_formals views ready.class.parts_named may frames nothing facts_now good_main)
 
       -- ---- declarations
 
@@ -346,32 +351,36 @@ module _ (table : Table) (typed : TypedProgram) (effects : Effects) (input : Lis
       unrooted x v e r z mine (inr (within, end, around, plain)) same_root = not_within x v e (subst (λ z. is_within z p.scope ≡ true) same_root within)
 
       free_views : (x : ℕ) (v : TypedTree) → p.instr ≡ Declare x v → (y : ℕ) (w : Way) → views.way y ≡ Some w → IsElsewhere (home s depth) depth x w
-      free_views x v e y w has at_home root = by_package (is_package_object s x) refl
+      free_views x v e y w has here at_home root = by_package (is_package_object s x) refl
         where
           by_package : (b : Bool) → is_package_object s x ≡ b → ⊥
           by_package true shared = (let first : home s depth x ≡ 0 = ap (λ b. if b then 0 else depth) shared in omega (arith, first, at_home))
-          by_package false mine = unrooted x v e (number_of w) y mine (placed y w has).root root
+          by_package false mine = unrooted x v e (number_of w) y mine ((placed y w has).root here) root
 
       pub free : (x : ℕ) (v : TypedTree) → p.instr ≡ Declare x v
           → ((y : ℕ) (w : Way) → views.way y ≡ Some w
           → ((foreign : IsForeign (home s depth) w) → foreign.0 ≡ depth → ⊥) × IsElsewhere (home s depth) depth x w)
           × ((l : Loan) (name : PlaceName) → other.lent l name → name.root ≡ x → depth ≡ home s depth x → ⊥)
-      free x v e = (λ y w has. ((λ foreign same. not_elsewhere (home s depth) w (holds.named y w has) foreign), free_views x v e y w has), (innermost.not_lent_home table typed effects input ready state top below more_frames rest named p frames deep stages running awaiting of_sub at_point path views viewed_before kept scope holds placed_before above) x)
+      free x v e = (λ y w has. ((λ foreign same. (let low = lies_far s depth views holds.lies y w has foreign in omega (arith, low, same))), free_views x v e y w has), (innermost.not_lent_home table typed effects input ready state top below more_frames rest named p frames deep stages running awaiting of_sub at_point path views viewed_before kept scope holds placed_before above) x)
 
-      unused : (x : ℕ) (v : TypedTree) → p.instr ≡ Declare x v → is_package_object s x ≡ false → Unused (home s depth) other.lent views facts_now x
+      -- a view whose way is of the frame was taken from an object of the frame
+      up_named : (z : ℕ) (w : Way) → views.way z ≡ Some w → ways.Named (home s depth) w → ways.Named (home s depth) (views.up z)
+      up_named z w has at_home = (named_view (home s depth) (sees_only s) views (view_here s state) facts_now viewed.views z w has at_home).named
+
+      pub unused : (x : ℕ) (v : TypedTree) → p.instr ≡ Declare x v → is_package_object s x ≡ false → Unused (home s depth) other.lent views facts_now x
       unused x v e mine = record {
         unmoved = λ name has root. elim (from_both (Moved name) has) [
           | inl mine_fact ↦ packages.new_before table typed effects input ready state top older outer named p frames of_sub at_point path x v e name mine_fact root
-          | inr there ↦ (innermost.not_handed table typed effects input ready state top below more_frames rest named p frames deep stages running awaiting of_sub at_point path views viewed_before kept scope holds placed_before above) name there (ap (is_package_object s) root ∙ mine)
+          | inr there ↦ not_handed name there
         ];
         unlent = (innermost.not_lent table typed effects input ready state top below more_frames rest named p frames deep stages running awaiting of_sub at_point path views viewed_before kept scope holds placed_before above) x mine;
-        untaken = λ z w has named_there off root. unrooted x v e (number_of (views.up z)) z mine (placed z w has).up root;
+        untaken = λ z w has named_there off root. unrooted x v e (number_of (views.up z)) z mine ((placed z w has).up named_there) root;
       }
 
       pub unmoved_now : (x : ℕ) (v : TypedTree) → p.instr ≡ Declare x v → (name : PlaceName) → Has facts_now (Moved name) → name.root ≡ x → depth ≡ home s depth x → ⊥
       unmoved_now x v e name has root at_home = elim (from_both (Moved name) has) [
         | inl mine ↦ packages.new_before table typed effects input ready state top older outer named p frames of_sub at_point path x v e name mine root
-        | inr there ↦ not_at_home x name there root at_home
+        | inr there ↦ absurd (not_handed name there)
       ]
 
       pub blank : (x : ℕ) (v : TypedTree) → p.instr ≡ Declare x v → (q : List Step) (w : ways.Word)
@@ -385,7 +394,7 @@ module _ (table : Table) (typed : TypedProgram) (effects : Effects) (input : Lis
       blank x v e q ways.Gone is =
           let root : ways.Root = OfVariable depth x in
           let w : Way = along (ways.Object root) q in
-          absurd (not_gone easy ready.accepted.settled ready.owns other alone no_in_formals views ready.class.parts_named may refl refl
+          absurd (not_gone easy ready.accepted.settled ready.owns other alone in_formals views ready.class.parts_named may refl refl
           x facts_now (view_here s state) viewed (unmoved_now x v e) (free x v e) q
           (viewed.known w (ways.part (OfRoot root) q) (rooted_along (ways.Object root) q tt)
           (reaches_along (view_here s state) (ways.Object root) (OfRoot root) q refl)
@@ -407,16 +416,31 @@ module _ (table : Table) (typed : TypedProgram) (effects : Effects) (input : Lis
       after_it x v e name has root at_home = elim (after_splits (acts_of_main (Declare x v)) facts_now own_facts handed_on from_both (Moved name) has) [
         | inl mine ↦ packages.new_after table typed effects input ready state top older outer named p frames of_sub at_point path x v e no_calls name
             (subst (λ i. Has (after (acts_of_main i) own_facts) (Moved name)) (sym e) mine) root
-        | inr there ↦ not_at_home x name there root at_home
+        | inr there ↦ absurd (not_handed name there)
       ]
 
+      in_sub : (a : Act) → Has (acts_of_main p.instr) a → Has (sub_acts (sub_of program top.frame.sub)) a
+      in_sub = standing.acts_in_sub table typed effects input ready state top older outer named p frames of_sub at_point
+
+      -- a view isn't scalar
+      plain_call : (r : Pos) (n : ℕ) (actuals : TypedTree) → GivesPlainly s (CallIn r n actuals) → (t : ℕ) → (sub_at s n).result ≡ Some t → is_scalar (full s.table t) ≡ true
+      unfolding GivesPlainly
+      plain_call r n actuals plainly = plainly
+
+      first_plain : (e : TypedTree) → GivesPlainly s (More e NoMore) → GivesPlainly s e
+      unfolding GivesPlainly
+      first_plain e plainly = plainly.0
+
+      gives_many : (n of : ℕ) → GivesView s n of → ((t : ℕ) → (sub_at s n).result ≡ Some t → is_scalar (full s.table t) ≡ true) → ⊥
+      gives_many n of gives scalar = view_scalar (shape_of s.table gives.result) gives.anonymous (scalar gives.result gives.result_is)
+
       declares : Plainly → (x : ℕ) (v : TypedTree) (e : p.instr ≡ Declare x v) → FirstSource s (object_at s x).of v
-          → AllowsAll facts_now (acts_of_main (Declare x v)) → AllKeep (sees_only s) (acts_of_main (Declare x v)) → LeadsFrom (Declare x v) (turn main_turn (Declare x v))
+          → AllowsAll facts_now (acts_of_main (Declare x v)) → AllKeep (is_fixed s) (acts_of_main (Declare x v)) → LeadsFrom (Declare x v) (turn main_turn (Declare x v))
       unfolding waits_in
       declares plain x v e text allowed_there keep = by_view (is_anonymous (view_of s x)) refl
         where
           from_source : (w : TypedTree) → v ≡ w → (q : Pos) (y u : ℕ) (source : TypedTree) → w ≡ More (Name q y source u) NoMore → is_anonymous (view_of s x) ≡ true
-              → Lasts program p.scope y x → (is_observer s x ≡ false → (is_observer s y ≡ false) × (y < x))
+              → Lasts program p.scope y x → (is_observer s x ≡ false → (sees_only s y ≡ false) × (y < x))
               → LeadsFrom (Declare x v) (turn main_turn (Declare x v))
           from_source w same_v q y u source is view lasts older_there =
               let here_is : v ≡ More (Name q y source u) NoMore = same_v ∙ is in
@@ -427,21 +451,32 @@ module _ (table : Table) (typed : TypedProgram) (effects : Effects) (input : Lis
               (subst (λ z. Takes (taken (Declare x z)) given_words []) here_is (takes_of plain.0 (Declare x v) e)) in
               declared_main (Declare x v) x v (subst (λ z. LeadsFrom (Declare x v) (Declared x z easy)) (sym here_is)
               (subst (λ z. Leads_on easy ready.accepted.settled ready.owns other alone views ready.class.parts_named may refl refl (after (acts_of_main (Declare x z)) facts_now) (Declared x (More (Name q y source u) NoMore) easy)) (sym here_is)
-              (view_declared easy ready.accepted.settled ready.owns other alone no_in_formals views ready.class.parts_named may refl refl given_words
-              q x y u source view (ready.orderly.local x view).0 (home_frame x (local x view)) text_there.1 takes
-              older_there (record { lasts = lasts_behind y x lasts; within = in_behind; view = view; plain = view_stays x view }, inl (v, e)) facts_now (good plain.0) (unused x v e (local x view))
+              (view_declared easy ready.accepted.settled ready.owns other alone in_formals views ready.class.parts_named may refl refl given_words
+              q x y u source view (orderly.variables x (inl (inl (v, e))) view) (home_frame x (local x (anonymous_view s x view))) text_there.1 takes
+              older_there (
+                record { lasts = lasts_behind y x lasts; within = in_behind; view = view; plain = variable_stays x (orderly.variables x (inl (inl (v, e))) view) },
+                inl (v, e),
+                declared_source s x view (orderly.variables x (inl (inl (v, e))) view) (Name q y source u) q y source u (inl refl) (sub_acts (sub_of program top.frame.sub))
+                    (λ a has. in_sub a (subst (λ i. Has (acts_of_main i) a) (sym e) (subst (λ z. Has (acts_of_main (Declare x z)) a) (sym here_is) has))),
+              ) facts_now (good plain.0) (unused x v e (local x (anonymous_view s x view)))
               (subst (λ z. AllowsAll facts_now (acts_of_main (Declare x z))) here_is allowed_there))))
 
           by_view : (b : Bool) → is_anonymous (view_of s x) ≡ b → LeadsFrom (Declare x v) (turn main_turn (Declare x v))
           by_view true view =
               let source = orderly.declared x v e view in
-              from_source v refl source.0 source.1 source.3 source.2 source.4 view source.5 source.6
+              elim source.6 [
+                | inl is ↦ from_source v refl source.0 source.1 source.3 source.2 (source.5 ∙ ap (λ z. More z NoMore) is) view source.7 source.8
+                | inr (r, n, more, is, gives) ↦ absurd (gives_many n (object_at s x).of gives
+                    (plain_call r n (More (Name source.0 source.1 source.2 source.3) more)
+                    (first_plain (CallIn r n (More (Name source.0 source.1 source.2 source.3) more))
+                    (subst (GivesPlainly s) (source.5 ∙ ap (λ z. More z NoMore) is) (subst (TakesScalars s) e plain.1)))))
+              ]
           by_view false owner =
-              declared_main (Declare x v) x v (declare_on easy ready.accepted.settled ready.owns other alone no_in_formals views ready.class.parts_named may refl refl given_words
-              x v (plain_named s.table (object_at s x).of owner) text (subst (TakesScalars s) e plain.1) (takes_of plain.0 (Declare x v) e)
+              declared_main (Declare x v) x v (declare_on easy ready.accepted.settled ready.owns other alone in_formals views ready.class.parts_named may refl refl given_words
+              x v (plain_named s.table (object_at s x).of owner) (orderly.begun x v e) text (subst (TakesScalars s) e plain.1) (takes_of plain.0 (Declare x v) e)
               facts_now (good plain.0) allowed_there keep
               (λ q. blank x v e q (word_in s.table (content s state.memory [] (OfRoot (OfVariable depth x))) q) refl) (after_it x v e) (free x v e)
-              (λ w n keeps base. apart_elsewhere table typed effects unmoved_stage local state depth older between x w n keeps base))
+              (apart_elsewhere table typed effects unmoved_stage local state depth older between x))
 
       -- ---- assignments
 
@@ -463,7 +498,7 @@ module _ (table : Table) (typed : TypedProgram) (effects : Effects) (input : Lis
           (goes_same main_turn (stored s st.place st.words m) 0) on) leads
 
       assigns : Plainly → (left : Left (steps.waiting main_turn)) (target e : TypedTree) (is : p.instr ≡ Assign target e) → IsFine s None (Assign target e)
-          → AllowsAll facts_now (acts_of_main (Assign target e)) → AllKeep (sees_only s) (acts_of_main (Assign target e)) → Both left (Assign target e)
+          → AllowsAll facts_now (acts_of_main (Assign target e)) → AllKeep (is_fixed s) (acts_of_main (Assign target e)) → Both left (Assign target e)
       unfolding has_call waits_in
       assigns plain left (Name q x steps u) e is (v, (leads, type), source) allowed_there keep =
           let source_there : Source s u e = subst (λ z. Source s z e) (sym type) source in (
@@ -472,12 +507,12 @@ module _ (table : Table) (typed : TypedProgram) (effects : Effects) (input : Lis
                 (stored_there (Assign (Name q x steps u) e) is x (inl refl)) (with_successors (Assign (Name q x steps u) e) 0 is below_one),
           )
         where
-          itself_lasts : is_anonymous (view_of s x) ≡ true → is_within x (scope_behind p) ≡ true → Lasts program (scope_behind p) x x
-          itself_lasts view within = inr (within, view_ends s x view, ready.orderly.itself _, view_stays x view)
+          itself_lasts : is_anonymous (view_of s x) ≡ true → is_held s x ≡ false → is_within x (scope_behind p) ≡ true → Lasts program (scope_behind p) x x
+          itself_lasts view plain within = inr (within, view_ends s x (anonymous_view s x view), ready.orderly.itself _, plain)
 
           within_now : is_anonymous (view_of s x) ≡ true → is_within x (scope_behind p) ≡ true
           within_now view = elim (stored_which (Assign (Name q x steps u) e) is x (inl refl)) [
-            | inl shared ↦ absurd (true_false (is_package_object s x) shared (local x view))
+            | inl shared ↦ absurd (true_false (is_package_object s x) shared (local x (anonymous_view s x view)))
             | inr within ↦ more x within
           ]
 
@@ -486,31 +521,38 @@ module _ (table : Table) (typed : TypedProgram) (effects : Effects) (input : Lis
               → AllowsAll facts_now (acts_of_main (Assign (Name q x NoMore (object_at s x).of) e)) → Goal (Name q x NoMore (object_at s x).of) e
           to_view source view instr_is allowed_here =
               let found = orderly.assigned q x (object_at s x).of e instr_is view in
-              from_name found.0 found.1 found.3 found.2 found.4 found.5 found.6
+              elim found.4 [
+                | inl named_so ↦ from_name found.0 found.1 found.3 found.2 named_so found.5 found.6
+                | inr (r, n, more, call_is, gives) ↦ absurd (gives_many n (object_at s x).of gives
+                    (plain_call r n (More (Name found.0 found.1 found.2 found.3) more) (subst (GivesPlainly s) call_is (subst (TakesScalars s) instr_is plain.1))))
+              ]
             where
               from_name : (r : Pos) (y w : ℕ) (rest : TypedTree) → e ≡ Name r y rest w → (is_observer s x ≡ true → Lasts program p.scope y x)
                   → (is_observer s x ≡ false → y ≡ x) → Goal (Name q x NoMore (object_at s x).of) e
               from_name r y w rest here_is lasts itself =
                   let of : ℕ = (object_at s x).of in
+                  let variable_here : is_variable (object_at s x).kind ≡ true = orderly.variables x (inl (inr (q, of, e, instr_is))) view in
                   let from : may x y = (
                     record {
                       lasts = elim (bool_cases (is_observer s x)) [
                         | inl sees ↦ lasts_behind y x (lasts sees)
-                        | inr borrows ↦ subst (λ z. Lasts program (scope_behind p) z x) (sym (itself borrows)) (itself_lasts view (within_now view))
+                        | inr borrows ↦ subst (λ z. Lasts program (scope_behind p) z x) (sym (itself borrows)) (itself_lasts view (variable_stays x variable_here) (within_now view))
                       ];
                       within = within_now view;
                       view = view;
-                      plain = view_stays x view;
+                      plain = variable_stays x variable_here;
                     },
                     inr (q, (object_at s x).of, e, instr_is),
+                    assigned_source s x view variable_here (Name r y rest w) r y rest w (inl refl) (sub_acts (sub_of program top.frame.sub)) p.pos q itself
+                        (λ a has. in_sub a (subst (λ i. Has (acts_of_main i) a) (sym instr_is) (subst (λ z. Has (acts_of_main (Assign (Name q x NoMore (object_at s x).of) z)) a) (sym here_is) has))),
                   ) in
                   let takes : Takes (waits_in rest) given_words [] =
                   takes_as (taken (Assign (Name q x NoMore of) (Name r y rest w))) (waits_in rest) given_words [] (nothing_more (waits_in rest))
                   (subst (λ z. Takes (taken (Assign (Name q x NoMore of) z)) given_words []) here_is (takes_of plain.0 (Assign (Name q x NoMore of) e) instr_is)) in
                   subst (λ z. Goal (Name q x NoMore of) z) (sym here_is)
                   (assigned_main (Assign (Name q x NoMore of) (Name r y rest w)) (Name q x NoMore of) of (Name r y rest w)
-                  (view_assigned easy ready.accepted.settled ready.owns other alone no_in_formals views ready.class.parts_named may refl refl given_words
-                  p.pos q r x y w rest view (ready.orderly.local x view).0 (home_frame x (local x view)) (subst (Source s of) here_is source) takes itself from facts_now (good plain.0)
+                  (view_assigned easy ready.accepted.settled ready.owns other alone in_formals views ready.class.parts_named may refl refl given_words
+                  p.pos q r x y w rest view variable_here (home_frame x (local x (anonymous_view s x view))) (subst (Source s of) here_is source) takes itself from facts_now (good plain.0)
                   (subst (λ z. AllowsAll facts_now (acts_of_main (Assign (Name q x NoMore of) z))) here_is allowed_here)))
 
           by_view : Source s u e → (b : Bool) → is_anonymous (full s.table u) ≡ b → Goal (Name q x steps u) e
@@ -545,12 +587,12 @@ module _ (table : Table) (typed : TypedProgram) (effects : Effects) (input : Lis
           (λ bytes m. Goes (record (steps.behind main_turn (steps.waiting main_turn) m 0) { output = state.output ++ bytes ++ (if line then 10 ∷ [] else []) }))
           (λ bytes m on. subst (λ z. LeadsFrom (Output (More e rest) line) (Goes (record (steps.behind main_turn z m 0) { output = state.output ++ bytes ++ (if line then 10 ∷ [] else []) })))
           (waits_same main_turn) on)
-          (output_on easy ready.accepted.settled ready.owns other alone no_in_formals views ready.class.parts_named may refl refl given_words
+          (output_on easy ready.accepted.settled ready.owns other alone in_formals views ready.class.parts_named may refl refl given_words
           e rest line last text (takes_of plain.0 (Output (More e rest) line) is) facts_now (good plain.0) allowed_there)
       writes plain NoMore line is text allowed_there =
           let nothing = none_takes (Output NoMore line) is refl in
           to_easy nothing facts_now (turn main_turn (Output NoMore line))
-          (line_leads main_turn ready.accepted.settled ready.owns other alone no_in_formals views ready.class.parts_named may frames nothing line facts_now (good_main nothing))
+          (line_leads main_turn ready.accepted.settled ready.owns other alone in_formals views ready.class.parts_named may frames nothing line facts_now (good_main nothing))
       writes plain other_text line is never allowed_there = absurd never
 
       reads : Plainly → (left : Left (steps.waiting main_turn)) (target : TypedTree) (is : p.instr ≡ Input target) → IsFine s None (Input target)
@@ -559,26 +601,26 @@ module _ (table : Table) (typed : TypedProgram) (effects : Effects) (input : Lis
       reads plain left (Name q x path u) is (v, (leads, type), scalar) allowed_there = (
         input_eased main_turn (LeadsFrom (Input (Name q x path u))) (ends_so (Input (Name q x path u))) (λ trap m on. on.0 tt)
             (Name q x path u)
-            (got_on easy ready.accepted.settled ready.owns other alone no_in_formals views ready.class.parts_named may refl refl given_words
+            (got_on easy ready.accepted.settled ready.owns other alone in_formals views ready.class.parts_named may refl refl given_words
             (λ k m. got_with easy k (next_item input state.at) m) q x u path (record {
               at_missing = λ k m next. rw next refl;
               at_bad = λ k m next. rw next refl;
               at_number = λ k m v end next fits. rw (next, fits) refl;
               at_outside = λ k m v end next out. rw (next, out) refl;
             }) (subst (λ z. is_scalar (full s.table z) ≡ true) (sym type) scalar) leads (takes_of plain.0 (Input (Name q x path u)) is)
-            (observes_not s no_in_formals x (orderly.read q x u path is)) facts_now (good plain.0) allowed_there),
+            (orderly.read q x u path is) facts_now (good plain.0) allowed_there),
         input_follows main_turn Left left IsOld (lasting_of s left_scope) (lasting_of s left_scope) inside_left same_scope q x u path
             (stored_there (Input (Name q x path u)) is x (inl refl)) (with_successors (Input (Name q x path u)) 0 is below_one),
       )
       reads plain left target is (v, never, scalar) allowed_there = absurd never
 
       releases : Plainly → (left : Left (steps.waiting main_turn)) (target : TypedTree) (is : p.instr ≡ Release target) → IsFine s None (Release target)
-          → AllowsAll facts_now (acts_of_main (Release target)) → AllKeep (sees_only s) (acts_of_main (Release target)) → Both left (Release target)
+          → AllowsAll facts_now (acts_of_main (Release target)) → AllKeep (is_fixed s) (acts_of_main (Release target)) → Both left (Release target)
       unfolding waits_in
       releases plain left (Name q x path u) is (v, d, (leads, type), access) allowed_there keep = (
         release_eased main_turn (LeadsFrom (Release (Name q x path u))) (ends_so (Release (Name q x path u))) (λ trap m on. on.0 tt)
             q x u path
-            (released_on easy ready.accepted.settled ready.owns other alone no_in_formals views ready.class.parts_named may refl refl given_words
+            (released_on easy ready.accepted.settled ready.owns other alone in_formals views ready.class.parts_named may refl refl given_words
             (λ k m. released_with easy q k (words_of s m k) m) q q x u d path (record {
               at_null = λ k m is. rw is refl;
               at_whole = λ k m v is. rw is refl;
@@ -590,10 +632,10 @@ module _ (table : Table) (typed : TypedProgram) (effects : Effects) (input : Lis
             (stored_there (Release (Name q x path u)) is x (inl refl)) (with_successors (Release (Name q x path u)) 0 is below_one),
       )
         where
-          last_kept : (before : List Placed) → AllKeep (sees_only s) (acts (before ++ record { pos = q; act = act.Free (name_of x path) } ∷ [])) → sees_only s x ≡ false
+          last_kept : (before : List Placed) → AllKeep (is_fixed s) (acts (before ++ record { pos = q; act = act.Free (name_of x path) } ∷ [])) → is_fixed s (name_of x path) ≡ false
           last_kept before keep =
-              (keep_both (sees_only s) (acts before) (act.Free (name_of x path) ∷ [])
-              (subst (AllKeep (sees_only s)) (acts_append before (record { pos = q; act = act.Free (name_of x path) } ∷ [])) keep)).1.0
+              (keep_both (is_fixed s) (acts before) (act.Free (name_of x path) ∷ [])
+              (subst (AllKeep (is_fixed s)) (acts_append before (record { pos = q; act = act.Free (name_of x path) } ∷ [])) keep)).1.0
       releases plain left target is (v, d, never, access) allowed_there keep = absurd never
 
       decides : Plainly → (i : Instruction) (is : p.instr ≡ i) (e : TypedTree) → taken i ≡ waits_in e → acts_of_main i ≡ acts (acts_in s e) → Stays s e
@@ -643,7 +685,7 @@ module _ (table : Table) (typed : TypedProgram) (effects : Effects) (input : Lis
       starts plain left x reversed low high is scalar stays stays' allowed_there =
           let two = takes_both (waits_in low) (waits_in high) given_words [] (takes_of plain.0 (Start x reversed low high) is) in (
             start_eased main_turn (LeadsFrom (Start x reversed low high)) (ends_so (Start x reversed low high)) (λ trap m on. on.0 tt) x low high
-                (started_on easy ready.accepted.settled ready.owns other alone no_in_formals views ready.class.parts_named may refl refl given_words two.0
+                (started_on easy ready.accepted.settled ready.owns other alone in_formals views ready.class.parts_named may refl refl given_words two.0
                 x (λ b m. started_with easy x b m) low high (record {
                   fails = λ b. int_le (steps.number b.low) (steps.number b.high)
                       && not (fits_type s.table (object_at s x).of b.low && fits_type s.table (object_at s x).of b.high);
@@ -668,7 +710,7 @@ module _ (table : Table) (typed : TypedProgram) (effects : Effects) (input : Lis
       turns left x reversed low high is scalar =
           let nothing = none_takes (Next x reversed low high) is refl in (
             to_easy nothing facts_now (turn main_turn (Next x reversed low high))
-                (next_leads main_turn ready.accepted.settled ready.owns other alone no_in_formals views ready.class.parts_named may frames nothing x reversed scalar facts_now
+                (next_leads main_turn ready.accepted.settled ready.owns other alone in_formals views ready.class.parts_named may frames nothing x reversed scalar facts_now
                 (good_main nothing)),
             next_follows main_turn Left left IsOld (lasting_of s left_scope) (lasting_of s left_scope) inside_left same_scope
                 (subst Left (ap (λ n. drop n top.frame.waits) (ap taken is) ∙ drop_none top.frame.waits) left) x reversed
@@ -687,8 +729,8 @@ module _ (table : Table) (typed : TypedProgram) (effects : Effects) (input : Lis
       )
       holds_nothing left v is other_one (Some of) result (value_of, same, source) = absurd (subst (λ z. IsOther (Hold z)) same other_one)
 
-      each_instruction : Plainly → (left : Left (steps.waiting main_turn)) (i : Instruction) → p.instr ≡ i → IsOther i → IsFine s named.sub.result i → AllowsAll facts_now (acts_of_main i)
-          → AllKeep (sees_only s) (acts_of_main i) → Both left i
+      pub each_instruction : Plainly → (left : Left (steps.waiting main_turn)) (i : Instruction) → p.instr ≡ i → IsOther i → IsFine s named.sub.result i → AllowsAll facts_now (acts_of_main i)
+          → AllKeep (is_fixed s) (acts_of_main i) → Both left i
       each_instruction plain left Skip is other_one text allowed_there keep = (
         skips_so (none_takes Skip is refl),
         stays_follows main_turn Left left IsOld (lasting_of s left_scope) (lasting_of s left_scope) inside_left same_scope (with_successors Skip 0 is below_one),
@@ -721,78 +763,9 @@ module _ (table : Table) (typed : TypedProgram) (effects : Effects) (input : Lis
 
       -- ---- the next point
 
-      abbrev sparing : Type 0
+      abbrev pub sparing : Type 0
       sparing = Spare s (standing.acts_by table typed effects input ready state top older outer named p frames of_sub at_point s p.instr)
 
       pub spares : (p.instr ≡ Finish → ⊥) → sparing
       spares end =
           spare_acts (record { typing = s; result = named.sub.result; roots = standing.roots table typed effects input ready state top older outer named p frames of_sub at_point }) p.pos p.instr (innermost.plain_traversal table typed effects input ready state top below more_frames rest named p frames deep stages running awaiting of_sub at_point path views viewed_before kept scope holds placed_before above) no_calls going end
-
-      lent_on : sparing → (h : ℕ) (n : PlaceName) → Has facts_now (Lent Observed h n) → Has (after (acts_of_main p.instr) facts_now) (Lent Observed h n)
-      lent_on spare h n has = loans_stay s (standing.acts_by table typed effects input ready state top older outer named p frames of_sub at_point s p.instr) spare facts_now Observed h n has
-
-      -- which views turned
-      turned_so : (turned_views : Views) → {facts : List Fact}
-          → Turned easy ready.accepted.settled ready.owns other alone views ready.class.parts_named may refl refl turned_views facts
-          → AreTurned p.instr views turned_views
-      turned_so turned_views turned x w has = elim (turned x w has) [
-        | inl old ↦ inl (sym old.way ∙ has)
-        | inr (y, from, comes) ↦ inr from.1
-      ]
-
-      only_may : (turned_views : Views) (facts : List Fact)
-          → Turned easy ready.accepted.settled ready.owns other alone views ready.class.parts_named may refl refl turned_views facts
-          → Turned easy ready.accepted.settled ready.owns other alone views ready.class.parts_named (λ x y. MayBe program (scope_behind p) x y) refl refl
-          turned_views facts
-      only_may turned_views facts turned x w has = elim (turned x w has) [
-        | inl old ↦ inl (record { way = old.way; loan = old.loan; up = old.up })
-        | inr (y, from, comes) ↦ inr (y, from.0, record { up = comes.up; root = comes.root; loan = comes.loan })
-      ]
-
-      pub goes_there : sparing → (p.instr ≡ Finish → ⊥) → returns_value p.instr ≡ false → (after_step : State) (waits : List Waiting) (loops : List Loop) (k : ℕ)
-          → k < successors p.instr → ((n : ℕ) → successor main_turn k ≡ Some n → after_step.frames ≡ record top.frame { waits = waits; loops = loops; next = n } ∷ outer)
-          → Left waits → Inside s IsOld after_step.memory depth (lasting_of s (scope_behind p)) → LeadsFrom p.instr (Goes after_step) → OthersKept s depth state.memory after_step.memory
-          → Along (Goes after_step)
-      goes_there spare end none after_step waits loops k less frames_then are inside_then (turned_views, turned, well) stay =
-          let next = successor_there main_turn k (subst (λ z. k < z) (sym successors_there) less) in
-          let q = standing.next_at table typed effects input ready state top older outer named p frames of_sub at_point path next.0 next.2 in
-          let there = turned_placed easy ready.accepted.settled ready.owns other alone no_in_formals views ready.class.parts_named left_scope (scope_behind p) refl refl
-          ready.orderly.transitive ready.orderly.itself local holds.only holds.named more turned_views facts_now (after (acts_of_main p.instr) facts_now) (lent_on spare)
-          (placed_left facts_now placed) (only_may turned_views (after (acts_of_main p.instr) facts_now) turned) in
-          let only_then : (x : ℕ) (w : Way) → turned_views.way x ≡ Some w → is_anonymous (view_of s x) ≡ true =
-          (λ x w has. is_anonymous_view s no_in_formals x (well.holds.only x w has)) in
-          let named_then = turned_named easy ready.accepted.settled ready.owns other alone no_in_formals views ready.class.parts_named left_scope (scope_behind p) refl refl
-          ready.orderly.transitive ready.orderly.itself local holds.only holds.named more turned_views (after (acts_of_main p.instr) facts_now)
-          (only_may turned_views (after (acts_of_main p.instr) facts_now) turned) in
-          let placed_next = placed_on program (after (acts_of_main p.instr) facts_now) turned_views (scope_behind p) (q.0).scope only_then q.2 there in
-          standing.goes_to_next table typed effects input ready state top older outer named p frames of_sub at_point path no_calls after_step waits loops next.0 next.2 q.0 q.1 (frames_then next.0 next.1) deep stages turned_views
-          (running.0, running.1, wait_still after_step (lasting_of s (scope_behind p)) inside_then stay well.viewed.far)
-          (standing.waits_next table typed effects input ready state top older outer named p frames of_sub at_point path waits loops next.0 next.2 are, others_await none)
-          ((innermost.apart_from_them table typed effects input ready state top below more_frames rest named p frames deep stages running awaiting of_sub at_point path views viewed_before kept scope holds placed_before above) (acts_of_main p.instr) turned_views (view_here s after_step) only_then named_then well.viewed) well.kept
-          (scope_on s ready.owns after_step.memory depth (scope_behind p) (q.0).scope (in_scope after_step.memory (lasting_of s (scope_behind p)) inside_then) q.2)
-          (record {
-            held = λ x n lasts view e. well.holds.held x n (anonymous_is_view s no_in_formals x view) e;
-            within = λ x n view e. (
-                let own_way = well.holds.held x n (anonymous_is_view s no_in_formals x view) e in (placed_next x own_way.0 own_way.1).within);
-            only = only_then;
-            named = named_then;
-          })
-          ((innermost.placed_by table typed effects input ready state top below more_frames rest named p frames deep stages running awaiting of_sub at_point path views viewed_before kept scope holds placed_before above) (after (acts_of_main p.instr) facts_now) (after (acts_of_main p.instr) own_facts) turned_views (q.0).scope ((innermost.own_loans table typed effects input ready state top below more_frames rest named p frames deep stages running awaiting of_sub at_point path views viewed_before kept scope holds placed_before above) (acts_of_main p.instr)) placed_next)
-          (still_above after_step.memory stay) views
-          (steps_on no_calls end going (refl, refl, refl) (turned_so turned_views turned) refl)
-
-      pub then_on : (left : Left (steps.waiting main_turn)) → sparing → (p.instr ≡ Finish → ⊥) → returns_value p.instr ≡ false → (outcome : Outcome)
-          → LeadsFrom p.instr outcome → GoesFrom left p.instr outcome
-          → Each (λ (next : State). OthersKept s depth state.memory next.memory) outcome → Along outcome
-      then_on left spare end none (Ends how after_step) leads on stay = leads
-      then_on left spare end none (Goes after_step) leads on stay =
-          goes_there spare end none after_step on.waits on.loops on.k on.less on.frames on.are on.inside leads stay
-
-      pub goes_plainly : Plainly → IsOther p.instr → FillsNone s p.instr → (p.instr ≡ Finish → ⊥) → returns_value p.instr ≡ false → Along (turn main_turn p.instr)
-      goes_plainly plain other_one fills end none =
-          let left = left_after fills in
-          let text = standing.fine table typed effects input ready state top older outer named p frames of_sub at_point in
-          let both = each_instruction plain left p.instr refl other_one text
-          ((innermost.allowed_now table typed effects input ready state top below more_frames rest named p frames deep stages running awaiting of_sub at_point path views viewed_before kept scope holds placed_before above) (spares end) (standing.allowed table typed effects input ready state top older outer named p frames of_sub at_point path no_calls))
-          (standing.keeps_there table typed effects input ready state top older outer named p frames of_sub at_point) in
-          then_on left (spares end) end none (turn main_turn p.instr) both.0 both.1 (others_keep main_turn named.sub.result p.instr text other_one)

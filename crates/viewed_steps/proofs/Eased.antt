@@ -23,7 +23,7 @@ use Rattle.soundness.proofs.Eased.{eased}
 use Rattle.owned_loans.specs.Views.{Around, Views, Viewed}
 use Rattle.owned_loans.proofs.Moves.{same_viewed}
 
-same_back : (a b : ways.View) → IsSame a b → IsSame b a
+pub same_back : (a b : ways.View) → IsSame a b → IsSame b a
 same_back a b same = record {
   word = λ l. sym (same.word l);
   made = sym same.made;

@@ -18,7 +18,7 @@ use Rattle.machine.specs.Memory.{Memory, Slot, fresh, no_slot, variable_slots, u
 use Rattle.machine.specs.Step.{Turn, typing}
 use Rattle.machine.specs.Step as steps
 use Rattle.machine.specs.Owners.{waiting_in}
-use Rattle.owned_ways.specs.Ways.{OfVariable, Way, Allows, name_of, number_of}
+use Rattle.owned_ways.specs.Ways.{OfVariable, Way, Named, Allows, name_of, number_of}
 use Rattle.owned_ways.proofs.Assigned.{kept_fact}
 use Rattle.part_offsets.specs.Parts.{IsSettled}
 use Rattle.soundness.specs.Seen.{IsNear, is_view_formal, home}
@@ -27,17 +27,17 @@ use Rattle.soundness.specs.Sound as sound
 use Rattle.soundness.proofs.Defaults.{none_default}
 use Rattle.soundness.proofs.Keeping.{cell_has}
 use Rattle.soundness.proofs.Memories.{removed_same, removed_other}
-use Rattle.owned_loans.specs.Views.{Around, Views, Viewed, Unused, with_view, IsView}
+use Rattle.owned_loans.specs.Views.{Around, Views, Viewed, Unused, with_view}
 use Rattle.owned_loans.proofs.Safe.{root_before}
 use Rattle.owned_loans.proofs.Taken.{becomes_with, given_up}
-use Rattle.viewed_soundness.specs.Holds.{PartsAreNamed, sees_only}
-use Rattle.viewed_soundness.proofs.Names.{true_false}
+use Rattle.viewed_soundness.specs.Holds.{PartsAreNamed, is_view, sees_only, is_given}
+use Rattle.viewed_soundness.proofs.Names.{observer_sees, borrower_sees, both_no, true_false}
 use Rattle.viewed_soundness.proofs.Outcomes.{LeavesOthers, Is_left, scope_left, borrower_unmoved}
 use Rattle.viewed_steps.specs.Sound.{Lasts, IsFading, HoldsAt, ArePlaced}
 use Rattle.viewed_steps.proofs.Faded.{without, had_way, has_way, no_way, faded}
-use Rattle.viewed_steps.proofs.Placed.{lasts_on, within_on, view_ends}
+use Rattle.viewed_steps.proofs.Placed.{lasts_on, within_on}
 use Rattle.owned_loans.proofs.Meeting.{named_view}
-use Rattle.viewed_steps.proofs.Views.{observes, observes_not}
+use Rattle.viewed_steps.proofs.Views.{view_ends}
 
 -- an object that isn't a borrower or observer has no anonymous type, if those that have one are
 -- variables
@@ -79,13 +79,12 @@ rest_within x y (z ∷ rest) last within off =
     drop_none (a ∷ rest) w = w
 
 module _ (t : Turn) (settled : IsSettled (typing t).table) (own_law : OwnsByShape (typing t).table) (other : Around (home (typing t) (length t.outer)))
-    (alone : (w : Way) → IsNear (length t.outer) w → other.gone w → ⊥) (no_formals : (x : ℕ) → is_view_formal (typing t) x ≡ false)
+    (alone : (w : Way) → IsNear (length t.outer) w → other.gone w → ⊥)
     (v : Views) (parts_named : PartsAreNamed (typing t).table) (may : ℕ → ℕ → Type 0)
     (frames : t.state.frames ≡ t.frame ∷ t.outer) (none : taken t.point.instr ≡ 0)
     (p q : NamedPoint) (y : ℕ) (is : p.instr ≡ EndScope y) (mine : home (typing t) (length t.outer) y ≡ length t.outer)
-    (not_shared : is_package_object (typing t) y ≡ false) (last : is_last y p.scope ≡ true)
-    (local : (x : ℕ) → is_anonymous (view_of (typing t) x) ≡ true
-    → (is_variable (object_at (typing t) x).kind ≡ true) × (is_package_object (typing t) x ≡ false))
+    (not_shared : is_package_object (typing t) y ≡ false) (owner : is_view_formal (typing t) y ≡ false) (last : is_last y p.scope ≡ true)
+    (variable : is_anonymous (view_of (typing t) y) ≡ true → is_variable (object_at (typing t) y).kind ≡ true)
     (ended : (x : ℕ) → is_within x p.scope ≡ true → (x ≡ y → ⊥)
     → (x < y) × (encloses t.program.scopes (scope_of (typing t) y) (scope_of (typing t) x) ≡ true → scope_of (typing t) x ≡ scope_of (typing t) y))
     (followed : (x : ℕ) → is_within x q.scope ≡ true → is_observer (typing t) x ≡ true → scope_of (typing t) x ≡ scope_of (typing t) y
@@ -94,7 +93,7 @@ module _ (t : Turn) (settled : IsSettled (typing t).table) (own_law : OwnsByShap
     (facts : List Fact) (allowed : Allows facts (act.EndScope y (is_borrower (typing t) y)))
     (viewed : Viewed (home (typing t) (length t.outer)) (sees_only (typing t)) other v (sound.view_of (typing t) t.state) facts)
     (kept : Kept (typing t) t.state.memory (waiting_in t.state))
-    (holds : HoldsAt (typing t) (length t.outer) v t.state.memory p) (placed : ArePlaced t.program facts v p.scope)
+    (holds : HoldsAt (typing t) (length t.outer) v t.state.memory p) (placed : ArePlaced t.program (length t.outer) facts v p.scope)
     (unlent : (l : Loan) (n : PlaceName) → other.lent l n → n.root ≡ y → ⊥) where
   abbrev pub s : Typing
   s = typing t
@@ -117,25 +116,32 @@ module _ (t : Turn) (settled : IsSettled (typing t).table) (own_law : OwnsByShap
 
   left_viewed : Viewed (home s depth) (sees_only s) other left (sound.view_of s t.state) facts
   left_viewed = faded (home s depth) (sees_only s) other v fades
-      (λ x e. ap (λ b. b || is_view_formal s x) (both_parts (is_observer s x) (scope_of s x == scope_of s y) e).0) (sound.view_of s t.state) facts viewed
+      (λ x e. observer_sees s x (both_parts (is_observer s x) (scope_of s x == scope_of s y) e).0) (sound.view_of s t.state) facts viewed
 
-  -- the view is one of the frame
-  own_of : (x : ℕ) (w : Way) → v.way x ≡ Some w → IsView (home s depth) (sees_only s) v (sound.view_of s t.state) facts x w
-  own_of x w has = named_view (home s depth) (sees_only s) v (sound.view_of s t.state) facts viewed.views x w has (holds.named x w has)
+  abbrev Home : ℕ → ℕ
+  Home = home s depth
 
-  older_of : (x : ℕ) (w : Way) → v.way x ≡ Some w → is_observer s x ≡ false → number_of (v.up x) < x
-  older_of x w has e = (own_of x w has).older (observes_not s no_formals x e)
+  -- a borrower of the frame is younger than what it was taken from
+  older_of : (x : ℕ) (w : Way) → v.way x ≡ Some w → Named Home (v.up x) → sees_only s x ≡ false → number_of (v.up x) < x
+  older_of x w has named e = elim (viewed.views x w has) [
+    | inl own ↦ own.older e
+    | inr passed ↦ absurd (passed.given named)
+  ]
+
+  -- a view whose way is of the frame was taken from an object of the frame
+  up_named : (x : ℕ) (w : Way) → v.way x ≡ Some w → Named Home w → Named Home (v.up x)
+  up_named x w has named = (named_view Home (sees_only s) v (sound.view_of s t.state) facts viewed.views x w has named).named
 
   -- nothing that another view goes by is the object
   other_root : (x : ℕ) → is_within x p.scope ≡ true → (x ≡ y → ⊥) → fades x ≡ false → (r : ℕ) → Lasts t.program p.scope r x
-      → (is_observer s x ≡ false → r < x) → r ≡ y → ⊥
-  other_root x within off stays r (inl shared) older same = true_false (is_package_object s y) (ap (is_package_object s) (sym same) ∙ shared) not_shared
-  other_root x within off stays r (inr (there, end, around, plain)) older same = by_kind (is_observer s x) refl
+      → (sees_only s x ≡ false → r < x) → (is_given s x ≡ true → ⊥) → r ≡ y → ⊥
+  other_root x within off stays r (inl shared) older own same = true_false (is_package_object s y) (ap (is_package_object s) (sym same) ∙ shared) not_shared
+  other_root x within off stays r (inr (there, end, around, plain)) older own same = by_kind (is_observer s x) refl
     where
       by_kind : (b : Bool) → is_observer s x ≡ b → ⊥
       by_kind false e =
           let less = (ended x within off).0 in
-          let low = older e in
+          let low = older (borrower_sees s x e (refused (is_given s x) own)) in
           absurd (omega (arith, less, low, same))
       by_kind true e =
           let region = (ended x within off).1 (subst (λ z. encloses t.program.scopes (scope_of s z) (scope_of s x) ≡ true) same around) in
@@ -169,7 +175,7 @@ module _ (t : Turn) (settled : IsSettled (typing t).table) (own_law : OwnsByShap
 
   -- a borrower
   without_borrower : is_borrower s y ≡ true → is_observer s y ≡ false → Leaves_views (with_view left y None (left.loan y) (left.up y) 0)
-  without_borrower borrows sees_not =
+  without_borrower borrows borrower_sees =
       let views : Views = with_view left y None (left.loan y) (left.up y) 0 in
       let becomes = becomes_with left y None (left.loan y) (left.up y) 0 in
       let unused : Unused (home s depth) other.lent left facts y = record {
@@ -178,7 +184,8 @@ module _ (t : Turn) (settled : IsSettled (typing t).table) (own_law : OwnsByShap
         untaken = λ x w has named off root. (
             let old = had_way v fades x w has in
             let place = placed x w old.1 in
-            other_root x place.within off old.0 (number_of (v.up x)) place.up (older_of x w old.1) root);
+            let taken : Named Home (v.up x) = named in
+            other_root x place.within off old.0 (number_of (v.up x)) (place.up taken) (older_of x w old.1 taken) (λ formal. holds.passed x w old.1 formal taken) root);
       } in
       record {
         sound_still = given_up (home s depth) (sees_only s) other left views (sound.view_of s t.state) facts left_viewed y (left.loan y) (left.up y) 0 becomes unused;
@@ -198,13 +205,13 @@ module _ (t : Turn) (settled : IsSettled (typing t).table) (own_law : OwnsByShap
     where
       no_view : (o : Option Way) → left.way y ≡ o → is_anonymous (view_of s y) ≡ false → left.way y ≡ None
       no_view None e plain = e
-      no_view (Some w) e plain = absurd (true_false (is_anonymous (view_of s y)) (holds.only y w (had_way v fades y w e).1) plain)
+      no_view (Some w) e plain = absurd (true_false (is_view s y) (holds.only y w (had_way v fades y w e).1) (both_no (is_anonymous (view_of s y)) (is_view_formal s y) plain owner))
 
       by_kind : (b : Bool) → is_observer s y ≡ b → is_anonymous (view_of s y) ≡ true → (views : Views) × Leaves_views views
       by_kind true e view = (left, without_it (no_way v fades y (both_true (is_observer s y) (scope_of s y == scope_of s y) e (eq-eqb (scope_of s y) (scope_of s y) refl))))
       by_kind false e view = (
         with_view left y None (left.loan y) (left.up y) 0,
-        without_borrower (view_kinds (is_variable (object_at s y).kind) (is_borrowing (view_of s y)) (is_observing (view_of s y)) view (local y view).0 e) e,
+        without_borrower (view_kinds (is_variable (object_at s y).kind) (is_borrowing (view_of s y)) (is_observing (view_of s y)) view (variable view) e) e,
       )
 
       by_view : (b : Bool) → is_anonymous (view_of s y) ≡ b → (views : Views) × Leaves_views views
@@ -217,21 +224,23 @@ module _ (t : Turn) (settled : IsSettled (typing t).table) (own_law : OwnsByShap
   -- ---- the outcome
 
   -- the root of a way isn't the object, and no loan that is gone by is its
-  root_left : (x : ℕ) (w : Way) → views_left.way x ≡ Some w → number_of w ≡ y → ⊥
-  root_left x w has =
+  root_left : (x : ℕ) (w : Way) → views_left.way x ≡ Some w → Named Home w → number_of w ≡ y → ⊥
+  root_left x w has named =
       let old = leaves.1.was x w has in
       let place = placed x w old.2 in
-      other_root x place.within old.0 old.1 (number_of w) place.root
-      (λ e. root_before (home s depth) (sees_only s) v (sound.view_of s t.state) facts viewed.views viewed.clear x w old.2 (observes_not s no_formals x e))
+      other_root x place.within old.0 old.1 (number_of w) (place.root named)
+      (λ e. root_before Home (sees_only s) v (sound.view_of s t.state) facts viewed.views viewed.clear x w old.2 e named)
+      (λ formal. holds.passed x w old.2 formal (up_named x w old.2 named))
 
-  holder_left : (x : ℕ) (w : Way) → views_left.way x ≡ Some w → is_observer s x ≡ true
+  holder_left : (x : ℕ) (w : Way) → views_left.way x ≡ Some w → Named Home (v.up x) → sees_only s x ≡ true
       → (h : ℕ) × Has after_end (Lent Observed h (name_of (views_left.loan x))) × Lasts t.program p.scope h x × (h ≡ y → ⊥)
-      × (is_observer s h ≡ true)
-  holder_left x w has sees =
+      × (sees_only s h ≡ true)
+  holder_left x w has named sees =
       let old = leaves.1.was x w has in
       let place = placed x w old.2 in
-      let h = place.holder sees in
-      let off : h.0 ≡ y → ⊥ = other_root x place.within old.0 old.1 h.0 h.2 (λ e. absurd (true_false (is_observer s x) sees e)) in (
+      let h = place.holder named sees in
+      let off : h.0 ≡ y → ⊥ =
+      other_root x place.within old.0 old.1 h.0 h.2 (λ e. absurd (true_false (sees_only s x) sees e)) (λ formal. holds.passed x w old.2 formal named) in (
         h.0,
         kept_fact (act.EndScope y (is_borrower s y)) facts (Lent Observed h.0 (name_of (views_left.loan x)))
             (subst (λ z. Has facts (Lent Observed h.0 (name_of z))) (sym (leaves.1.loans x old.0)) h.1)
@@ -244,14 +253,14 @@ module _ (t : Turn) (settled : IsSettled (typing t).table) (own_law : OwnsByShap
   pub leaves_others : LeavesOthers t settled own_law other alone v parts_named may frames none views_left y after_end
   leaves_others = record {
     no_value = leaves.1.no_value;
-    roots = λ x w has named. root_left x w has;
+    roots = root_left;
     loans = λ x w has named sees. (
-        let h = holder_left x w has (observes s no_formals x sees) in (h.0, h.1, ap (λ b. b || is_view_formal s h.0) h.4));
+        let h = holder_left x w has (subst (Named Home) (leaves.1.ups x (leaves.1.was x w has).0) named) sees in (h.0, h.1, h.4));
     unlent = unlent;
   }
 
   pub ends_well : Is_left t settled own_law other alone v parts_named may frames none views_left y after_end (steps.end_scope t y)
-  ends_well = scope_left t settled own_law other alone v parts_named may frames none views_left y (is_borrower s y) mine (no_formals y) facts leaves.1.sound_still kept leaves_others
+  ends_well = scope_left t settled own_law other alone v parts_named may frames none views_left y (is_borrower s y) mine owner facts leaves.1.sound_still kept leaves_others
 
   -- ---- at the next point
 
@@ -259,16 +268,21 @@ module _ (t : Turn) (settled : IsSettled (typing t).table) (own_law : OwnsByShap
   lasts_left r x off (inl shared) = inl shared
   lasts_left r x off (inr (within, end, around, plain)) = lasts_on t.program (drop 1 p.scope) q.scope r x leads (inr (rest_within r y p.scope last within off, end, around, plain))
 
-  pub placed_left : ArePlaced t.program after_end views_left q.scope
+  pub placed_left : ArePlaced t.program depth after_end views_left q.scope
   placed_left x w has =
       let old = leaves.1.was x w has in
       let place = placed x w old.2 in
       record {
         within = within_on s (drop 1 p.scope) q.scope x leads (view_ends s x (holds.only x w old.2)) (rest_within x y p.scope last place.within old.0);
-        up = subst (λ z. Lasts t.program q.scope (number_of z) x) (sym (leaves.1.ups x old.0))
-            (lasts_left (number_of (v.up x)) x (other_root x place.within old.0 old.1 (number_of (v.up x)) place.up (older_of x w old.2)) place.up);
-        root = lasts_left (number_of w) x (root_left x w has) place.root;
-        holder = λ sees. (let h = holder_left x w has sees in (h.0, h.1, lasts_left h.0 x h.3 h.2, h.4));
+        plain = place.plain;
+        up = λ named. (
+            let taken = subst (Named Home) (leaves.1.ups x old.0) named in
+            subst (λ z. Lasts t.program q.scope (number_of z) x) (sym (leaves.1.ups x old.0))
+            (lasts_left (number_of (v.up x)) x
+            (other_root x place.within old.0 old.1 (number_of (v.up x)) (place.up taken) (older_of x w old.2 taken) (λ formal. holds.passed x w old.2 formal taken))
+            (place.up taken)));
+        root = λ named. lasts_left (number_of w) x (root_left x w has named) (place.root named);
+        holder = λ named sees. (let h = holder_left x w has (subst (Named Home) (leaves.1.ups x old.0) named) sees in (h.0, h.1, lasts_left h.0 x h.3 h.2, h.4));
       }
 
   -- the variable of a view that has a number was there before
@@ -293,10 +307,13 @@ module _ (t : Turn) (settled : IsSettled (typing t).table) (own_law : OwnsByShap
     held = held;
     within = λ x n view e. (let old = word_before x n e in within x view old.0 (holds.within x n view old.1));
     only = λ x w has. (let old = leaves.1.was x w has in holds.only x w old.2);
-    named = λ x w has. (let old = leaves.1.was x w has in holds.named x w old.2);
+    lies = λ x w has. (let old = leaves.1.was x w has in holds.lies x w old.2);
+    owners = λ x w has. (let old = leaves.1.was x w has in holds.owners x w old.2);
+    passed = λ x w has formal taken. (let old = leaves.1.was x w has in holds.passed x w old.2 formal (subst (Named Home) (leaves.1.ups x old.0) taken));
+    own = λ x w has sees none. (let old = leaves.1.was x w has in subst (Named Home) (sym (leaves.1.ups x old.0)) (holds.own x w old.2 sees none));
   }
     where
-      within : (x : ℕ) → is_anonymous (view_of s x) ≡ true → (x ≡ y → ⊥) → is_within x p.scope ≡ true → is_within x q.scope ≡ true
+      within : (x : ℕ) → is_view s x ≡ true → (x ≡ y → ⊥) → is_within x p.scope ≡ true → is_within x q.scope ≡ true
       within x view off there = within_on s (drop 1 p.scope) q.scope x leads (view_ends s x view) (rest_within x y p.scope last there off)
 
       fading_before : (x : ℕ) → IsFading s p x → scope_of s x ≡ scope_of s y
@@ -305,7 +322,7 @@ module _ (t : Turn) (settled : IsSettled (typing t).table) (own_law : OwnsByShap
           same_end : (a b : ℕ) → EndScope a ≡ EndScope b → a ≡ b
           same_end a b e = cc
 
-      held : (x n : ℕ) → (IsFading s q x → ⊥) → is_anonymous (view_of s x) ≡ true
+      held : (x n : ℕ) → (IsFading s q x → ⊥) → is_view s x ≡ true
           → (get_or (variable_slots s (home s depth x) x (undeclared depth y m).variables) 0 no_slot).word ≡ machine.Cell n
           → (w : Way) × (views_left.way x ≡ Some w) × (views_left.cell x ≡ n)
       held x n lasts view e =

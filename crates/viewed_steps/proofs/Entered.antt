@@ -1,45 +1,47 @@
--- The formals of a call are declared. Those that are copied back have what their actuals had; the
--- places of the actuals are gone meanwhile, and have no number.
-use Rattle.viewed_soundness.specs.Holds.{sees_only}
-use Rattle.std.proofs.Common.{◌≡◌, refl, sym, ap, ◌∙◌, subst, ◌⊎◌, inl, inr, ℕ, suc, ◌<◌, ◌+◌, Bool, true, false, not, ◌&&◌, ◌||◌, List, [], ◌∷◌, ◌++◌, take, drop, length, get_or, arith, if◌then◌else◌, Some}
+-- What a call takes for formals: a scalar value, a scalar place, or another place in a variable of its
+-- caller. A formal of mode `in out` has what its actual had; the place of the actual is gone meanwhile, and
+-- has no number.
+use Rattle.viewed_soundness.specs.Holds.{is_view, sees_only, IsNamed}
+use Rattle.std.proofs.Common.{◌≡◌, refl, sym, ap, ◌∙◌, subst, ◌⊎◌, inl, inr, ℕ, suc, ◌+◌, Bool, true, false, not, ◌&&◌, ◌||◌, List, [], ◌∷◌, ◌++◌, take, drop, length, get_or, arith, if◌then◌else◌, Some}
 use Rattle.std.proofs.lemmas.List.{length-map}
 use Rattle.spark_base.specs.Lists.{Has}
+use Rattle.spark_base.specs.declared.position.Pos.{Pos}
 use Rattle.place_names.specs.declared.fact.Fact.{Fact}
 use Rattle.place_names.specs.declared.fact.Fact.TheVariants.{Moved}
 use Rattle.place_names.specs.declared.rule.Loan.TheVariants.{Borrowed}
 use Rattle.place_names.specs.Names.{Name as PlaceName, overlaps}
-use Rattle.type_definitions.specs.Types.{shape_of, words, full, is_scalar}
+use Rattle.type_definitions.specs.Types.{shape_of, words, full, is_scalar, is_owning}
 use Rattle.flow_paths.specs.Objects.{Typing, object_at, is_variable, is_borrowing, is_observing, is_anonymous, is_observer, is_package_object, view_of}
 use Rattle.machine.specs.Words.{access_offsets}
 use Rattle.machine.specs.Memory.{Slot, Memory, Base, Place, fresh, no_slot, variable_slots, slots_at, slots_of, words_of, gone_at, moved_out, declared}
 use Rattle.machine.specs.Memory as memory
-use Rattle.machine.specs.Calls.{Passed, Value, From, To, with_formal, with_formals, returns_of}
-use Rattle.machine.specs.States.{Waiting, Leak, Return}
+use Rattle.machine.specs.Words as machine
+use Rattle.machine.specs.Calls.{Passed, Value, From, To}
+use Rattle.machine.specs.States.{Waiting, Leak}
 use Rattle.owned_ways.specs.Ways.{Step, OfVariable, OfHand, Loc, OfRoot, OfCell, Reaches, Way, Object, Empty, Held, Under, Past, Named, along, base_of, number_of, name_of}
 use Rattle.owned_ways.proofs.Locations.{same_loc, under_along, under_itself}
 use Rattle.part_offsets.specs.Parts.{type_in, IsSettled}
-use Rattle.soundness.specs.Seen.{content, word_in, seen, home, is_view_formal}
-use Rattle.soundness.specs.Typed.{Matches, OwnsByShape, Kept, Spot}
+use Rattle.soundness.specs.Seen.{content, word_in, seen, home, is_view_formal, in_hand}
+use Rattle.type_definitions.specs.declared.table.Shape.TheVariants as shape
+use Rattle.soundness.specs.Typed.{Matches, IsCell, OwnsByShape, Kept, Spot, Points}
 use Rattle.soundness.proofs.Memories.{put_other}
 use Rattle.soundness.proofs.Moments.{number_part}
 use Rattle.soundness.proofs.Steps.{matches_words, plain_end, alike, taken_slots, room}
 use Rattle.soundness.proofs.Lasting.{keeps, declared_kept}
-use Rattle.soundness.proofs.Passing.{IsLaid}
+use Rattle.soundness.proofs.Stays.{One}
 use Rattle.owned_loans.specs.Views.{Around, Views, expand, ExcusedBy, Viewed, IsForeign}
-use Rattle.owned_loans.proofs.Ways.{beginnings}
 use Rattle.owned_loans.proofs.Safe.{off_view}
 use Rattle.owned_loans.proofs.Others.{clean_away}
-use Rattle.owned_loans.proofs.Moves.{expand_along, same_viewed}
-use Rattle.viewed_soundness.proofs.Names.{true_false, view_access, not_view}
+use Rattle.owned_loans.proofs.Moves.{expand_along}
+use Rattle.viewed_soundness.proofs.Names.{both_no, true_false, view_access, not_view, owner_sees}
 use Rattle.viewed_soundness.proofs.Evaluated.{matches_named}
-use Rattle.viewed_steps.proofs.Left.{cells_same}
-use Rattle.viewed_steps.specs.Taken.{AreCarried, TakenBy, IsInside, IsPassedOn, IsBare, IsApartFrom, AreTaken}
-use Rattle.viewed_steps.proofs.Between.{carried_same, carried_then, same_reaches, gone_also, more_gone, IsClearOf, base_along, base_under, same_variable, taken_more}
-use Rattle.viewed_steps.proofs.Carried.{trunk_is, carried_gone, carried_cells, inside_at, inside_spot, inside_reached, inside_base, inside_rooted, inside_owns, inside_word, carried_bare, carried_held, carried_off_low, carried_off}
-use Rattle.viewed_steps.proofs.Alike.{Enters, with_one}
+use Rattle.viewed_steps.specs.Taken.{Lodge, IsPlainPlace, AreCarried, IsInside, IsPassedOn, IsBare, IsApartFrom}
+use Rattle.viewed_steps.proofs.Between.{IsHomed, homed_apart, gone_also, IsClearOf, base_along, base_under, same_variable}
+use Rattle.viewed_steps.proofs.Carried.{inside_homed, inside_low, trunk_is, carried_gone, carried_cells, inside_at, inside_spot, inside_reached, inside_base, inside_rooted, inside_owns, inside_word, carried_bare, carried_held, carried_beside, carried_off_stays, carried_off}
+use Rattle.viewed_steps.proofs.Outs.{Out, HasStill, places_apart}
 use Rattle.viewed_steps.proofs.Beside.{put_beside}
 use Rattle.viewed_steps.proofs.Declared.{declared_viewed, declared_low}
-use Rattle.viewed_steps.proofs.Views.{observes_not, AreFar, apart_by_base}
+use Rattle.viewed_steps.proofs.Views.{AreAccess, AreFar, view_cases}
 
 named_part : (home : ℕ → ℕ) (w : Way) (p : List Step) → Named home w → Named home (along w p)
 named_part home w [] n = n
@@ -78,19 +80,48 @@ module _ (s : Typing) (settled : IsSettled s.table) (depth : ℕ) (k : Place) (t
   pub inside_named : Named (home s depth) to
   inside_named =
       subst (Named (home s depth)) (sym inside.way)
-      (named_part (home s depth) (Object (OfVariable depth inside.object)) inside.steps (sym (ap (λ b. if b then 0 else depth) inside.own)))
+      (named_part (home s depth) (Object (OfVariable inside.frame inside.object)) inside.steps inside.at_home)
 
   pub inside_number : number_of to ≡ inside.object
-  inside_number = ap number_of inside.way ∙ number_part (Object (OfVariable depth inside.object)) inside.steps
+  inside_number = ap number_of inside.way ∙ number_part (Object (OfVariable inside.frame inside.object)) inside.steps
 
   pub inside_itself : (v : Views) → expand v to ≡ to
-  inside_itself v = ap (expand v) inside.way ∙ expand_along v (Object (OfVariable depth inside.object)) inside.steps ∙ sym inside.way
+  inside_itself v = ap (expand v) inside.way ∙ expand_along v (Object (OfVariable inside.frame inside.object)) inside.steps ∙ sym inside.way
 
 -- ---- what is passed
 
--- A scalar value, or a scalar place in a variable.
-abbrev pub IsPlainOne : Typing → ℕ → Passed → Type 0
-IsPlainOne s x a = (is_scalar (full s.table (object_at s x).of) ≡ true) × IsLaid s a
+-- An access value designates a cell of its type.
+abbrev pub IsTyped : Typing → Memory → ℕ → machine.Word → Type 0
+IsTyped s m x z = (d : ℕ) (c n : Bool) (k : ℕ) → shape_of s.table (object_at s x).of ≡ shape.Access d c n → z ≡ machine.Cell k → IsCell s m d k
+
+-- An access value, for a formal that owns nothing.
+abbrev pub IsShownOne : Typing → Memory → ℕ → Passed → Type 0
+IsShownOne s m x a = (is_view_formal s x ≡ true) × (z : machine.Word) × (a ≡ Value (z ∷ [])) × IsTyped s m x z
+
+-- Words are a value of a type, and what they designate is of the types of its parts.
+abbrev pub IsFit : Typing → Memory → ℕ → List machine.Word → Type 0
+IsFit s m t ws = (length ws ≡ words s.table t) × Points s m (in_hand (record { of = t; words = ws }))
+
+-- Such a value, for a formal of a type that owns nothing.
+abbrev pub IsCopiedOne : Typing → Memory → ℕ → Passed → Type 0
+IsCopiedOne s m x a =
+    (is_owning s.table (object_at s x).of ≡ false) × IsNamed s.table (object_at s x).of × (ws : List machine.Word) × (a ≡ Value ws) × IsFit s m (object_at s x).of ws
+
+-- A scalar value, or a scalar place in a variable or in one of these cells.
+abbrev pub IsPlainPassed : Typing → List Lodge → Passed → Type 0
+IsPlainPassed s cells (Value ws) = One ws
+IsPlainPassed s cells (From k) = IsPlainPlace s cells k
+IsPlainPassed s cells (To k) = IsPlainPlace s cells k
+
+-- Such a one, or such an access value, or a copy.
+abbrev pub IsPlainOne : Typing → Memory → List Lodge → ℕ → Passed → Type 0
+IsPlainOne s m cells x a = ((is_scalar (full s.table (object_at s x).of) ≡ true) × IsPlainPassed s cells a) ⊎ (IsShownOne s m x a ⊎ IsCopiedOne s m x a)
+
+-- A value of one word is passed for a formal.
+abbrev pub IsShownTo : List ℕ → List Passed → ℕ → machine.Word → Type 0
+IsShownTo [] passed y z = ⊥
+IsShownTo (x ∷ formals) [] y z = ⊥
+IsShownTo (x ∷ formals) (a ∷ passed) y z = ((x ≡ y) × (a ≡ Value (z ∷ []))) ⊎ IsShownTo formals passed y z
 
 -- No fact says of the way that it was moved, or of what leads to it or lies in it.
 abbrev pub IsWhole : List Fact → Way → Type 0
@@ -99,31 +130,74 @@ IsWhole facts to = (n : PlaceName) → Has facts (Moved n) → overlaps n (name_
 abbrev pub DiffersFrom : ℕ → List ℕ → Type 0
 DiffersFrom x formals = (y : ℕ) → Has formals y → y ≡ x → ⊥
 
--- What is passed, with the ways of the places that are taken.
-abbrev pub ArePassedOn : Typing → ℕ → List Fact → List ℕ → List ℕ → List Passed → List Way → Type 0
-ArePassedOn s depth facts scope [] passed ways = ways ≡ []
-ArePassedOn s depth facts scope (x ∷ formals) [] ways = ways ≡ []
-ArePassedOn s depth facts scope (x ∷ formals) (a ∷ passed) [] = IsPlainOne s x a × ArePassedOn s depth facts scope formals passed []
-ArePassedOn s depth facts scope (x ∷ formals) (a ∷ passed) (to ∷ ways) =
-    (IsPlainOne s x a × ArePassedOn s depth facts scope formals passed (to ∷ ways))
-    ⊎ ((k : Place) × (a ≡ From k) × IsPassedOn s depth facts scope x k to × IsWhole facts to × IsApartFrom to ways × DiffersFrom x formals
-    × ArePassedOn s depth facts scope formals passed ways)
+-- What is taken isn't moved, or is emptied: it is the first of the places that are.
+abbrev pub IsTakenAs : List Fact → Place → Way → Passed → List Out → List Out → Type 0
+IsTakenAs facts k to a outs later =
+    ((a ≡ From k) × IsWhole facts to × (outs ≡ later)) ⊎ ((pos : Pos) × (a ≡ To k) × (outs ≡ record { way = to; place = k; pos = pos } ∷ later))
 
--- the ways of such places begin at variables of the frame
-pub passed_base : (s : Typing) (depth : ℕ) (facts : List Fact) (scope : List ℕ) (formals : List ℕ) (passed : List Passed) (ways : List Way)
-    → ArePassedOn s depth facts scope formals passed ways → (k : Way) → Has ways k → (y : ℕ) × (base_of k ≡ OfRoot (OfVariable depth y))
-passed_base s depth facts scope [] passed ways none k has = absurd (subst (λ z. Has z k) none has)
-passed_base s depth facts scope (x ∷ formals) [] ways none k has = absurd (subst (λ z. Has z k) none has)
-passed_base s depth facts scope (x ∷ formals) (a ∷ passed) [] are k has = absurd has
-passed_base s depth facts scope (x ∷ formals) (a ∷ passed) (to ∷ ways) (inl are) k has = passed_base s depth facts scope formals passed (to ∷ ways) are.1 k has
-passed_base s depth facts scope (x ∷ formals) (a ∷ passed) (to ∷ ways) (inr (place, is, one, whole, apart, differ, more)) k (inl same) =
-    (one.inside.object, ap base_of (sym same) ∙ inside_base s depth place to one.inside)
-passed_base s depth facts scope (x ∷ formals) (a ∷ passed) (to ∷ ways) (inr (place, is, one, whole, apart, differ, more)) k (inr has) =
-    passed_base s depth facts scope formals passed ways more k has
+-- What is passed, with the ways of the places that are taken, and those of them that are emptied.
+abbrev pub ArePassedOn : Typing → Memory → List Lodge → ℕ → List Fact → List ℕ → List ℕ → List Passed → List Way → List Out → Type 0
+ArePassedOn s m cells depth facts scope [] passed ways outs = (ways ≡ []) × (outs ≡ [])
+ArePassedOn s m cells depth facts scope (x ∷ formals) [] ways outs = (ways ≡ []) × (outs ≡ [])
+ArePassedOn s m cells depth facts scope (x ∷ formals) (a ∷ passed) [] outs = IsPlainOne s m cells x a × ArePassedOn s m cells depth facts scope formals passed [] outs
+ArePassedOn s m cells depth facts scope (x ∷ formals) (a ∷ passed) (to ∷ ways) outs =
+    (IsPlainOne s m cells x a × ArePassedOn s m cells depth facts scope formals passed (to ∷ ways) outs)
+    ⊎ ((k : Place) × (later : List Out) × IsTakenAs facts k to a outs later × IsPassedOn s depth facts scope x k to × IsApartFrom to ways × DiffersFrom x formals
+    × ArePassedOn s m cells depth facts scope formals passed ways later)
+
+-- the ways of such places begin at variables of the frame, or at package objects
+pub passed_base : (s : Typing) (m : Memory) (cells : List Lodge) (depth : ℕ) (facts : List Fact) (scope : List ℕ) (formals : List ℕ) (passed : List Passed) (ways : List Way) (outs : List Out)
+    → ArePassedOn s m cells depth facts scope formals passed ways outs → (k : Way) → Has ways k → IsHomed s depth k
+passed_base s m cells depth facts scope [] passed ways outs none k has = absurd (subst (λ z. Has z k) none.0 has)
+passed_base s m cells depth facts scope (x ∷ formals) [] ways outs none k has = absurd (subst (λ z. Has z k) none.0 has)
+passed_base s m cells depth facts scope (x ∷ formals) (a ∷ passed) [] outs are k has = absurd has
+passed_base s m cells depth facts scope (x ∷ formals) (a ∷ passed) (to ∷ ways) outs (inl are) k has = passed_base s m cells depth facts scope formals passed (to ∷ ways) outs are.1 k has
+passed_base s m cells depth facts scope (x ∷ formals) (a ∷ passed) (to ∷ ways) outs (inr (place, later, how, one, apart, differ, more)) k (inl same) =
+    subst (IsHomed s depth) same (inside_homed s depth place to one.inside)
+passed_base s m cells depth facts scope (x ∷ formals) (a ∷ passed) (to ∷ ways) outs (inr (place, later, how, one, apart, differ, more)) k (inr has) =
+    passed_base s m cells depth facts scope formals passed ways later more k has
+
+-- each is the way of a place that is passed on
+pub passed_one : (s : Typing) (m : Memory) (cells : List Lodge) (depth : ℕ) (facts : List Fact) (scope : List ℕ) (formals : List ℕ) (passed : List Passed) (ways : List Way) (outs : List Out)
+    → ArePassedOn s m cells depth facts scope formals passed ways outs → (to : Way) → Has ways to → (x : ℕ) × (k : Place) × IsPassedOn s depth facts scope x k to
+passed_one s m cells depth facts scope [] passed ways outs none to has = absurd (subst (λ z. Has z to) none.0 has)
+passed_one s m cells depth facts scope (x ∷ formals) [] ways outs none to has = absurd (subst (λ z. Has z to) none.0 has)
+passed_one s m cells depth facts scope (x ∷ formals) (a ∷ passed) [] outs are to has = absurd has
+passed_one s m cells depth facts scope (x ∷ formals) (a ∷ passed) (k ∷ ways) outs (inl are) to has = passed_one s m cells depth facts scope formals passed (k ∷ ways) outs are.1 to has
+passed_one s m cells depth facts scope (x ∷ formals) (a ∷ passed) (k ∷ ways) outs (inr (place, later, how, one, apart, differ, more)) to (inl same) =
+    (x, place, subst (IsPassedOn s depth facts scope x place) same one)
+passed_one s m cells depth facts scope (x ∷ formals) (a ∷ passed) (k ∷ ways) outs (inr (place, later, how, one, apart, differ, more)) to (inr has) =
+    passed_one s m cells depth facts scope formals passed ways later more to has
+
+-- what is emptied is among them
+pub outs_taken : (s : Typing) (m : Memory) (cells : List Lodge) (depth : ℕ) (facts : List Fact) (scope : List ℕ) (formals : List ℕ) (passed : List Passed) (ways : List Way) (outs : List Out)
+    → ArePassedOn s m cells depth facts scope formals passed ways outs → (o : Out) → Has outs o → Has ways o.way
+outs_taken s m cells depth facts scope [] passed ways outs none o has = absurd (subst (λ z. Has z o) none.1 has)
+outs_taken s m cells depth facts scope (x ∷ formals) [] ways outs none o has = absurd (subst (λ z. Has z o) none.1 has)
+outs_taken s m cells depth facts scope (x ∷ formals) (a ∷ passed) [] outs are o has = outs_taken s m cells depth facts scope formals passed [] outs are.1 o has
+outs_taken s m cells depth facts scope (x ∷ formals) (a ∷ passed) (to ∷ ways) outs (inl are) o has = outs_taken s m cells depth facts scope formals passed (to ∷ ways) outs are.1 o has
+outs_taken s m cells depth facts scope (x ∷ formals) (a ∷ passed) (to ∷ ways) outs (inr (place, later, inl (from, whole, same), one, apart, differ, more)) o has =
+    inr (outs_taken s m cells depth facts scope formals passed ways later more o (subst (λ z. Has z o) same has))
+outs_taken s m cells depth facts scope (x ∷ formals) (a ∷ passed) (to ∷ ways) outs (inr (place, later, inr (pos, goes, same), one, apart, differ, more)) o has =
+    elim (subst (λ z. Has z o) same has) [
+      | inl first ↦ inl (ap (λ (z : Out). z.way) first)
+      | inr others ↦ inr (outs_taken s m cells depth facts scope formals passed ways later more o others)
+    ]
+
+-- Nothing is gone elsewhere in hands, or in the places that are still to be taken; and others keep no way.
+pub record IsOpen (home : ℕ → ℕ) (other : Around home) (ways : List Way) : Type 0 where
+  pub free : (h : ℕ) (w : Way) → Under (Object (OfHand h)) w → other.gone w → ⊥
+  pub whole : (to : Way) → Has ways to → (w : Way) → Under to w → other.gone w → ⊥
+  pub none : (w : Way) (n : ℕ) → other.kept w n → ⊥
+
+-- The formals that are still to be declared have nothing.
+abbrev pub AreBlank : Typing → ℕ → Memory → List ℕ → Type 0
+AreBlank s depth m formals =
+    (x : ℕ) → Has formals x → (p : List Step) → word_in s.table (content s m [] (OfRoot (OfVariable (suc depth) x))) p ≡ Empty
 
 -- ---- what the formals have then
 
-module _ (s : Typing) (settled : IsSettled s.table) (own_law : OwnsByShape s.table) (no_formals : (x : ℕ) → is_view_formal s x ≡ false)
+module _ (s : Typing) (settled : IsSettled s.table) (own_law : OwnsByShape s.table) (in_formals : AreAccess s)
     (hands : List Waiting) (leaks : List Leak) (depth : ℕ) (v : Views) (far : AreFar (home s depth) v depth) (facts : List Fact) (scope : List ℕ) where
   abbrev Home : ℕ → ℕ
   Home = home s depth
@@ -138,44 +212,13 @@ module _ (s : Typing) (settled : IsSettled s.table) (own_law : OwnsByShape s.tab
       by_package true e = omega (arith, e)
       by_package false e = omega (arith, e)
 
-  -- Nothing is gone elsewhere in hands, or in the places that are still to be taken; and others keep no way.
-  pub record IsOpen (other : Around (home s depth)) (ways : List Way) : Type 0 where
-    pub free : (h : ℕ) (w : Way) → Under (Object (OfHand h)) w → other.gone w → ⊥
-    pub whole : (to : Way) → Has ways to → (w : Way) → Under to w → other.gone w → ⊥
-    pub none : (w : Way) (n : ℕ) → other.kept w n → ⊥
-
   abbrev ViewedIn : Around (home s depth) → Memory → Type 0
   ViewedIn other m = Viewed (home s depth) (sees_only s) other v (seen s m hands leaks) facts
 
-  abbrev taken_also : Around (home s depth) → List Way → Around (home s depth)
-  taken_also other ways = gone_also (home s depth) other (λ w. other.gone w ⊎ TakenBy ways w)
-
-  -- The formals that are still to be declared have nothing.
-  abbrev pub AreBlank : Memory → List ℕ → Type 0
-  AreBlank m formals =
-      (x : ℕ) → Has formals x → (p : List Step) → word_in s.table (content s m [] (OfRoot (OfVariable (suc depth) x))) p ≡ Empty
-
-  -- Words are typed; a variable that has a number had it before, or is a formal; views keep their words; and
-  -- what was gone stays so.
-  pub record AreDeclared (formals : List ℕ) (m n : Memory) : Type 0 where
-    pub typed : Kept s n hands
-    pub held : (g y : ℕ) (p : List Step) (c : ℕ) → word_in s.table (content s n [] (OfRoot (OfVariable g y))) p ≡ Held c
-        → (word_in s.table (content s m [] (OfRoot (OfVariable g y))) p ≡ Held c) ⊎ ((g ≡ suc depth) × Has formals y)
-    pub views : (g y : ℕ) → is_anonymous (view_of s y) ≡ true
-        → (get_or (variable_slots s g y n.variables) 0 no_slot).word ≡ (get_or (variable_slots s g y m.variables) 0 no_slot).word
-    pub carried : AreCarried s (λ g. g ≡ suc depth → ⊥) [] m n
-    -- ways from the variables of frames around reach what they reached
-    pub low : (w : Way) (g y : ℕ) → base_of w ≡ OfRoot (OfVariable g y) → g < depth → (c : ℕ)
-        → Reaches (seen s m hands leaks) w (OfCell c) → Reaches (seen s n hands leaks) w (OfCell c)
-
-  abbrev pub Enter : Around (home s depth) → List ℕ → List Passed → List Way → Memory → Memory → Type 0
-  Enter other formals passed ways m n =
-      AreDeclared formals m n × ViewedIn (taken_also other ways) n × AreTaken s n depth facts scope (returns_of formals passed) ways
-
   -- ---- one that is taken
 
-  module _ (other : Around (home s depth)) (x : ℕ) (k : Place) (to : Way) (ways : List Way) (passed : IsPassedOn s depth facts scope x k to) (whole : IsWhole facts to)
-      (apart : IsApartFrom to ways) (open_there : IsOpen other (to ∷ ways)) (m : Memory) (typed : Kept s m hands) (viewed : ViewedIn other m)
+  module _ (other : Around (home s depth)) (x : ℕ) (k : Place) (to : Way) (passed : IsPassedOn s depth facts scope x k to) (whole : IsWhole facts to)
+      (open_there : IsOpen (home s depth) other (to ∷ [])) (m : Memory) (typed : Kept s m hands) (viewed : ViewedIn other m)
       (blank : (p : List Step) → word_in s.table (content s m [] (OfRoot (OfVariable (suc depth) x))) p ≡ Empty) where
     abbrev inside : IsInside s depth k to
     inside = passed.inside
@@ -199,15 +242,13 @@ module _ (s : Typing) (settled : IsSettled s.table) (own_law : OwnsByShape s.tab
     with_apart : (y : ℕ) (w z : Way) → v.way y ≡ Some w → IsForeign (home s depth) w → with_it.gone z → Under z w ⊎ Under w z → ⊥
     with_apart y w z has foreign (inl gone) meets = viewed.whole y w z has foreign gone meets
     with_apart y w z has foreign (inr (p, is)) meets =
-        apart_by_base w z foreign.0 foreign.1 depth (passed.inside).object foreign.2
-        (ap base_of is ∙ base_along to p ∙ inside_base s depth k to passed.inside)
-        (λ same. (let low = far y w has foreign in omega (arith, low, same))) meets
+        homed_apart s depth to (inside_homed s depth k to passed.inside) w z foreign (subst (Under to) (sym is) (under_along to to p (under_itself to))) meets
 
     spot : Spot s m hands k at
     spot = inside_spot s depth k to passed.inside m hands
 
     plain_name : sees_only s (number_of to) ≡ false
-    plain_name = ap (sees_only s) (inside_number s settled depth k to passed.inside) ∙ observes_not s no_formals (passed.inside).object (not_observing s (passed.inside).object (inside_plain s settled depth k to passed.inside))
+    plain_name = ap (sees_only s) (inside_number s settled depth k to passed.inside) ∙ owner_sees s (passed.inside).object (inside_plain s settled depth k to passed.inside) (passed.inside).owner
 
     itself : expand v to ≡ to
     itself = inside_itself s settled depth k to passed.inside v
@@ -233,8 +274,8 @@ module _ (s : Typing) (settled : IsSettled s.table) (own_law : OwnsByShape s.tab
     viewed_mid =
         carried_off s settled (home s depth) (sees_only s) v other with_it.gone with_apart m hands leaks facts k at to viewed typed spot
         (inside_rooted s depth k to passed.inside) (inside_reached s depth k to passed.inside (seen s m hands leaks))
-        (inside_owns s depth k to passed.inside m hands (no_formals (passed.inside).object)) clean
-        depth (passed.inside).object (inside_base s depth k to passed.inside) clear_to (λ w o. inl o) (λ p. inr (p, refl))
+        (inside_owns s depth k to passed.inside m hands (passed.inside).owner) clean
+        (passed.inside).frame (passed.inside).object (inside_base s depth k to passed.inside) clear_to (λ w o. inl o) (λ p. inr (p, refl))
 
     kept_mid : Kept s mid (got ∷ hands)
     kept_mid = (keeps s settled own_law).moved m hands k at spot typed
@@ -243,7 +284,7 @@ module _ (s : Typing) (settled : IsSettled s.table) (own_law : OwnsByShape s.tab
     marks = gone_at (access_offsets s.table k.of) (slots_of s m k)
 
     -- the variable of the place alone is changed
-    other_base : (g y : ℕ) → (OfVariable depth (passed.inside).object ≡ OfVariable g y → ⊥) → variable_slots s g y mid.variables ≡ variable_slots s g y m.variables
+    other_base : (g y : ℕ) → (OfVariable (passed.inside).frame (passed.inside).object ≡ OfVariable g y → ⊥) → variable_slots s g y mid.variables ≡ variable_slots s g y m.variables
     other_base g y ne =
         put_beside s 0 k.base (take k.at (slots_at s m k.base) ++ marks ++ drop (k.at + length marks) (slots_at s m k.base)) m g y
         (λ e. ne (same_names (sym (passed.inside).base ∙ e)))
@@ -262,7 +303,7 @@ module _ (s : Typing) (settled : IsSettled s.table) (own_law : OwnsByShape s.tab
     blank_mid : (p : List Step) → word_in s.table (content s mid (got ∷ hands) (OfRoot (OfVariable (suc depth) x))) p ≡ Empty
     blank_mid p =
         ap (λ z. word_in s.table (record { of = (object_at s x).of; slots = z; owns = not (is_view_formal s x) }) p)
-        (other_base (suc depth) x (frames_differ depth (passed.inside).object (suc depth) x (λ e. omega (arith, e)))) ∙ blank p
+        (other_base (suc depth) x (frames_differ (passed.inside).frame (passed.inside).object (suc depth) x (λ e. (let low = inside_low s depth k to passed.inside in omega (arith, e, low))))) ∙ blank p
 
     pub viewed_next : Viewed (home s depth) (sees_only s) with_it v (seen s next hands leaks) facts
     viewed_next =
@@ -270,8 +311,8 @@ module _ (s : Typing) (settled : IsSettled s.table) (own_law : OwnsByShape s.tab
         (λ h w under o. elim o [
           | inl away ↦ open_there.free h w under away
           | inr (p, is) ↦ hand_base (sym (base_under (Object (OfHand h)) w under) ∙ ap base_of is ∙ base_along to p ∙ inside_base s depth k to passed.inside)
-        ]) kept_mid blank_mid (no_formals x) long (alike s.table settled k.of (object_at s x).of passed.fits)
-        (λ y w has foreign same. (let low = far y w has foreign in omega (arith, low, same))) (λ y w has at_home root. not_above x at_home) (λ w n keeps_it base. open_there.none w n keeps_it)
+        ]) kept_mid blank_mid passed.owner long (alike s.table settled k.of (object_at s x).of passed.fits)
+        (λ y w has foreign same. (let low = far y w has foreign in omega (arith, low, same))) (λ y w has named at_home root. not_above x at_home) (λ w keeps_it base. elim keeps_it [ inl there ↦ open_there.none w there.0 there.1 | inr there ↦ there.2 ])
       where
         hand_base : {h f x : ℕ} → OfRoot (OfHand h) ≡ OfRoot (OfVariable f x) → ⊥
         hand_base e = cc
@@ -279,11 +320,11 @@ module _ (s : Typing) (settled : IsSettled s.table) (own_law : OwnsByShape s.tab
     pub kept_next : Kept s next hands
     kept_next = declared_kept s settled mid (suc depth) x got hands kept_mid long passed.fits
 
-    bare_mid : (p : List Step) (c : ℕ) → word_in s.table (content s mid [] (OfRoot (OfVariable depth (passed.inside).object))) (p ++ (passed.inside).steps) ≡ Held c → ⊥
+    bare_mid : (p : List Step) (c : ℕ) → word_in s.table (content s mid [] (OfRoot (OfVariable (passed.inside).frame (passed.inside).object))) (p ++ (passed.inside).steps) ≡ Held c → ⊥
     bare_mid p c held =
         carried_bare s settled (home s depth) (sees_only s) v other with_it.gone with_apart m hands leaks facts k at to viewed typed spot
         (inside_rooted s depth k to passed.inside) (inside_reached s depth k to passed.inside (seen s m hands leaks))
-        (inside_owns s depth k to passed.inside m hands (no_formals (passed.inside).object)) clean p c
+        (inside_owns s depth k to passed.inside m hands (passed.inside).owner) clean p c
         (inside_word s depth k to passed.inside mid (got ∷ hands) p ∙ held)
 
     -- ---- what changed
@@ -300,7 +341,7 @@ module _ (s : Typing) (settled : IsSettled s.table) (own_law : OwnsByShape s.tab
     held_before g y p c held =
         carried_held s settled (home s depth) (sees_only s) v other with_it.gone with_apart m hands leaks facts k at to viewed typed spot
         (inside_rooted s depth k to passed.inside) (inside_reached s depth k to passed.inside (seen s m hands leaks))
-        (inside_owns s depth k to passed.inside m hands (no_formals (passed.inside).object)) clean g y p c held
+        (inside_owns s depth k to passed.inside m hands (passed.inside).owner) clean g y p c held
 
     pub one_held : (g y : ℕ) (p : List Step) (c : ℕ) → word_in s.table (content s next [] (OfRoot (OfVariable g y))) p ≡ Held c
         → (word_in s.table (content s m [] (OfRoot (OfVariable g y))) p ≡ Held c) ⊎ ((g ≡ suc depth) × (y ≡ x))
@@ -309,8 +350,11 @@ module _ (s : Typing) (settled : IsSettled s.table) (own_law : OwnsByShape s.tab
       | inr ne ↦ inl (held_before g y p c (sym (new_word g y (λ e. ne (ap OfRoot e)) p) ∙ held))
     ]
 
-    formal_plain : is_anonymous (view_of s x) ≡ true → ⊥
-    formal_plain view = not_view s.table (object_at s x).of view (matches_named s.table k.of (object_at s x).of passed.fits (passed.inside).named)
+    formal_plain : is_view s x ≡ true → ⊥
+    formal_plain view = elim (view_cases s x view) [
+      | inl anonymous ↦ not_view s.table (object_at s x).of anonymous (matches_named s.table k.of (object_at s x).of passed.fits (passed.inside).named)
+      | inr formal ↦ true_false (is_view_formal s x) formal passed.owner
+    ]
 
     -- what was gone stays so, but in the formal
     pub one_carried : AreCarried s (λ g. g ≡ suc depth → ⊥) [] m next
@@ -320,35 +364,37 @@ module _ (s : Typing) (settled : IsSettled s.table) (own_law : OwnsByShape s.tab
           new_word g y (frames_differ (suc depth) x g y (λ e. other_frame (sym e))) p
           ∙ carried_gone s settled (home s depth) (sees_only s) v other with_it.gone with_apart m hands leaks facts k at to viewed typed spot
           (inside_rooted s depth k to passed.inside) (inside_reached s depth k to passed.inside (seen s m hands leaks))
-          (inside_owns s depth k to passed.inside m hands (no_formals (passed.inside).object)) clean g y p gone;
+          (inside_owns s depth k to passed.inside m hands (passed.inside).owner) clean g y p gone;
       cells = λ c p.
           carried_cells s settled (home s depth) (sees_only s) v other with_it.gone with_apart m hands leaks facts k at to viewed typed spot
           (inside_rooted s depth k to passed.inside) (inside_reached s depth k to passed.inside (seen s m hands leaks))
-          (inside_owns s depth k to passed.inside m hands (no_formals (passed.inside).object)) clean
-          depth (passed.inside).object (trunk_is s depth k to passed.inside) c p;
+          (inside_owns s depth k to passed.inside m hands (passed.inside).owner) clean
+          (passed.inside).frame (passed.inside).object (trunk_is s depth k to passed.inside) c p;
     }
 
-    pub one_views : (g y : ℕ) → is_anonymous (view_of s y) ≡ true
+    pub one_views : (g y : ℕ) → is_view s y ≡ true
         → (get_or (variable_slots s g y next.variables) 0 no_slot).word ≡ (get_or (variable_slots s g y m.variables) 0 no_slot).word
     one_views g y view =
         ap (λ z. (get_or z 0 no_slot).word)
-        (new_other g y (λ e. formal_plain (subst (λ z. is_anonymous (view_of s z) ≡ true) (sym (same_variable (suc depth) x g y (ap OfRoot e)).1) view))
-        ∙ other_base g y (λ e. true_false (is_anonymous (view_of s y)) view
-        (ap (λ z. is_anonymous (view_of s z)) (sym (same_variable depth (passed.inside).object g y (ap OfRoot e)).1) ∙ inside_plain s settled depth k to passed.inside)))
+        (new_other g y (λ e. formal_plain (subst (λ z. is_view s z ≡ true) (sym (same_variable (suc depth) x g y (ap OfRoot e)).1) view))
+        ∙ other_base g y (λ e. true_false (is_view s y) view
+        (ap (is_view s) (sym (same_variable (passed.inside).frame (passed.inside).object g y (ap OfRoot e)).1)
+        ∙ both_no (is_anonymous (view_of s (passed.inside).object)) (is_view_formal s (passed.inside).object) (inside_plain s settled depth k to passed.inside) (passed.inside).owner)))
 
     pub one_bare : IsBare s depth k to next passed.inside
     one_bare p c held =
         bare_mid p c
-        (sym (new_word depth (passed.inside).object (frames_differ (suc depth) x depth (passed.inside).object (λ e. omega (arith, e))) (p ++ (passed.inside).steps)) ∙ held)
+        (sym (new_word (passed.inside).frame (passed.inside).object (frames_differ (suc depth) x (passed.inside).frame (passed.inside).object (λ e. (let low = inside_low s depth k to passed.inside in omega (arith, e, low)))) (p ++ (passed.inside).steps)) ∙ held)
 
-    pub one_low : (w : Way) (g y : ℕ) → base_of w ≡ OfRoot (OfVariable g y) → g < depth → (c : ℕ)
+    -- a way from another frame that doesn't go on after the place reaches what it reached
+    pub one_stays : (w : Way) (g y : ℕ) → base_of w ≡ OfRoot (OfVariable g y) → (g ≡ suc depth → ⊥) → (Past to w → ⊥) → (c : ℕ)
         → Reaches (seen s m hands leaks) w (OfCell c) → Reaches (seen s next hands leaks) w (OfCell c)
-    one_low w g y base less c reach =
-        declared_low s mid got hands leaks (suc depth) x w g y base (frames_differ (suc depth) x g y (λ e. omega (arith, less, e))) c
-        (carried_off_low s settled (home s depth) (sees_only s) v other with_it.gone with_apart m hands leaks facts k at to viewed typed spot
+    one_stays w g y base other_frame aside c reach =
+        declared_low s mid got hands leaks (suc depth) x w g y base (frames_differ (suc depth) x g y (λ e. other_frame (sym e))) c
+        (carried_off_stays s settled (home s depth) (sees_only s) v other with_it.gone with_apart m hands leaks facts k at to viewed typed spot
         (inside_rooted s depth k to passed.inside) (inside_reached s depth k to passed.inside (seen s m hands leaks))
-        (inside_owns s depth k to passed.inside m hands (no_formals (passed.inside).object)) clean
-        depth (passed.inside).object (inside_base s depth k to passed.inside) w g y base (λ e. omega (arith, less, e)) c reach)
+        (inside_owns s depth k to passed.inside m hands (passed.inside).owner) clean
+        (passed.inside).frame (passed.inside).object (inside_base s depth k to passed.inside) w g y base aside c reach)
 
     -- what is left to be declared has nothing still
     pub one_blank : (y : ℕ) → (y ≡ x → ⊥) → (p : List Step) → word_in s.table (content s m [] (OfRoot (OfVariable (suc depth) y))) p ≡ Empty
@@ -356,156 +402,14 @@ module _ (s : Typing) (settled : IsSettled s.table) (own_law : OwnsByShape s.tab
     one_blank y off p none =
         new_word (suc depth) y (λ e. off (sym (same_variable (suc depth) x (suc depth) y (ap OfRoot e)).1)) p
         ∙ ap (λ z. word_in s.table (record { of = (object_at s y).of; slots = z; owns = not (is_view_formal s y) }) p)
-        (other_base (suc depth) y (frames_differ depth (passed.inside).object (suc depth) y (λ e. omega (arith, e)))) ∙ none
+        (other_base (suc depth) y (frames_differ (passed.inside).frame (passed.inside).object (suc depth) y (λ e. (let low = inside_low s depth k to passed.inside in omega (arith, e, low))))) ∙ none
 
-    -- the others are open still
-    pub one_open : IsOpen with_it ways
-    one_open = record {
-      free = λ h w under o. elim o [
-        | inl away ↦ open_there.free h w under away
-        | inr (p, is) ↦ hand_base (sym (base_under (Object (OfHand h)) w under) ∙ ap base_of is ∙ base_along to p ∙ inside_base s depth k to passed.inside)
-      ];
-      whole = λ z has w under o. elim o [
-        | inl away ↦ open_there.whole z (inr has) w under away
-        | inr (p, is) ↦ elim (beginnings to z w (subst (Under to) (sym is) (under_along to to p (under_itself to))) under) [
-          | inl a ↦ (apart z has).0 a
-          | inr b ↦ (apart z has).1 b
-        ]
-      ];
-      none = open_there.none;
-    }
-      where
-        hand_base : {h f x : ℕ} → OfRoot (OfHand h) ≡ OfRoot (OfVariable f x) → ⊥
-        hand_base e = cc
-
-  -- ---- all of them
-
-  pub formals_of_returns : (formals : List ℕ) (passed : List Passed) (r : Return) → Has (returns_of formals passed) r → Has formals r.formal
-  formals_of_returns [] passed r has = absurd has
-  formals_of_returns (x ∷ formals) [] r has = absurd has
-  formals_of_returns (x ∷ formals) (Value ws ∷ passed) r has = inr (formals_of_returns formals passed r has)
-  formals_of_returns (x ∷ formals) (From k ∷ passed) r (inl e) = inl (ap (λ (z : Return). z.formal) e)
-  formals_of_returns (x ∷ formals) (From k ∷ passed) r (inr has) = inr (formals_of_returns formals passed r has)
-  formals_of_returns (x ∷ formals) (To k ∷ passed) r (inl e) = inl (ap (λ (z : Return). z.formal) e)
-  formals_of_returns (x ∷ formals) (To k ∷ passed) r (inr has) = inr (formals_of_returns formals passed r has)
-
-  plain_returns : (n : Memory) (x : ℕ) (a : Passed) (formals : List ℕ) (passed : List Passed) (ways : List Way) → IsPlainOne s x a
-      → AreTaken s n depth facts scope (returns_of formals passed) ways → AreTaken s n depth facts scope (returns_of (x ∷ formals) (a ∷ passed)) ways
-  plain_returns n x (Value ws) formals passed ways plain taken = taken
-  plain_returns n x (From k) formals passed [] plain taken = (plain, taken)
-  plain_returns n x (From k) formals passed (to ∷ ways) plain taken = inl (plain, taken)
-  plain_returns n x (To k) formals passed [] plain taken = (plain, taken)
-  plain_returns n x (To k) formals passed (to ∷ ways) plain taken = inl (plain, taken)
-
-  nothing_declared : (formals : List ℕ) (m : Memory) → Kept s m hands → AreDeclared formals m m
-  nothing_declared formals m typed = record { typed = typed; held = λ g y p c held. inl held; views = λ g y view. refl; carried = carried_same s (λ g. g ≡ suc depth → ⊥) [] m m (λ g y p. refl) (λ c p. refl); low = λ w g y base less c reach. reach }
-
-  nothing_entered : (other : Around (home s depth)) (formals : List ℕ) (passed : List Passed) (ways : List Way) (m : Memory)
-      → returns_of formals passed ≡ [] → ways ≡ [] → Kept s m hands → ViewedIn other m → Enter other formals passed ways m m
-  nothing_entered other formals passed ways m none no_ways typed viewed = (
-    nothing_declared formals m typed,
-    more_gone (home s depth) (sees_only s) v other (λ w. other.gone w ⊎ TakenBy ways w)
-        (λ y w z has foreign o meets. elim o [
-          | inl gone ↦ viewed.whole y w z has foreign gone meets
-          | inr taken ↦ absurd (subst (λ ks. Has ks taken.0) no_ways taken.1)
-        ]) (seen s m hands leaks) facts (λ w o. inl o) viewed,
-    subst (λ z. AreTaken s m depth facts scope z ways) (sym none) no_ways,
-  )
-
-  -- scalar ones change nothing that owners see
-  plain_then : (other : Around (home s depth)) (x : ℕ) (a : Passed) (formals : List ℕ) (passed : List Passed) (ways : List Way) (m then_m n : Memory) → IsPlainOne s x a
-      → Enters s settled own_law hands leaks m then_m → Enter other formals passed ways then_m n → Enter other (x ∷ formals) (a ∷ passed) ways m n
-  plain_then other x a formals passed ways m then_m n plain on later = (
-    record {
-      typed = later.0.typed;
-      held = λ g y p c held. elim (later.0.held g y p c held) [
-        | inl h ↦ inl (sym (on.hold g y p) ∙ h)
-        | inr h ↦ inr (h.0, inr h.1)
-      ];
-      views = λ g y view. later.0.views g y view ∙ on.views g y view;
-      carried = carried_then s (λ g. g ≡ suc depth → ⊥) [] [] [] m then_m n (λ w taken. taken) (λ w taken. taken)
-          (carried_same s (λ g. g ≡ suc depth → ⊥) [] m then_m on.hold (λ c p. cells_same s m then_m hands leaks on.same c p)) later.0.carried;
-      low = λ w g y base less c reach. later.0.low w g y base less c (same_reaches (seen s m hands leaks) (seen s then_m hands leaks) on.same w (OfCell c) reach);
-    },
-    later.1,
-    plain_returns n x a formals passed ways plain later.2,
-  )
-
-  taken_then : (other : Around (home s depth)) (x : ℕ) (k : Place) (to : Way) (formals : List ℕ) (passed : List Passed) (ways : List Way) (m next n : Memory)
-      → (one : IsPassedOn s depth facts scope x k to) → IsApartFrom to ways → DiffersFrom x formals
-      → ((g y : ℕ) (p : List Step) (c : ℕ) → word_in s.table (content s next [] (OfRoot (OfVariable g y))) p ≡ Held c
-      → (word_in s.table (content s m [] (OfRoot (OfVariable g y))) p ≡ Held c) ⊎ ((g ≡ suc depth) × (y ≡ x)))
-      → ((g y : ℕ) → is_anonymous (view_of s y) ≡ true
-      → (get_or (variable_slots s g y next.variables) 0 no_slot).word ≡ (get_or (variable_slots s g y m.variables) 0 no_slot).word)
-      → IsBare s depth k to next one.inside → AreCarried s (λ g. g ≡ suc depth → ⊥) [] m next
-      → ((w : Way) (g y : ℕ) → base_of w ≡ OfRoot (OfVariable g y) → g < depth → (c : ℕ)
-      → Reaches (seen s m hands leaks) w (OfCell c) → Reaches (seen s next hands leaks) w (OfCell c))
-      → Enter (gone_also (home s depth) other (λ w. other.gone w ⊎ ((p : List Step) × (w ≡ along to p)))) formals passed ways next n
-      → Enter other (x ∷ formals) (From k ∷ passed) (to ∷ ways) m n
-  taken_then other x k to formals passed ways m next n one apart differ held views bare carried low later = (
-    record {
-      typed = later.0.typed;
-      held = λ g y p c is. elim (later.0.held g y p c is) [
-        | inr h ↦ inr (h.0, inr h.1)
-        | inl h ↦ elim (held g y p c h) [ inl before ↦ inl before | inr mine ↦ inr (mine.0, inl (sym mine.1)) ]
-      ];
-      views = λ g y view. later.0.views g y view ∙ views g y view;
-      carried = carried_then s (λ g. g ≡ suc depth → ⊥) [] [] [] m next n (λ w taken. taken) (λ w taken. taken) carried later.0.carried;
-      low = λ w g y base less c reach. later.0.low w g y base less c (low w g y base less c reach);
-    },
-    more_gone (home s depth) (sees_only s) v
-        (taken_also (gone_also (home s depth) other (λ w. other.gone w ⊎ ((p : List Step) × (w ≡ along to p)))) ways)
-        (λ w. other.gone w ⊎ TakenBy (to ∷ ways) w)
-        (λ y w z has foreign o meets. later.1.whole y w z has foreign (elim o [
-          | inl gone ↦ inl (inl gone)
-          | inr (k, has_k, p, is) ↦ elim has_k [ inl same ↦ inl (inr (p, is ∙ ap (λ q. along q p) (sym same))) | inr rest ↦ inr (k, rest, p, is) ]
-        ]) meets) (seen s n hands leaks) facts
-        (λ w o. elim o [
-          | inr taken ↦ inr (taken_more to ways w taken)
-          | inl before ↦ elim before [ inl away ↦ inl away | inr (p, is) ↦ inr (to, inl refl, p, is) ]
-        ]) later.1,
-    inr (
-      (
-        one,
-        (λ p c is. elim (later.0.held depth (one.inside).object (p ++ (one.inside).steps) c is) [
-          | inl h ↦ bare p c h
-          | inr h ↦ (let same = h.0 in omega (arith, same))
-        ]),
-      ),
-      apart,
-      (λ r has. differ r.formal (formals_of_returns formals passed r has)),
-      later.2,
-    ),
-  )
-
-  pub all_declared : (other : Around (home s depth)) (formals : List ℕ) (passed : List Passed) (ways : List Way) (m : Memory)
-      → ArePassedOn s depth facts scope formals passed ways → IsOpen other ways → Kept s m hands → ViewedIn other m → AreBlank m formals
-      → Enter other formals passed ways m (with_formals s (suc depth) formals passed m)
-  all_declared other [] passed ways m are open_there typed viewed blank = nothing_entered other [] passed ways m refl are typed viewed
-  all_declared other (x ∷ formals) [] ways m are open_there typed viewed blank = nothing_entered other (x ∷ formals) [] ways m refl are typed viewed
-  all_declared other (x ∷ formals) (a ∷ passed) [] m are open_there typed viewed blank =
-      let on = with_one s settled own_law hands leaks (suc depth) x a m are.0.0 are.0.1 typed in
-      let mid : Memory = with_formal s (suc depth) x a m in
-      plain_then other x a formals passed [] m mid (with_formals s (suc depth) formals passed mid) are.0 on
-      (all_declared other formals passed [] mid are.1 open_there on.typed
-      (same_viewed (home s depth) (sees_only s) other v (seen s m hands leaks) (seen s mid hands leaks) facts on.same viewed)
-      (λ y has p. on.hold (suc depth) y p ∙ blank y (inr has) p))
-  all_declared other (x ∷ formals) (a ∷ passed) (to ∷ ways) m (inl are) open_there typed viewed blank =
-      let on = with_one s settled own_law hands leaks (suc depth) x a m are.0.0 are.0.1 typed in
-      let mid : Memory = with_formal s (suc depth) x a m in
-      plain_then other x a formals passed (to ∷ ways) m mid (with_formals s (suc depth) formals passed mid) are.0 on
-      (all_declared other formals passed (to ∷ ways) mid are.1 open_there on.typed
-      (same_viewed (home s depth) (sees_only s) other v (seen s m hands leaks) (seen s mid hands leaks) facts on.same viewed)
-      (λ y has p. on.hold (suc depth) y p ∙ blank y (inr has) p))
-  all_declared other (x ∷ formals) (a ∷ passed) (to ∷ ways) m (inr (k, is, one, whole, apart, differ, more)) open_there typed viewed blank =
-      let new = blank x (inl refl) in
-      let next : Memory = declared (suc depth) x (words_of s m k) (moved_out s k m) in
-      let away : Around (home s depth) = gone_also (home s depth) other (λ w. other.gone w ⊎ ((p : List Step) × (w ≡ along to p))) in
-      subst (λ z. Enter other (x ∷ formals) (z ∷ passed) (to ∷ ways) m (with_formals s (suc depth) (x ∷ formals) (z ∷ passed) m)) (sym is)
-      (taken_then other x k to formals passed ways m next (with_formals s (suc depth) formals passed next) one apart differ
-      (one_held other x k to ways one whole apart open_there m typed viewed new) (one_views other x k to ways one whole apart open_there m typed viewed new)
-      (one_bare other x k to ways one whole apart open_there m typed viewed new) (one_carried other x k to ways one whole apart open_there m typed viewed new)
-      (one_low other x k to ways one whole apart open_there m typed viewed new)
-      (all_declared away formals passed ways next more (one_open other x k to ways one whole apart open_there m typed viewed new)
-      (kept_next other x k to ways one whole apart open_there m typed viewed new) (viewed_next other x k to ways one whole apart open_there m typed viewed new)
-      (λ y has p. one_blank other x k to ways one whole apart open_there m typed viewed new y (differ y has) p (blank y (inr has) p))))
+    -- a place that is apart from it has what it had
+    pub one_still : (z : Way) → (Under to z → ⊥) × (Under z to → ⊥) → HasStill s depth m next z
+    one_still z apart g y q p low is =
+        new_word g y (frames_differ (suc depth) x g y (λ e. omega (arith, e, low))) (p ++ q)
+        ∙ carried_beside s settled (home s depth) (sees_only s) v other with_it.gone with_apart m hands leaks facts k at to viewed typed spot
+        (inside_rooted s depth k to passed.inside) (inside_reached s depth k to passed.inside (seen s m hands leaks))
+        (inside_owns s depth k to passed.inside m hands (passed.inside).owner) clean g y (p ++ q)
+        (places_apart (seen s m hands leaks) viewed.owned to at (inside_reached s depth k to passed.inside (seen s m hands leaks)) g y q p
+        (subst (λ w. (Under to w → ⊥) × (Under w to → ⊥)) is apart))

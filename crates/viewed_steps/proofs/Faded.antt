@@ -72,13 +72,20 @@ module _ (home : ℕ → ℕ) (observer : ℕ → Bool) (other : Around home) (v
             lent = view.lent;
             reaches = view.reaches;
           })
-          | inr passed ↦ inr (record { sees = passed.sees; foreign = passed.foreign; reaches = passed.reaches })
+          | inr passed ↦ inr (record {
+            foreign = passed.foreign;
+            given = passed.given;
+            alone = λ plain y u there. passed.alone plain y u (had_way v fades y u there).1;
+            reaches = passed.reaches;
+          })
         ]);
     whole = λ x w z has foreign gone meets. viewed.whole x w z (had_way v fades x w has).1 foreign gone meets;
+    past = λ x w has. viewed.past x w (had_way v fades x w has).1;
     lends = λ l n lent. (let old = viewed.lends l n lent in record {
       has = old.has;
       none = has_way v fades n.root (stays n.root old.plain) ∙ old.none;
       plain = old.plain;
     });
     far = viewed.far;
+    bare = viewed.bare;
   }

@@ -1,6 +1,7 @@
 -- The innermost frame of a run, beside those that wait: which acts its facts and theirs allow, where
 -- its variables own, and that the others wait still.
-use Rattle.viewed_soundness.specs.Holds.{sees_only}
+use Rattle.viewed_steps.proofs.Traversed.{named_left, named_brought}
+use Rattle.viewed_soundness.specs.Holds.{is_view, sees_only, is_given}
 use Rattle.soundness.proofs.Lasting.{ownerless}
 use Rattle.typed_tree.specs.declared.object.ObjectKind.{ObjectKind}
 use Rattle.typed_tree.specs.declared.object.ObjectKind.TheVariants as object_kind
@@ -14,7 +15,8 @@ use Rattle.place_names.specs.declared.fact.Fact.{Fact}
 use Rattle.place_names.specs.declared.fact.Fact.TheVariants.{Moved, Lent}
 use Rattle.place_names.specs.declared.rule.Loan.{Loan}
 use Rattle.place_names.specs.declared.rule.Loan.TheVariants.{Borrowed, Observed}
-use Rattle.place_names.specs.Names.{Name as PlaceName}
+use Rattle.place_names.specs.Names.{Name as PlaceName, overlaps}
+use Rattle.place_names.specs.Facts.{place}
 use Rattle.type_definitions.specs.Types.{Table, full, is_owning}
 use Rattle.typed_tree.specs.Trees.{Call as CallIn, TypedTree}
 use Rattle.typed_tree.specs.Programs.{TypedProgram}
@@ -39,7 +41,7 @@ use Rattle.owned_ways.specs.Ways.{Step, OfVariable, OfRoot, Way, Held, after, Al
 use Rattle.owned_ways.specs.Ways as ways
 use Rattle.soundness.specs.Seen.{IsNear, content, word_in, home}
 use Rattle.soundness.specs.Typed.{Kept}
-use Rattle.soundness.specs.Sound.{Stage, facts_of, AreStages, Uses, IsRunnable, is_temporary_object, returns_value, has_returned, InScope, IsNamedSub, IsAtPoint, view_of as view_here, IsPlainValue}
+use Rattle.soundness.specs.Sound.{Stage, facts_of, AreStages, Uses, IsRunnable, is_temporary_object, returns_value, has_returned, InScope, IsNamedSub, IsAtPoint, view_of as view_here, IsPlainValue, IsNoCall}
 use Rattle.soundness.specs.Ready.{stored_at, IsSupplied}
 use Rattle.soundness.proofs.Contents.{bool_cases, word_no}
 use Rattle.machine.specs.Run.{no_point}
@@ -54,23 +56,24 @@ use Rattle.soundness.proofs.Waited.{within_left, FillsNone}
 use Rattle.soundness.proofs.Eased.{eased, takes_all}
 use Rattle.soundness.proofs.Raised.{raised_owned}
 use Rattle.owned_loans.specs.Views.{Around, known_gone, Views, Viewed}
-use Rattle.viewed_soundness.proofs.Names.{true_false}
+use Rattle.viewed_soundness.proofs.Names.{true_false, given_view}
 use Rattle.viewed_steps.specs.Awaited.{AreFor, AreValues, temporaries_of, is_held, lasting_of, awaited, AreAwaited, AreScalar, TakesScalars, IsTakenBy, IsTaken}
 use Rattle.viewed_steps.proofs.Waited.{plain_unheld, ended_held, lasting_within, within_lasting, lasting_more, brought_temporaries, Shares, shares, scalar_values}
-use Rattle.viewed_steps.specs.Sound.{HoldsAt, ArePlaced, NoneAbove, Lasts, ViewStage, stages_of, GoneElsewhere, Disturbs, AreWaiting, LeadsOn, IsResting}
-use Rattle.viewed_steps.specs.Ready.{AreOrderly, IsReady}
+use Rattle.viewed_steps.specs.Sound.{ArePast, HoldsAt, ArePlaced, NoneAbove, Lasts, ViewStage, stages_of, GoneElsewhere, Disturbs, AreWaiting, LeadsOn, IsResting, HasTraversals}
+use Rattle.viewed_steps.specs.Ready.{AreOrderly, IsReady, AreNamedIn}
 use Rattle.viewed_steps.proofs.Lent.{ends, Spare, spare_has}
-use Rattle.viewed_steps.proofs.Inherited.{after_more, apart_act, lending_uses, apart_borrowed, apart_seen}
+use Rattle.viewed_steps.proofs.Inherited.{after_more, lending_uses, apart_borrowed, apart_seen}
 use Rattle.viewed_steps.proofs.Beside.{OthersKept, faint_held}
-use Rattle.viewed_steps.proofs.Waiting.{StandsBetween, all_between, KeptElsewhere, LentElsewhere, unused_there, beside_them, handed, handed_cases, moved_handed, lent_handed, AreApart, with_them, without_them, far, all_on}
+use Rattle.viewed_steps.proofs.Waiting.{StandsBetween, all_between, AreTheirs, LentElsewhere, unused_there, beside_them, handed, handed_lent, none_moved, lent_handed, AreApart, with_them, without_them, theirs}
+use Rattle.viewed_steps.proofs.Onward.{all_on}
 use Rattle.viewed_steps.proofs.Uses.{writes_there, borrowing_writes, moving_writes}
-use Rattle.viewed_steps.proofs.Apart.{spared_there, written_disturbs, moved_apart, seen_apart}
+use Rattle.viewed_steps.proofs.Apart.{kept_there, held_apart, written_disturbs}
 use Rattle.viewed_steps.proofs.Eased.{eased_viewed}
-use Rattle.viewed_steps.proofs.Placed.{view_ends}
 use Rattle.viewed_steps.proofs.Standing.{or_right}
 use Rattle.viewed_steps.proofs.Standing as standing
 use Rattle.viewed_steps.proofs.Packages as packages
-use Rattle.viewed_steps.proofs.Views.{observes_not}
+use Rattle.viewed_steps.proofs.Views.{anonymous_view, view_ends}
+use Rattle.viewed_soundness.proofs.Names.{borrower_sees}
 
 unless : (b : Bool) → (b ≡ true → ⊥) → b ≡ false
 unless true e = absurd (e refl)
@@ -103,7 +106,7 @@ module _ (table : Table) (typed : TypedProgram) (effects : Effects) (input : Lis
   abbrev own : Typing
   own = typing_of table typed
 
-  abbrev local : (x : ℕ) → is_anonymous (view_of s x) ≡ true → is_package_object s x ≡ false
+  abbrev local : (x : ℕ) → is_view s x ≡ true → is_package_object s x ≡ false
   local = standing.local table typed effects input ready
 
   abbrev unmoved_stage : (e : Stage) → e.frame.sub ≡ 0 → (name : PlaceName) → Has (facts_of program effects e) (Moved name) → ⊥
@@ -121,7 +124,8 @@ module _ (table : Table) (typed : TypedProgram) (effects : Effects) (input : Lis
       (viewed_before : Viewed (home s (suc (length rest))) (sees_only s) (known_gone (home s (suc (length rest))) (GoneElsewhere program effects (below ∷ more_frames))) views
       (view_here s state) (facts_of program effects top))
       (kept : Kept s state.memory (waiting_in state)) (scope : InScope s state.memory (suc (length rest)) (lasting_of s p.scope)) (holds : HoldsAt s (suc (length rest)) views state.memory p)
-      (placed_before : ArePlaced program (facts_of program effects top) views p.scope) (above : NoneAbove s (suc (length rest)) state.memory) where
+      (placed_before : ArePlaced program (suc (length rest)) (facts_of program effects top) views p.scope × ArePast s (suc (length rest)) views (below ∷ more_frames)) (above : NoneAbove s (suc (length rest)) state.memory
+      × HasTraversals table typed (view_here s state) (record { stage = top; views = views; cells = [] } ∷ (below ∷ more_frames))) where
     abbrev pub outer : List Frame
     outer = below.stage.frame ∷ rest
 
@@ -170,21 +174,15 @@ module _ (table : Table) (typed : TypedProgram) (effects : Effects) (input : Lis
     pub sub_less : top.frame.sub < length program.subs
     sub_less = sub_in_range table typed top.frame.sub named of_sub
 
-    -- none that a frame around has moved
-    pub unused_here : (name : PlaceName) → Has handed_on (Moved name) → (is_package_object s name.root ≡ true) × (Uses effects top.frame.sub name.root → ⊥)
-    unused_here name has =
-        let found = moved_handed table typed effects unmoved_stage local state (suc (length rest)) (below ∷ more_frames) between name has in (
-          found.3,
-          λ uses. unused_there table typed effects unmoved_stage local state top.frame.sub top.frame.returns older running.2 found.0 found.1 name found.2 found.3 uses,
-        )
-
     abbrev pub LentAround : Loan → PlaceName → Type 0
     LentAround l name = LentElsewhere table typed effects unmoved_stage local (below ∷ more_frames) l name
 
-    -- and it disturbs none that one has lent
+    -- it disturbs none of what they keep
     pub spared_here : (l : Loan) (name : PlaceName) → LentAround l name → Disturbs effects l top.frame.sub name.root → ⊥
-    spared_here l name (g, has, some, h, fact, shared_object) disturbs =
-        spared_there table typed effects ready.accepted.effects_are state top.frame.sub top.frame.returns older running.2 g has some l h name fact shared_object disturbs
+    spared_here l name (g, has, some, f, there, shared, kind, is) disturbs =
+        kept_there table typed effects ready.accepted.effects_are (unused_there table typed effects unmoved_stage local) state top.frame.sub top.frame.returns older running.2 g has some f there
+        (ap (λ (z : PlaceName). is_package_object s z.root) is ∙ shared)
+        (subst (λ z. Disturbs effects z top.frame.sub (place f).root) (sym kind) (subst (λ (z : PlaceName). Disturbs effects l top.frame.sub z.root) (sym is) disturbs))
 
     pub act_uses : (x : ℕ) → is_package_object s x ≡ true → (q : FlowPoint) → Has (flow_sub own named).points q → (a : Placed) → Has q.acts a
         → (act_writes x a.act ≡ true) ⊎ (act_reads x a.act ≡ true) → Uses effects top.frame.sub x
@@ -217,16 +215,10 @@ module _ (table : Table) (typed : TypedProgram) (effects : Effects) (input : Lis
     -- so they meet none of what is handed on
     pub apart : AreApart table typed effects unmoved_stage local state (suc (length rest)) (below ∷ more_frames) between own_facts
     apart = record {
-      moved = λ n has l m (k, there, some, h, fact, shared) over. (
-          let found = moved_handed table typed effects unmoved_stage local state (suc (length rest)) (below ∷ more_frames) between n has in
-          moved_apart table typed effects ready.accepted.effects_are unmoved_stage (unused_there table typed effects unmoved_stage local) state top.frame.sub top.frame.returns older running.2
-          found.0 k found.1 there some n found.2 found.3 l h m fact over);
-      seen = λ n m (g, has, deep_there, b, lends, shared) (k, there, some, h, fact, also) over.
-          seen_apart table typed effects ready.accepted.effects_are unmoved_stage (unused_there table typed effects unmoved_stage local) state top.frame.sub top.frame.returns older running.2
-          g k has there deep_there some b n lends shared h m fact over;
-      own_lent = λ n has l h m lends root. (
-          let found = unused_here n has in
-          found.1 (subst (Uses effects top.frame.sub) (sym root) (lent_uses l h m lends (ap (is_package_object s) (sym root) ∙ found.0))));
+      seen = λ n m (g, has, deep_there, f, kept, shared, borrowed, is) (k, there, some, o, sees, also, observed, at) over.
+          held_apart table typed effects ready.accepted.effects_are (unused_there table typed effects unmoved_stage local) state top.frame.sub top.frame.returns older running.2
+          g k has there deep_there some f o kept sees borrowed observed (ap (λ (z : PlaceName). is_package_object s z.root) is ∙ shared)
+          ((λ j. overlaps (is j) (at j)) ∙ over);
       own_moved = λ n moved l m lent root. (
           let written = moved_writes n moved (ap (is_package_object s) root ∙ lent.5) in
           spared_here l m lent (written_disturbs table typed effects ready.accepted.effects_are l top.frame.sub m.root
@@ -240,7 +232,7 @@ module _ (table : Table) (typed : TypedProgram) (effects : Effects) (input : Lis
     }
 
     pub borrower_local : (x : ℕ) → is_borrower s x ≡ true → is_package_object s x ≡ false
-    borrower_local x borrows = local x (borrower_anonymous s x borrows)
+    borrower_local x borrows = local x (anonymous_view s x (borrower_anonymous s x borrows))
 
     pub one_apart : (a : Placed) → Has (standing.acts_by table typed effects input ready state top older outer named p frames of_sub at_point s p.instr) a → ends s a.act ≡ false
         → (f : Fact) → Has handed_on f → forbids a.act f ≡ None
@@ -248,15 +240,8 @@ module _ (table : Table) (typed : TypedProgram) (effects : Effects) (input : Lis
         let in_point : Has (flow_at own named p).acts a =
         subst (λ z. Has z a) (standing.acts_agree table typed effects input ready state top older outer named p frames of_sub at_point) has in
         let in_main = standing.in_sub table typed effects input ready state top older outer named p frames of_sub at_point in
-        elim (handed_cases table typed effects unmoved_stage local state (suc (length rest)) (below ∷ more_frames) between f there) [
-          | inl (name, is, g, has_stage, fact, shared) ↦ (
-              let unused = (unused_here name (subst (Has handed_on) is there)).1 in
-              ap (forbids a.act) is
-              ∙ apart_act s name shared borrower_local a.act fits
-              (unless (act_writes name.root a.act) (λ e. unused (act_uses name.root shared (flow_at own named p) in_main a in_point (inl e))))
-              (unless (act_reads name.root a.act) (λ e. unused (act_uses name.root shared (flow_at own named p) in_main a in_point (inr e)))))
-          | inr (l, name, is, lent) ↦ ap (forbids a.act) is ∙ loan_apart l name lent in_main in_point
-        ]
+        let (l, name, is, lent) = handed_lent table typed effects unmoved_stage local state (suc (length rest)) (below ∷ more_frames) between f there in
+        ap (forbids a.act) is ∙ loan_apart l name lent in_main in_point
       where
         loan_apart : (l : Loan) (name : PlaceName) → LentAround l name → Has (flow_sub own named).points (flow_at own named p) → Has (flow_at own named p).acts a
             → forbids a.act (Lent l name.root name) ≡ None
@@ -283,10 +268,12 @@ module _ (table : Table) (typed : TypedProgram) (effects : Effects) (input : Lis
     own_views x w has = local x (holds.only x w has)
 
     pub package_plain : (x : ℕ) → is_package_object s x ≡ true → is_observer s x ≡ false
-    package_plain x shared = unless (is_observer s x) (λ sees. true_false (is_package_object s x) shared (local x (observer_anonymous s x sees)))
+    package_plain x shared = unless (is_observer s x) (λ sees. true_false (is_package_object s x) shared (local x (anonymous_view s x (observer_anonymous s x sees))))
 
     pub package_owns : (x : ℕ) → is_package_object s x ≡ true → sees_only s x ≡ false
-    package_owns x shared = observes_not s (standing.no_in_formals table typed effects input ready) x (package_plain x shared)
+    package_owns x shared =
+        borrower_sees s x (package_plain x shared)
+        (unless (is_given s x) (λ given. true_false (is_package_object s x) shared (local x (given_view s x given))))
 
     -- what is lent around is no part of an object of the frame
     pub not_lent : (x : ℕ) → is_package_object s x ≡ false → (l : Loan) (name : PlaceName) → other.lent l name → name.root ≡ x → ⊥
@@ -300,52 +287,47 @@ module _ (table : Table) (typed : TypedProgram) (effects : Effects) (input : Lis
     -- with the views of those that wait, and their facts on package objects
     pub viewed : Viewed (home s depth) (sees_only s) other views (view_here s state) facts_now
     viewed = with_them table typed effects unmoved_stage local state depth older between views (view_here s state) own_facts own_views package_owns apart
-        (λ w n keeps. far table typed effects unmoved_stage local state depth older between w n keeps) viewed_own
+        (theirs table typed effects unmoved_stage local state depth older between) placed_before.1 viewed_own
 
     -- and without them
-    pub apart_from_them : (done : List Act) (v : Views) (view : ways.View) → ((x : ℕ) (w : Way) → v.way x ≡ Some w → is_anonymous (view_of s x) ≡ true)
-        → ((x : ℕ) (w : Way) → v.way x ≡ Some w → ways.Named (home s depth) w)
+    pub apart_from_them : (done : List Act) (v : Views) (view : ways.View) → ((x : ℕ) (w : Way) → v.way x ≡ Some w → is_view s x ≡ true)
         → Viewed (home s depth) (sees_only s) other v view (after done facts_now)
         → Viewed (home s depth) (sees_only s) (known_gone (home s depth) (GoneElsewhere program effects older)) v view (after done own_facts)
-    apart_from_them done v view only ways_named well =
+    apart_from_them done v view only well =
         without_them table typed effects unmoved_stage local state depth older between v view (after done facts_now) (after done own_facts)
-        (λ x w has. local x (only x w has)) ways_named package_owns (after_more done own_facts facts_now (λ f has. Has-append_left own_facts handed_on f has))
+        (λ x w has. local x (only x w has)) package_owns (after_more done own_facts facts_now (λ f has. Has-append_left own_facts handed_on f has))
         (after_splits done facts_now own_facts handed_on from_both) well
 
-    pub placed_own : ArePlaced program own_facts views p.scope
-    placed_own = subst (λ z. ArePlaced program z views p.scope) (standing.facts_are table typed effects input ready state top older outer named p frames of_sub at_point path) placed_before
+    pub placed_own : ArePlaced program (suc (length rest)) own_facts views p.scope
+    placed_own = subst (λ z. ArePlaced program depth z views p.scope) (standing.facts_are table typed effects input ready state top older outer named p frames of_sub at_point path) placed_before.0
 
     pub placed_by : (some all : List Fact) (v : Views) (scope_there : List ℕ)
-        → ((h : ℕ) (m : PlaceName) → is_observer s h ≡ true → Has some (Lent Observed h m) → Has all (Lent Observed h m))
-        → ArePlaced program some v scope_there → ArePlaced program all v scope_there
+        → ((h : ℕ) (m : PlaceName) → sees_only s h ≡ true → Has some (Lent Observed h m) → Has all (Lent Observed h m))
+        → ArePlaced program (suc (length rest)) some v scope_there → ArePlaced program (suc (length rest)) all v scope_there
     placed_by some all v scope_there lends there x w has = (let old = there x w has in record {
       within = old.within;
+      plain = old.plain;
       up = old.up;
       root = old.root;
-      holder = λ sees. (let h = old.holder sees in (h.0, lends h.0 (ways.name_of (v.loan x)) h.3 h.1, h.2, h.3));
+      holder = λ named_up sees. (let h = old.holder named_up sees in (h.0, lends h.0 (ways.name_of (v.loan x)) h.3 h.1, h.2, h.3));
     })
 
-    pub placed : ArePlaced program facts_now views p.scope
+    pub placed : ArePlaced program (suc (length rest)) facts_now views p.scope
     placed = placed_by own_facts facts_now views p.scope (λ h m sees has. Has-append_left own_facts handed_on (Lent Observed h m) has) placed_own
 
     -- loans are those of the frame
-    pub own_loans : (done : List Act) (h : ℕ) (m : PlaceName) → is_observer s h ≡ true → Has (after done facts_now) (Lent Observed h m)
+    pub own_loans : (done : List Act) (h : ℕ) (m : PlaceName) → sees_only s h ≡ true → Has (after done facts_now) (Lent Observed h m)
         → Has (after done own_facts) (Lent Observed h m)
     own_loans done h m sees has = elim (after_splits done facts_now own_facts handed_on from_both (Lent Observed h m) has) [
       | inl mine ↦ mine
       | inr there ↦ (
           let lent = lent_handed table typed effects unmoved_stage local state (suc (length rest)) (below ∷ more_frames) between Observed h m there in
-          absurd (true_false (is_observer s h) sees (package_plain h (ap (is_package_object s) lent.0 ∙ (lent.1).5))))
+          absurd (true_false (sees_only s h) sees (package_owns h (ap (is_package_object s) lent.0 ∙ (lent.1).5))))
     ]
 
-    -- what is handed on is of no object of the frame
-    pub not_handed : (name : PlaceName) → Has handed_on (Moved name) → is_package_object s name.root ≡ false → ⊥
-    not_handed name has own_root = true_false (is_package_object s name.root) (unused_here name has).0 own_root
-
-    pub not_at_home : (x : ℕ) (name : PlaceName) → Has handed_on (Moved name) → name.root ≡ x → depth ≡ home s depth x → ⊥
-    not_at_home x name has root at_home =
-        let shared : is_package_object s x ≡ true = ap (is_package_object s) (sym root) ∙ (unused_here name has).0 in
-        let none : depth ≡ 0 = at_home ∙ ap (λ b. if b then 0 else depth) shared in omega (arith, none)
+    -- no moved place is handed on
+    pub not_handed : (name : PlaceName) → Has handed_on (Moved name) → ⊥
+    not_handed name has = none_moved table typed effects unmoved_stage local state (suc (length rest)) (below ∷ more_frames) between name has
 
     pub none_takes : (i : Instruction) → p.instr ≡ i → taken i ≡ 0 → taken main_turn.point.instr ≡ 0
     none_takes i e none = ap taken e ∙ none
@@ -455,25 +437,33 @@ module _ (table : Table) (typed : TypedProgram) (effects : Effects) (input : Lis
       | inl temporary ↦ absurd (true_false (is_held s x) (ended_held s x temporary end) lasts)
     ]
 
-    -- as views have
-    pub view_stays : (x : ℕ) → is_anonymous (view_of s x) ≡ true → is_held s x ≡ false
-    view_stays x view = plain_unheld s x (variable_stays (object_at s x).kind (ready.orderly.local x view).0)
+    -- as variables have
+    pub variable_stays : (x : ℕ) → is_variable (object_at s x).kind ≡ true → is_held s x ≡ false
+    variable_stays x variable = plain_unheld s x (no_temporary (object_at s x).kind variable)
       where
-        variable_stays : (k : ObjectKind) → is_variable k ≡ true → is_temporary k ≡ false
-        variable_stays object_kind.Variable is = refl
-        variable_stays k is = cc
+        no_temporary : (k : ObjectKind) → is_variable k ≡ true → is_temporary k ≡ false
+        no_temporary object_kind.Variable is = refl
+        no_temporary k is = cc
 
     pub lasts_left : (r x : ℕ) → Lasts program p.scope r x → Lasts program left_scope r x
     lasts_left r x (inl shared_object) = inl shared_object
     lasts_left r x (inr (within, end, around, plain)) = inr (left_within r end plain within, end, around, plain)
 
-    pub placed_left : (facts : List Fact) → ArePlaced program facts views p.scope → ArePlaced program facts views left_scope
+    pub placed_left : (facts : List Fact) → ArePlaced program (suc (length rest)) facts views p.scope → ArePlaced program (suc (length rest)) facts views left_scope
     placed_left facts there x w has = (let old = there x w has in record {
-      within = left_within x (view_ends s x (holds.only x w has)) (view_stays x (holds.only x w has)) old.within;
-      up = lasts_left (number_of (views.up x)) x old.up;
-      root = lasts_left (number_of w) x old.root;
-      holder = λ sees. (let h = old.holder sees in (h.0, h.1, lasts_left h.0 x h.2, h.3));
+      within = left_within x (view_ends s x (holds.only x w has)) old.plain old.within;
+      plain = old.plain;
+      up = λ named_up. lasts_left (number_of (views.up x)) x (old.up named_up);
+      root = λ at_home. lasts_left (number_of w) x (old.root at_home);
+      holder = λ named_up sees. (let h = old.holder named_up sees in (h.0, h.1, lasts_left h.0 x h.2, h.3));
     })
+
+    -- what is in scope afterwards, but for the result of a call, is of no anonymous type if it is a temporary
+    pub named_left_here : AreNamedIn s left_scope
+    named_left_here = named_left s p (ready.valued.seen named named_there p point_there_now)
+
+    pub named_behind : IsNoCall p.instr → AreNamedIn s (scope_behind p)
+    named_behind no_calls = named_brought program p.instr left_scope no_calls supplied_here.1 (ready.valued.fills named named_there p point_there_now) named_left_here
 
     -- the values that wait on, after an instruction that fills no temporary
     abbrev pub Left : List Waiting → Type 0
@@ -566,16 +556,16 @@ module _ (table : Table) (typed : TypedProgram) (effects : Effects) (input : Lis
     -- the variables of views above stay without numbers
     pub still_above : (m : Memory) → OthersKept s depth state.memory m → NoneAbove s depth m
     still_above m stay f x n less view e =
-        above f x n less view (sym (stay f x (λ first. omega (arith, less, first)) (λ same_depth. omega (arith, less, same_depth)) 0).word ∙ e)
+        above.0 f x n less view (sym (stay f x (λ first. omega (arith, less, first)) (λ same_depth. omega (arith, less, same_depth)) 0).word ∙ e)
 
     -- those that wait do so still
     pub wait_still : (next : State) (after_scope : List ℕ) → Inside s IsOld next.memory depth after_scope → OthersKept s depth state.memory next.memory
-        → ((w : Way) (n : ℕ) → KeptElsewhere table typed effects unmoved_stage local older w n → ways.Reaches (view_here s next) w (ways.OfCell n))
+        → AreTheirs table typed effects unmoved_stage local older (view_here s next)
         → AreWaiting table typed effects next top.frame.sub top.frame.returns older
     wait_still next after_scope in_there stay reach =
         all_on table typed effects unmoved_stage local state next depth (still next.memory stay)
         (λ f x some less view. (stay f x (λ first. omega (arith, some, first)) (λ same_depth. omega (arith, less, same_depth)) 0).word)
-        top.frame.sub top.frame.returns older outer stages (omega arith) (λ g has x w is. reach w (g.views.cell x) (g, has, x, is, refl)) running.2
+        top.frame.sub top.frame.returns older outer stages (omega arith) reach running.2
 
     pub with_successors : (i : Instruction) (n : ℕ) → p.instr ≡ i → n < successors i → n < successors main_turn.point.instr
     with_successors i n e less = subst (λ z. n < successors z) (sym e) less

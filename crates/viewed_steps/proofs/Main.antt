@@ -1,8 +1,9 @@
 -- The state before the first step is sound, and so each moment of the run is well owned, and none is
 -- a trap.
+use Rattle.viewed_steps.proofs.Traversed.{none_given, empty_given, begins_given, procedure_traverses}
 use Rattle.viewed_soundness.specs.Holds.{sees_only}
 use Rattle.viewed_steps.specs.Awaited.{lasting_of}
-use Rattle.std.proofs.Common.{◌≡◌, refl, sym, ap, subst, ℕ, zero, suc, Bool, true, false, nat_le, List, [], ◌∷◌, ◌++◌, get_or, inl, inr, Some, None, if◌then◌else◌}
+use Rattle.std.proofs.Common.{◌≡◌, refl, sym, ap, subst, ℕ, zero, suc, Bool, true, false, nat_le, List, [], ◌∷◌, ◌++◌, get_or, inl, inr, Some, None, if◌then◌else◌, ◌∙◌}
 use Rattle.spark_base.specs.Lists.{Has}
 use Rattle.type_definitions.specs.Types.{Table}
 use Rattle.typed_tree.specs.Programs.{TypedProgram}
@@ -20,7 +21,7 @@ use Rattle.machine.specs.Owners.{WellOwned}
 use Rattle.machine.specs.Run.{empty_memory, frames_at_start, state_at_start, step, then_on, within, run_of, main_of, moment}
 use Rattle.owned_ways.specs.Ways.{Way, Lost}
 use Rattle.soundness.specs.Seen.{home, seen}
-use Rattle.soundness.specs.Sound.{Stage, IsTrap, ending_of, RunIsSound}
+use Rattle.soundness.specs.Sound.{Stage, IsTrap, ending_of, RunIsSound, view_of as view_here}
 use Rattle.soundness.proofs.Defaults.{none_default}
 use Rattle.soundness.proofs.Keeping.{cell_has}
 use Rattle.soundness.proofs.Owners.{well_owned}
@@ -57,8 +58,10 @@ module _ (s : Typing) where
         };
         views = λ x w has. absurd (none_some w has);
         whole = λ x w z has. absurd (none_some w has);
+        past = λ x w has. absurd (none_some w has);
         lends = λ l n lent. absurd lent;
         far = λ w n none. absurd none;
+        bare = λ w n p none. absurd none;
       }
 
   empty_word : (f x n : ℕ) → (get_or (variable_slots s f x empty_memory.variables) 0 no_slot).word ≡ machine.Cell n → ⊥
@@ -81,7 +84,10 @@ module _ (table : Table) (typed : TypedProgram) (effects : Effects) (input : Lis
   abbrev pub IsFresh : State → Type 0
   IsFresh state =
       (sound : IsSound table typed effects state)
-      × ((g : ViewStage) → Has (record { stage = sound.top; views = sound.views } ∷ sound.older) g → g.stage.before ≡ [])
+      × ((g : ViewStage) → Has (record { stage = sound.top; views = sound.views; cells = [] } ∷ sound.older) g → g.stage.before ≡ [])
+
+  abbrev first_frame : ViewStage
+  first_frame = record { stage = stage_of 0 0; views = no_views; cells = [] }
 
   -- the package objects are declared first
   packages_start : (p : NamedPoint) (rest : List NamedPoint) → ready.packages.points ≡ p ∷ rest → IsFresh (started (frame_at_start 0 [] ∷ []))
@@ -91,7 +97,7 @@ module _ (table : Table) (typed : TypedProgram) (effects : Effects) (input : Lis
       views = no_views;
       older = [];
       stages = (refl, refl, tt);
-      running = (refl, (refl, refl, refl), (λ x. refl), refl);
+      running = (refl, (refl, refl, refl), (λ x. refl), refl, refl);
       awaited = (refl, refl);
       path = begins (first_point table typed effects input ready 0 ready.packages ready.stands p rest is);
       viewed = empty_viewed s (home s 0) (GoneElsewhere program effects []);
@@ -105,10 +111,15 @@ module _ (table : Table) (typed : TypedProgram) (effects : Effects) (input : Lis
         held = λ x n lasts view e. absurd (empty_word s (home s 0 x) x n e);
         within = λ x n view e. absurd (empty_word s (home s 0 x) x n e);
         only = λ x w has. absurd (none_some w has);
-        named = λ x w has. absurd (none_some w has);
+        lies = λ x w has. absurd (none_some w has);
+        owners = λ x w has. absurd (none_some w has);
+        passed = λ x w has. absurd (none_some w has);
+        own = λ x w has. absurd (none_some w has);
       };
       placed = λ x w has. absurd (none_some w has);
+      past = λ x w has. absurd (none_some w has);
       none_above = λ f x n less view e. empty_word s f x n e;
+      traversals = (none_given table typed (view_here s (started (frame_at_start 0 [] ∷ []))) first_frame (empty_given table typed first_frame refl), tt);
     },
     λ g has. elim has [ inl e ↦ ap (λ (z : ViewStage). z.stage.before) (sym e) | inr none ↦ absurd none ],
   )
@@ -119,12 +130,12 @@ module _ (table : Table) (typed : TypedProgram) (effects : Effects) (input : Lis
     record {
       top = stage_of ready.main 1;
       views = no_views;
-      older = record { stage = stage_of 0 0; views = no_views } ∷ [];
+      older = record { stage = stage_of 0 0; views = no_views; cells = [] } ∷ [];
       stages = (refl, refl, (refl, refl, tt));
       running = (
         main_runs table typed effects input ready,
         ((λ x has. inl (ready.main_plain x has)), (λ r has. absurd has)),
-        ((refl, (refl, refl, refl), (λ x. refl), refl), refl),
+        ((refl, (refl, refl, refl), (λ x. refl), refl, refl), refl),
       );
       awaited = (
         first_waits table typed effects input ready 1 ready.main [] ready.main_there.named ready.main_there.stands ready.main_there.point
@@ -133,7 +144,7 @@ module _ (table : Table) (typed : TypedProgram) (effects : Effects) (input : Lis
       );
       path = begins (first_point table typed effects input ready ready.main ready.main_there.named ready.main_there.stands
           ready.main_there.point ready.main_there.points ready.main_there.begins);
-      viewed = empty_viewed s (home s 1) (GoneElsewhere program effects (record { stage = stage_of 0 0; views = no_views } ∷ []));
+      viewed = empty_viewed s (home s 1) (GoneElsewhere program effects (record { stage = stage_of 0 0; views = no_views; cells = [] } ∷ []));
       kept = empty_kept s;
       named = ready.main_there.named;
       of_sub = ready.main_there.stands;
@@ -144,10 +155,24 @@ module _ (table : Table) (typed : TypedProgram) (effects : Effects) (input : Lis
         held = λ x n lasts view e. absurd (empty_word s (home s 1 x) x n e);
         within = λ x n view e. absurd (empty_word s (home s 1 x) x n e);
         only = λ x w has. absurd (none_some w has);
-        named = λ x w has. absurd (none_some w has);
+        lies = λ x w has. absurd (none_some w has);
+        owners = λ x w has. absurd (none_some w has);
+        passed = λ x w has. absurd (none_some w has);
+        own = λ x w has. absurd (none_some w has);
       };
       placed = λ x w has. absurd (none_some w has);
+      past = λ x w has. absurd (none_some w has);
       none_above = λ f x n less view e. empty_word s f x n e;
+      traversals = (
+        begins_given table typed (view_here s (started (frame_at_start ready.main [] ∷ (frame_at_start 0 [] ∷ [])))) (record { stage = stage_of ready.main 1; views = no_views; cells = [] })
+            first_frame refl refl,
+        (
+          λ f traversed. absurd (procedure_traverses table typed (sub_of program ready.main) f
+              (ap (λ (z : FlowSub). z.result) (sub_there table typed ready.main ready.main_there.named ready.main_there.stands)
+              ∙ ready.main_there.procedure ready.main_there.named ready.main_there.stands) traversed),
+          tt,
+        ),
+      );
     },
     λ g has. elim has [
       | inl e ↦ ap (λ (z : ViewStage). z.stage.before) (sym e)

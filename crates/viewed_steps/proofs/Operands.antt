@@ -1,5 +1,5 @@
 -- The operand of a short circuit, whose value waits: it leads on where views are, too.
-use Rattle.std.proofs.Common.{◌≡◌, refl, sym, ap, ◌∙◌, subst, ℕ, true, false, List, [], ◌∷◌, ◌++◌, flat_map, drop, length, if◌then◌else◌}
+use Rattle.std.proofs.Common.{◌≡◌, refl, sym, ap, ◌∙◌, subst, ℕ, true, List, [], ◌∷◌, ◌++◌, flat_map, drop, length, if◌then◌else◌}
 use Rattle.place_names.specs.declared.fact.Fact.{Fact}
 use Rattle.type_definitions.specs.Entries.{boolean}
 use Rattle.type_definitions.specs.Types.{is_scalar, full}
@@ -20,7 +20,7 @@ use Rattle.machine.specs.Owners.{waiting_in}
 use Rattle.owned_ways.specs.Ways.{Way, after, AllowsAll}
 use Rattle.owned_ways.specs.Ways as ways
 use Rattle.part_offsets.specs.Parts.{IsSettled}
-use Rattle.soundness.specs.Seen.{in_hand, word_in, seen, home, IsNear, is_view_formal}
+use Rattle.soundness.specs.Seen.{in_hand, word_in, seen, home, IsNear}
 use Rattle.soundness.specs.Typed.{OwnsByShape, Kept}
 use Rattle.typed_laws.specs.Needed.{Stays}
 use Rattle.soundness.proofs.Contents.{word_no}
@@ -37,10 +37,11 @@ use Rattle.owned_loans.specs.Views.{Around, Views, Viewed}
 use Rattle.owned_loans.proofs.Moves.{same_viewed}
 use Rattle.viewed_soundness.specs.Holds.{PartsAreNamed, Holds, sees_only}
 use Rattle.viewed_soundness.proofs.Evaluated.{scalar_given}
+use Rattle.viewed_steps.proofs.Views.{AreAccess}
 use Rattle.viewed_soundness.proofs.Outcomes.{IsGood, Leads_on, raises, unturned, scalar_taken}
 
 module _ (t : Turn) (settled : IsSettled (typing t).table) (own_law : OwnsByShape (typing t).table) (other : Around (home (typing t) (length t.outer)))
-    (alone : (w : Way) → IsNear (length t.outer) w → other.gone w → ⊥) (no_formals : (x : ℕ) → is_view_formal (typing t) x ≡ false)
+    (alone : (w : Way) → IsNear (length t.outer) w → other.gone w → ⊥) (in_formals : AreAccess (typing t))
     (v : Views) (parts_named : PartsAreNamed (typing t).table) (may : ℕ → ℕ → Type 0)
     (frames : t.state.frames ≡ t.frame ∷ t.outer) (none : taken t.point.instr ≡ 0)
     (truth : is_scalar (full (typing t).table boolean) ≡ true) where
@@ -77,7 +78,7 @@ module _ (t : Turn) (settled : IsSettled (typing t).table) (own_law : OwnsByShap
         record {
           viewed = subst (λ z. Viewed (home s depth) (sees_only s) other v (seen s m z t.state.leaks) facts) (sym waits_behind) viewed;
           kept = subst (Kept s m) (sym waits_behind) kept;
-          holds = record { held = holds.held; only = holds.only; owners = holds.owners; access = holds.access };
+          holds = record { held = holds.held; only = holds.only; owners = holds.owners; access = holds.access; own = holds.own };
         },
       )
 

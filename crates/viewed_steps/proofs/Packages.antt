@@ -1,5 +1,6 @@
 -- The package objects are elaborated: no part of theirs is moved, no object has a way, and the main
 -- procedure begins after them.
+use Rattle.viewed_steps.proofs.Traversed.{none_given, empty_given, begins_given, procedure_traverses}
 use Rattle.soundness.specs.Ready.{Fills}
 use Rattle.viewed_steps.proofs.Waited.{within_lasting, lasting_within, lasting_more, plain_unheld}
 use Rattle.std.proofs.Common.{◌≡◌, refl, sym, ap, ◌∙◌, subst, inl, inr, ℕ, ◌<◌, true, false, not, ◌||◌, ◌==◌, eq-eqb, List, [], ◌∷◌, ◌++◌, drop, get_or, arith, Option, Some, None, if◌then◌else◌, length}
@@ -40,14 +41,13 @@ use Rattle.typed_laws.specs.Needed.{IsFine}
 use Rattle.soundness.specs.Sound.{IsNoCall, IsRunnable, temporaries_in, Stage, facts_of, AreStages, IsPlain, InScope, IsNamedSub, IsAtPoint, view_of as view_here, is_temporary_object}
 use Rattle.soundness.proofs.Contents.{word_root}
 use Rattle.soundness.proofs.Paths.{facts_next}
-use Rattle.soundness.proofs.Points.{named_has, sub_there, point_there}
+use Rattle.soundness.proofs.Points.{named_has, sub_there, point_there, one_named, one_point}
 use Rattle.soundness.proofs.Used.{path_acts}
 use Rattle.soundness.proofs.Following.{Each, Declares, declare_on}
-use Rattle.soundness.proofs.Beginning.{one_named, one_point}
 use Rattle.soundness.proofs.Waits.{no_waits, drop_none}
 use Rattle.soundness.proofs.Successors.{not_true, successor_cases, unmoved_after}
 use Rattle.owned_loans.specs.Views.{Around, known_gone, Views, Viewed, IsForeign}
-use Rattle.viewed_soundness.specs.Holds.{AllKeep, sees_only}
+use Rattle.viewed_soundness.specs.Holds.{AllKeep, is_view, sees_only, is_fixed}
 use Rattle.viewed_soundness.proofs.Names.{plain_named, true_false}
 use Rattle.viewed_soundness.proofs.Outcomes.{IsGood, Turned, Leads_on}
 use Rattle.viewed_steps.specs.Awaited.{AreFor, temporaries_of, lasting_of, awaited, WaitsAt}
@@ -58,7 +58,7 @@ use Rattle.viewed_steps.proofs.Placed.{scope_on}
 use Rattle.viewed_steps.proofs.Ended.{none_some}
 use Rattle.viewed_steps.proofs.Standing.{or_right}
 use Rattle.viewed_steps.proofs.Standing as standing
-use Rattle.viewed_steps.proofs.Views.{all_held, anonymous_is_view}
+use Rattle.viewed_steps.proofs.Views.{AreAccess, all_held}
 
 module _ (table : Table) (typed : TypedProgram) (effects : Effects) (input : List ℕ) (ready : IsReady table typed effects) where
   abbrev program : FlowProgram
@@ -70,10 +70,10 @@ module _ (table : Table) (typed : TypedProgram) (effects : Effects) (input : Lis
   abbrev own : Typing
   own = typing_of table typed
 
-  abbrev no_in_formals : (x : ℕ) → is_view_formal s x ≡ false
-  no_in_formals = standing.no_in_formals table typed effects input ready
+  abbrev in_formals : AreAccess s
+  in_formals = standing.in_formals table typed effects input ready
 
-  abbrev local : (x : ℕ) → is_anonymous (view_of s x) ≡ true → is_package_object s x ≡ false
+  abbrev local : (x : ℕ) → is_view s x ≡ true → is_package_object s x ≡ false
   local = standing.local table typed effects input ready
 
   -- ---- nothing is moved for the package objects
@@ -190,7 +190,7 @@ module _ (table : Table) (typed : TypedProgram) (effects : Effects) (input : Lis
       (unmoved : (name : PlaceName) → Has facts_there (Moved name) → ⊥) (kept : Kept s state.memory (waiting_in state))
       (scope : (f x : ℕ) (q : List Step) (n : ℕ) → word_in s.table (content s state.memory [] (OfRoot (OfVariable f x))) q ≡ Held n → f < 1)
       (above : NoneAbove s 0 state.memory) where
-    nothing_there : (x n : ℕ) → is_anonymous (view_of s x) ≡ true → (get_or (variable_slots s (home s 1 x) x state.memory.variables) 0 no_slot).word ≡ machine.Cell n → ⊥
+    nothing_there : (x n : ℕ) → is_view s x ≡ true → (get_or (variable_slots s (home s 1 x) x state.memory.variables) 0 no_slot).word ≡ machine.Cell n → ⊥
     nothing_there x n view e =
         above 1 x n (omega arith) view (subst (λ f. (get_or (variable_slots s f x state.memory.variables) 0 no_slot).word ≡ machine.Cell n)
         (ap (λ b. if b then 0 else 1) (local x view)) e)
@@ -223,8 +223,10 @@ module _ (table : Table) (typed : TypedProgram) (effects : Effects) (input : Lis
         };
         views = λ x w has. no_views views none x w has;
         whole = λ x w z has. no_views views none x w has;
+        past = λ x w has. no_views views none x w has;
         lends = λ l n lent. absurd lent;
         far = λ w n keeps. absurd keeps;
+        bare = λ w n p none. absurd none;
       };
       kept = kept;
       named = ready.main_there.named;
@@ -236,10 +238,23 @@ module _ (table : Table) (typed : TypedProgram) (effects : Effects) (input : Lis
         held = λ x n lasts view e. absurd (nothing_there x n view e);
         within = λ x n view e. absurd (nothing_there x n view e);
         only = λ x w has. no_views views none x w has;
-        named = λ x w has. no_views views none x w has;
+        lies = λ x w has. no_views views none x w has;
+        owners = λ x w has. no_views views none x w has;
+        passed = λ x w has. no_views views none x w has;
+        own = λ x w has. no_views views none x w has;
       };
       placed = λ x w has. no_views views none x w has;
+      past = λ x w has. no_views views none x w has;
       none_above = λ f x n less view e. above f x n (omega (arith, less)) view e;
+      traversals = (
+        begins_given table typed (view_here s state) (record { stage = stage ready.main 1; views = views; cells = [] }) below refl (first.1).0,
+        (
+          λ f traversed. absurd (procedure_traverses table typed (sub_of program ready.main) f
+              (ap (λ (z : FlowSub). z.result) (sub_there table typed ready.main ready.main_there.named ready.main_there.stands)
+              ∙ ready.main_there.procedure ready.main_there.named ready.main_there.stands) traversed),
+          tt,
+        ),
+      );
     }
 
   module _ (state : State) (top : Stage) (named : NamedSub) (p : NamedPoint) (frames : state.frames ≡ top.frame ∷ []) (deep : top.depth ≡ 0) (views : Views)
@@ -250,7 +265,7 @@ module _ (table : Table) (typed : TypedProgram) (effects : Effects) (input : Lis
       (kept : Kept s state.memory (waiting_in state)) (scope : InScope s state.memory 0 (lasting_of s p.scope)) (holds : HoldsAt s 0 views state.memory p) where
     -- where it leads, and how the frames come from those before
     abbrev Along : Outcome → Type 0
-    Along outcome = LeadsAlong table typed effects p.instr state.memory (record { stage = top; views = views }) [] outcome
+    Along outcome = LeadsAlong table typed effects p.instr state.memory (record { stage = top; views = views; cells = [] }) [] outcome
 
     abbrev first_turn : Turn
     first_turn = standing.t table typed effects input ready state top [] [] named p frames of_sub at_point
@@ -304,6 +319,10 @@ module _ (table : Table) (typed : TypedProgram) (effects : Effects) (input : Lis
       owner : is_anonymous (view_of s x) ≡ false
       owner = ready.orderly.packages first_turn.point in_packages x v e
 
+      no_formal : is_view_formal s x ≡ false
+      no_formal = (ready.orderly.points named (standing.named_in table typed effects input ready state top [] [] named p frames of_sub at_point) p
+          (standing.point_in_named table typed effects input ready state top [] [] named p frames of_sub at_point)).begun x v e
+
       free_first : ((y : ℕ) (w : Way) → views.way y ≡ Some w
           → ((foreign : IsForeign (home s 0) w) → foreign.0 ≡ 0 → ⊥) × IsElsewhere (home s 0) 0 x w)
           × ((l : Loan) (name : PlaceName) → nowhere.lent l name → name.root ≡ x → 0 ≡ home s 0 x → ⊥)
@@ -319,7 +338,7 @@ module _ (table : Table) (typed : TypedProgram) (effects : Effects) (input : Lis
       blank_first q ways.Gone is =
           let root : ways.Root = OfVariable 0 x in
           let w : Way = along (ways.Object root) q in
-          absurd (not_gone first_turn ready.accepted.settled ready.owns nowhere alone_first no_in_formals views ready.class.parts_named no_sources frames first_takes
+          absurd (not_gone first_turn ready.accepted.settled ready.owns nowhere alone_first in_formals views ready.class.parts_named no_sources frames first_takes
           x facts_first (view_here s state) viewed_first (λ name has root at_home. new_before state top [] [] named p frames of_sub at_point path x v e name has root) free_first q
           (viewed_first.known w (ways.part (OfRoot root) q) (rooted_along (ways.Object root) q tt)
           (reaches_along (view_here s state) (ways.Object root) (OfRoot root) q refl)
@@ -335,8 +354,8 @@ module _ (table : Table) (typed : TypedProgram) (effects : Effects) (input : Lis
       good_first = record {
         viewed = viewed_first;
         kept = kept;
-        holds = all_held s no_in_formals 0 views state.memory (λ y n view at. holds.held y n (λ fading. same_declare fading.0 x v (sym e ∙ fading.1)) view at)
-            holds.only holds.named;
+        holds = all_held s in_formals 0 views state.memory (λ y n view at. holds.held y n (λ fading. same_declare fading.0 x v (sym e ∙ fading.1)) view at)
+            holds.only holds.owners holds.own;
       }
 
       abbrev LeadsFirst : Outcome → Type 0
@@ -346,15 +365,15 @@ module _ (table : Table) (typed : TypedProgram) (effects : Effects) (input : Lis
 
       first_leads : LeadsFirst (turn first_turn (Declare x v))
       first_leads =
-          declare_leads first_turn ready.accepted.settled ready.owns nowhere alone_first no_in_formals views ready.class.parts_named no_sources frames first_takes
-          x v (plain_named s.table (object_at s x).of owner) (subst (IsFine s named.sub.result) e (standing.fine table typed effects input ready state top [] [] named p frames of_sub at_point))
+          declare_leads first_turn ready.accepted.settled ready.owns nowhere alone_first in_formals views ready.class.parts_named no_sources frames first_takes
+          x v (plain_named s.table (object_at s x).of owner) no_formal (subst (IsFine s named.sub.result) e (standing.fine table typed effects input ready state top [] [] named p frames of_sub at_point))
           no_call facts_first good_first
           (subst (λ i. AllowsAll facts_first (acts_first i)) e (standing.allowed table typed effects input ready state top [] [] named p frames of_sub at_point path (calls_plain x v e)))
-          (subst (λ i. AllKeep (sees_only s) (acts_first i)) e (standing.keeps_there table typed effects input ready state top [] [] named p frames of_sub at_point))
+          (subst (λ i. AllKeep (is_fixed s) (acts_first i)) e (standing.keeps_there table typed effects input ready state top [] [] named p frames of_sub at_point))
           (λ q. blank_first q (word_in s.table (content s state.memory [] (OfRoot (OfVariable 0 x))) q) refl)
           (λ name has root at_home. new_after state top [] [] named p frames of_sub at_point path x v e (calls_plain x v e) name
           (subst (λ i. Has (after (acts_first i) facts_first) (Moved name)) (sym e) has) root)
-          free_first (λ w n keeps base. keeps)
+          free_first (λ w keeps base. elim keeps [ inl there ↦ there.1 | inr there ↦ there.2 ])
 
       none_left : (turned_views : Views) → Turned first_turn ready.accepted.settled ready.owns nowhere alone_first views ready.class.parts_named no_sources frames first_takes
           turned_views (after (acts_first (Declare x v)) facts_first) → HasNone turned_views
@@ -381,17 +400,27 @@ module _ (table : Table) (typed : TypedProgram) (effects : Effects) (input : Lis
                 let lead : Leads s (scope_behind p) (q.0).scope = q.2 in
                 standing.goes_to_next table typed effects input ready state top [] [] named p frames of_sub at_point path (calls_plain x v e) after_step [] top.frame.loops found.0 found.2 q.0 q.1
                 (on.frames ∙ ap (led first_turn (record top.frame { waits = [] })) found.1) deep tt turned_views
-                (running.0, (refl, running.1.1, running.1.2), none_now, deep) (refl, refl)
+                (running.0, (refl, running.1.1, running.1.2), none_now, deep, refl) (refl, refl)
                 (subst (Viewed (home s 0) (sees_only s) nowhere turned_views (view_here s after_step)) facts_on_e well.viewed) well.kept
                 (scope_on s ready.owns after_step.memory 0 (scope_behind p) (q.0).scope (subst (λ z. InScope s after_step.memory 0 (lasting_of s z)) (sym scope_first) on.inside) lead)
                 (record {
-                  held = λ y n lasts view at. well.holds.held y n (anonymous_is_view s no_in_formals y view) at;
+                  held = λ y n lasts view at. well.holds.held y n view at;
                   within = λ y n view at. (
-                      let own_way = well.holds.held y n (anonymous_is_view s no_in_formals y view) at in no_views turned_views none_now y own_way.0 own_way.1);
+                      let own_way = well.holds.held y n view at in no_views turned_views none_now y own_way.0 own_way.1);
                   only = λ y w has. no_views turned_views none_now y w has;
-                  named = λ y w has. no_views turned_views none_now y w has;
+                  lies = λ y w has. no_views turned_views none_now y w has;
+                  owners = λ y w has. no_views turned_views none_now y w has;
+                  passed = λ y w has. no_views turned_views none_now y w has;
+                  own = λ y w has. no_views turned_views none_now y w has;
                 })
-                (λ y w has. no_views turned_views none_now y w has) nones views
+                ((λ y w has. no_views turned_views none_now y w has), (λ y w has. no_views turned_views none_now y w has)) (
+                  nones,
+                  (
+                    none_given table typed (view_here s after_step) (record { stage = standing.at_next table typed effects input ready state top [] [] named p frames of_sub at_point path [] top.frame.loops found.0; views = turned_views; cells = [] })
+                        (empty_given table typed (record { stage = standing.at_next table typed effects input ready state top [] [] named p frames of_sub at_point path [] top.frame.loops found.0; views = turned_views; cells = [] }) refl),
+                    tt,
+                  ),
+                ) views
                 (steps_on (calls_plain x v e) (λ end. (let never : Declare x v ≡ Finish = sym e ∙ end in cc))
                 (λ y end. (let never : Declare x v ≡ EndScope y = sym e ∙ end in cc)) (refl, refl, refl) (λ y w has. no_views turned_views none_now y w has) refl))
             | inr none ↦ (
@@ -402,19 +431,19 @@ module _ (table : Table) (typed : TypedProgram) (effects : Effects) (input : Lis
                 let same_facts : after (acts_first p.instr) facts_first ≡ facts_of program effects below =
                 sym (standing.facts_on table typed effects input ready state top [] [] named p frames of_sub at_point path (calls_plain x v e))
                 ∙ ap (λ (z : FlowSub). facts_before (path_points program effects z) (top.frame.next ∷ top.before)) (sym (standing.sub_is table typed effects input ready state top [] [] named p frames of_sub at_point)) in (
-                  main_begun (record { stage = below; views = turned_views }) (running.0, (refl, running.1.1, refl), none_now, refl) refl after_step turned_views none_now main_frames (after (acts_first (Declare x v)) facts_first) well.viewed
+                  main_begun (record { stage = below; views = turned_views; cells = [] }) (running.0, (refl, running.1.1, refl), none_now, refl, refl) refl after_step turned_views none_now main_frames (after (acts_first (Declare x v)) facts_first) well.viewed
                       (λ name has. unmoved_stage below running.0 name (subst (λ z. Has z (Moved name)) (facts_on_e ∙ same_facts) has)) well.kept
                       (λ f y q n held. elim (on.inside f y q n held) [
                         | inl less ↦ absurd (omega (arith, less))
                         | inr mine ↦ (let same_frame = mine.0 in omega (arith, same_frame))
                       ]) nones,
-                  begins_main (record { stage = below; views = turned_views }) refl refl (refl, sym deep, refl) refl,
+                  begins_main (record { stage = below; views = turned_views; cells = [] }) refl refl (refl, sym deep, refl) refl,
                 ))
           ]
 
       have_none_on : Each (λ (st : State). NoneAbove s 0 st.memory) (turn first_turn (Declare x v))
       have_none_on = each_on (turn first_turn (Declare x v))
-          (others_stay first_turn ready.accepted.settled ready.owns nowhere alone_first no_in_formals views ready.class.parts_named no_sources frames first_takes
+          (others_stay first_turn ready.accepted.settled ready.owns nowhere alone_first in_formals views ready.class.parts_named no_sources frames first_takes
           (start first_turn).waits x v (subst (IsFine s named.sub.result) e (standing.fine table typed effects input ready state top [] [] named p frames of_sub at_point)))
         where
           frame_is : (g x y : ℕ) → OfVariable 0 x ≡ OfVariable g y → 0 ≡ g

@@ -9,7 +9,7 @@ use Rattle.place_names.specs.declared.rule.Loan.TheVariants.{Observed}
 use Rattle.place_names.specs.Names.{Name as PlaceName}
 use Rattle.type_definitions.specs.Types.{is_owning}
 use Rattle.flow_paths.specs.Instructions.{Instruction, Skip, Declare, Assign, Call, Output, Input, Release, Test, Choose, Start, Next, Evaluate, LeaveLoop, Hold, EndScope, Finish, Fall}
-use Rattle.flow_paths.specs.Objects.{Typing, object_at, is_anonymous, is_package_object, has_scope_end, view_of, is_observer}
+use Rattle.flow_paths.specs.Objects.{Typing, object_at, is_anonymous, is_package_object, has_scope_end, view_of}
 use Rattle.flow_paths.specs.Laid.{FlowProgram, flow_typing}
 use Rattle.flow_paths.specs.Scopes.{taken, brought, Leads, Silent, is_within, is_temporary}
 use Rattle.flow_paths.specs.Views.{encloses, scope_of}
@@ -18,19 +18,19 @@ use Rattle.machine.specs.Step.{Turn, typing}
 use Rattle.owned_ways.specs.Ways.{OfRoot, Held, Way, name_of, number_of, Named, base_of}
 use Rattle.owned_ways.specs.Ways as ways
 use Rattle.part_offsets.specs.Parts.{IsSettled}
-use Rattle.soundness.specs.Seen.{home, IsNear, is_view_formal, content, word_in}
+use Rattle.soundness.specs.Seen.{home, IsNear, content, word_in}
 use Rattle.soundness.specs.Typed.{OwnsByShape}
 use Rattle.soundness.specs.Sound.{InScope}
 use Rattle.soundness.proofs.Contents.{word_no}
 use Rattle.soundness.proofs.Lasting.{ownerless}
 use Rattle.owned_loans.specs.Views.{Around, Views}
-use Rattle.viewed_soundness.specs.Holds.{PartsAreNamed, sees_only}
+use Rattle.viewed_soundness.specs.Holds.{PartsAreNamed, is_view}
 use Rattle.viewed_soundness.proofs.Names.{true_false}
 use Rattle.viewed_soundness.proofs.Outcomes.{Turned}
 use Rattle.viewed_steps.specs.Awaited.{is_held, lasting_of}
 use Rattle.viewed_steps.proofs.Waited.{lasting_within, within_lasting}
-use Rattle.viewed_steps.specs.Sound.{Lasts, ArePlaced}
-use Rattle.viewed_steps.proofs.Views.{base_named, observes}
+use Rattle.viewed_steps.specs.Sound.{Lasts, Lies, ArePlaced}
+use Rattle.viewed_steps.proofs.Views.{base_named, same_named, same_lies, anonymous_view, view_ends}
 use Rattle.owned_ways.proofs.Dropped.{named_base}
 use Rattle.owned_loans.proofs.Ended.{number_base}
 
@@ -90,9 +90,6 @@ module _ (s : Typing) where
         | inl left ↦ absurd (true_false (has_scope_end s x) end (silent_in x gone silent left))
       ]
 
-  pub view_ends : (x : ℕ) → is_anonymous (view_of s x) ≡ true → has_scope_end s x ≡ true
-  view_ends x view = or_right (is_owning s.table (object_at s x).of) (is_anonymous (view_of s x)) view
-
   owning_on : OwnsByShape s.table → (m : Memory) (a b : List ℕ) → Leads s a b → (f x : ℕ) (p : List ways.Step) (n : ℕ)
       → word_in s.table (content s m [] (OfRoot (ways.OfVariable f x))) p ≡ Held n → is_within x a ≡ true → is_within x b ≡ true
   owning_on own_law m a b leads f x p n held there = by_end (has_scope_end s x) refl
@@ -135,15 +132,16 @@ module _ (program : FlowProgram) where
   lasts_through transitive scope r y x local (inr (within, end, around, plain)) (inr (there, last, beyond, also)) =
       inr (within, end, transitive (scope_of s r) (scope_of s y) (scope_of s x) around beyond, plain)
 
-  pub placed_on : (facts : List Fact) (v : Views) (a b : List ℕ) → ((x : ℕ) (w : Way) → v.way x ≡ Some w → is_anonymous (view_of s x) ≡ true) → Leads s a b
-      → ArePlaced program facts v a → ArePlaced program facts v b
-  placed_on facts v a b only leads placed x w has =
+  pub placed_on : (frame : ℕ) (facts : List Fact) (v : Views) (a b : List ℕ) → ((x : ℕ) (w : Way) → v.way x ≡ Some w → is_view s x ≡ true) → Leads s a b
+      → ArePlaced program frame facts v a → ArePlaced program frame facts v b
+  placed_on frame facts v a b only leads placed x w has =
       let old = placed x w has in
       record {
         within = within_on s a b x leads (view_ends s x (only x w has)) old.within;
-        up = lasts_on a b (number_of (v.up x)) x leads old.up;
-        root = lasts_on a b (number_of w) x leads old.root;
-        holder = λ sees. (let h = old.holder sees in (h.0, h.1, lasts_on a b h.0 x leads h.2, h.3));
+        plain = old.plain;
+        up = λ named. lasts_on a b (number_of (v.up x)) x leads (old.up named);
+        root = λ named. lasts_on a b (number_of w) x leads (old.root named);
+        holder = λ named sees. (let h = old.holder named sees in (h.0, h.1, lasts_on a b h.0 x leads h.2, h.3));
       }
 
   -- An object may be the source of a view.
@@ -154,65 +152,68 @@ module _ (program : FlowProgram) where
     pub plain : is_held s x ≡ false
 
 module _ (t : Turn) (settled : IsSettled (typing t).table) (own_law : OwnsByShape (typing t).table) (other : Around (home (typing t) (length t.outer)))
-    (alone : (w : Way) → IsNear (length t.outer) w → other.gone w → ⊥) (no_formals : (x : ℕ) → is_view_formal (typing t) x ≡ false)
+    (alone : (w : Way) → IsNear (length t.outer) w → other.gone w → ⊥)
     (v : Views) (parts_named : PartsAreNamed (typing t).table) (a b : List ℕ)
     (frames : t.state.frames ≡ t.frame ∷ t.outer) (none : taken t.point.instr ≡ 0)
     (transitive : (a b c : ℕ) → encloses t.program.scopes a b ≡ true → encloses t.program.scopes b c ≡ true → encloses t.program.scopes a c ≡ true)
     (itself : (a : ℕ) → encloses t.program.scopes a a ≡ true)
-    (local : (x : ℕ) → is_anonymous (view_of (typing t) x) ≡ true → is_package_object (typing t) x ≡ false)
-    (only : (x : ℕ) (w : Way) → v.way x ≡ Some w → is_anonymous (view_of (typing t) x) ≡ true)
-    (ways_named : (x : ℕ) (w : Way) → v.way x ≡ Some w → Named (home (typing t) (length t.outer)) w)
+    (local : (x : ℕ) → is_view (typing t) x ≡ true → is_package_object (typing t) x ≡ false)
+    (only : (x : ℕ) (w : Way) → v.way x ≡ Some w → is_view (typing t) x ≡ true)
+    (lies : (x : ℕ) (w : Way) → v.way x ≡ Some w → Lies (typing t) (length t.outer) w)
     (more : (y : ℕ) → is_within y a ≡ true → is_within y b ≡ true) where
   abbrev may : ℕ → ℕ → Type 0
   may x y = MayBe t.program b x y
 
-  observer_sees : (x : ℕ) → is_observer (typing t) x ≡ true → sees_only (typing t) x ≡ true
-  observer_sees x e = ap (λ b. b || is_view_formal (typing t) x) e
+  abbrev Home : ℕ → ℕ
+  Home = home (typing t) (length t.outer)
 
-  same_number : (w k : Way) → Named (home (typing t) (length t.outer)) k → base_of w ≡ base_of k → number_of w ≡ number_of k
-  same_number w k named is =
-      number_base w (home (typing t) (length t.outer) (number_of k)) (number_of k) (is ∙ named_base (home (typing t) (length t.outer)) k named)
+  same_number : (w k : Way) → Named Home k → base_of w ≡ base_of k → number_of w ≡ number_of k
+  same_number w k named is = number_base w (Home (number_of k)) (number_of k) (is ∙ named_base Home k named)
 
-  -- their ways are named as before
-  pub turned_named : (views : Views) (facts : List Fact) → Turned t settled own_law other alone v parts_named may frames none views facts
-      → (x : ℕ) (w : Way) → views.way x ≡ Some w → Named (home (typing t) (length t.outer)) w
-  turned_named views facts turned x w has = elim (turned x w has) [
-    | inl same ↦ ways_named x w (sym same.way ∙ has)
+  -- their ways lie as before
+  pub turned_lies : (views : Views) (facts : List Fact) → Turned t settled own_law other alone v parts_named may frames none views facts
+      → (x : ℕ) (w : Way) → views.way x ≡ Some w → Lies (typing t) (length t.outer) w
+  turned_lies views facts turned x w has = elim (turned x w has) [
+    | inl same ↦ lies x w (sym same.way ∙ has)
     | inr (y, from, comes) ↦ elim comes.root [
-      | inl is ↦ base_named (home (typing t) (length t.outer)) w y is.0
-      | inr (k, has_y, is) ↦ base_named (home (typing t) (length t.outer)) w (number_of k)
-          (is ∙ named_base (home (typing t) (length t.outer)) k (ways_named y k has_y))
+      | inl is ↦ inl (base_named Home w y is.0)
+      | inr (k, has_y, is) ↦ same_lies (typing t) (length t.outer) w k is (lies y k has_y)
     ]
   ]
 
   -- views that turned as they may are placed after the instruction
   pub turned_placed : (views : Views) (facts facts' : List Fact) → ((h : ℕ) (n : PlaceName) → Has facts (Lent Observed h n) → Has facts' (Lent Observed h n))
-      → ArePlaced t.program facts v a → Turned t settled own_law other alone v parts_named may frames none views facts' → ArePlaced t.program facts' views b
+      → ArePlaced t.program (length t.outer) facts v a → Turned t settled own_law other alone v parts_named may frames none views facts'
+      → ArePlaced t.program (length t.outer) facts' views b
   turned_placed views facts facts' lent placed turned x w has = elim (turned x w has) [
     | inl same ↦ (
         let old = placed x w (sym same.way ∙ has) in
         record {
           within = more x old.within;
-          up = subst (λ z. Lasts t.program b (number_of z) x) (sym same.up) (lasts_more t.program a b (number_of (v.up x)) x more old.up);
-          root = lasts_more t.program a b (number_of w) x more old.root;
-          holder = λ sees. (let h = old.holder sees in
+          plain = old.plain;
+          up = λ named. subst (λ z. Lasts t.program b (number_of z) x) (sym same.up)
+              (lasts_more t.program a b (number_of (v.up x)) x more (old.up (subst (Named Home) same.up named)));
+          root = λ named. lasts_more t.program a b (number_of w) x more (old.root named);
+          holder = λ named sees. (let h = old.holder (subst (Named Home) same.up named) sees in
               (h.0, subst (λ z. Has facts' (Lent Observed h.0 (name_of z))) (sym same.loan) (lent h.0 (name_of (v.loan x)) h.1), lasts_more t.program a b h.0 x more h.2, h.3));
         })
     | inr (y, from, comes) ↦ record {
       within = from.within;
-      up = elim comes.up [
+      plain = from.plain;
+      up = λ named. elim comes.up [
         | inl is ↦ subst (λ z. Lasts t.program b z x) (sym is) from.lasts
-        | inr (k, has_y, is) ↦ subst (λ z. Lasts t.program b z x) (sym is) (through y k has_y from (number_of (v.up y)) (placed y k has_y).up)
+        | inr (k, has_y, is, back) ↦ subst (λ z. Lasts t.program b z x) (sym is) (through y k has_y from (number_of (v.up y)) ((placed y k has_y).up (back named)))
       ];
-      root = elim comes.root [
-        | inl is ↦ subst (λ z. Lasts t.program b z x) (sym (number_base w (home (typing t) (length t.outer) y) y is.0)) from.lasts
-        | inr (k, has_y, is) ↦ subst (λ z. Lasts t.program b z x) (sym (same_number w k (ways_named y k has_y) is))
-            (through y k has_y from (number_of k) (placed y k has_y).root)
+      root = λ named. elim comes.root [
+        | inl is ↦ subst (λ z. Lasts t.program b z x) (sym (number_base w (Home y) y is.0)) from.lasts
+        | inr (k, has_y, is) ↦ (
+            let named_k : Named Home k = same_named Home k w (sym is) named in
+            subst (λ z. Lasts t.program b z x) (sym (same_number w k named_k is)) (through y k has_y from (number_of k) ((placed y k has_y).root named_k)))
       ];
-      holder = λ sees. elim (comes.loan (observer_sees x sees)) [
-        | inl own ↦ (x, own, inr (from.within, view_ends (typing t) x from.view, itself (scope_of (typing t) x), from.plain), sees)
-        | inr (k, has_y, sees_y, is) ↦ (
-            let h = (placed y k has_y).holder (observes (typing t) no_formals y sees_y) in
+      holder = λ named sees. elim (comes.loan sees) [
+        | inl own ↦ (x, own, inr (from.within, view_ends (typing t) x (anonymous_view (typing t) x from.view), itself (scope_of (typing t) x), from.plain), sees)
+        | inr (k, has_y, sees_y, is, back) ↦ (
+            let h = (placed y k has_y).holder (back named) sees_y in
             (h.0, subst (λ z. Has facts' (Lent Observed h.0 (name_of z))) (sym is) (lent h.0 (name_of (v.loan y)) h.1), through y k has_y from h.0 h.2, h.3))
       ];
     }

@@ -1,5 +1,5 @@
 -- Input: a number is stored at a scalar place.
-use Rattle.std.proofs.Common.{◌≡◌, refl, sym, ap, ◌∙◌, subst, ◌⊎◌, inl, inr, ℕ, suc, Bool, true, false, List, [], ◌∷◌, ◌++◌, flat_map, length, arith, append-nil, ℤ}
+use Rattle.std.proofs.Common.{◌≡◌, refl, sym, ap, ◌∙◌, subst, ◌⊎◌, inl, inr, ℕ, Bool, true, false, List, [], ◌∷◌, ◌++◌, flat_map, length, append-nil, ℤ}
 use Rattle.std.specs.Prelude as int
 use Rattle.spark_base.specs.declared.position.Pos.{Pos}
 use Rattle.place_names.specs.declared.act.Act.{Act}
@@ -31,7 +31,6 @@ use Rattle.machine.specs.Step as steps
 use Rattle.machine.specs.Owners.{waiting_in}
 use Rattle.owned_ways.specs.Ways.{OfVariable, OfHand, Loc, Way, Object, Reaches, IsRooted, Named, Allows, after, AllowsAll, number_of}
 use Rattle.owned_ways.specs.Ways as ways
-use Rattle.owned_ways.proofs.Assigned.{named_rooted}
 use Rattle.part_offsets.specs.Parts.{IsSettled}
 use Rattle.soundness.specs.Seen.{IsNear, is_view_formal, content, trunk, seen, home}
 use Rattle.soundness.specs.Changes.{leaks_at}
@@ -49,15 +48,14 @@ use Rattle.soundness.proofs.Lasting.{keeps, put_away}
 use Rattle.soundness.proofs.Freeing.{plain_parts, switched}
 use Rattle.owned_loans.specs.Views.{Around, Views, expand, Viewed}
 use Rattle.owned_loans.proofs.Allowed.{write_open}
-use Rattle.owned_loans.proofs.Moves.{named_way}
 use Rattle.viewed_soundness.specs.Holds.{IsNamed, PartsAreNamed, sees_only, IsOwners}
-use Rattle.viewed_soundness.proofs.Names.{is_place}
+use Rattle.viewed_soundness.proofs.Names.{Starts, is_place, changed_owners}
 use Rattle.viewed_soundness.proofs.Stays.{Goes as GoesAlong, steps_taking, name_quiet}
 use Rattle.viewed_soundness.proofs.Moments.{stored_viewed}
 use Rattle.viewed_soundness.proofs.Evaluated.{Ready, blank_ready, live_trunk}
 use Rattle.viewed_soundness.proofs.Stored.{holds_stored, no_view_place}
 use Rattle.viewed_soundness.proofs.Outcomes.{IsGood, Leads_on, raises, unturned, goes_to, live}
-use Rattle.viewed_steps.proofs.Views.{all_owners}
+use Rattle.viewed_steps.proofs.Views.{AreAccess, scalar_no_view, formal_view}
 
 -- a scalar type isn't anonymous
 pub scalar_named : (table : Table) (u : ℕ) → is_scalar (full table u) ≡ true → IsNamed table u
@@ -67,7 +65,7 @@ scalar_named table u scalar d c n is = absurd (not_scalar d c n (sym (ap (λ z. 
     not_scalar d c n e = cc
 
 module _ (t : Turn) (settled : IsSettled (typing t).table) (own_law : OwnsByShape (typing t).table) (other : Around (home (typing t) (length t.outer)))
-    (alone : (w : Way) → IsNear (length t.outer) w → other.gone w → ⊥) (no_formals : (x : ℕ) → is_view_formal (typing t) x ≡ false)
+    (alone : (w : Way) → IsNear (length t.outer) w → other.gone w → ⊥) (in_formals : AreAccess (typing t))
     (v : Views) (parts_named : PartsAreNamed (typing t).table) (may : ℕ → ℕ → Type 0)
     (frames : t.state.frames ≡ t.frame ∷ t.outer) (none : taken t.point.instr ≡ 0) where
   abbrev s : Typing
@@ -148,6 +146,12 @@ module _ (t : Turn) (settled : IsSettled (typing t).table) (own_law : OwnsByShap
         sels = along.sels (Object (OfVariable (home s depth x) x)) j;
       })
 
+      -- a formal that owns nothing isn't of a scalar type
+      whole : is_view_formal s x ≡ true → way ≡ [] → ⊥
+      whole formal none =
+          scalar_no_view s in_formals x
+          (subst (λ z. is_scalar (full s.table z) ≡ true) (sym (subst (λ z. Starts s.table (object_at s x).of z u) none along.lead)) scalar) (formal_view s x formal)
+
       seen_not : sees_only s (number_of w) ≡ false
       seen_not = ap (sees_only s) (number_along way (Object (OfVariable (home s depth x) x))) ∙ plain
 
@@ -156,11 +160,11 @@ module _ (t : Turn) (settled : IsSettled (typing t).table) (own_law : OwnsByShap
       stores k l spot reaches of =
           let long : 1 ≡ words s.table k.of = sym (ap (words s.table) of ∙ settled.word_law u ∙ (plain_shape (shape_of s.table u) scalar).3 (words s.table)) in
           let like : Matches s.table u k.of = inl (ap (shape_of s.table) (sym of)) in
-          let rooted = all_owners s no_formals (expand v w) (named_rooted (home s depth) (expand v w) (named_way (home s depth) (sees_only s) other v
-          (seen s m (value_in ∷ hands) t.state.leaks) facts ready_in.viewed.views (suc (number_of w)) w (omega arith) (named, seen_not))) in
+          let rooted = changed_owners (here t) settled (value_in ∷ hands) t.state.leaks m [] other facts v ready_in.kept ready_in.viewed ready_in.holds alone alive_trunk
+          x u way whole along.lead l reaches in
           let viewed = stored_viewed s settled (home s depth) (sees_only s) other v m value_in hands t.state.leaks facts k l w t.point.pos ready_in.viewed
           (λ z b q o. alone b (near_under depth (Object (OfHand z)) b q tt) o) ready_in.kept spot named seen_not
-          (is_place s v (home s depth x) x u way along.lead (scalar_named s.table u scalar) (no_formals x) good.holds.only) reaches (alive_trunk (expand v w) l rooted reaches)
+          (is_place s v (home s depth x) x u way along.lead (scalar_named s.table u scalar) whole good.holds.only) reaches (alive_trunk (expand v w) l rooted reaches)
           (subst (λ z. Allows facts (act.Write z)) (sym called) allowed) long like in
           goes_to t settled own_law other alone v parts_named may frames none (stored s k (machine.Int i ∷ []) m) 0 v fs
           (unturned t settled own_law other alone v parts_named may frames none fs)
@@ -183,7 +187,7 @@ module _ (t : Turn) (settled : IsSettled (typing t).table) (own_law : OwnsByShap
             | inl fits ↦ (
                 let on = stores k l spot reaches of in
                 subst (LeadsHere fs) (sym (gets.at_number k m i end next fits))
-                (on.0, on.1, record { viewed = on.2.viewed; kept = on.2.kept; holds = record { held = on.2.holds.held; only = on.2.holds.only; owners = on.2.holds.owners; access = on.2.holds.access } }))
+                (on.0, on.1, record { viewed = on.2.viewed; kept = on.2.kept; holds = record { held = on.2.holds.held; only = on.2.holds.only; owners = on.2.holds.owners; access = on.2.holds.access; own = on.2.holds.own } }))
           ])
 
       -- where there is no number

@@ -31,14 +31,13 @@ use Rattle.owned_ways.specs.Ways.{OfVariable, Loc, OfCell, Inside, Way, Object, 
 use Rattle.owned_ways.specs.Ways as ways
 use Rattle.owned_ways.proofs.Locations.{under_itself, depth as depth_of}
 use Rattle.owned_ways.proofs.Named.{under_leads, covered_under}
-use Rattle.owned_ways.proofs.Assigned.{either_left, kept_fact, is_false, named_rooted}
+use Rattle.owned_ways.proofs.Assigned.{either_left, kept_fact, is_false}
 use Rattle.part_offsets.specs.Parts.{type_in, offset_in, has_part, owns_one, is_leaf, IsSettled}
 use Rattle.part_offsets.proofs.Ranges.{leaf_end, leaf_part}
 use Rattle.soundness.specs.Seen.{IsNear, is_view_formal, Content, content, trunk, steps_in, owner_at, owner_word, seen, home}
 use Rattle.soundness.specs.Changes.{Alike as AlikeTypes, Checks, leaks_at}
 use Rattle.soundness.specs.Typed.{Matches, OwnsByShape, Spot}
 use Rattle.typed_laws.specs.Needed.{Leads}
-use Rattle.soundness.proofs.Near.{named_near}
 use Rattle.soundness.proofs.Contents.{bool_cases, word_yes, word_no, word_part, checks_made, all_checks}
 use Rattle.soundness.proofs.Joined.{trunk_trunk, below_cell}
 use Rattle.soundness.proofs.Walks.{both_true, way_along, Walked}
@@ -55,19 +54,20 @@ use Rattle.soundness.proofs.Lasting.{keeps, stored_kept, freed_kept}
 use Rattle.owned_ways.proofs.Unique.{one_way, one_location}
 use Rattle.owned_loans.specs.Views.{Around, Views, expand, ExcusedBy, IsAway, Viewed}
 use Rattle.owned_loans.proofs.Ways.{meet_overlaps, under_on}
-use Rattle.owned_loans.proofs.Meeting.{IsPlain, meeting}
+use Rattle.owned_loans.proofs.Meeting.{meeting}
 use Rattle.owned_loans.proofs.Clear.{refused, clear_same}
 use Rattle.owned_loans.proofs.Safe.{loan_of}
 use Rattle.owned_loans.proofs.Allowed.{loan_kept, free_open, free_unlent}
 use Rattle.owned_loans.proofs.Others.{below_through}
-use Rattle.owned_loans.proofs.Moves.{IsPlace, named_way, view_on, own_loan, lends_on, expand_under, reached}
+use Rattle.owned_loans.proofs.Moves.{IsPlace, view_on, own_loan, lends_on, expand_under, reached}
 use Rattle.owned_loans.proofs.Freed as view
-use Rattle.viewed_soundness.specs.Holds.{IsNamed, PartsAreNamed, Holds, sees_only, IsOwners}
-use Rattle.viewed_soundness.proofs.Names.{is_place}
-use Rattle.viewed_soundness.proofs.Stays.{Goes, steps_taking, name_quiet}
+use Rattle.viewed_soundness.specs.Holds.{IsNamed, PartsAreNamed, Holds, sees_only, is_fixed, IsOwners}
+use Rattle.viewed_soundness.proofs.Names.{is_place, free_sees, free_formal, changed_owners}
+use Rattle.viewed_soundness.proofs.Spared.{gone_off}
+use Rattle.viewed_soundness.proofs.Stays.{Goes, no_selectors, steps_taking, name_quiet}
 use Rattle.viewed_soundness.proofs.Stored.{holds_stored, no_view_place}
 use Rattle.viewed_soundness.proofs.Outcomes.{IsGood, Leads_on, raises, unturned, goes_to, goes_on, live}
-use Rattle.viewed_steps.proofs.Views.{all_owners}
+use Rattle.viewed_steps.proofs.Views.{AreAccess}
 
 -- ---- facts at a release
 
@@ -142,8 +142,10 @@ module _ (home : ℕ → ℕ) (observer : ℕ → Bool) (other : Around home) (v
         views = λ x w has. (let own = viewed.views x w has in
             view_on home observer other v s s facts (effect a facts) x w own (λ seen n. own_loan observer facts (effect a facts) (loan_kept a facts (λ l h z. refl)) seen x n) (reached home observer other v s facts x w own));
         whole = viewed.whole;
+        past = viewed.past;
         lends = λ l n lent. lends_on observer v facts (effect a facts) (loan_kept a facts (λ l h z. refl)) l n (viewed.lends l n lent);
         far = viewed.far;
+        bare = viewed.bare;
       }
 
   -- a store at a place without owners hides nothing
@@ -174,14 +176,16 @@ module _ (home : ℕ → ℕ) (observer : ℕ → Bool) (other : Around home) (v
         views = λ x w has. (let own = viewed.views x w has in
             view_on home observer other v s s facts (effect a facts) x w own (λ seen n. own_loan observer facts (effect a facts) (loan_kept a facts (λ l h z. refl)) seen x n) (reached home observer other v s facts x w own));
         whole = viewed.whole;
+        past = viewed.past;
         lends = λ l n lent. lends_on observer v facts (effect a facts) (loan_kept a facts (λ l h z. refl)) l n (viewed.lends l n lent);
         far = viewed.far;
+        bare = viewed.bare;
       }
 
 -- ---- the outcome
 
 module _ (t : Turn) (settled : IsSettled (typing t).table) (own_law : OwnsByShape (typing t).table) (other : Around (home (typing t) (length t.outer)))
-    (alone : (w : Way) → IsNear (length t.outer) w → other.gone w → ⊥) (no_formals : (x : ℕ) → is_view_formal (typing t) x ≡ false)
+    (alone : (w : Way) → IsNear (length t.outer) w → other.gone w → ⊥) (in_formals : AreAccess (typing t))
     (v : Views) (parts_named : PartsAreNamed (typing t).table) (may : ℕ → ℕ → Type 0)
     (frames : t.state.frames ≡ t.frame ∷ t.outer) (none : taken t.point.instr ≡ 0) where
   abbrev s : Typing
@@ -302,24 +306,17 @@ module _ (t : Turn) (settled : IsSettled (typing t).table) (own_law : OwnsByShap
     holds_freed n k l spot owned of =
         holds_stored (here t) settled t.state.leaks [] other alone (keeps s settled own_law) index_law own_law v parts_named (freed n m) k (machine.Null ∷ [])
         (no_view_place (here t) settled t.state.leaks [] other alone (keeps s settled own_law) index_law own_law v parts_named m hands u k l
-        (named_type s.table u d access) of spot owned) (record { held = good.holds.held; only = good.holds.only; owners = good.holds.owners; access = good.holds.access })
+        (named_type s.table u d access) of spot owned) (record { held = good.holds.held; only = good.holds.only; owners = good.holds.owners; access = good.holds.access; own = good.holds.own })
 
     -- the place is found
-    module _ (w : Way) (named : Named (home s depth) w) (plain : sees_only s (number_of w) ≡ false) (place : IsPlace v w) (allowed : Allows facts (act.Free (ways.name_of w))) where
+    module _ (w : Way) (named : Named (home s depth) w) (plain : sees_only s (number_of w) ≡ false) (place : IsPlace v w) (allowed : Allows facts (act.Free (ways.name_of w)))
+        (owners : (l : Loc) → Reaches seen_here (expand v w) l → IsOwners s (expand v w)) where
       abbrev fs : List Fact
       fs = effect (act.Free (ways.name_of w)) facts
 
-      stands : Named (home s depth) (expand v w)
-      stands =
-          let name : IsPlain (home s depth) (sees_only s) v seen_here facts good.viewed.views w = (named, plain) in
-          named_way (home s depth) (sees_only s) other v seen_here facts good.viewed.views (suc (number_of w)) w (omega arith) name
-
-      rooted : IsOwners s (expand v w)
-      rooted = all_owners s no_formals (expand v w) (named_rooted (home s depth) (expand v w) stands)
-
       clean : excused (expand v w) → ⊥
       clean (inl moved) = free_clean (home s depth) (sees_only s) other v seen_here facts good.viewed w named plain allowed moved
-      clean (inr o) = alone (expand v w) (named_near s depth (expand v w) stands) o
+      clean (inr o) = gone_off s depth other v seen_here facts good.viewed alone w (expand v w) named plain (inl (under_itself (expand v w))) o
 
       nothing : (k : Place) (l : Loc) → Spot s m hands k l → Reaches seen_here (expand v w) l → k.of ≡ u
           → ((n : ℕ) → (slot_here k).word ≡ machine.Cell n → ⊥) → LeadsHere fs (goes t m 0)
@@ -327,7 +324,7 @@ module _ (t : Turn) (settled : IsSettled (typing t).table) (own_law : OwnsByShap
           goes_to t settled own_law other alone v parts_named may frames none m 0 v fs
           (unturned t settled own_law other alone v parts_named may frames none fs)
           (nothing_freed (home s depth) (sees_only s) other v seen_here facts good.viewed w l named place reaches
-          (empties k l (expand v w) spot of rooted reaches clean no_cell)) good.kept good.holds
+          (empties k l (expand v w) spot of (owners l reaches) reaches clean no_cell)) good.kept good.holds
 
       by_word : (k : Place) (l : Loc) → Spot s m hands k l → Reaches seen_here (expand v w) l → k.of ≡ u → shape_of s.table k.of ≡ shape.Access d false true
           → words_of s m k ≡ (slot_here k).word ∷ [] → (x : machine.Word) → (slot_here k).word ≡ x → LeadsHere fs (f k m)
@@ -341,7 +338,7 @@ module _ (t : Turn) (settled : IsSettled (typing t).table) (own_law : OwnsByShap
           subst (LeadsHere fs) (sym (does.at_listed k m i (word ∙ ap (λ z. z ∷ []) e)))
           (nothing k l spot reaches of (λ n a. (let b : machine.Enumerated i ≡ machine.Cell n = sym e ∙ a in cc)))
       by_word k l spot reaches of is word (machine.Cell n) e =
-          let held = held_there s settled hands t.state.leaks m [] excused good.kept good.viewed.owned good.viewed.known alive_trunk k l (expand v w) d false n spot rooted reaches is e clean in
+          let held = held_there s settled hands t.state.leaks m [] excused good.kept good.viewed.owned good.viewed.known alive_trunk k l (expand v w) d false n spot (owners l reaches) reaches is e clean in
           let alive : (cell m n).freed ≡ false = good.viewed.owned.live l n held in
           let there = cell_spot s settled hands t.state.leaks m [] excused good.kept good.viewed.owned good.viewed.known alive_trunk k l d false n spot is e in
           let off = apart (expand v w) l n reaches held in
@@ -358,11 +355,11 @@ module _ (t : Turn) (settled : IsSettled (typing t).table) (own_law : OwnsByShap
           (unturned t settled own_law other alone v parts_named may frames none fs)
           (view.freed (home s depth) (sees_only s) other v seen_here (seen s next hands (t.state.leaks ++ leaks)) w l n facts good.viewed
           (releases s settled m hands t.state.leaks (t.state.leaks ++ leaks) n k l good.kept spot there.made.0 there.made.1 (leaf_at k l spot of)
-          (alive_trunk (expand v w) l rooted reaches) off checks)
+          (alive_trunk (expand v w) l (owners l reaches) reaches) off checks)
           named plain place reaches held allowed)
           (stored_kept s settled (freed n m) hands k l k.of (machine.Null ∷ []) (freed_kept s settled m n hands good.kept) (spot_freed n k l spot off) one (inl refl)
           (λ p d' c' n' i has is' at. absurd (no_null i (cell_has (machine.Null ∷ []) (offset_in s.table k.of p) i at))))
-          (holds_freed n k l spot (alive_trunk (expand v w) l rooted reaches) of))
+          (holds_freed n k l spot (alive_trunk (expand v w) l (owners l reaches) reaches) of))
 
       released_at : (y : Evaluated Place) → Walked s settled hands t.state.leaks m [] (expand v w) u y → LeadsHere fs (steps.evaluated t y f)
       released_at (Done k n) (l, same, spot, reaches, of) =
@@ -373,11 +370,16 @@ module _ (t : Turn) (settled : IsSettled (typing t).table) (own_law : OwnsByShap
       released_at (Raises e n) is = (λ trap. trap, raises t settled own_law other alone v parts_named may frames none facts good n.memory)
       released_at (Traps e n) never = absurd never
 
+    -- what is freed isn't a formal itself
+    whole : (x : ℕ) (path : TypedTree) (way : List run.Step) → is_fixed s (name_of x path) ≡ false → Goes s.table (object_at s x).of u path way
+        → is_view_formal s x ≡ true → way ≡ [] → ⊥
+    whole x path way free goes formal none = free_formal s (name_of x path) free formal (no_selectors s.table (object_at s x).of u path way goes none)
+
     -- the steps of the name are evaluated
-    then_released : (x : ℕ) (path : TypedTree) → sees_only s x ≡ false → Allows facts (act.Free (name_of x path)) → (y : Evaluated (List run.Step))
+    then_released : (x : ℕ) (path : TypedTree) → is_fixed s (name_of x path) ≡ false → Allows facts (act.Free (name_of x path)) → (y : Evaluated (List run.Step))
         → Quiet now (λ way. Goes s.table (object_at s x).of u path way) y
         → LeadsHere (effect (act.Free (name_of x path)) facts) (steps.evaluated t (followed_by y (λ way now. walked s way (variable_place (here t) x) now)) f)
-    then_released x path plain allowed (Done way n) (same, goes) =
+    then_released x path free allowed (Done way n) (same, goes) =
         let w : Way = way_along way (Object (OfVariable (home s depth x) x)) in
         let named : Named (home s depth) w = named_along (home s depth) way (Object (OfVariable (home s depth x) x)) refl in
         let called : ways.name_of w ≡ name_of x path = (λ j. record {
@@ -387,20 +389,21 @@ module _ (t : Turn) (settled : IsSettled (typing t).table) (own_law : OwnsByShap
         let frees : Allows facts (act.Free (ways.name_of w)) = subst (λ z. Allows facts (act.Free z)) (sym called) allowed in
         subst (λ (z : Now). LeadsHere (effect (act.Free (name_of x path)) facts) (steps.evaluated t (walked s way (variable_place (here t) x) z) f)) (sym same)
         (subst (λ z. LeadsHere (effect (act.Free z) facts) (steps.evaluated t (walked s way (variable_place (here t) x) now) f)) called
-        (released_at w named (ap (sees_only s) (number_along way (Object (OfVariable (home s depth x) x))) ∙ plain)
-        (is_place s v (home s depth x) x u way goes.lead (named_type s.table u d access) (no_formals x) good.holds.only) frees
+        (released_at w named (ap (sees_only s) (number_along way (Object (OfVariable (home s depth x) x))) ∙ free_sees s (name_of x path) free)
+        (is_place s v (home s depth x) x u way goes.lead (named_type s.table u d access) (whole x path way free goes) good.holds.only) frees
+        (λ l reaches. changed_owners (here t) settled hands t.state.leaks m [] other facts v good.kept good.viewed good.holds alone alive_trunk x u way (whole x path way free goes) goes.lead l reaches)
         (walked s way (variable_place (here t) x) now)
         (name_quiet (here t) settled hands t.state.leaks m [] other facts v good.kept good.viewed good.holds alone alive_trunk index_law own_law parts_named x path u way goes
         (λ q q_named q_called. free_open facts q (subst (λ z. Allows facts (act.Free z)) (sym q_called) allowed)))))
-    then_released x path plain allowed (Raises e n) is = (λ trap. trap, raises t settled own_law other alone v parts_named may frames none facts good n.memory)
-    then_released x path plain allowed (Traps e n) never = absurd never
+    then_released x path free allowed (Raises e n) is = (λ trap. trap, raises t settled own_law other alone v parts_named may frames none facts good n.memory)
+    then_released x path free allowed (Traps e n) never = absurd never
 
   pub released_on : (ws : List (List machine.Word)) (f : Place → Memory → Outcome) (pos p : Pos) (x u d : ℕ) (path : TypedTree) → Releases f pos
-      → shape_of s.table u ≡ shape.Access d false true → Leads s (object_at s x).of path u → Takes (waits_in path) ws [] → sees_only s x ≡ false
+      → shape_of s.table u ≡ shape.Access d false true → Leads s (object_at s x).of path u → Takes (waits_in path) ws [] → is_fixed s (name_of x path) ≡ false
       → (facts : List Fact) (good : Good facts)
       → AllowsAll facts (acts (source_acts s (Name p x path u) act.Free))
       → LeadsHere (after (acts (source_acts s (Name p x path u) act.Free)) facts) (steps.evaluated t (place_of (here t) (Name p x path u) (at ws)) f)
-  released_on ws f pos p x u d path does access lead takes plain facts good allowed =
+  released_on ws f pos p x u d path does access lead takes free facts good allowed =
       let b : List Act = acts (acts_in s path) in
       let whole_acts : acts (source_acts s (Name p x path u) act.Free) ≡ b ++ (act.Free (name_of x path) ∷ []) =
       acts_append (acts_in s path) (record { pos = p; act = act.Free (name_of x path) } ∷ []) in
@@ -411,4 +414,4 @@ module _ (t : Turn) (settled : IsSettled (typing t).table) (own_law : OwnsByShap
       let behind_acts : after (acts (source_acts s (Name p x path u) act.Free)) facts ≡ effect (act.Free (name_of x path)) facts =
       ap (λ z. after z facts) whole_acts ∙ after_append b (act.Free (name_of x path) ∷ []) facts ∙ ap (effect (act.Free (name_of x path))) inner.1 in
       subst (λ z. LeadsHere z (steps.evaluated t (place_of (here t) (Name p x path u) (at ws)) f)) (sym behind_acts)
-      (then_released f pos does facts good u d access x path plain frees (steps_of (here t) path (at ws)) inner.0)
+      (then_released f pos does facts good u d access x path free frees (steps_of (here t) path (at ws)) inner.0)

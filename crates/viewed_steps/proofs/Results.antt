@@ -1,6 +1,9 @@
 -- An operand of a short circuit, whose value waits, and a return with a value, which waits in the frame
 -- of the caller, lead on.
-use Rattle.viewed_soundness.proofs.Names.{plain_named}
+use Rattle.viewed_steps.proofs.Traversed.{none_given, empty_given}
+use Rattle.flow_paths.specs.Views.{sub_acts}
+use Rattle.viewed_steps.specs.Traversals.{IsSourceIn}
+use Rattle.viewed_soundness.proofs.Names.{plain_named, true_false}
 use Rattle.viewed_soundness.specs.Taken.{GivesPlainly}
 use Rattle.std.proofs.Common.{◌≡◌, refl, sym, ap, ◌∙◌, subst, ◌⊎◌, inl, inr, ℕ, suc, ◌+◌, ◌<◌, Bool, true, false, ◌||◌, ◌==◌, List, [], ◌∷◌, ◌++◌, drop, length, get_or, arith, append-nil, Option, Some, None, if◌then◌else◌, take}
 use Rattle.spark_base.specs.Lists.{Has}
@@ -15,7 +18,7 @@ use Rattle.typed_tree.specs.Trees.{TypedTree, NoMore, More, Name, Call as CallIn
 use Rattle.typed_tree.specs.Programs.{TypedProgram}
 use Rattle.flow_paths.specs.declared.report.Effects.{Effects}
 use Rattle.flow_paths.specs.Instructions.{Instruction, Call, Evaluate, Hold, EndScope, Finish, Declare, Assign}
-use Rattle.flow_paths.specs.Objects.{Typing, is_anonymous, is_package_object, is_observer, view_of, object_at}
+use Rattle.flow_paths.specs.Objects.{Typing, is_package_object, object_at, is_anonymous}
 use Rattle.flow_paths.specs.Names.{waiting as waits_in}
 use Rattle.flow_paths.specs.Acts as flow
 use Rattle.flow_paths.specs.Acts.{acts_in}
@@ -36,7 +39,7 @@ use Rattle.machine.specs.Typed.{successors}
 use Rattle.machine.specs.Owners.{WellOwned, waiting_in}
 use Rattle.owned_ways.specs.Ways.{Step, OfVariable, OfRoot, Way, Held, after, AllowsAll, along, number_of}
 use Rattle.owned_ways.specs.Ways as ways
-use Rattle.soundness.specs.Seen.{IsNear, is_view_formal, content, word_in, home}
+use Rattle.soundness.specs.Seen.{IsNear, content, word_in, home}
 use Rattle.soundness.specs.Typed.{Kept}
 use Rattle.typed_laws.specs.Needed.{IsFine, Stays, Source, Returns}
 use Rattle.soundness.specs.Sound.{IsNoCall, Stage, facts_of, AreStages, IsRunnable, returns_value, InScope, IsNamedSub, IsAtPoint, view_of as view_here}
@@ -49,17 +52,17 @@ use Rattle.soundness.proofs.Waited.{FillsNone}
 use Rattle.soundness.proofs.Eased.{eased, waits_same}
 use Rattle.soundness.proofs.Successors.{below_one}
 use Rattle.owned_loans.specs.Views.{Around, known_gone, Views, Viewed}
-use Rattle.viewed_soundness.specs.Holds.{IsNamed, AllKeep, sees_only}
+use Rattle.viewed_soundness.specs.Holds.{IsNamed, AllKeep, is_view, sees_only, is_fixed}
 use Rattle.viewed_soundness.proofs.Outcomes.{named_plain, IsGood, Leads_on}
 use Rattle.viewed_steps.specs.Awaited.{AreFor, AreValues, AreValuesBut, temporaries_of, lasting_of, awaited, AreAwaited, AreScalar, FillsTyped, TakesScalars, IsTakenBy, TakesAlone}
 use Rattle.viewed_steps.proofs.Waited.{temporary_first, lasting_more, Shares}
-use Rattle.viewed_steps.specs.Sound.{HoldsAt, ArePlaced, NoneAbove, ViewStage, stages_of, GoneElsewhere, AreWaiting, IsStoredAt, returns_one, LeadsAlong, IsResting}
+use Rattle.viewed_steps.specs.Sound.{IsWayOf, ArePast, HoldsAt, ArePlaced, NoneAbove, ViewStage, stages_of, GoneElsewhere, AreWaiting, IsStoredAt, returns_one, LeadsAlong, IsResting, HasTraversals}
 use Rattle.viewed_steps.specs.Taken.{TakenBy}
 use Rattle.viewed_steps.specs.Ready.{IsReady}
 use Rattle.viewed_steps.proofs.Lent.{Spare, loans_stay}
 use Rattle.viewed_steps.proofs.Placed.{scope_on, placed_on, MayBe, turned_placed}
 use Rattle.viewed_steps.proofs.Beside.{OthersKept}
-use Rattle.viewed_steps.proofs.Waiting.{StandsBetween, KeptElsewhere, beside_them, handed}
+use Rattle.viewed_steps.proofs.Waiting.{StandsBetween, AreTheirs, beside_them, handed}
 use Rattle.viewed_steps.proofs.Standing.{or_right}
 use Rattle.viewed_steps.proofs.Standing as standing
 use Rattle.viewed_steps.proofs.Packages as packages
@@ -81,7 +84,6 @@ use Rattle.soundness.proofs.Onward.{Gets, value_inside, source_inside}
 use Rattle.soundness.proofs.Operands.{handed_over, hold_is}
 use Rattle.soundness.proofs.Points.{path_there}
 use Rattle.soundness.proofs.Stays.{Quiet, One}
-use Rattle.soundness.proofs.Standing.{head_of, last_of}
 use Rattle.soundness.proofs.Waits.{waits_of}
 use Rattle.soundness.proofs.Numbers.{index_law}
 use Rattle.soundness.proofs.Lasting.{keeps}
@@ -94,7 +96,8 @@ use Rattle.viewed_steps.proofs.Declared.{source_given}
 use Rattle.viewed_steps.proofs.Beside.{value_stays, source_stays}
 use Rattle.viewed_steps.proofs.Operands.{left_operand_on, right_operand_on}
 use Rattle.viewed_steps.proofs.EachInstruction as each
-use Rattle.viewed_steps.proofs.Views.{anonymous_is_view, not_elsewhere}
+use Rattle.viewed_steps.proofs.Turned as turned
+use Rattle.viewed_steps.proofs.Views.{AreAccess}
 
 none_some : (n : ℕ) → None ≡ Some n → ⊥
 none_some n e = cc
@@ -109,10 +112,10 @@ module _ (table : Table) (typed : TypedProgram) (effects : Effects) (input : Lis
   abbrev own : Typing
   own = typing_of table typed
 
-  abbrev no_in_formals : (x : ℕ) → is_view_formal s x ≡ false
-  no_in_formals = standing.no_in_formals table typed effects input ready
+  abbrev in_formals : AreAccess s
+  in_formals = standing.in_formals table typed effects input ready
 
-  abbrev local : (x : ℕ) → is_anonymous (view_of s x) ≡ true → is_package_object s x ≡ false
+  abbrev local : (x : ℕ) → is_view s x ≡ true → is_package_object s x ≡ false
   local = standing.local table typed effects input ready
 
   abbrev unmoved_stage : (e : Stage) → e.frame.sub ≡ 0 → (name : PlaceName) → Has (facts_of program effects e) (Moved name) → ⊥
@@ -128,7 +131,8 @@ module _ (table : Table) (typed : TypedProgram) (effects : Effects) (input : Lis
       (viewed_before : Viewed (home s (suc (length rest))) (sees_only s) (known_gone (home s (suc (length rest))) (GoneElsewhere program effects (below ∷ more_frames))) views
       (view_here s state) (facts_of program effects top))
       (kept : Kept s state.memory (waiting_in state)) (scope : InScope s state.memory (suc (length rest)) (lasting_of s p.scope)) (holds : HoldsAt s (suc (length rest)) views state.memory p)
-      (placed_before : ArePlaced program (facts_of program effects top) views p.scope) (above : NoneAbove s (suc (length rest)) state.memory) where
+      (placed_before : ArePlaced program (suc (length rest)) (facts_of program effects top) views p.scope × ArePast s (suc (length rest)) views (below ∷ more_frames)) (above : NoneAbove s (suc (length rest)) state.memory
+      × HasTraversals table typed (view_here s state) (record { stage = top; views = views; cells = [] } ∷ (below ∷ more_frames))) where
     abbrev outer : List Frame
     outer = below.stage.frame ∷ rest
 
@@ -169,20 +173,19 @@ module _ (table : Table) (typed : TypedProgram) (effects : Effects) (input : Lis
     abbrev viewed : Viewed (home s depth) (sees_only s) other views (view_here s state) facts_now
     viewed = innermost.viewed table typed effects input ready state top below more_frames rest named p frames deep stages running awaiting of_sub at_point path views viewed_before kept scope holds placed_before above
 
-    abbrev apart_from_them : (done : List Act) (v : Views) (view : ways.View) → ((x : ℕ) (w : Way) → v.way x ≡ Some w → is_anonymous (view_of s x) ≡ true)
-        → ((x : ℕ) (w : Way) → v.way x ≡ Some w → ways.Named (home s depth) w)
+    abbrev apart_from_them : (done : List Act) (v : Views) (view : ways.View) → ((x : ℕ) (w : Way) → v.way x ≡ Some w → is_view s x ≡ true)
         → Viewed (home s depth) (sees_only s) other v view (after done facts_now)
         → Viewed (home s depth) (sees_only s) (known_gone (home s depth) (GoneElsewhere program effects older)) v view (after done own_facts)
     apart_from_them = innermost.apart_from_them table typed effects input ready state top below more_frames rest named p frames deep stages running awaiting of_sub at_point path views viewed_before kept scope holds placed_before above
 
-    abbrev placed_by : (some all : List Fact) (v : Views) (scope_there : List ℕ) → ((h : ℕ) (m : PlaceName) → is_observer s h ≡ true → Has some (Lent Observed h m) → Has all (Lent Observed h m))
-        → ArePlaced program some v scope_there → ArePlaced program all v scope_there
+    abbrev placed_by : (some all : List Fact) (v : Views) (scope_there : List ℕ) → ((h : ℕ) (m : PlaceName) → sees_only s h ≡ true → Has some (Lent Observed h m) → Has all (Lent Observed h m))
+        → ArePlaced program (suc (length rest)) some v scope_there → ArePlaced program (suc (length rest)) all v scope_there
     placed_by = innermost.placed_by table typed effects input ready state top below more_frames rest named p frames deep stages running awaiting of_sub at_point path views viewed_before kept scope holds placed_before above
 
-    abbrev placed : ArePlaced program facts_now views p.scope
+    abbrev placed : ArePlaced program (suc (length rest)) facts_now views p.scope
     placed = innermost.placed table typed effects input ready state top below more_frames rest named p frames deep stages running awaiting of_sub at_point path views viewed_before kept scope holds placed_before above
 
-    abbrev own_loans : (done : List Act) (h : ℕ) (m : PlaceName) → is_observer s h ≡ true → Has (after done facts_now) (Lent Observed h m)
+    abbrev own_loans : (done : List Act) (h : ℕ) (m : PlaceName) → sees_only s h ≡ true → Has (after done facts_now) (Lent Observed h m)
         → Has (after done own_facts) (Lent Observed h m)
     own_loans = innermost.own_loans table typed effects input ready state top below more_frames rest named p frames deep stages running awaiting of_sub at_point path views viewed_before kept scope holds placed_before above
 
@@ -210,7 +213,7 @@ module _ (table : Table) (typed : TypedProgram) (effects : Effects) (input : Lis
     abbrev easy : Turn
     easy = eased main_turn
 
-    abbrev placed_left : (facts : List Fact) → ArePlaced program facts views p.scope → ArePlaced program facts views left_scope
+    abbrev placed_left : (facts : List Fact) → ArePlaced program (suc (length rest)) facts views p.scope → ArePlaced program (suc (length rest)) facts views left_scope
     placed_left = innermost.placed_left table typed effects input ready state top below more_frames rest named p frames deep stages running awaiting of_sub at_point path views viewed_before kept scope holds placed_before above
 
     abbrev Left : List Waiting → Type 0
@@ -240,7 +243,7 @@ module _ (table : Table) (typed : TypedProgram) (effects : Effects) (input : Lis
     still_above = innermost.still_above table typed effects input ready state top below more_frames rest named p frames deep stages running awaiting of_sub at_point path views viewed_before kept scope holds placed_before above
 
     abbrev wait_still : (next : State) (after_scope : List ℕ) → Inside s IsOld next.memory depth after_scope → OthersKept s depth state.memory next.memory
-        → ((w : Way) (n : ℕ) → KeptElsewhere table typed effects unmoved_stage local older w n → ways.Reaches (view_here s next) w (ways.OfCell n))
+        → AreTheirs table typed effects unmoved_stage local older (view_here s next)
         → AreWaiting table typed effects next top.frame.sub top.frame.returns older
     wait_still = innermost.wait_still table typed effects input ready state top below more_frames rest named p frames deep stages running awaiting of_sub at_point path views viewed_before kept scope holds placed_before above
 
@@ -258,10 +261,10 @@ module _ (table : Table) (typed : TypedProgram) (effects : Effects) (input : Lis
 
     -- where it leads, and how the frames come from those before
     abbrev Along : Outcome → Type 0
-    Along outcome = LeadsAlong table typed effects p.instr state.memory (record { stage = top; views = views }) (below ∷ more_frames) outcome
+    Along outcome = LeadsAlong table typed effects p.instr state.memory (record { stage = top; views = views; cells = [] }) (below ∷ more_frames) outcome
 
     abbrev may : ℕ → ℕ → Type 0
-    may x y = MayBe program (scope_behind p) x y × IsStoredAt p.instr x
+    may x y = MayBe program (scope_behind p) x y × IsStoredAt p.instr x × IsSourceIn (sub_acts (sub_of program top.frame.sub)) x y
 
     abbrev LeadsFrom : Instruction → Outcome → Type 0
     LeadsFrom i outcome = Leads_on easy ready.accepted.settled ready.owns other alone views ready.class.parts_named may refl refl (after (acts_of_main i) facts_now) outcome
@@ -322,7 +325,7 @@ module _ (table : Table) (typed : TypedProgram) (effects : Effects) (input : Lis
           → LeadsFrom p.instr (steps.evaluated main_turn y (λ ws m. Goes (steps.behind main_turn (waits ws) m (k ws))))
           → Along (steps.evaluated main_turn y (λ ws m. Goes (steps.behind main_turn (waits ws) m (k ws))))
       operand_on waits k less are (Done ws n) (same, one) inside_then stay leads =
-          each.goes_there table typed effects input ready state top below more_frames rest named p frames deep stages running awaiting of_sub at_point path views viewed_before kept scope holds placed_before above going_here no_call_here
+          turned.goes_there table typed effects input ready state top below more_frames rest named p frames deep stages running awaiting of_sub at_point path views viewed_before kept scope holds placed_before above going_here no_call_here
           (each.spares table typed effects input ready state top below more_frames rest named p frames deep stages running awaiting of_sub at_point path views viewed_before kept scope holds placed_before above going_here no_call_here no_finish) no_finish (ap returns_value is)
           (steps.behind main_turn (waits ws) n.memory (k ws)) (waits ws) top.frame.loops (k ws) (less ws)
           (λ m next. ap (led main_turn (record top.frame { waits = waits ws })) next) (are ws one) inside_then leads stay
@@ -371,7 +374,7 @@ module _ (table : Table) (typed : TypedProgram) (effects : Effects) (input : Lis
         (leads_here temporary e (Some o) is (λ ws. steps.truth_waiting ws ∷ steps.waiting main_turn) (λ ws. steps.truth_waiting ws ∷ steps.waiting easy)
         (λ ws. if run.decides o ws then 1 else 0)
         (λ ws. ap (λ z. steps.truth_waiting ws ∷ z) (waits_same main_turn))
-        (left_operand_on easy ready.accepted.settled ready.owns other alone no_in_formals views ready.class.parts_named may refl refl (truth_there temporary e (Some o) is)
+        (left_operand_on easy ready.accepted.settled ready.owns other alone in_formals views ready.class.parts_named may refl refl (truth_there temporary e (Some o) is)
         given_words e o (evaluates temporary e (Some o) is) (takes_of (plain_operand temporary e (Some o) is) (Evaluate temporary e (Some o)) is) facts_now (good_there temporary e (Some o) is)
         (allowed_operand temporary e (Some o) is)))
       where
@@ -412,7 +415,7 @@ module _ (table : Table) (typed : TypedProgram) (effects : Effects) (input : Lis
             (value (steps.here main_turn) e (start main_turn)) (one_there temporary e None is) (inside_operand temporary e None is) (value_stays main_turn e)
             (leads_here temporary e None is (λ ws. steps.truth_waiting ws ∷ drop 1 (steps.waiting main_turn)) (λ ws. steps.truth_waiting ws ∷ drop 1 (steps.waiting easy)) (λ ws. 0)
             (λ ws. ap (λ z. steps.truth_waiting ws ∷ drop 1 z) (waits_same main_turn))
-            (right_operand_on easy ready.accepted.settled ready.owns other alone no_in_formals views ready.class.parts_named may refl refl (truth_there temporary e None is)
+            (right_operand_on easy ready.accepted.settled ready.owns other alone in_formals views ready.class.parts_named may refl refl (truth_there temporary e None is)
             given_words e v vs some scalar_value (evaluates temporary e None is)
             (takes_of (plain_operand temporary e None is) (Evaluate temporary e None) is) facts_now (good_there temporary e None is) (allowed_operand temporary e None is)))
 
@@ -462,8 +465,8 @@ module _ (table : Table) (typed : TypedProgram) (effects : Effects) (input : Lis
       allowed_value : AllowsAll facts_now (acts (acts_in s e))
       allowed_value = subst (AllowsAll facts_now) acts_then (allowed_now spare_value (standing.allowed table typed effects input ready state top older outer named p frames of_sub at_point path no_call_then))
 
-      keeps_value : AllKeep (sees_only s) (acts (acts_in s e))
-      keeps_value = subst (AllKeep (sees_only s)) acts_then (standing.keeps_there table typed effects input ready state top older outer named p frames of_sub at_point)
+      keeps_value : AllKeep (is_fixed s) (acts (acts_in s e))
+      keeps_value = subst (AllKeep (is_fixed s)) acts_then (standing.keeps_there table typed effects input ready state top older outer named p frames of_sub at_point)
 
       left_values : Left (steps.waiting main_turn)
       left_values = left_after (subst (FillsNone s) (sym is) tt)
@@ -531,15 +534,39 @@ module _ (table : Table) (typed : TypedProgram) (effects : Effects) (input : Lis
               lends = was.lends;
               writes = was.writes;
               unmoved = was.unmoved;
+              written = was.written;
               uses = was.uses;
               clear = was.clear;
               views = was.views;
               holds = was.holds;
               placed = was.placed;
+              kept = λ c has. record {
+                named = (was.kept c has).named;
+                own = (was.kept c has).own;
+                leads = (was.kept c has).leads;
+                reaches = (was.kept c has).reaches;
+                aside = (was.kept c has).aside;
+              };
+              bare = was.bare;
               taken = was.taken;
             },
             waits.1,
+            waits.2,
+            waits.3,
           )
+
+      past_with : (v : Waiting) → ArePast s depth views (below ∷ more_frames) → ArePast s depth views (below_with v ∷ more_frames)
+      past_with v past x w has given sees k n (g, inr there, way) goes = past x w has given sees k n (g, inr there, way) goes
+      past_with v past x w has given sees k n (g, inl same, way) goes =
+          past x w has given sees k n (below, inl refl, way_from way) goes
+        where
+          way_from : IsWayOf g k n → IsWayOf below k n
+          way_from way = subst (λ (z : ViewStage). IsWayOf z k n → IsWayOf below k n) same (λ there. there) way
+
+      elsewhere_from : (v : Waiting) (w : Way) → GoneElsewhere program effects (below_with v ∷ more_frames) w → GoneElsewhere program effects (below ∷ more_frames) w
+      elsewhere_from v w (g, inr has, what) = (g, inr has, what)
+      elsewhere_from v w (g, inl same, what) =
+          (below, inl refl, subst (λ (z : ViewStage). IsMovedBy (home s z.stage.depth) z.views (facts_of program effects z.stage) w ⊎ TakenBy z.stage.returns w) (sym same) what)
 
       elsewhere_with : (v : Waiting) (w : Way) → GoneElsewhere program effects (below ∷ more_frames) w → GoneElsewhere program effects (below_with v ∷ more_frames) w
       elsewhere_with v w (g, inr has, what) = (g, inr has, what)
@@ -571,6 +598,13 @@ module _ (table : Table) (typed : TypedProgram) (effects : Effects) (input : Lis
       abbrev facts_then : List Fact
       facts_then = after (acts_of_main p.instr) own_facts
 
+      -- it is of no anonymous type
+      named_value : (ws : List machine.Word) (waits others : List Waiting) (w : Waiting) → value_of ws ∷ waits ≡ w ∷ others → is_anonymous (full s.table w.of) ≡ true → ⊥
+      named_value ws waits others w same seen_there = true_false (is_anonymous (full s.table of)) (ap (λ (z : Waiting). is_anonymous (full s.table z.of)) first ∙ seen_there) (named_plain s.table of named_result)
+        where
+          first : value_of ws ≡ w
+          first = cc
+
       returned_to : (ws : List machine.Word) (m : Memory)
           → Viewed (home s depth) (sees_only s) other views (seen s m (value_of ws ∷ waiting_in easy.state) state.leaks) (after (acts (acts_in s e)) facts_now)
           → Kept s m (value_of ws ∷ waiting_in easy.state) → Holds s depth views m → length ws ≡ words s.table of → Inside s IsOld m depth (lasting_of s left_scope)
@@ -581,7 +615,7 @@ module _ (table : Table) (typed : TypedProgram) (effects : Effects) (input : Lis
           let view_same : view ≡ view_here s (state_then ws m) = ap (λ z. seen s m z state.leaks) (sym (hands_then ws m)) in
           let well_all : Viewed (home s depth) (sees_only s) other views view (after (acts_of_main p.instr) facts_now) =
           subst (λ z. Viewed (home s depth) (sees_only s) other views view (after z facts_now)) (sym acts_then) viewed_then in
-          let well = apart_from_them (acts_of_main p.instr) views view holds.only holds.named well_all in
+          let well = apart_from_them (acts_of_main p.instr) views view holds.only well_all in
           let found = standing.next_at table typed effects input ready state top older outer named p frames of_sub at_point path next_number next_has in
           let step_on : Has (path_point (standing.points table typed effects input ready state top older outer named p frames of_sub at_point) top.frame.next).next next_number =
           subst (λ (z : PathPoint). Has z.next next_number) (sym (path_there own named top.frame.next p at_point program effects)) next_has in
@@ -591,11 +625,11 @@ module _ (table : Table) (typed : TypedProgram) (effects : Effects) (input : Lis
           let inside_behind : Inside s IsOld m depth (lasting_of s (scope_behind p)) = subst (λ i. Inside s IsOld m depth (lasting_of s (brought i left_scope))) (sym is) inside_then in
           let more_behind : (x : ℕ) → is_within x left_scope ≡ true → is_within x (scope_behind p) ≡ true =
           (λ x within. subst (λ i. is_within x (brought i left_scope) ≡ true) (sym is) within) in
-          let there = turned_placed easy ready.accepted.settled ready.owns other alone no_in_formals views ready.class.parts_named left_scope (scope_behind p) refl refl
-          ready.orderly.transitive ready.orderly.itself local holds.only holds.named more_behind views facts_now (after (acts_of_main p.instr) facts_now)
+          let there = turned_placed easy ready.accepted.settled ready.owns other alone views ready.class.parts_named left_scope (scope_behind p) refl refl
+          ready.orderly.transitive ready.orderly.itself local holds.only holds.lies more_behind views facts_now (after (acts_of_main p.instr) facts_now)
           (λ h n has. loans_stay s (standing.acts_by table typed effects input ready state top older outer named p frames of_sub at_point s p.instr) spare_value facts_now Observed h n has)
           (placed_left facts_now placed) (unturned easy ready.accepted.settled ready.owns other alone views ready.class.parts_named (λ x y. MayBe program (scope_behind p) x y) refl refl (after (acts_of_main p.instr) facts_now)) in
-          let placed_next = placed_on program (after (acts_of_main p.instr) facts_now) views (scope_behind p) (found.0).scope holds.only found.2 there in (
+          let placed_next = placed_on program depth (after (acts_of_main p.instr) facts_now) views (scope_behind p) (found.0).scope holds.only found.2 there in (
             record {
               top = top_then;
               views = views;
@@ -606,7 +640,10 @@ module _ (table : Table) (typed : TypedProgram) (effects : Effects) (input : Lis
                 running.1,
                 wait_with v (state_then ws m) more_frames one_awaited
                     (wait_still (state_then ws m) (lasting_of s (scope_behind p)) inside_behind stay
-                    (λ w n keeps. subst (λ z. ways.Reaches z w (ways.OfCell n)) view_same (well_all.far w n keeps))),
+                    (record {
+                      far = λ w n keeps. subst (λ z. ways.Reaches z w (ways.OfCell n)) view_same (well_all.far w n keeps);
+                      bare = λ w n p bare q c held. well_all.bare w n p bare q c (subst (λ z. z.word (ways.part n (q ++ p)) ≡ Held c) (sym view_same) held);
+                    })),
               );
               awaited = (
                 standing.waits_next table typed effects input ready state top older outer named p frames of_sub at_point path (steps.waiting main_turn) top.frame.loops next_number next_has left_values,
@@ -624,9 +661,11 @@ module _ (table : Table) (typed : TypedProgram) (effects : Effects) (input : Lis
                     known = λ w l rooted r gone. elim (well.known w l rooted r gone) [ inl moved ↦ inl moved | inr elsewhere ↦ inr (elsewhere_with v w elsewhere) ];
                     clear = well.clear;
                     views = well.views;
-                    whole = λ x w z has foreign gone meets. not_elsewhere (home s depth) w (holds.named x w has) foreign;
+                    whole = λ x w z has foreign gone meets. well.whole x w z has foreign (elsewhere_from v z gone) meets;
+                    past = λ x w has given plain k n none. absurd none;
                     lends = well.lends;
                     far = λ w n none. absurd none;
+                    bare = λ w n p none. absurd none;
                   })));
               kept = subst (Kept s m) (sym (hands_then ws m)) kept_then;
               named = named;
@@ -636,15 +675,26 @@ module _ (table : Table) (typed : TypedProgram) (effects : Effects) (input : Lis
               scope = subst (λ d. InScope s m d (lasting_of s (found.0).scope)) (sym deep)
                   (scope_on s ready.owns m depth (scope_behind p) (found.0).scope (in_scope m (lasting_of s (scope_behind p)) inside_behind) found.2);
               holds = subst (λ d. HoldsAt s d views m found.0) (sym deep) (record {
-                held = λ x n lasts view_is at. holds_then.held x n (anonymous_is_view s no_in_formals x view_is) at;
-                within = λ x n view_is at. (
-                    let own_way = holds_then.held x n (anonymous_is_view s no_in_formals x view_is) at in (placed_next x own_way.0 own_way.1).within);
+                held = λ x n lasts view_is at. holds_then.held x n view_is at;
+                within = λ x n view_is at. (let own_way = holds_then.held x n view_is at in (placed_next x own_way.0 own_way.1).within);
                 only = holds.only;
-                named = holds.named;
+                lies = holds.lies;
+                owners = holds.owners;
+                passed = holds.passed;
+                own = holds.own;
               });
-              placed = subst (λ z. ArePlaced program z views (found.0).scope) (sym facts_there)
-                  (placed_by (after (acts_of_main p.instr) facts_now) facts_then views (found.0).scope (own_loans (acts_of_main p.instr)) placed_next);
+              placed = subst (λ d. ArePlaced program d (facts_of program effects top_then) views (found.0).scope) (sym deep) (subst (λ z. ArePlaced program depth z views (found.0).scope) (sym facts_there)
+                  (placed_by (after (acts_of_main p.instr) facts_now) facts_then views (found.0).scope (own_loans (acts_of_main p.instr)) placed_next));
+              past = subst (λ d. ArePast s d views (below_with v ∷ more_frames)) (sym deep) (past_with v placed_before.1);
               none_above = subst (λ d. NoneAbove s d m) (sym deep) (still_above m stay);
+              traversals = (
+                (
+                  none_given table typed (view_here s (state_then ws m)) (record { stage = top_then; views = views; cells = [] }) (empty_given table typed (record { stage = top_then; views = views; cells = [] }) no_value_left),
+                  inl (λ w others same seen_there. named_value ws below.stage.frame.waits others w same seen_there),
+                  (above.1).0.2,
+                ),
+                ((above.1).1.0, (above.1).1.1),
+              );
             },
             returns_one no_call_then no_finish_then going_then below more_frames (v ∷ below.stage.frame.waits) refl (refl, refl, refl) (λ x w has. inl has) refl,
           )
@@ -673,7 +723,7 @@ module _ (table : Table) (typed : TypedProgram) (effects : Effects) (input : Lis
 
       plain_given : Plain × TakesScalars s p.instr → IsGivenValue
       plain_given plain =
-          source_given easy ready.accepted.settled ready.owns other alone no_in_formals views ready.class.parts_named may refl refl given_words of e named_result source
+          source_given easy ready.accepted.settled ready.owns other alone in_formals views ready.class.parts_named may refl refl given_words of e named_result source
           (plainly_value plain.1) (takes_value plain.0) facts_now
           (each.good table typed effects input ready state top below more_frames rest named p frames deep stages running awaiting of_sub at_point path views viewed_before kept scope holds placed_before above going_then no_call_then plain.0) allowed_value keeps_value
 
@@ -700,8 +750,9 @@ module _ (table : Table) (typed : TypedProgram) (effects : Effects) (input : Lis
         by_result : (r : Option ℕ) → named.sub.result ≡ r → Returns s r (More e last) → Along (steps.hold main_turn (More e last))
         by_result None none never = cc
         by_result (Some of) result (value_there, same, source) =
-            let source_here : Source s of e = subst (Source s of) (sym (ap head_of same)) source in
-            let last_is : last ≡ NoMore = ap last_of same in
+            let value_is : value_there ≡ e = cc in
+            let source_here : Source s of e = subst (Source s of) value_is source in
+            let last_is : last ≡ NoMore = cc in
             value_step e last is of result source_here last_is (elim (innermost.taken_there table typed effects input ready state top below more_frames rest named p frames deep stages running awaiting of_sub at_point path views viewed_before kept scope holds placed_before above) [
               | inl plain ↦ plain_given e last is of result source_here last_is plain
               | inr alone_taken ↦ alone_given e last is of result source_here last_is alone_taken

@@ -7,8 +7,8 @@ use Rattle.place_names.specs.declared.rule.Loan.{Loan}
 use Rattle.place_names.specs.declared.rule.Loan.TheVariants.{Borrowed, Observed}
 use Rattle.owned_ways.specs.Ways.{Way, Object, Lost, Into, All, View, Under, Named, name_of}
 use Rattle.owned_loans.specs.Views.{on, Views, expand, HasLoan, AreViews, IsView}
-use Rattle.owned_loans.proofs.Ways.{under_on, on_under, Lifted, lifts, lifted_root, lifted_way}
-use Rattle.owned_loans.proofs.Meeting.{own_view, named_view}
+use Rattle.owned_loans.proofs.Ways.{under_on, on_under, on_named, Lifted, lifts, lifted_root, lifted_way}
+use Rattle.owned_loans.proofs.Meeting.{named_view}
 
 named_front : (at_home : ℕ → ℕ) (k w : Way) → Under k w → Named at_home w → Named at_home k
 named_front at_home k (Object r) u named = subst (Named at_home) (sym u) named
@@ -34,10 +34,14 @@ module _ (at_home : ℕ → ℕ) (observer : ℕ → Bool) (v : Views) (s : View
     subst (Under k) (sym (lifted_way v (v.up x) z) ∙ view.leads) (under_on k z.way (on z.way z.rest) under (on_under z.way z.rest)),
   )
 
-  borrower_on : (n x : ℕ) (w : Way) → x < n → observer x ≡ false → v.way x ≡ Some w → GoesOn Borrowed w
-  borrower_on zero x w less borrows has = absurd (omega (arith, less))
-  borrower_on (suc n) x w less borrows has =
-      let view = own_view at_home observer v s facts views x w has borrows in
+  -- what a named way goes on from is named
+  front_named : {x : ℕ} (w : Way) → IsView at_home observer v s facts x w → (z : Lifted v (v.up x)) → Named at_home w → Named at_home z.way
+  front_named w view z named = on_named at_home z.way z.rest (subst (Named at_home) (sym view.leads ∙ lifted_way v (v.up _) z) named)
+
+  borrower_on : (n x : ℕ) (w : Way) → x < n → observer x ≡ false → v.way x ≡ Some w → Named at_home w → GoesOn Borrowed w
+  borrower_on zero x w less borrows has named = absurd (omega (arith, less))
+  borrower_on (suc n) x w less borrows has named =
+      let view = named_view at_home observer v s facts views x w has named in
       elim (lifts v (v.up x)) [
         | inl e ↦ (
             let place = own_place x w view e in
@@ -45,17 +49,17 @@ module _ (at_home : ℕ → ℕ) (observer : ℕ → Bool) (v : Views) (s : View
         | inr z ↦ (
             let root = lifted_root v (v.up x) z in
             let older = view.older borrows in
-            further Borrowed x w view z (borrower_on n z.object z.way (omega (arith, less, older, root)) (ap observer (sym root) ∙ view.plain) z.has))
+            further Borrowed x w view z (borrower_on n z.object z.way (omega (arith, less, older, root)) (ap observer (sym root) ∙ view.plain) z.has (front_named w view z named)))
       ]
 
-  pub borrower_goes : (x : ℕ) (w : Way) → observer x ≡ false → v.way x ≡ Some w → GoesOn Borrowed w
-  borrower_goes x w borrows has = borrower_on (suc x) x w (omega arith) borrows has
+  pub borrower_goes : (x : ℕ) (w : Way) → observer x ≡ false → v.way x ≡ Some w → Named at_home w → GoesOn Borrowed w
+  borrower_goes x w borrows has named = borrower_on (suc x) x w (omega arith) borrows has named
 
   pub view_goes : (x : ℕ) (w : Way) → v.way x ≡ Some w → Named at_home w → (l : Loan) × GoesOn l w
   view_goes x w has named = by_kind (observer x) refl
     where
       by_kind : (b : Bool) → observer x ≡ b → (l : Loan) × GoesOn l w
-      by_kind false e = (Borrowed, borrower_goes x w e has)
+      by_kind false e = (Borrowed, borrower_goes x w e has named)
       by_kind true e =
           let view = named_view at_home observer v s facts views x w has named in
           elim (lifts v (v.up x)) [
@@ -65,5 +69,5 @@ module _ (at_home : ℕ → ℕ) (observer : ℕ → Bool) (v : Views) (s : View
                 (Observed, (held.0, v.loan x, held.1, place.0, place.1)))
             | inr z ↦ (
                 let root = lifted_root v (v.up x) z in
-                (Borrowed, further Borrowed x w view z (borrower_goes z.object z.way (ap observer (sym root) ∙ view.plain) z.has)))
+                (Borrowed, further Borrowed x w view z (borrower_goes z.object z.way (ap observer (sym root) ∙ view.plain) z.has (front_named w view z named))))
           ]

@@ -4,7 +4,7 @@ use Rattle.place_names.specs.declared.fact.Fact.{Fact}
 use Rattle.type_definitions.specs.Types.{shape_of, words, is_scalar, full}
 use Rattle.typed_tree.specs.Trees.{TypedTree, Text, Parens, Image, Binary, NoMore, More}
 use Rattle.flow_paths.specs.Instructions.{Skip, Fall}
-use Rattle.flow_paths.specs.Objects.{Typing, object_at, is_anonymous, view_of}
+use Rattle.flow_paths.specs.Objects.{Typing, object_at}
 use Rattle.flow_paths.specs.Names.{waiting as waits_in}
 use Rattle.flow_paths.specs.Scopes.{taken}
 use Rattle.flow_paths.specs.Acts.{acts_in}
@@ -19,7 +19,7 @@ use Rattle.machine.specs.Step as steps
 use Rattle.machine.specs.Owners.{waiting_in}
 use Rattle.owned_ways.specs.Ways.{OfVariable, Loc, OfRoot, Way, Reaches, after, AllowsAll}
 use Rattle.part_offsets.specs.Parts.{offset_in, IsSettled}
-use Rattle.soundness.specs.Seen.{IsNear, is_view_formal, content, trunk, seen, home}
+use Rattle.soundness.specs.Seen.{IsNear, content, trunk, seen, home}
 use Rattle.soundness.specs.Typed.{OwnsByShape, Kept, Spot}
 use Rattle.typed_laws.specs.Needed.{Stays, Writes}
 use Rattle.soundness.proofs.Contents.{bool_cases}
@@ -36,13 +36,11 @@ use Rattle.soundness.proofs.Waits.{waits_of, led_waits}
 use Rattle.owned_loans.specs.Views.{Around, Views, Viewed}
 use Rattle.owned_loans.proofs.Moves.{same_viewed}
 use Rattle.viewed_soundness.specs.Holds.{PartsAreNamed, Holds, sees_only, IsOwners, is_view}
-use Rattle.viewed_soundness.proofs.Names.{true_false}
 use Rattle.viewed_soundness.proofs.Stays.{taking}
 use Rattle.viewed_soundness.proofs.Evaluated.{scalar_given}
-use Rattle.viewed_soundness.proofs.Outcomes.{named_plain, IsGood, Leads_on, raises, start_is, hands_behind, unturned, goes_to, live}
+use Rattle.viewed_soundness.proofs.Outcomes.{IsGood, Leads_on, raises, start_is, hands_behind, unturned, goes_to, live}
 use Rattle.viewed_steps.proofs.Declared.{same_root}
-use Rattle.viewed_steps.proofs.Read.{scalar_named}
-use Rattle.viewed_steps.proofs.Views.{is_anonymous_view}
+use Rattle.viewed_steps.proofs.Views.{AreAccess, scalar_no_view}
 
 value_long : (ws : List machine.Word) (v : ℤ) → length (steps.parameter_words ws v) ≡ 1
 value_long [] v = refl
@@ -53,7 +51,7 @@ value_long (machine.Null ∷ ws) v = refl
 value_long (machine.Cell n ∷ ws) v = refl
 
 module _ (t : Turn) (settled : IsSettled (typing t).table) (own_law : OwnsByShape (typing t).table) (other : Around (home (typing t) (length t.outer)))
-    (alone : (w : Way) → IsNear (length t.outer) w → other.gone w → ⊥) (no_formals : (x : ℕ) → is_view_formal (typing t) x ≡ false)
+    (alone : (w : Way) → IsNear (length t.outer) w → other.gone w → ⊥) (in_formals : AreAccess (typing t))
     (v : Views) (parts_named : PartsAreNamed (typing t).table) (may : ℕ → ℕ → Type 0)
     (frames : t.state.frames ≡ t.frame ∷ t.outer) (none : taken t.point.instr ≡ 0) where
   abbrev s : Typing
@@ -136,7 +134,7 @@ module _ (t : Turn) (settled : IsSettled (typing t).table) (own_law : OwnsByShap
       let on = stays_here facts good 0 in
       subst (λ (z : Now). LeadsHere facts (Goes (record (behind t (waiting t) z.memory 0) {
         output = t.state.output ++ a ++ (if line then 10 ∷ [] else []);
-      }))) (sym same) (on.0, on.1, record { viewed = on.2.viewed; kept = on.2.kept; holds = record { held = on.2.holds.held; only = on.2.holds.only; owners = on.2.holds.owners; access = on.2.holds.access } })
+      }))) (sym same) (on.0, on.1, record { viewed = on.2.viewed; kept = on.2.kept; holds = record { held = on.2.holds.held; only = on.2.holds.only; owners = on.2.holds.owners; access = on.2.holds.access; own = on.2.holds.own } })
   then_written facts good line (Raises e n) is = raised_here facts good e n.memory
   then_written facts good line (Traps e n) never = absurd never
 
@@ -175,7 +173,7 @@ module _ (t : Turn) (settled : IsSettled (typing t).table) (own_law : OwnsByShap
     record {
       viewed = subst (λ z. Viewed (home s depth) (sees_only s) other v (seen s n z t.state.leaks) facts) (sym (turn_waits loops k)) viewed;
       kept = subst (Kept s n) (sym (turn_waits loops k)) kept;
-      holds = record { held = holds.held; only = holds.only; owners = holds.owners; access = holds.access };
+      holds = record { held = holds.held; only = holds.only; owners = holds.owners; access = holds.access; own = holds.own };
     },
   )
 
@@ -183,8 +181,7 @@ module _ (t : Turn) (settled : IsSettled (typing t).table) (own_law : OwnsByShap
   apart : (f x : ℕ) → is_scalar (full s.table (object_at s x).of) ≡ true → (y : ℕ) → is_view s y ≡ true → OfVariable f x ≡ OfVariable (home s depth y) y → ⊥
   apart f x scalar y view e =
       let same = same_root f x (home s depth y) y e in
-      true_false (is_anonymous (view_of s y)) (is_anonymous_view s no_formals y view)
-      (ap (λ z. is_anonymous (view_of s z)) (sym same.1) ∙ named_plain s.table (object_at s x).of (scalar_named s.table (object_at s x).of scalar))
+      scalar_no_view s in_formals x scalar (subst (λ z. is_view s z ≡ true) (sym same.1) view)
 
   next_by : (x : ℕ) → is_scalar (full s.table (object_at s x).of) ≡ true → (facts : List Fact) → Good facts
       → (ws : List machine.Word) (i : Option ℤ) → LeadsHere facts (steps.turned_to t x (variable_place (here t) x) ws i)
@@ -210,6 +207,7 @@ module _ (t : Turn) (settled : IsSettled (typing t).table) (own_law : OwnsByShap
         only = good.holds.only;
         owners = good.holds.owners;
         access = good.holds.access;
+        own = good.holds.own;
       })
   next_by x scalar facts good ws None =
       let next : Memory = undeclared depth x m in
@@ -223,6 +221,7 @@ module _ (t : Turn) (settled : IsSettled (typing t).table) (own_law : OwnsByShap
         only = good.holds.only;
         owners = good.holds.owners;
         access = good.holds.access;
+        own = good.holds.own;
       })
 
   -- the parameter of a loop gets its next value, or leaves scope
@@ -278,6 +277,7 @@ module _ (t : Turn) (settled : IsSettled (typing t).table) (own_law : OwnsByShap
               only = good.holds.only;
               owners = good.holds.owners;
               access = good.holds.access;
+              own = good.holds.own;
             };
           },
         )

@@ -1,5 +1,13 @@
 -- The end of a scope leads on.
-use Rattle.viewed_soundness.specs.Holds.{sees_only}
+use Rattle.std.specs.Prelude.{get_or}
+use Rattle.machine.specs.Run.{no_point}
+use Rattle.viewed_steps.proofs.Standing.{or_right}
+use Rattle.flow_paths.specs.Views.{sub_acts}
+use Rattle.viewed_soundness.proofs.Names.{given_view}
+use Rattle.viewed_steps.proofs.Rooted.{rooted_on}
+use Rattle.viewed_steps.proofs.Low.{BeginsLow, given_still, reaches_low, undeclared_words}
+use Rattle.viewed_steps.proofs.Traversed.{none_given, named_given}
+use Rattle.viewed_soundness.specs.Holds.{is_view, sees_only}
 use Rattle.soundness.specs.Ready.{Fills, IsSupplied}
 use Rattle.std.proofs.Common.{◌≡◌, refl, sym, ap, ◌∙◌, subst, ◌⊎◌, inl, inr, ℕ, zero, suc, ◌<◌, true, false, List, [], ◌∷◌, ◌++◌, map, drop, length, arith, Some, None}
 use Rattle.spark_base.specs.Lists.{Has}
@@ -14,24 +22,24 @@ use Rattle.type_definitions.specs.Types.{Table}
 use Rattle.typed_tree.specs.Programs.{TypedProgram}
 use Rattle.flow_paths.specs.declared.report.Effects.{Effects}
 use Rattle.flow_paths.specs.Instructions.{Instruction, Call, EndScope}
-use Rattle.flow_paths.specs.Objects.{Typing, is_anonymous, is_package_object, is_borrower, is_observer, view_of}
+use Rattle.flow_paths.specs.Objects.{Typing, is_package_object, is_borrower}
 use Rattle.flow_paths.specs.Points.{NamedPoint}
 use Rattle.flow_paths.specs.Laid.{FlowProgram, NamedSub, number_in, flow_typing, flow_program, flow_named}
 use Rattle.flow_paths.specs.Paths.{ControlPath}
 use Rattle.flow_paths.specs.Effects.{path_points}
 use Rattle.place_names.specs.Rules.{forbids}
 use Rattle.flow_paths.specs.Scopes.{taken, brought, scope_behind, is_ready, Leads, is_last}
-use Rattle.machine.specs.Memory.{Memory}
-use Rattle.machine.specs.States.{Waiting, Frame, State, Outcome, Goes, Ends, sub_of}
+use Rattle.machine.specs.Memory.{Memory, undeclared}
+use Rattle.machine.specs.States.{Waiting, Frame, State, Outcome, Goes, Ends, sub_of, Loop}
 use Rattle.machine.specs.Step.{Turn, turn, successor}
 use Rattle.machine.specs.Step as steps
 use Rattle.machine.specs.Typed.{successors}
 use Rattle.machine.specs.Owners.{waiting_in}
 use Rattle.owned_ways.specs.Ways.{Step, OfVariable, OfRoot, Way, Held, after, AllowsAll}
 use Rattle.owned_ways.specs.Ways as ways
-use Rattle.soundness.specs.Seen.{IsNear, is_view_formal, content, word_in, home}
+use Rattle.soundness.specs.Seen.{IsNear, content, word_in, home, seen}
 use Rattle.soundness.specs.Typed.{Kept}
-use Rattle.soundness.specs.Sound.{IsNoCall, Stage, facts_of, AreStages, IsRunnable, returns_value, InScope, IsNamedSub, IsAtPoint, view_of as view_here, is_temporary_object}
+use Rattle.soundness.specs.Sound.{IsNoCall, Stage, facts_of, AreStages, IsRunnable, returns_value, InScope, IsNamedSub, IsAtPoint, view_of as view_here, is_temporary_object, has_returned}
 use Rattle.soundness.proofs.Scoped.{Inside}
 use Rattle.soundness.proofs.Inherited.{Splits, allowed_beside}
 use Rattle.soundness.proofs.Around.{IsFar}
@@ -44,13 +52,13 @@ use Rattle.owned_loans.specs.Views.{Around, known_gone, Views, Viewed}
 use Rattle.viewed_soundness.proofs.Outcomes.{Is_left}
 use Rattle.viewed_steps.specs.Awaited.{AreValues, lasting_of, awaited, AreAwaited}
 use Rattle.viewed_steps.proofs.Waited.{plain_unheld, last_lasting, lasting_last}
-use Rattle.viewed_steps.specs.Sound.{HoldsAt, ArePlaced, NoneAbove, ViewStage, stages_of, GoneElsewhere, AreWaiting, AreLeft, leaves_scope, LeadsAlong, IsResting}
+use Rattle.viewed_steps.specs.Sound.{ArePast, HoldsAt, ArePlaced, NoneAbove, ViewStage, stages_of, GoneElsewhere, AreWaiting, AreLeft, leaves_scope, LeadsAlong, IsResting, HasTraversals}
 use Rattle.viewed_steps.specs.Ready.{AreOrderly, IsReady}
-use Rattle.viewed_steps.proofs.Inherited.{apart_end, lent_end}
+use Rattle.viewed_steps.proofs.Inherited.{lent_end}
 use Rattle.viewed_steps.proofs.Placed.{scope_on}
 use Rattle.viewed_steps.proofs.Ended.{views_left, ends_well, placed_left, holds_left, leaves, leaves_others}
 use Rattle.viewed_steps.proofs.Beside.{OthersKept, end_scope_keeps}
-use Rattle.viewed_steps.proofs.Waiting.{StandsBetween, KeptElsewhere, beside_them, handed, handed_cases}
+use Rattle.viewed_steps.proofs.Waiting.{StandsBetween, AreTheirs, beside_them, handed, handed_lent, kept_low}
 use Rattle.viewed_steps.proofs.Standing as standing
 use Rattle.viewed_steps.proofs.Packages as packages
 use Rattle.viewed_steps.proofs.Innermost as innermost
@@ -66,10 +74,7 @@ module _ (table : Table) (typed : TypedProgram) (effects : Effects) (input : Lis
   abbrev s : Typing
   s = flow_typing program
 
-  abbrev no_in_formals : (x : ℕ) → is_view_formal s x ≡ false
-  no_in_formals = standing.no_in_formals table typed effects input ready
-
-  abbrev local : (x : ℕ) → is_anonymous (view_of s x) ≡ true → is_package_object s x ≡ false
+  abbrev local : (x : ℕ) → is_view s x ≡ true → is_package_object s x ≡ false
   local = standing.local table typed effects input ready
 
   abbrev unmoved_stage : (e : Stage) → e.frame.sub ≡ 0 → (name : PlaceName) → Has (facts_of program effects e) (Moved name) → ⊥
@@ -85,7 +90,8 @@ module _ (table : Table) (typed : TypedProgram) (effects : Effects) (input : Lis
       (viewed_before : Viewed (home s (suc (length rest))) (sees_only s) (known_gone (home s (suc (length rest))) (GoneElsewhere program effects (below ∷ more_frames))) views
       (view_here s state) (facts_of program effects top))
       (kept : Kept s state.memory (waiting_in state)) (scope : InScope s state.memory (suc (length rest)) (lasting_of s p.scope)) (holds : HoldsAt s (suc (length rest)) views state.memory p)
-      (placed_before : ArePlaced program (facts_of program effects top) views p.scope) (above : NoneAbove s (suc (length rest)) state.memory) where
+      (placed_before : ArePlaced program (suc (length rest)) (facts_of program effects top) views p.scope × ArePast s (suc (length rest)) views (below ∷ more_frames)) (above : NoneAbove s (suc (length rest)) state.memory
+      × HasTraversals table typed (view_here s state) (record { stage = top; views = views; cells = [] } ∷ (below ∷ more_frames))) where
     abbrev outer : List Frame
     outer = below.stage.frame ∷ rest
 
@@ -140,20 +146,19 @@ module _ (table : Table) (typed : TypedProgram) (effects : Effects) (input : Lis
     abbrev viewed : Viewed (home s depth) (sees_only s) other views (view_here s state) facts_now
     viewed = innermost.viewed table typed effects input ready state top below more_frames rest named p frames deep stages running awaiting of_sub at_point path views viewed_before kept scope holds placed_before above
 
-    abbrev apart_from_them : (done : List Act) (v : Views) (view : ways.View) → ((x : ℕ) (w : Way) → v.way x ≡ Some w → is_anonymous (view_of s x) ≡ true)
-        → ((x : ℕ) (w : Way) → v.way x ≡ Some w → ways.Named (home s depth) w)
+    abbrev apart_from_them : (done : List Act) (v : Views) (view : ways.View) → ((x : ℕ) (w : Way) → v.way x ≡ Some w → is_view s x ≡ true)
         → Viewed (home s depth) (sees_only s) other v view (after done facts_now)
         → Viewed (home s depth) (sees_only s) (known_gone (home s depth) (GoneElsewhere program effects older)) v view (after done own_facts)
     apart_from_them = innermost.apart_from_them table typed effects input ready state top below more_frames rest named p frames deep stages running awaiting of_sub at_point path views viewed_before kept scope holds placed_before above
 
-    abbrev placed_by : (some all : List Fact) (v : Views) (scope_there : List ℕ) → ((h : ℕ) (m : PlaceName) → is_observer s h ≡ true → Has some (Lent Observed h m) → Has all (Lent Observed h m))
-        → ArePlaced program some v scope_there → ArePlaced program all v scope_there
+    abbrev placed_by : (some all : List Fact) (v : Views) (scope_there : List ℕ) → ((h : ℕ) (m : PlaceName) → sees_only s h ≡ true → Has some (Lent Observed h m) → Has all (Lent Observed h m))
+        → ArePlaced program (suc (length rest)) some v scope_there → ArePlaced program (suc (length rest)) all v scope_there
     placed_by = innermost.placed_by table typed effects input ready state top below more_frames rest named p frames deep stages running awaiting of_sub at_point path views viewed_before kept scope holds placed_before above
 
-    abbrev placed : ArePlaced program facts_now views p.scope
+    abbrev placed : ArePlaced program (suc (length rest)) facts_now views p.scope
     placed = innermost.placed table typed effects input ready state top below more_frames rest named p frames deep stages running awaiting of_sub at_point path views viewed_before kept scope holds placed_before above
 
-    abbrev own_loans : (done : List Act) (h : ℕ) (m : PlaceName) → is_observer s h ≡ true → Has (after done facts_now) (Lent Observed h m)
+    abbrev own_loans : (done : List Act) (h : ℕ) (m : PlaceName) → sees_only s h ≡ true → Has (after done facts_now) (Lent Observed h m)
         → Has (after done own_facts) (Lent Observed h m)
     own_loans = innermost.own_loans table typed effects input ready state top below more_frames rest named p frames deep stages running awaiting of_sub at_point path views viewed_before kept scope holds placed_before above
 
@@ -193,7 +198,7 @@ module _ (table : Table) (typed : TypedProgram) (effects : Effects) (input : Lis
     still_above = innermost.still_above table typed effects input ready state top below more_frames rest named p frames deep stages running awaiting of_sub at_point path views viewed_before kept scope holds placed_before above
 
     abbrev wait_still : (next : State) (after_scope : List ℕ) → Inside s IsOld next.memory depth after_scope → OthersKept s depth state.memory next.memory
-        → ((w : Way) (n : ℕ) → KeptElsewhere table typed effects unmoved_stage local older w n → ways.Reaches (view_here s next) w (ways.OfCell n))
+        → AreTheirs table typed effects unmoved_stage local older (view_here s next)
         → AreWaiting table typed effects next top.frame.sub top.frame.returns older
     wait_still = innermost.wait_still table typed effects input ready state top below more_frames rest named p frames deep stages running awaiting of_sub at_point path views viewed_before kept scope holds placed_before above
 
@@ -207,7 +212,7 @@ module _ (table : Table) (typed : TypedProgram) (effects : Effects) (input : Lis
 
     -- where it leads, and how the frames come from those before
     abbrev Along : Outcome → Type 0
-    Along outcome = LeadsAlong table typed effects p.instr state.memory (record { stage = top; views = views }) (below ∷ more_frames) outcome
+    Along outcome = LeadsAlong table typed effects p.instr state.memory (record { stage = top; views = views; cells = [] }) (below ∷ more_frames) outcome
 
     module _ (y : ℕ) (is : p.instr ≡ EndScope y) where
       abbrev no_source : ℕ → ℕ → Type 0
@@ -252,43 +257,76 @@ module _ (table : Table) (typed : TypedProgram) (effects : Effects) (input : Lis
           allowed_beside (acts_of_main (EndScope y)) facts_now own_facts handed_on from_both
           (subst (λ i. AllowsAll own_facts (acts_of_main i)) is (standing.allowed table typed effects input ready state top older outer named p frames of_sub at_point path no_call_here))
           (λ a has f there. elim has [
-            | inl end_act ↦ ap (λ z. forbids z f) (sym end_act) ∙ elim (handed_cases table typed effects unmoved_stage local state (suc (length rest)) (below ∷ more_frames) between f there) [
-              | inl (name, same, g, has_stage, fact, shared) ↦ ap (forbids (act.EndScope y (is_borrower s y))) same
-                  ∙ apart_end s name shared borrower_local y (is_borrower s y) not_shared
-              | inr (l, name, same, lent) ↦ ap (forbids (act.EndScope y (is_borrower s y))) same
-                  ∙ lent_end s name lent.5 borrower_local l name.root y (is_borrower s y)
-            ]
+            | inl end_act ↦ ap (λ z. forbids z f) (sym end_act) ∙ (
+                let (l, name, same, lent) = handed_lent table typed effects unmoved_stage local state (suc (length rest)) (below ∷ more_frames) between f there in
+                ap (forbids (act.EndScope y (is_borrower s y))) same ∙ lent_end s name lent.5 borrower_local l name.root y (is_borrower s y))
             | inr never ↦ absurd never
           ])
 
       abbrev left_views : Views
       left_views =
-          views_left main_turn ready.accepted.settled ready.owns other alone no_in_formals views ready.class.parts_named no_source frames nothing_taken
-          p at_next_point.0 y is (home_frame y not_shared) not_shared (ready_there (EndScope y) is) ready.orderly.local (λ x within off. orderly.ended y x is within off)
+          views_left main_turn ready.accepted.settled ready.owns other alone views ready.class.parts_named no_source frames nothing_taken
+          p at_next_point.0 y is (home_frame y not_shared) not_shared (orderly.over y is) (ready_there (EndScope y) is) (orderly.variables y (inr is)) (λ x within off. orderly.ended y x is within off)
           (λ x within sees region. orderly.followed y x is at_next_point.0 (next_point.0, next_point.2, at_next_point.1) within sees region)
           lead facts_now end_allowed.0 viewed kept holds placed (not_lent y not_shared)
 
-      left_named : (x : ℕ) (w : Way) → left_views.way x ≡ Some w → ways.Named (home s depth) w
-      left_named x w has =
-          holds.named x w
-          ((leaves main_turn ready.accepted.settled ready.owns other alone no_in_formals views ready.class.parts_named no_source frames nothing_taken
-          p at_next_point.0 y is (home_frame y not_shared) not_shared (ready_there (EndScope y) is) ready.orderly.local (λ x within off. orderly.ended y x is within off)
-          (λ x within sees region. orderly.followed y x is at_next_point.0 (next_point.0, next_point.2, at_next_point.1) within sees region)
-          lead facts_now end_allowed.0 viewed kept holds placed (not_lent y not_shared)).1.was x w has).2
-
       -- they had their ways before, and none begins at the object
-      were_left : AreLeft y views left_views
+      were_left : AreLeft (home s top.depth) y views left_views
       were_left x w has = (
-        ((leaves main_turn ready.accepted.settled ready.owns other alone no_in_formals views ready.class.parts_named no_source frames nothing_taken
-            p at_next_point.0 y is (home_frame y not_shared) not_shared (ready_there (EndScope y) is) ready.orderly.local (λ x within off. orderly.ended y x is within off)
+        ((leaves main_turn ready.accepted.settled ready.owns other alone views ready.class.parts_named no_source frames nothing_taken
+            p at_next_point.0 y is (home_frame y not_shared) not_shared (orderly.over y is) (ready_there (EndScope y) is) (orderly.variables y (inr is)) (λ x within off. orderly.ended y x is within off)
             (λ x within sees region. orderly.followed y x is at_next_point.0 (next_point.0, next_point.2, at_next_point.1) within sees region)
             lead facts_now end_allowed.0 viewed kept holds placed (not_lent y not_shared)).1.was x w has).2,
-        (leaves_others main_turn ready.accepted.settled ready.owns other alone no_in_formals views ready.class.parts_named no_source frames nothing_taken
-            p at_next_point.0 y is (home_frame y not_shared) not_shared (ready_there (EndScope y) is) ready.orderly.local (λ x within off. orderly.ended y x is within off)
+        λ at_home. (leaves_others main_turn ready.accepted.settled ready.owns other alone views ready.class.parts_named no_source frames nothing_taken
+            p at_next_point.0 y is (home_frame y not_shared) not_shared (orderly.over y is) (ready_there (EndScope y) is) (orderly.variables y (inr is)) (λ x within off. orderly.ended y x is within off)
             (λ x within sees region. orderly.followed y x is at_next_point.0 (next_point.0, next_point.2, at_next_point.1) within sees region)
             lead facts_now end_allowed.0 viewed kept holds placed (not_lent y not_shared)).roots x w has
-            (left_named x w has),
+            (subst (λ d. ways.Named (home s d) w) deep at_home),
       )
+
+      -- what was given to the frame below is given still
+      low_views : (x : ℕ) (w : Way) → below.views.way x ≡ Some w → BeginsLow depth w
+      low_views x w has = kept_low table typed effects unmoved_stage local state depth older between w (below.views.cell x) (below, inl refl, inl (x, has, refl))
+
+      below_less : below.stage.depth < depth
+      below_less = (let is_deep = stages.0 in omega (arith, is_deep))
+
+      traversals_left : (after_step : State) → after_step.memory ≡ undeclared depth y state.memory → (waits : List Waiting) (loops : List Loop) → Left waits
+          → HasTraversals table typed (view_here s after_step)
+          (record { stage = standing.at_next table typed effects input ready state top older outer named p frames of_sub at_point path waits loops next_point.0; views = left_views; cells = [] } ∷ older)
+      traversals_left after_step memory waits loops are =
+          let there : ViewStage =
+          record { stage = standing.at_next table typed effects input ready state top older outer named p frames of_sub at_point path waits loops next_point.0; views = left_views; cells = [] } in (
+            (
+              none_given table typed (view_here s after_step) there (named_given table typed there (scope_behind p) are (innermost.named_behind table typed effects input ready state top below more_frames rest named p frames deep stages running awaiting of_sub at_point path views viewed_before kept scope holds placed_before above no_call_here)),
+              elim (above.1).0.1 [
+                | inl none ↦ inl none
+                | inr (some, returned, none_back, was) ↦ inr (
+                  some,
+                  or_right (returns_value (get_or (sub_of program top.frame.sub).points top.frame.next no_point).instr) (has_returned (sub_of program top.frame.sub) top.before) returned,
+                  none_back,
+                  λ other_named other_of q at_q.
+                      given_still s depth below.stage.depth below_less (omega arith) below.views low_views q.instr (view_here s state) (view_here s after_step) below.stage.frame.waits
+                      (λ w low k reach. reaches_low depth (view_here s state) (view_here s after_step)
+                      (λ l is_low. undeclared_words s depth y state.memory (waiting_in state) (waiting_in after_step) state.leaks after_step.leaks l is_low
+                      ∙ ap (λ z. (seen s z (waiting_in after_step) after_step.leaks).word l) (sym memory)) w low.0 low.1 low.2 low.3 (ways.OfCell k) reach)
+                      (was other_named other_of q at_q),
+                )
+              ],
+              (above.1).0.2,
+            ),
+            (
+              λ f traversed. (
+                  let old = (above.1).1.0 f traversed in
+                  let view = given_view s f (ready.traversing.first top.frame.sub f (running.0).entered traversed).1 in (
+                    old.0,
+                    rooted_on s (sub_acts (sub_of program top.frame.sub)) f old.0 view views left_views (λ x w has. inl (were_left x w has).0) old.1,
+                    old.2,
+                    old.3,
+                  )),
+              (above.1).1.1,
+            ),
+          )
 
       then_left : (outcome : Outcome)
           → Is_left main_turn ready.accepted.settled ready.owns other alone views ready.class.parts_named no_source frames nothing_taken
@@ -300,31 +338,33 @@ module _ (table : Table) (typed : TypedProgram) (effects : Effects) (input : Lis
           let facts_are_there : after (acts_of_main (EndScope y)) facts_now ≡ after (acts_of_main p.instr) facts_now = ap (λ i. after (acts_of_main i) facts_now) (sym is) in
           let still_holds : HoldsAt s depth left_views after_step.memory at_next_point.0 =
           (subst (λ z. HoldsAt s depth left_views z at_next_point.0) (sym memory)
-          (holds_left main_turn ready.accepted.settled ready.owns other alone no_in_formals views ready.class.parts_named no_source frames nothing_taken
-          p at_next_point.0 y is (home_frame y not_shared) not_shared (ready_there (EndScope y) is) ready.orderly.local (λ x within off. orderly.ended y x is within off)
+          (holds_left main_turn ready.accepted.settled ready.owns other alone views ready.class.parts_named no_source frames nothing_taken
+          p at_next_point.0 y is (home_frame y not_shared) not_shared (orderly.over y is) (ready_there (EndScope y) is) (orderly.variables y (inr is)) (λ x within off. orderly.ended y x is within off)
           (λ x within sees region. orderly.followed y x is at_next_point.0 (next_point.0, next_point.2, at_next_point.1) within sees region)
           lead facts_now end_allowed.0 viewed kept holds placed (not_lent y not_shared))) in
           let frames_there = on.frames next_point.0 (ap (successor main_turn) (only_first on.k (subst (λ z. on.k < z) (ap successors is) on.less)) ∙ next_point.1) in
           standing.goes_to_next table typed effects input ready state top older outer named p frames of_sub at_point path no_call_here after_step on.waits on.loops next_point.0 next_point.2 at_next_point.0 at_next_point.1
-          frames_there deep stages left_views (running.0, running.1, wait_still after_step (drop 1 (lasting_of s p.scope)) on.inside stay still_viewed.far)
+          frames_there deep stages left_views (running.0, running.1, wait_still after_step (drop 1 (lasting_of s p.scope)) on.inside stay (record { far = still_viewed.far; bare = still_viewed.bare }))
           (standing.waits_next table typed effects input ready state top older outer named p frames of_sub at_point path on.waits on.loops next_point.0 next_point.2 on.are, others_await (ap returns_value is))
-          (apart_from_them (acts_of_main p.instr) left_views (view_here s after_step) still_holds.only still_holds.named
+          (apart_from_them (acts_of_main p.instr) left_views (view_here s after_step) still_holds.only
           (subst (Viewed (home s depth) (sees_only s) other left_views (view_here s after_step)) facts_are_there still_viewed)) still_kept
           (scope_on s ready.owns after_step.memory depth (drop 1 p.scope) (at_next_point.0).scope (subst (InScope s after_step.memory depth) (sym lasting_left) (in_scope after_step.memory (drop 1 (lasting_of s p.scope)) on.inside)) lead)
-          still_holds
-          (placed_by (after (acts_of_main p.instr) facts_now) (after (acts_of_main p.instr) own_facts) left_views (at_next_point.0).scope (own_loans (acts_of_main p.instr))
-          (subst (λ z. ArePlaced program z left_views (at_next_point.0).scope) facts_are_there
-          (placed_left main_turn ready.accepted.settled ready.owns other alone no_in_formals views ready.class.parts_named no_source frames nothing_taken
-          p at_next_point.0 y is (home_frame y not_shared) not_shared (ready_there (EndScope y) is) ready.orderly.local (λ x within off. orderly.ended y x is within off)
-          (λ x within sees region. orderly.followed y x is at_next_point.0 (next_point.0, next_point.2, at_next_point.1) within sees region)
-          lead facts_now end_allowed.0 viewed kept holds placed (not_lent y not_shared)))) (still_above after_step.memory stay) views
+          still_holds (
+            (placed_by (after (acts_of_main p.instr) facts_now) (after (acts_of_main p.instr) own_facts) left_views (at_next_point.0).scope (own_loans (acts_of_main p.instr))
+                (subst (λ z. ArePlaced program depth z left_views (at_next_point.0).scope) facts_are_there
+                (placed_left main_turn ready.accepted.settled ready.owns other alone views ready.class.parts_named no_source frames nothing_taken
+                p at_next_point.0 y is (home_frame y not_shared) not_shared (orderly.over y is) (ready_there (EndScope y) is) (orderly.variables y (inr is)) (λ x within off. orderly.ended y x is within off)
+                (λ x within sees region. orderly.followed y x is at_next_point.0 (next_point.0, next_point.2, at_next_point.1) within sees region)
+                lead facts_now end_allowed.0 viewed kept holds placed (not_lent y not_shared)))),
+            still_viewed.past,
+          ) (still_above after_step.memory stay, traversals_left after_step memory on.waits on.loops on.are) views
           (leaves_scope y is (refl, refl, refl) were_left refl)
 
       pub ends_scope : Along (turn main_turn (EndScope y))
       ends_scope =
           then_left (turn main_turn (EndScope y))
-          (ends_well main_turn ready.accepted.settled ready.owns other alone no_in_formals views ready.class.parts_named no_source frames nothing_taken
-          p at_next_point.0 y is (home_frame y not_shared) not_shared (ready_there (EndScope y) is) ready.orderly.local (λ x within off. orderly.ended y x is within off)
+          (ends_well main_turn ready.accepted.settled ready.owns other alone views ready.class.parts_named no_source frames nothing_taken
+          p at_next_point.0 y is (home_frame y not_shared) not_shared (orderly.over y is) (ready_there (EndScope y) is) (orderly.variables y (inr is)) (λ x within off. orderly.ended y x is within off)
           (λ x within sees region. orderly.followed y x is at_next_point.0 (next_point.0, next_point.2, at_next_point.1) within sees region)
           lead facts_now end_allowed.0 viewed kept holds placed (not_lent y not_shared))
           (end_scope_follows main_turn Left left_values IsOld (lasting_of s p.scope) (drop 1 (lasting_of s p.scope)) inside y still_last refl (with_successors (EndScope y) 0 is below_one))

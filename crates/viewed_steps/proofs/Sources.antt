@@ -1,5 +1,6 @@
 -- Declarations of borrowers and observers and assignments to them, by what typing says of their
 -- sources.
+use Rattle.viewed_soundness.proofs.Names.{variable_given}
 use Rattle.std.proofs.Common.{◌≡◌, refl, sym, ap, ◌∙◌, subst, ◌⊎◌, inl, inr, ℕ, ◌<◌, Bool, true, false, not, ◌&&◌, List, [], ◌∷◌, length, Some}
 use Rattle.spark_base.specs.declared.position.Pos.{Pos}
 use Rattle.place_names.specs.declared.fact.Fact.{Fact}
@@ -7,7 +8,9 @@ use Rattle.type_definitions.specs.declared.table.Shape.{Shape}
 use Rattle.type_definitions.specs.declared.table.Shape.TheVariants as shape
 use Rattle.type_definitions.specs.Types.{shape_of, is_scalar, view_of as view_of_shape}
 use Rattle.typed_tree.specs.Trees.{TypedTree, Name, Component, Designated, Element, NoMore, More}
-use Rattle.flow_paths.specs.Objects.{Typing, object_at, is_variable, is_anonymous, is_borrowing, is_observing, is_borrower, is_observer, view_of}
+use Rattle.typed_tree.specs.declared.object.ObjectKind.{ObjectKind}
+use Rattle.typed_tree.specs.declared.object.ObjectKind.TheVariants as object_kind
+use Rattle.flow_paths.specs.Objects.{Typing, object_at, is_variable, is_formal_kind, is_anonymous, is_borrowing, is_observing, is_borrower, is_observer, view_of}
 use Rattle.flow_paths.specs.Names.{waiting as waits_in}
 use Rattle.flow_paths.specs.Scopes.{taken}
 use Rattle.flow_paths.specs.Acts.{declared_acts, assigned_to}
@@ -16,17 +19,17 @@ use Rattle.machine.specs.States.{Outcome}
 use Rattle.machine.specs.Step.{Turn, typing, taken_by, target_pos}
 use Rattle.owned_ways.specs.Ways.{Way, after, AllowsAll}
 use Rattle.part_offsets.specs.Parts.{IsSettled}
-use Rattle.soundness.specs.Seen.{IsNear, is_view_formal, home}
+use Rattle.soundness.specs.Seen.{IsNear, home}
 use Rattle.soundness.specs.Typed.{OwnsByShape}
 use Rattle.typed_laws.specs.Needed.{Leads, Gives, Source}
 use Rattle.soundness.proofs.Scalars.{acts}
 use Rattle.soundness.proofs.Taking.{Takes}
 use Rattle.owned_loans.specs.Views.{Around, Views, Unused}
-use Rattle.viewed_soundness.specs.Holds.{IsNamed, PartsAreNamed}
+use Rattle.viewed_soundness.specs.Holds.{IsNamed, PartsAreNamed, sees_only, is_given}
 use Rattle.viewed_soundness.proofs.Outcomes.{IsGood, Leads_on}
 use Rattle.viewed_soundness.proofs.Lends.{Observes, Declares, Puts, borrower_on, observer_on, observer_again_on, assign_borrower_on, assign_observer_on}
 use Rattle.viewed_steps.proofs.Ended.{view_kinds}
-use Rattle.viewed_steps.proofs.Views.{observes_not}
+use Rattle.viewed_steps.proofs.Views.{AreAccess}
 
 -- ---- types of views
 
@@ -38,7 +41,7 @@ view_shape (shape.Fields cs) view = cc
 view_shape (shape.Elements a b el) view = cc
 view_shape (shape.Same of) view = cc
 
-view_scalar : (sh : Shape) → is_anonymous (view_of_shape sh) ≡ true → is_scalar (view_of_shape sh) ≡ true → ⊥
+pub view_scalar : (sh : Shape) → is_anonymous (view_of_shape sh) ≡ true → is_scalar (view_of_shape sh) ≡ true → ⊥
 view_scalar sh view scalar = by_shape (view_shape sh view)
   where
     by_shape : ((k : ℕ) × (e : Bool) × (o : Bool) × (sh ≡ shape.Access k e o)) → ⊥
@@ -91,8 +94,20 @@ leads_or s parts (Element index low high rest) t u (e, is, stays, lead) =
 leads_or s parts (Designated rest) t u (d, c, n, is, lead) = inr (leads_named s parts rest d u (parts.designated t d c n is) lead)
 leads_or s parts path t u lead = absurd lead
 
+-- a variable is no formal
+pub own_there : (s : Typing) (x : ℕ) → is_variable (object_at s x).kind ≡ true → is_given s x ≡ false
+own_there s x variable = variable_given s x (no_formal (object_at s x).kind variable)
+  where
+    no_formal : (k : ObjectKind) → is_variable k ≡ true → is_formal_kind k ≡ false
+    no_formal object_kind.Variable e = refl
+    no_formal object_kind.TextIo e = refl
+    no_formal object_kind.Constant e = refl
+    no_formal object_kind.Parameter e = refl
+    no_formal object_kind.Temporary e = refl
+    no_formal object_kind.Formal e = cc
+
 module _ (t : Turn) (settled : IsSettled (typing t).table) (own_law : OwnsByShape (typing t).table) (other : Around (home (typing t) (length t.outer)))
-    (alone : (w : Way) → IsNear (length t.outer) w → other.gone w → ⊥) (no_formals : (x : ℕ) → is_view_formal (typing t) x ≡ false)
+    (alone : (w : Way) → IsNear (length t.outer) w → other.gone w → ⊥) (in_formals : AreAccess (typing t))
     (v : Views) (parts_named : PartsAreNamed (typing t).table) (may : ℕ → ℕ → Type 0)
     (frames : t.state.frames ≡ t.frame ∷ t.outer) (none : taken t.point.instr ≡ 0) where
   abbrev s : Typing
@@ -119,28 +134,31 @@ module _ (t : Turn) (settled : IsSettled (typing t).table) (own_law : OwnsByShap
   abbrev Observes_here : ℕ → ℕ → ℕ → ℕ → TypedTree → Type 0
   Observes_here x y u d path = Observes t settled own_law other alone v parts_named may frames none x y u d path
 
-  pub observes : (q : Pos) (x y u : ℕ) (path : TypedTree) → is_anonymous (view_of s x) ≡ true → home s depth x ≡ depth
+  abbrev own_here : (x : ℕ) → is_variable (object_at s x).kind ≡ true → is_given s x ≡ false
+  own_here = own_there s
+
+  pub observes : (q : Pos) (x y u : ℕ) (path : TypedTree) → is_anonymous (view_of s x) ≡ true → is_variable (object_at s x).kind ≡ true → home s depth x ≡ depth
       → Source s (object_at s x).of (Name q y path u) → (d : ℕ) × Observes_here x y u d path
   unfolding Gives
-  observes q x y u path view mine (inl (is_view, (d, k, c, n, e, o, lead, source, want, fits))) = (
+  observes q x y u path view variable mine (inl (is_view, (d, k, c, n, e, o, lead, source, want, fits))) = (
     d,
-    record { k = k; c = c; n = n; e = e; o = o; lead = lead; source = source; view = want; fits = fits; anonymous = view; mine = mine; own = no_formals x },
+    record { k = k; c = c; n = n; e = e; o = o; lead = lead; source = source; view = want; fits = fits; anonymous = view; mine = mine; own = own_here x variable },
   )
-  observes q x y u path view mine (inr (lead, inl same)) =
+  observes q x y u path view variable mine (inr (lead, inl same)) =
       let sh = view_shape (shape_of s.table (object_at s x).of) view in (
         sh.0,
-        record { k = sh.0; c = sh.1; n = sh.2; e = sh.1; o = sh.2; lead = lead; source = same ∙ sh.3; view = sh.3; fits = inl refl; anonymous = view; mine = mine; own = no_formals x },
+        record { k = sh.0; c = sh.1; n = sh.2; e = sh.1; o = sh.2; lead = lead; source = same ∙ sh.3; view = sh.3; fits = inl refl; anonymous = view; mine = mine; own = own_here x variable },
       )
-  observes q x y u path view mine (inr (lead, inr scalar)) = absurd (view_scalar (shape_of s.table (object_at s x).of) view scalar.1)
+  observes q x y u path view variable mine (inr (lead, inr scalar)) = absurd (view_scalar (shape_of s.table (object_at s x).of) view scalar.1)
 
   -- a view is declared
   pub view_declared : (ws : List (List machine.Word)) (q : Pos) (x y u : ℕ) (path : TypedTree) → is_anonymous (view_of s x) ≡ true → is_variable (object_at s x).kind ≡ true
       → home s depth x ≡ depth → Source s (object_at s x).of (Name q y path u) → Takes (waits_in path) ws []
-      → (is_observer s x ≡ false → (is_observer s y ≡ false) × (y < x)) → may x y → (facts : List Fact) → Good facts → Unused (home s depth) other.lent v facts x
+      → (is_observer s x ≡ false → (sees_only s y ≡ false) × (y < x)) → may x y → (facts : List Fact) → Good facts → Unused (home s depth) other.lent v facts x
       → AllowsAll facts (acts (declared_acts s x (More (Name q y path u) NoMore)))
       → LeadsHere (after (acts (declared_acts s x (More (Name q y path u) NoMore))) facts) (Declares_here ws x (More (Name q y path u) NoMore))
   view_declared ws q x y u path view variable mine source takes older from facts good unused allowed =
-      let from_it = observes q x y u path view mine source in
+      let from_it = observes q x y u path view variable mine source in
       by_kind from_it.0 from_it.1 (is_observer s x) refl (is_observer s y) refl
     where
       by_kind : (d : ℕ) → Observes_here x y u d path → (b : Bool) → is_observer s x ≡ b → (c : Bool) → is_observer s y ≡ c
@@ -152,7 +170,7 @@ module _ (t : Turn) (settled : IsSettled (typing t).table) (own_law : OwnsByShap
       by_kind d found false e c f =
           borrower_on t settled own_law other alone v parts_named may frames none ws x y u d q path NoMore found
           (view_kinds (is_variable (object_at s x).kind) (is_borrowing (view_of s x)) (is_observing (view_of s x)) view variable e) e
-          (observes_not s no_formals y (older e).0) (older e).1 from takes facts good unused allowed
+          (older e).0 (older e).1 from takes facts good unused allowed
 
   -- a view is assigned
   pub view_assigned : (ws : List (List machine.Word)) (pos r q : Pos) (x y u : ℕ) (path : TypedTree) → is_anonymous (view_of s x) ≡ true → is_variable (object_at s x).kind ≡ true
@@ -162,7 +180,7 @@ module _ (t : Turn) (settled : IsSettled (typing t).table) (own_law : OwnsByShap
       → LeadsHere (after (acts (assigned_to s pos (Some x) (Name r x NoMore (object_at s x).of) (Name q y path u))) facts)
       (Puts_here ws r x (Name q y path u))
   view_assigned ws pos r q x y u path view variable mine source takes itself from facts good allowed =
-      let from_it = observes q x y u path view mine source in
+      let from_it = observes q x y u path view variable mine source in
       by_kind from_it.0 from_it.1 (is_observer s x) refl
     where
       by_kind : (d : ℕ) → Observes_here x y u d path → (b : Bool) → is_observer s x ≡ b

@@ -1,15 +1,20 @@
 -- A frame that stands at a point of a program that is ready: its acts, its facts and its successors.
-use Rattle.std.proofs.Common.{◌≡◌, refl, sym, ap, ◌∙◌, subst, inl, inr, ℕ, Bool, true, false, ◌&&◌, ◌||◌, List, [], ◌∷◌, ◌++◌, length, get_or, append-nil, Option, None}
+use Rattle.flow_paths.specs.Views.{sub_acts}
+use Rattle.spark_base.proofs.Lists.{Has-append_left, Has-append_right}
+use Rattle.std.specs.Prelude.{flat_map}
+use Rattle.std.proofs.Common.{◌≡◌, refl, sym, ap, ◌∙◌, subst, inl, inr, ℕ, Bool, true, false, ◌&&◌, ◌||◌, List, [], ◌∷◌, ◌++◌, length, get_or, append-nil, Option, None, not}
 use Rattle.spark_base.specs.Lists.{Has}
+use Rattle.place_names.specs.declared.act.Mode.{Mode}
+use Rattle.place_names.specs.declared.act.Mode.TheVariants as mode
 use Rattle.place_names.specs.declared.act.Act.{Act}
 use Rattle.place_names.specs.declared.act.Placed.{Placed}
 use Rattle.place_names.specs.declared.fact.Fact.{Fact}
-use Rattle.type_definitions.specs.Types.{Table, is_owning}
+use Rattle.type_definitions.specs.Types.{Table, is_owning, owns_of, view_of as view_of_shape}
 use Rattle.typed_tree.specs.Trees.{TypedTree}
 use Rattle.typed_tree.specs.Programs.{TypedProgram}
 use Rattle.flow_paths.specs.declared.report.Effects.{Effects}
 use Rattle.flow_paths.specs.Instructions.{Instruction, Skip, Declare, Assign, Call, Output, Input, Release, Test, Choose, Start, Next, Evaluate, LeaveLoop, Hold, EndScope, Finish, Fall}
-use Rattle.flow_paths.specs.Objects.{Typing, Signature, object_at, sub_at, is_formal, is_anonymous, is_package_object, view_of}
+use Rattle.flow_paths.specs.Objects.{Typing, Signature, object_at, sub_at, is_anonymous, is_formal, is_package_object, view_of}
 use Rattle.flow_paths.specs.Acts.{acts_of}
 use Rattle.flow_paths.specs.Points.{NamedPoint, FlowPoint}
 use Rattle.flow_paths.specs.Laid.{FlowSub, FlowProgram, NamedSub, flow_sub, kept_roots, sub_facts, typing_of, flow_typing, flow_program, flow_named}
@@ -25,21 +30,19 @@ use Rattle.soundness.specs.Seen.{is_view_formal, home}
 use Rattle.soundness.specs.Typed.{Kept}
 use Rattle.typed_laws.specs.Needed.{IsFine}
 use Rattle.soundness.specs.Sound.{IsNoCall, Stage, facts_of, AreStages, InScope, IsNamedSub, IsAtPoint, view_of as view_here}
-use Rattle.soundness.proofs.Contents.{bool_cases}
 use Rattle.soundness.specs.Ready.{IsSupplied}
 use Rattle.soundness.proofs.Passing.{plain_type, signature_is}
-use Rattle.soundness.proofs.Beginning.{one_named, one_point}
 use Rattle.soundness.proofs.Typings.{Agree, flow_agrees, instruction_same}
 use Rattle.soundness.proofs.Scalars.{acts}
 use Rattle.soundness.proofs.Paths.{accepted_point, facts_next}
-use Rattle.soundness.proofs.Points.{flow_at, named_has, point_has, sub_there, sub_has, point_there, point_in, path_there, IsLaid, next_there}
+use Rattle.soundness.proofs.Points.{flow_at, named_has, point_has, sub_there, sub_has, point_there, point_in, path_there, IsLaid, next_there, one_named, one_point}
 use Rattle.owned_loans.specs.Views.{known_gone, Views, Viewed}
-use Rattle.viewed_soundness.specs.Holds.{AllKeep, sees_only}
+use Rattle.viewed_soundness.specs.Holds.{is_view, IsAccess, AllKeep, sees_only, is_fixed}
 use Rattle.viewed_steps.specs.Awaited.{AreFor, AreValues, temporaries_of, lasting_of, WaitsAt, AreAwaited}
 use Rattle.viewed_steps.proofs.Waited.{leads_temporaries}
-use Rattle.viewed_steps.specs.Sound.{HoldsAt, ArePlaced, NoneAbove, ViewStage, stages_of, GoneElsewhere, IsRunning, Follows, LeadsAlong}
+use Rattle.viewed_steps.specs.Sound.{ArePast, HoldsAt, ArePlaced, NoneAbove, ViewStage, stages_of, GoneElsewhere, IsRunning, Follows, LeadsAlong, HasTraversals}
 use Rattle.viewed_steps.specs.Ready.{IsReady}
-use Rattle.viewed_steps.proofs.Views.{all_keep_only}
+use Rattle.viewed_steps.proofs.Views.{AreAccess, view_cases}
 
 no_second : (a b : Bool) → b ≡ false → a && b ≡ false
 no_second true b e = e
@@ -52,6 +55,11 @@ or_right false b e = e
 no_middle : (a b : Bool) → (a && false) && b ≡ false
 no_middle true b = refl
 no_middle false b = refl
+
+not_in : (m : Mode) → (m ≡ mode.In → ⊥) → is_in m ≡ false
+not_in mode.In back = absurd (back refl)
+not_in mode.Out back = refl
+not_in mode.InOut back = refl
 
 module _ (table : Table) (typed : TypedProgram) (effects : Effects) (input : List ℕ) (ready : IsReady table typed effects) where
   abbrev pub program : FlowProgram
@@ -66,21 +74,53 @@ module _ (table : Table) (typed : TypedProgram) (effects : Effects) (input : Lis
   pub agree : Agree s own
   agree = flow_agrees table typed
 
-  pub no_in_formals : (x : ℕ) → is_view_formal s x ≡ false
-  no_in_formals x = elim (bool_cases (is_formal s x)) [
-    | inl e ↦ elim (ready.class.formals x e) [
-      | inl plain ↦ no_second (is_in_formal s x) (is_owning s.table (object_at s x).of) (plain_type s ready.owns (object_at s x).of plain)
-      | inr (in_out, own_type) ↦ ap (λ m. (is_formal s x && is_in m) && is_owning s.table (object_at s x).of) in_out
-          ∙ no_middle (is_formal s x) (is_owning s.table (object_at s x).of)
+  -- formals that own nothing are of named access types
+  pub in_formals : AreAccess s
+  in_formals x formal = elim (ready.class.formals x (first_true (is_formal s x) (is_in (object_at s x).mode) (is_owning s.table (object_at s x).of) formal)) [
+    | inl plain ↦ absurd (no_both (is_view_formal s x) formal (no_second (is_in_formal s x) (is_owning s.table (object_at s x).of) (plain_type s ready.owns (object_at s x).of plain)))
+    | inr other_kind ↦ elim other_kind [
+      | inl back ↦ absurd (back.0 (in_mode (object_at s x).mode (middle_true (is_formal s x) (is_in (object_at s x).mode) (is_owning s.table (object_at s x).of) formal)))
+      | inr (inl shown) ↦ (shown.1, λ anonymous. unnamed shown.1 anonymous)
+      | inr (inr plain) ↦ absurd (no_both (is_view_formal s x) formal (no_second (is_in_formal s x) (is_owning s.table (object_at s x).of) plain.1))
     ]
-    | inr e ↦ ap (λ b. (b && is_in (object_at s x).mode) && is_owning s.table (object_at s x).of) e
   ]
+    where
+      no_both : (b : Bool) → b ≡ true → b ≡ false → ⊥
+      no_both b e f = (let no : true ≡ false = sym e ∙ f in cc)
+
+      first_true : (a b c : Bool) → (a && b) && c ≡ true → a ≡ true
+      first_true true b c e = refl
+      first_true false b c e = cc
+
+      middle_true : (a b c : Bool) → (a && b) && c ≡ true → b ≡ true
+      middle_true true true c e = refl
+      middle_true true false c e = cc
+      middle_true false b c e = cc
+
+      last_true : (a b : Bool) → a && b ≡ true → b ≡ true
+      last_true true b e = e
+      last_true false b e = cc
+
+      in_mode : (m : Mode) → is_in m ≡ true → m ≡ mode.In
+      in_mode mode.In e = refl
+      in_mode mode.Out e = cc
+      in_mode mode.InOut e = cc
+
+      not_anonymous : (c n : Bool) → n ≡ true → (not n && not c) || (not n && c) ≡ true → ⊥
+      not_anonymous c true e f = cc
+      not_anonymous c false e f = cc
+
+      unnamed : IsAccess s x → is_anonymous (view_of s x) ≡ true → ⊥
+      unnamed (d, c, n, is) anonymous =
+          not_anonymous c n
+          (sym (ap (owns_of (is_owning s.table)) is) ∙ sym (ready.owns (object_at s x).of) ∙ last_true (is_in_formal s x) (is_owning s.table (object_at s x).of) formal)
+          (sym (ap (λ z. is_anonymous (view_of_shape z)) is) ∙ anonymous)
 
   pub laid : (named : NamedSub) → Has (flow_named table typed) named → IsLaid s named
   laid named has = ready.scoped.goes named has
 
-  pub local : (x : ℕ) → is_anonymous (view_of s x) ≡ true → is_package_object s x ≡ false
-  local x view = (ready.orderly.local x view).1
+  pub local : (x : ℕ) → is_view s x ≡ true → is_package_object s x ≡ false
+  local x view = elim (view_cases s x view) [ inl anonymous ↦ ready.orderly.local x anonymous | inr formal ↦ ready.orderly.passed x formal ]
 
   -- ---- a point
 
@@ -179,8 +219,19 @@ module _ (table : Table) (typed : TypedProgram) (effects : Effects) (input : Lis
     pub acts_plain : IsNoCall p.instr → whole_acts p.instr ≡ acts_here p.instr
     acts_plain plain = ap (λ z. acts (acts_by s p.instr ++ z)) (no_callee p.instr plain) ∙ ap acts (append-nil (acts_by s p.instr))
 
-    pub keeps_there : AllKeep (sees_only s) (acts_here p.instr)
-    keeps_there = subst (λ z. AllKeep (sees_only s) (acts z)) (sym acts_agree) (all_keep_only s no_in_formals (acts here.acts) (ready.orderly.kept sub in_program here in_sub))
+    pub keeps_there : AllKeep (is_fixed s) (acts_here p.instr)
+    keeps_there = subst (λ z. AllKeep (is_fixed s) (acts z)) (sym acts_agree) (ready.orderly.kept sub in_program here in_sub)
+
+    -- its acts are some of its subprogram
+    pub acts_in_sub : (a : Act) → Has (acts_here p.instr) a → Has (sub_acts (sub_of program top.frame.sub)) a
+    acts_in_sub a has =
+        subst (λ z. Has (sub_acts z) a) (sym sub_is) (among sub.points here in_sub (subst (λ z. Has (acts z) a) acts_agree has))
+      where
+        among : (ps : List FlowPoint) (k : FlowPoint) → Has ps k → Has (acts k.acts) a → Has (flat_map (λ (z : FlowPoint). acts z.acts) ps) a
+        among [] k never has = absurd never
+        among (z ∷ ps) k (inl same) has =
+            Has-append_left (acts z.acts) (flat_map (λ (z : FlowPoint). acts z.acts) ps) a (subst (λ (z : FlowPoint). Has (acts z.acts) a) (sym same) has)
+        among (z ∷ ps) k (inr later) has = Has-append_right (acts z.acts) (flat_map (λ (z : FlowPoint). acts z.acts) ps) a (among ps k later has)
 
     module _ (path : ControlPath (path_points program effects (sub_of program top.frame.sub)) top.before top.frame.next) where
       pub path_here : ControlPath points top.before top.frame.next
@@ -233,14 +284,15 @@ module _ (table : Table) (typed : TypedProgram) (effects : Effects) (input : Lis
       pub goes_to_next : IsNoCall p.instr → (after_step : State) (waits : List Waiting) (loops : List Loop) (n : ℕ) (next : Has here.next n) (q : NamedPoint) → IsAtPoint named.points n q
           → after_step.frames ≡ record top.frame { waits = waits; loops = loops; next = n } ∷ outer
           → top.depth ≡ length outer → AreStages (stages_of older) outer → (views : Views)
-          → IsRunning table typed effects after_step (record { stage = at_next waits loops n; views = views }) older
+          → IsRunning table typed effects after_step (record { stage = at_next waits loops n; views = views; cells = [] }) older
           → AreAwaited table typed None (at_next waits loops n ∷ stages_of older)
           → Viewed (home s (length outer)) (sees_only s) (known_gone (home s (length outer)) (GoneElsewhere program effects older)) views (view_here s after_step) (after (acts_here p.instr) facts)
           → Kept s after_step.memory (waiting_in after_step) → InScope s after_step.memory (length outer) (lasting_of s q.scope)
-          → HoldsAt s (length outer) views after_step.memory q → ArePlaced program (after (acts_here p.instr) facts) views q.scope
-          → NoneAbove s (length outer) after_step.memory → (before : Views)
-          → Follows program effects p.instr state.memory (record { stage = top; views = before }) older after_step.memory (record { stage = at_next waits loops n; views = views }) older
-          → LeadsAlong table typed effects p.instr state.memory (record { stage = top; views = before }) older (Goes after_step)
+          → HoldsAt s (length outer) views after_step.memory q
+          → ArePlaced program (length outer) (after (acts_here p.instr) facts) views q.scope × ArePast s (length outer) views older
+          → NoneAbove s (length outer) after_step.memory × HasTraversals table typed (view_here s after_step) (record { stage = at_next waits loops n; views = views; cells = [] } ∷ older) → (before : Views)
+          → Follows program effects p.instr state.memory (record { stage = top; views = before; cells = [] }) older after_step.memory (record { stage = at_next waits loops n; views = views; cells = [] }) older
+          → LeadsAlong table typed effects p.instr state.memory (record { stage = top; views = before; cells = [] }) older (Goes after_step)
       goes_to_next plain after_step waits loops n next q at is deep stages views running awaited viewed kept scope holds placed above before follows =
           let step_on : Has (path_point points top.frame.next).next n =
           subst (λ (z : PathPoint). Has z.next n) (sym (path_there own named top.frame.next p at_point program effects)) next in
@@ -264,8 +316,11 @@ module _ (table : Table) (typed : TypedProgram) (effects : Effects) (input : Lis
               at_point = at;
               scope = subst (λ d. InScope s after_step.memory d (lasting_of s q.scope)) (sym deep) scope;
               holds = subst (λ d. HoldsAt s d views after_step.memory q) (sym deep) holds;
-              placed = subst (λ z. ArePlaced program z views q.scope) (sym facts_there) placed;
-              none_above = subst (λ d. NoneAbove s d after_step.memory) (sym deep) above;
+              placed = subst (λ d. ArePlaced program d (facts_of program effects (at_next waits loops n)) views q.scope) (sym deep)
+                  (subst (λ z. ArePlaced program (length outer) z views q.scope) (sym facts_there) placed.0);
+              past = subst (λ d. ArePast s d views older) (sym deep) placed.1;
+              none_above = subst (λ d. NoneAbove s d after_step.memory) (sym deep) above.0;
+              traversals = above.1;
             },
             follows,
           )

@@ -1,20 +1,19 @@
--- Views where all formals own.
-use Rattle.std.proofs.Common.{◌≡◌, sym, ap, ◌∙◌, ℕ, Bool, true, false, List, ◌||◌, get_or, Some, refl, [], ◌∷◌, ◌⊎◌, inl, inr, ◌<◌}
-use Rattle.place_names.specs.declared.act.Act.{Act}
-use Rattle.place_names.specs.declared.act.Act.TheVariants as act
+-- What is known of the objects of views, and of ways that belong to other frames.
+use Rattle.std.proofs.Common.{◌≡◌, refl, sym, ap, ◌∙◌, subst, ◌⊎◌, inl, inr, ℕ, ◌<◌, Bool, true, false, ◌&&◌, ◌||◌, get_or, Some}
 use Rattle.type_definitions.specs.declared.table.Shape.{Shape}
 use Rattle.type_definitions.specs.declared.table.Shape.TheVariants as shape
-use Rattle.type_definitions.specs.Types.{shape_of, view_of as view_of_shape}
-use Rattle.flow_paths.specs.Objects.{Typing, object_at, is_anonymous, is_observer, view_of}
+use Rattle.type_definitions.specs.Types.{shape_of, full, is_scalar, is_owning, view_of as view_of_shape}
+use Rattle.flow_paths.specs.Objects.{Typing, object_at, is_anonymous, has_scope_end, view_of}
 use Rattle.machine.specs.Words.{Cell}
 use Rattle.machine.specs.Memory.{Memory, variable_slots, no_slot}
-use Rattle.owned_ways.specs.Ways.{OfVariable, OfHand, OfRoot, Way, Object, Lost, Into, All, IsRooted, Named, base_of, Under}
-use Rattle.owned_ways.proofs.Assigned.{named_rooted}
+use Rattle.machine.specs.Owners.{is_in_formal}
+use Rattle.owned_ways.specs.Ways.{OfVariable, OfHand, OfRoot, Way, Object, Lost, Into, All, Named, base_of, Under}
+use Rattle.owned_ways.proofs.Dropped.{named_base}
+use Rattle.owned_ways.proofs.Named.{longer}
 use Rattle.soundness.specs.Seen.{home, is_view_formal}
 use Rattle.owned_loans.specs.Views.{Views, IsForeign}
-use Rattle.viewed_soundness.specs.Holds.{is_view, sees_only, IsOwners, IsAccess, Holds, KeepsObserved, AllKeep}
-use Rattle.viewed_soundness.proofs.Names.{either, both_no}
-use Rattle.owned_ways.proofs.Named.{longer}
+use Rattle.viewed_soundness.specs.Holds.{is_view, sees_only, IsOwners, IsAccess, Holds, is_given}
+use Rattle.viewed_steps.specs.Sound.{Lies}
 
 access_of : (sh : Shape) → is_anonymous (view_of_shape sh) ≡ true → (d : ℕ) × (c : Bool) × (n : Bool) × (sh ≡ shape.Access d c n)
 access_of (shape.Access d c n) e = (d, c, n, refl)
@@ -53,65 +52,83 @@ apart_by_base w z f y e x base other differ (inr below) = same_frame f y e x dif
     same_frame : (f y e x : ℕ) → (f ≡ e → ⊥) → OfRoot (OfVariable f y) ≡ OfRoot (OfVariable e x) → ⊥
     same_frame f y e x differ is = (let same : f ≡ e = cc in differ same)
 
--- A way is of the frame, or begins at a variable of a frame below.
-abbrev pub Lies : (ℕ → ℕ) → ℕ → Way → Type 0
-Lies at_home low w = Named at_home w ⊎ ((foreign : IsForeign at_home w) × (foreign.0 < low))
-
 -- Views of what belongs to other frames see what belongs to frames below.
 abbrev pub AreFar : (ℕ → ℕ) → Views → ℕ → Type 0
 AreFar at_home v low = (x : ℕ) (w : Way) → v.way x ≡ Some w → (foreign : IsForeign at_home w) → foreign.0 < low
 
-module _ (s : Typing) (no_formals : (x : ℕ) → is_view_formal s x ≡ false) where
-  pub is_anonymous_view : (x : ℕ) → is_view s x ≡ true → is_anonymous (view_of s x) ≡ true
-  is_anonymous_view x e = either (is_anonymous (view_of s x)) (is_view_formal s x) e (no_formals x)
+-- a way begins where another one does that is named
+pub same_named : (at_home : ℕ → ℕ) (w k : Way) → base_of w ≡ base_of k → Named at_home k → Named at_home w
+same_named at_home w k is named = base_named at_home w _ (is ∙ named_base at_home k named)
 
-  pub anonymous_is_view : (x : ℕ) → is_anonymous (view_of s x) ≡ true → is_view s x ≡ true
-  anonymous_is_view x e = ap (λ b. b || is_view_formal s x) e
+-- or lies where it does
+pub same_lies : (s : Typing) (frame : ℕ) (w k : Way) → base_of w ≡ base_of k → Lies s frame k → Lies s frame w
+same_lies s frame w k is (inl named) = inl (same_named (home s frame) w k is named)
+same_lies s frame w k is (inr (foreign, low, some)) = inr ((foreign.0, foreign.1, is ∙ foreign.2, foreign.3), low, some)
 
-  pub observes : (x : ℕ) → sees_only s x ≡ true → is_observer s x ≡ true
-  observes x e = either (is_observer s x) (is_view_formal s x) e (no_formals x)
+pub lies_far : (s : Typing) (frame : ℕ) (v : Views) → ((x : ℕ) (w : Way) → v.way x ≡ Some w → Lies s frame w) → AreFar (home s frame) v frame
+lies_far s frame v lies x w has foreign = elim (lies x w has) [
+  | inl named ↦ absurd (not_elsewhere (home s frame) w named foreign)
+  | inr (other, low, some) ↦ (let same = frames_are foreign.0 foreign.1 other.0 other.1 (sym foreign.2 ∙ other.2) in subst (λ f. f < frame) (sym same) low)
+]
+  where
+    frames_are : (f x g y : ℕ) → OfRoot (OfVariable f x) ≡ OfRoot (OfVariable g y) → f ≡ g
+    frames_are f x g y e = cc
 
-  pub observes_not : (x : ℕ) → is_observer s x ≡ false → sees_only s x ≡ false
-  observes_not x e = both_no (is_observer s x) (is_view_formal s x) e (no_formals x)
+-- ---- objects
 
-  pub all_owners : (w : Way) → IsRooted w → IsOwners s w
-  all_owners (Object (OfVariable f x)) rooted = no_formals x
-  all_owners (Object (OfHand h)) rooted = tt
-  all_owners (Lost n) rooted = absurd rooted
-  all_owners (Into w i) rooted = all_owners w rooted
-  all_owners (All w) rooted = all_owners w rooted
+second_true : (a b : Bool) → a && b ≡ true → b ≡ true
+second_true true b e = e
+second_true false b e = cc
 
-  pub access : (x : ℕ) → is_view s x ≡ true → IsAccess s x
-  access x e = access_of (shape_of s.table (object_at s x).of) (is_anonymous_view x e)
+or_true : (a b : Bool) → b ≡ true → a || b ≡ true
+or_true true b e = refl
+or_true false b e = e
 
-  -- what variables of anonymous types have
+pub view_cases : (s : Typing) (x : ℕ) → is_view s x ≡ true → (is_anonymous (view_of s x) ≡ true) ⊎ (is_view_formal s x ≡ true)
+view_cases s x e = by_kind (is_anonymous (view_of s x)) refl (is_view_formal s x) e
+  where
+    by_kind : (a : Bool) → is_anonymous (view_of s x) ≡ a → (b : Bool) → a || b ≡ true → (is_anonymous (view_of s x) ≡ true) ⊎ (b ≡ true)
+    by_kind true is b e = inl is
+    by_kind false is b e = inr e
+
+pub anonymous_view : (s : Typing) (x : ℕ) → is_anonymous (view_of s x) ≡ true → is_view s x ≡ true
+anonymous_view s x e = ap (λ b. b || is_view_formal s x) e
+
+pub formal_view : (s : Typing) (x : ℕ) → is_view_formal s x ≡ true → is_view s x ≡ true
+formal_view s x e = or_true (is_anonymous (view_of s x)) (is_view_formal s x) e
+
+-- the scope of a view has an end of its own
+pub view_ends : (s : Typing) (x : ℕ) → is_view s x ≡ true → has_scope_end s x ≡ true
+view_ends s x view = elim (view_cases s x view) [
+  | inl anonymous ↦ or_true (is_owning s.table (object_at s x).of) (is_anonymous (view_of s x)) anonymous
+  | inr formal ↦ ap (λ b. b || is_anonymous (view_of s x)) (second_true (is_in_formal s x) (is_owning s.table (object_at s x).of) formal)
+]
+
+-- Formals that own nothing are of named access types.
+abbrev pub AreAccess : Typing → Type 0
+AreAccess s = (x : ℕ) → is_view_formal s x ≡ true → IsAccess s x × (is_anonymous (view_of s x) ≡ true → ⊥)
+
+module _ (s : Typing) (in_formals : AreAccess s) where
+  pub view_access : (x : ℕ) → is_view s x ≡ true → IsAccess s x
+  view_access x view = elim (view_cases s x view) [
+    | inl anonymous ↦ access_of (shape_of s.table (object_at s x).of) anonymous
+    | inr formal ↦ (in_formals x formal).0
+  ]
+
+  -- no object of a scalar type is a view
+  pub scalar_no_view : (x : ℕ) → is_scalar (full s.table (object_at s x).of) ≡ true → is_view s x ≡ true → ⊥
+  scalar_no_view x scalar view =
+      let is = view_access x view in
+      not_scalar is.0 is.1 is.2 (sym (ap (λ z. is_scalar (view_of_shape z)) is.3) ∙ scalar)
+    where
+      not_scalar : (d : ℕ) (c n : Bool) → is_scalar (view_of_shape (shape.Access d c n)) ≡ true → ⊥
+      not_scalar d c n e = cc
+
+  -- what the variables of views have
   pub all_held : (frame : ℕ) (v : Views) (m : Memory)
-      → ((x n : ℕ) → is_anonymous (view_of s x) ≡ true → (get_or (variable_slots s (home s frame x) x m.variables) 0 no_slot).word ≡ Cell n
+      → ((x n : ℕ) → is_view s x ≡ true → (get_or (variable_slots s (home s frame x) x m.variables) 0 no_slot).word ≡ Cell n
       → (w : Way) × (v.way x ≡ Some w) × (v.cell x ≡ n))
-      → ((x : ℕ) (w : Way) → v.way x ≡ Some w → is_anonymous (view_of s x) ≡ true)
-      → ((x : ℕ) (w : Way) → v.way x ≡ Some w → Named (home s frame) w) → Holds s frame v m
-  all_held frame v m held only named = record {
-    held = λ x n view e. held x n (is_anonymous_view x view) e;
-    only = λ x w has. ap (λ b. b || is_view_formal s x) (only x w has);
-    owners = λ x w has. all_owners w (named_rooted (home s frame) w (named x w has));
-    access = access;
-  }
-
-  keeps_only : (a : Act) → KeepsObserved (is_observer s) a → KeepsObserved (sees_only s) a
-  keeps_only (act.Move m parts) k = observes_not m.root k
-  keeps_only (act.Write m) k = observes_not m.root k
-  keeps_only (act.Free m) k = observes_not m.root k
-  keeps_only (act.Read m) k = tt
-  keeps_only (act.Look m) k = tt
-  keeps_only (act.Borrow b m) k = tt
-  keeps_only (act.Observe h m from) k = tt
-  keeps_only (act.Reborrow b m) k = tt
-  keeps_only (act.EndScope x borrower) k = tt
-  keeps_only (act.Return roots) k = tt
-  keeps_only (act.Actual m how owning access) k = tt
-  keeps_only (act.Global g written) k = tt
-  keeps_only (act.Give m borrows) k = tt
-
-  pub all_keep_only : (acts : List Act) → AllKeep (is_observer s) acts → AllKeep (sees_only s) acts
-  all_keep_only [] k = tt
-  all_keep_only (a ∷ acts) (k, rest) = (keeps_only a k, all_keep_only acts rest)
+      → ((x : ℕ) (w : Way) → v.way x ≡ Some w → is_view s x ≡ true)
+      → ((x : ℕ) (w : Way) → v.way x ≡ Some w → IsOwners s w)
+      → ((x : ℕ) (w : Way) → v.way x ≡ Some w → sees_only s x ≡ false → is_given s x ≡ false → Named (home s frame) (v.up x)) → Holds s frame v m
+  all_held frame v m held only owners own = record { held = held; only = only; owners = owners; access = view_access; own = own }

@@ -1,11 +1,13 @@
 -- The values that wait match the temporaries in scope, one by one.
-use Rattle.std.proofs.Common.{◌≡◌, refl, sym, ap, ◌∙◌, subst, ◌⊎◌, inl, inr, ℕ, zero, suc, Bool, true, false, not, ◌&&◌, ◌||◌, ◌==◌, eqb-true, List, [], ◌∷◌, ◌++◌, take, drop, length, Some, None}
+use Rattle.std.proofs.Common.{◌≡◌, refl, sym, ap, ◌∙◌, subst, ◌⊎◌, inl, inr, ℕ, zero, suc, Bool, true, false, not, ◌&&◌, ◌||◌, ◌==◌, eqb-true, List, [], ◌∷◌, ◌++◌, take, drop, length, Option, Some, None, is_some}
 use Rattle.std.specs.List.{AllByRecursion}
 use Rattle.type_definitions.specs.Types.{full, is_scalar}
+use Rattle.typed_tree.specs.Trees.{TypedTree}
 use Rattle.flow_paths.specs.Instructions.{Instruction, Skip, Declare, Assign, Call, Output, Input, Release, Test, Choose, Start, Next, Evaluate, LeaveLoop, Hold, EndScope, Finish, Fall}
 use Rattle.flow_paths.specs.Objects.{Typing, object_at, has_scope_end}
+use Rattle.flow_paths.specs.Laid.{FlowProgram, flow_typing}
 use Rattle.flow_paths.specs.Scopes.{Silent, Leads, brought, is_temporary, is_within, is_last}
-use Rattle.machine.specs.States.{Waiting}
+use Rattle.machine.specs.States.{Waiting, sub_of}
 use Rattle.part_offsets.specs.Parts.{IsSettled}
 use Rattle.soundness.specs.Sound.{IsPlainValue, is_temporary_object, temporaries_in}
 use Rattle.soundness.specs.Ready.{Fills}
@@ -13,7 +15,7 @@ use Rattle.soundness.proofs.Contents.{bool_cases}
 use Rattle.soundness.proofs.Waits.{drop_none}
 use Rattle.soundness.proofs.Fixed.{plain_word}
 use Rattle.soundness.proofs.Waited.{FillsNone}
-use Rattle.viewed_steps.specs.Awaited.{AreFor, temporaries_of, is_held, lasting_of, AreScalar}
+use Rattle.viewed_steps.specs.Awaited.{AreFor, AreValuesBut, FillsTyped, temporaries_of, is_held, lasting_of, AreScalar}
 
 split_list : {A : Type 0} (k : ℕ) (xs : List A) → take k xs ++ drop k xs ≡ xs
 split_list zero [] = refl
@@ -194,3 +196,16 @@ module _ (s : Typing) where
         | inr same ↦ ap (λ z. is_scalar (full s.table z)) same ∙ scalar
       ] in
       ((plain, long ∙ plain_word s settled v.of plain), scalar_values settled waits xs all others)
+
+-- What waits after a call, before what it called has returned: the latest temporary is to hold the result.
+pub late_scope : (program : FlowProgram) (n : ℕ) (actuals : TypedTree) (waits : List Waiting) (left : List ℕ) → AreFor (flow_typing program) waits (temporaries_of (flow_typing program) left)
+    → (r : Option ℕ) → Fills (flow_typing program) (Call n actuals r) left → FillsTyped program (Call n actuals r) left → (empty : Option ℕ)
+    → (sub_of program n).result ≡ empty → is_some empty ≡ is_some r → (b : List ℕ) → Leads (flow_typing program) (brought (Call n actuals r) left) b
+    → AreValuesBut (flow_typing program) empty waits (temporaries_of (flow_typing program) b)
+late_scope program n actuals waits left values None fills fits None is answers b leads =
+    subst (AreFor (flow_typing program) waits) (leads_temporaries (flow_typing program) left b leads) values
+late_scope program n actuals waits left values None fills fits (Some of) is answers b leads = cc
+late_scope program n actuals waits left values (Some t) fills fits None is answers b leads = cc
+late_scope program n actuals waits left values (Some t) fills fits (Some of) is answers b leads =
+    subst (AreValuesBut (flow_typing program) (Some of) waits)
+    (sym (temporary_first (flow_typing program) t left fills) ∙ leads_temporaries (flow_typing program) (t ∷ left) b leads) (fits of is, values)

@@ -1,8 +1,8 @@
 -- Frames that wait for a call to end, with views: what they keep concerns the innermost frame as ways
 -- of others, and they wait still after its steps.
-use Rattle.viewed_soundness.specs.Holds.{sees_only}
-use Rattle.std.proofs.Common.{◌≡◌, refl, sym, ap, ◌∙◌, subst, ◌⊎◌, inl, inr, ℕ, suc, ◌<◌, ◌≤◌, Bool, true, false, ◌&&◌, ◌==◌, eqb-true, nat_lt, ltb-true, lt-ltb, List, [], ◌∷◌, ◌++◌, length, get_or, arith, Option, Some, None, if◌then◌else◌}
-use Rattle.std.specs.Prelude.{flat_map}
+use Rattle.viewed_soundness.specs.Holds.{is_view, sees_only}
+use Rattle.std.proofs.Common.{◌≡◌, refl, sym, ap, ◌∙◌, subst, ◌⊎◌, inl, inr, ℕ, ◌<◌, ◌≤◌, Bool, true, false, ◌&&◌, ◌==◌, eqb-true, nat_lt, ltb-true, lt-ltb, List, [], ◌∷◌, ◌++◌, length, arith, Option, Some, None, if◌then◌else◌, append-nil}
+use Rattle.std.specs.Prelude.{flat_map, map}
 use Rattle.spark_base.specs.Lists.{Has}
 use Rattle.spark_base.proofs.Lists.{Has-append_left, Has-append_right, Has-append_cases, Has-map, Has-map_from}
 use Rattle.place_names.specs.declared.fact.Fact.{Fact}
@@ -10,32 +10,42 @@ use Rattle.place_names.specs.declared.fact.Fact.TheVariants.{Moved, Lent}
 use Rattle.place_names.specs.declared.rule.Loan.{Loan}
 use Rattle.place_names.specs.declared.rule.Loan.TheVariants.{Borrowed, Observed}
 use Rattle.place_names.specs.Names.{Name, overlaps}
+use Rattle.place_names.specs.Facts.{place}
 use Rattle.type_definitions.specs.Types.{Table}
 use Rattle.typed_tree.specs.Programs.{TypedProgram}
 use Rattle.flow_paths.specs.declared.report.Effects.{Effects}
-use Rattle.flow_paths.specs.Objects.{Typing, is_anonymous, is_package_object, view_of}
+use Rattle.flow_paths.specs.Objects.{Typing, is_package_object}
 use Rattle.flow_paths.specs.Laid.{FlowProgram, flow_typing, flow_program}
-use Rattle.machine.specs.Words as machine
-use Rattle.machine.specs.Memory.{variable_slots, no_slot}
 use Rattle.machine.specs.States.{Frame, Return, State}
-use Rattle.owned_ways.specs.Ways.{Loc, IsSame, Step, OfVariable, OfHand, OfRoot, OfCell, Way, Object, Lost, Into, All, Held, View, Reaches, Under, Named, IsMoved, base_of, number_of, name_of}
+use Rattle.owned_ways.specs.Ways.{Loc, IsSame, Step, OfVariable, OfHand, OfRoot, OfCell, Way, Root, Object, Lost, Into, All, Held, View, Reaches, Under, Named, IsMoved, base_of, number_of, name_of, part, along}
+use Rattle.owned_ways.proofs.Locations.{under_itself, under_along}
 use Rattle.owned_ways.proofs.Named.{longer}
 use Rattle.owned_ways.proofs.Dropped.{named_base}
 use Rattle.soundness.specs.Seen.{IsNear, content, word_in, home}
 use Rattle.soundness.specs.Sound.{Stage, facts_of, AreStages, Uses, view_of as view_here}
-use Rattle.soundness.proofs.Around.{near_or_far, IsFar, near_package, package_named, is_inherited, inherited, inherited_has, inherited_from}
-use Rattle.soundness.proofs.Contents.{bool_cases}
+use Rattle.soundness.proofs.Around.{near_or_far, IsFar, near_package, package_named}
+use Rattle.soundness.proofs.Contents.{bool_cases, word_part, word_root}
 use Rattle.soundness.proofs.Inherited.{Splits}
-use Rattle.owned_loans.specs.Views.{on, Around, known_gone, Views, expand, IsThrough, IsMovedBy, HasLoan, Viewed}
-use Rattle.owned_loans.proofs.Ended.{stands_itself}
-use Rattle.owned_loans.proofs.Ways.{under_on, on_under, lifts, lifted_root, lifted_way}
-use Rattle.owned_loans.proofs.Moves.{named_way, view_on, own_loan, reached}
-use Rattle.viewed_steps.specs.Taken.{TakenBy}
-use Rattle.viewed_steps.proofs.Between.{taken_from as words_taken, taken_base, still_taken, near_base}
+use Rattle.owned_loans.specs.Views.{on, Around, known_gone, Views, expand, IsThrough, ExcusedBy, HasLoan, IsForeign, Viewed, Go}
+use Rattle.owned_loans.proofs.Ways.{under_on, on_under, on_named, lifts, lifted_root, lifted_way, base_on}
+use Rattle.owned_loans.proofs.Meeting.{stands}
+use Rattle.owned_loans.proofs.Moves.{view_on, own_loan, reached}
+use Rattle.viewed_steps.specs.Taken.{TakenBy, Lodge}
+use Rattle.owned_loans.proofs.Meeting.{stands}
+use Rattle.viewed_steps.proofs.Between.{base_along as along_base, number_based, home_low, taken_from as words_taken, taken_base, near_base}
 use Rattle.viewed_steps.proofs.Roots.{borrower_goes, view_goes}
 use Rattle.viewed_steps.specs.Awaited.{lasting_of}
-use Rattle.viewed_steps.specs.Sound.{ViewStage, stages_of, GoneElsewhere, IsWaiting, IsFirst, AreWaiting}
-use Rattle.viewed_steps.proofs.Views.{not_elsewhere, Lies}
+use Rattle.viewed_steps.proofs.Whole.{flat_has}
+use Rattle.viewed_steps.specs.Sound.{loan_by, withheld, KeptBy, ArePast, ViewStage, stages_of, Lies, GoneElsewhere, IsWaiting, IsFirst, AreWaiting, IsWayOf, IsBareOf}
+use Rattle.viewed_steps.proofs.Views.{base_named, same_lies}
+use Rattle.machine.specs.Owners.{waiting_in}
+
+flat_from : {A B : Type 0} (f : A → List B) (xs : List A) (y : B) → Has (flat_map f xs) y → (x : A) × Has xs x × Has (f x) y
+flat_from f [] y h = absurd h
+flat_from f (x ∷ xs) y h = elim (Has-append_cases (f x) (flat_map f xs) y h) [
+  | inl mine ↦ (x, inl refl, mine)
+  | inr later ↦ (let found = flat_from f xs y later in (found.0, inr found.1, found.2))
+]
 
 -- ---- near ways
 
@@ -58,7 +68,7 @@ module _ (s : Typing) (a b : ℕ) (some : 0 < a) (less : a < b) where
 same_frame : (f x g y : ℕ) → OfRoot (OfVariable f x) ≡ OfRoot (OfVariable g y) → f ≡ g
 same_frame f x g y e = cc
 
-same_reaches : (s t : View) → IsSame s t → (w : Way) (l : Loc) → Reaches s w l → Reaches t w l
+pub same_reaches : (s t : View) → IsSame s t → (w : Way) (l : Loc) → Reaches s w l → Reaches t w l
 same_reaches s t e (Object r) l h = h
 same_reaches s t e (Lost n) l h = (e.leaked n ∙ h.0, h.1)
 same_reaches s t e (Into w i) l (m, h, is) = (m, same_reaches s t e w m h, is)
@@ -68,15 +78,35 @@ both_first : (a b : Bool) → a && b ≡ true → a ≡ true
 both_first true b e = refl
 both_first false b e = cc
 
+-- the words of a cell, as owners see them
+pub cell_word : (s : Typing) (state : State) (n : ℕ) (p : List Step)
+    → (view_here s state).word (part (OfCell n) p) ≡ word_in s.table (content s state.memory [] (OfCell n)) p
+cell_word s state n p =
+    word_part s.table (content s state.memory (waiting_in state)) (OfCell n) p
+    ∙ ap (word_in s.table (content s state.memory [] (OfCell n))) (append-nil p)
+
+-- of what is bare
+pub bare_word : (s : Typing) (state : State) (g : ViewStage) (w : Way) (l : Loc) (p q : List Step) → IsBareOf s g w l p
+    → (view_here s state).word (part l q) ≡ word_in s.table (content s state.memory [] l) q
+bare_word s state g w l p q (taken, inl (c, has, way, is)) =
+    subst (λ z. (view_here s state).word (part z q) ≡ word_in s.table (content s state.memory [] z) q) is (cell_word s state c.cell q)
+bare_word s state g w l p q (taken, inr (y, shared, way, is)) =
+    subst (λ z. (view_here s state).word (part z q) ≡ word_in s.table (content s state.memory [] z) q) is
+    (word_root s.table (content s state.memory (waiting_in state)) (OfVariable 0 y) q)
+
+pub along_both : (w : Way) (q p : List Step) → along w (q ++ p) ≡ along (along w p) q
+along_both w [] p = refl
+along_both w (i ∷ q) p = ap (λ z. Into z i) (along_both w q p)
+
 -- ---- frames that wait
 
-some_frames : (k : ViewStage) (older : List ViewStage) (outer : List Frame) → AreStages (stages_of (k ∷ older)) outer → 0 < length outer
+pub some_frames : (k : ViewStage) (older : List ViewStage) (outer : List Frame) → AreStages (stages_of (k ∷ older)) outer → 0 < length outer
 some_frames k older [] stages = absurd stages
 some_frames k older (f ∷ outer) stages = omega arith
 
 module _ (table : Table) (typed : TypedProgram) (effects : Effects)
     (unmoved : (e : Stage) → e.frame.sub ≡ 0 → (name : Name) → Has (facts_of (flow_program table typed) effects e) (Moved name) → ⊥)
-    (local : (x : ℕ) → is_anonymous (view_of (flow_typing (flow_program table typed)) x) ≡ true
+    (local : (x : ℕ) → is_view (flow_typing (flow_program table typed)) x ≡ true
     → is_package_object (flow_typing (flow_program table typed)) x ≡ false) where
   abbrev program : FlowProgram
   program = flow_program table typed
@@ -105,117 +135,132 @@ module _ (table : Table) (typed : TypedProgram) (effects : Effects)
   all_between state callee depth backs (h ∷ (k ∷ older)) (f ∷ outer) stages less waiting g (inr has) =
       all_between state h.stage.frame.sub depth h.stage.frame.returns (k ∷ older) outer stages.2 (omega (arith, less)) waiting.1 g has
 
+  -- the frame of the package objects has moved nothing
+  first_none : (e : ViewStage) → IsFirst e → (f : Fact) → Has (withheld program effects e.stage) f → (name : Name) → f ≡ Moved name → ⊥
+  first_none e first f has name is =
+      elim (Has-append_cases (facts_of program effects e.stage) (map (λ (to : Way). Moved (name_of to)) e.stage.returns) f has) [
+        | inl fact ↦ unmoved e.stage first.0 name (subst (Has (facts_of program effects e.stage)) is fact)
+        | inr taken ↦ (Has-map_from (λ (to : Way). Moved (name_of to)) [] f (subst (λ z. Has (map (λ (to : Way). Moved (name_of to)) z) f) (first.1).2 taken)).1
+      ]
+
   -- no package object that is moved in a frame around is used by the innermost one
   pub unused_there : (state : State) (callee : ℕ) (backs : List Return) (older : List ViewStage) → AreWaiting table typed effects state callee backs older → (g : ViewStage) → Has older g
-      → (name : Name) → Has (facts_of program effects g.stage) (Moved name) → is_package_object s name.root ≡ true → Uses effects callee name.root → ⊥
+      → (name : Name) → Has (withheld program effects g.stage) (Moved name) → is_package_object s name.root ≡ true → Uses effects callee name.root → ⊥
   unused_there state callee backs [] waiting g has name moved shared used = absurd has
   unused_there state callee backs (e ∷ []) waiting g (inl same) name moved shared used =
-      unmoved e.stage (waiting.0).0 name (subst (λ (z : ViewStage). Has (facts_of program effects z.stage) (Moved name)) (sym same) moved)
+      first_none e waiting.0 (Moved name) (subst (λ (z : ViewStage). Has (withheld program effects z.stage) (Moved name)) (sym same) moved) name refl
   unused_there state callee backs (e ∷ []) waiting g (inr never) name moved shared used = absurd never
   unused_there state callee backs (h ∷ (k ∷ older)) waiting g (inl same) name moved shared used =
-      (waiting.0).unmoved name (subst (λ (z : ViewStage). Has (facts_of program effects z.stage) (Moved name)) (sym same) moved) shared used
+      (waiting.0).unmoved name (subst (λ (z : ViewStage). Has (withheld program effects z.stage) (Moved name)) (sym same) moved) shared used
   unused_there state callee backs (h ∷ (k ∷ older)) waiting g (inr has) name moved shared used =
       unused_there state h.stage.frame.sub h.stage.frame.returns (k ∷ older) waiting.1 g has name moved shared ((waiting.0).uses name.root used)
 
   none_some : {A : Type 0} (o : ℕ) (w : Way) (v : Views) → v.way o ≡ None → v.way o ≡ Some w → A
   none_some o w v none has = (let no : None ≡ Some w = sym none ∙ has in cc)
 
-  -- The ways of the views of others, with their cells.
+  -- The ways of others, with their cells.
   abbrev pub KeptElsewhere : List ViewStage → Way → ℕ → Type 0
-  KeptElsewhere older w n = (g : ViewStage) × Has older g × (x : ℕ) × (g.views.way x ≡ Some w) × (g.views.cell x ≡ n)
+  KeptElsewhere older w n = KeptBy older w n
 
-  -- The loans on package objects among facts, as ones that the objects hold themselves.
-  loans_of : List Fact → List Fact
-  loans_of [] = []
-  loans_of (Moved n ∷ facts) = loans_of facts
-  loans_of (Lent l h n ∷ facts) = if is_package_object s n.root then Lent l n.root n ∷ loans_of facts else loans_of facts
+  -- Parts of those cells, and of package objects, that were taken.
+  abbrev pub BareElsewhere : List ViewStage → Way → Loc → List Step → Type 0
+  BareElsewhere older w l p = (g : ViewStage) × Has older g × IsBareOf s g w l p
+
+  -- What others keep is there, and no number stands in what was taken.
+  pub record AreTheirs (older : List ViewStage) (view : View) : Type 0 where
+    pub far : (w : Way) (n : ℕ) → KeptElsewhere older w n → Reaches view w (OfCell n)
+    pub bare : (w : Way) (l : Loc) (p : List Step) → BareElsewhere older w l p → (q : List Step) (c : ℕ) → view.word (part l (q ++ p)) ≡ Held c → ⊥
+
+  -- where cells keep their words, and no number comes to what was taken of package objects
+  pub bare_still : (older : List ViewStage) (before after : State)
+      → ((c : ℕ) (q : List Step) (k : ℕ) → word_in s.table (content s after.memory [] (OfCell c)) q ≡ Held k → word_in s.table (content s before.memory [] (OfCell c)) q ≡ Held k)
+      → ((y : ℕ) (p q : List Step) (k : ℕ) → BareElsewhere older (Object (OfVariable 0 y)) (OfRoot (OfVariable 0 y)) p → is_package_object s y ≡ true
+      → word_in s.table (content s after.memory [] (OfRoot (OfVariable 0 y))) (q ++ p) ≡ Held k
+      → word_in s.table (content s before.memory [] (OfRoot (OfVariable 0 y))) (q ++ p) ≡ Held k)
+      → ((w : Way) (l : Loc) (p : List Step) → BareElsewhere older w l p → (q : List Step) (k : ℕ) → (view_here s before).word (part l (q ++ p)) ≡ Held k → ⊥)
+      → (w : Way) (l : Loc) (p : List Step) → BareElsewhere older w l p → (q : List Step) (k : ℕ) → (view_here s after).word (part l (q ++ p)) ≡ Held k → ⊥
+  bare_still older before after cells roots none w l p (g, has, bare) q k held =
+      none w l p (g, has, bare) q k (bare_word s before g w l p (q ++ p) bare ∙ one bare (sym (bare_word s after g w l p (q ++ p) bare) ∙ held))
+    where
+      one : IsBareOf s g w l p → word_in s.table (content s after.memory [] l) (q ++ p) ≡ Held k → word_in s.table (content s before.memory [] l) (q ++ p) ≡ Held k
+      one (taken, inl (c, there, way, is)) held =
+          subst (λ z. word_in s.table (content s before.memory [] z) (q ++ p) ≡ Held k) is
+          (cells c.cell (q ++ p) k (subst (λ z. word_in s.table (content s after.memory [] z) (q ++ p) ≡ Held k) (sym is) held))
+      one (taken, inr (y, shared, way, is)) held =
+          subst (λ z. word_in s.table (content s before.memory [] z) (q ++ p) ≡ Held k) is
+          (roots y p q k (g, has, (subst (λ z. Has g.stage.returns (along z p)) (sym way) taken, inr (y, shared, refl, refl))) shared
+          (subst (λ z. word_in s.table (content s after.memory [] z) (q ++ p) ≡ Held k) (sym is) held))
+
+  -- the frame of the package objects has none
+  no_cells : (g : ViewStage) (w : Way) (n : ℕ) → IsFirst g → IsWayOf g w n → ⊥
+  no_cells g w n first (inl (x, is, cell)) = (let no : None ≡ Some w = sym (first.2 x) ∙ is in cc)
+  no_cells g w n first (inr (c, has, is, cell)) = subst (λ z. Has z c) first.4 has
+
+  -- What a frame keeps of package objects, as loans that the objects hold themselves.
+  loan_of : Fact → List Fact
+  loan_of f = if is_package_object s (place f).root then Lent (loan_by f) (place f).root (place f) ∷ [] else []
 
   pub loans_in : (g : ViewStage) → List Fact
-  loans_in g = if nat_lt 0 g.stage.depth then loans_of (facts_of program effects g.stage) else []
+  loans_in g = if nat_lt 0 g.stage.depth then flat_map loan_of (withheld program effects g.stage) else []
 
   abbrev pub loans_there : List ViewStage → List Fact
   loans_there older = flat_map loans_in older
 
-  -- A place of a package object that is lent to a frame that waits.
+  -- A place of a package object that a frame that waits keeps.
   abbrev pub LentElsewhere : List ViewStage → Loan → Name → Type 0
   LentElsewhere older l n =
-      (g : ViewStage) × Has older g × (0 < g.stage.depth) × (h : ℕ) × Has (facts_of program effects g.stage) (Lent l h n) × (is_package_object s n.root ≡ true)
-
-  moved_same : (n m : Name) → Moved n ≡ Moved m → n ≡ m
-  moved_same n m e = cc
+      (g : ViewStage) × Has older g × (0 < g.stage.depth) × (f : Fact) × Has (withheld program effects g.stage) f × (is_package_object s n.root ≡ true)
+      × (loan_by f ≡ l) × (place f ≡ n)
 
   loan_same : (l k : Loan) (h b : ℕ) (n m : Name) → Lent l h n ≡ Lent k b m → (l ≡ k) × (h ≡ b) × (n ≡ m)
   loan_same l k h b n m e = (cc, cc, cc)
 
-  taken_from : (facts : List Fact) (f : Fact) → Has (loans_of facts) f
-      → (l : Loan) × (n : Name) × (f ≡ Lent l n.root n) × (h : ℕ) × Has facts (Lent l h n) × (is_package_object s n.root ≡ true)
-  unfolding loans_of
-  taken_from [] f has = absurd has
-  taken_from (Moved n ∷ facts) f has = later f (Moved n) facts (taken_from facts f has)
+  one_from : (f g : Fact) → Has (loan_of f) g → (g ≡ Lent (loan_by f) (place f).root (place f)) × (is_package_object s (place f).root ≡ true)
+  unfolding loan_of
+  one_from f g has = by_root (is_package_object s (place f).root) refl has
     where
-      later : (f g : Fact) (facts : List Fact) → (l : Loan) × (n : Name) × (f ≡ Lent l n.root n) × (h : ℕ) × Has facts (Lent l h n) × (is_package_object s n.root ≡ true)
-          → (l : Loan) × (n : Name) × (f ≡ Lent l n.root n) × (h : ℕ) × Has (g ∷ facts) (Lent l h n) × (is_package_object s n.root ≡ true)
-      later f g facts (l, n, is, h, has, shared) = (l, n, is, h, inr has, shared)
-  taken_from (Lent l h n ∷ facts) f has = by_root (is_package_object s n.root) refl has (λ rest. taken_from facts f rest)
-    where
-      later : (l : Loan) × (n : Name) × (f ≡ Lent l n.root n) × (h : ℕ) × Has facts (Lent l h n) × (is_package_object s n.root ≡ true)
-          → (k : Loan) × (m : Name) × (f ≡ Lent k m.root m) × (b : ℕ) × Has (Lent l h n ∷ facts) (Lent k b m) × (is_package_object s m.root ≡ true)
-      later (k, m, is, b, has, shared) = (k, m, is, b, inr has, shared)
+      by_root : (b : Bool) → is_package_object s (place f).root ≡ b → Has (if b then Lent (loan_by f) (place f).root (place f) ∷ [] else []) g
+          → (g ≡ Lent (loan_by f) (place f).root (place f)) × (is_package_object s (place f).root ≡ true)
+      by_root true shared (inl e) = (sym e, shared)
+      by_root true shared (inr none) = absurd none
+      by_root false own none = absurd none
 
-      by_root : (b : Bool) → is_package_object s n.root ≡ b → Has (if b then Lent l n.root n ∷ loans_of facts else loans_of facts) f
-          → (Has (loans_of facts) f → (k : Loan) × (m : Name) × (f ≡ Lent k m.root m) × (b : ℕ) × Has facts (Lent k b m) × (is_package_object s m.root ≡ true))
-          → (k : Loan) × (m : Name) × (f ≡ Lent k m.root m) × (b : ℕ) × Has (Lent l h n ∷ facts) (Lent k b m) × (is_package_object s m.root ≡ true)
-      by_root true shared (inl e) rest = (l, n, sym e, h, inl refl, shared)
-      by_root true shared (inr has) rest = later (rest has)
-      by_root false own has rest = later (rest has)
-
-  taken_has : (facts : List Fact) (l : Loan) (h : ℕ) (n : Name) → Has facts (Lent l h n) → is_package_object s n.root ≡ true → Has (loans_of facts) (Lent l n.root n)
-  unfolding loans_of
-  taken_has [] l h n has shared = absurd has
-  taken_has (Moved m ∷ facts) l h n (inl e) shared = cc
-  taken_has (Moved m ∷ facts) l h n (inr has) shared = taken_has facts l h n has shared
-  taken_has (Lent k b m ∷ facts) l h n has shared = by_place has (λ later. taken_has facts l h n later shared)
-    where
-      by_root : (c : Bool) → Has (loans_of facts) (Lent l n.root n) → Has (if c then Lent k m.root m ∷ loans_of facts else loans_of facts) (Lent l n.root n)
-      by_root true has = inr has
-      by_root false has = has
-
-      by_place : Has (Lent k b m ∷ facts) (Lent l h n) → (Has facts (Lent l h n) → Has (loans_of facts) (Lent l n.root n))
-          → Has (if is_package_object s m.root then Lent k m.root m ∷ loans_of facts else loans_of facts) (Lent l n.root n)
-      by_place (inr later) rest = by_root (is_package_object s m.root) (rest later)
-      by_place (inl e) rest =
-          let same = loan_same k l b h m n e in
-          subst (λ c. Has (if c then Lent k m.root m ∷ loans_of facts else loans_of facts) (Lent l n.root n))
-          (sym (ap (λ (z : Name). is_package_object s z.root) same.2 ∙ shared))
-          (inl ((λ j. Lent (same.0 j) ((same.2 j).root) (same.2 j))))
+  one_has : (f : Fact) → is_package_object s (place f).root ≡ true → Has (loan_of f) (Lent (loan_by f) (place f).root (place f))
+  unfolding loan_of
+  one_has f shared =
+      subst (λ b. Has (if b then Lent (loan_by f) (place f).root (place f) ∷ [] else []) (Lent (loan_by f) (place f).root (place f))) (sym shared) (inl refl)
 
   loans_from : (older : List ViewStage) (f : Fact) → Has (loans_there older) f → (l : Loan) × (n : Name) × (f ≡ Lent l n.root n) × LentElsewhere older l n
   unfolding loans_in
-  loans_from [] f has = absurd has
-  loans_from (g ∷ older) f has = elim (Has-append_cases (loans_in g) (loans_there older) f has) [
-    | inl mine ↦ by_depth (nat_lt 0 g.stage.depth) refl mine
-    | inr later ↦ (
-        let found = loans_from older f later in
-        (found.0, found.1, found.2, ((found.3).0, inr (found.3).1, (found.3).2, (found.3).3, (found.3).4, (found.3).5)))
-  ]
+  loans_from older f has =
+      let found = flat_from loans_in older f has in by_depth found.0 found.1 (nat_lt 0 (found.0).stage.depth) refl found.2
     where
-      by_depth : (b : Bool) → nat_lt 0 g.stage.depth ≡ b → Has (if b then loans_of (facts_of program effects g.stage) else []) f
-          → (l : Loan) × (n : Name) × (f ≡ Lent l n.root n) × LentElsewhere (g ∷ older) l n
-      by_depth true some has =
-          let found = taken_from (facts_of program effects g.stage) f has in
-          (found.0, found.1, found.2, (g, inl refl, ltb-true 0 g.stage.depth some, found.3, found.4, found.5))
-      by_depth false none has = absurd has
+      by_depth : (g : ViewStage) → Has older g → (b : Bool) → nat_lt 0 g.stage.depth ≡ b → Has (if b then flat_map loan_of (withheld program effects g.stage) else []) f
+          → (l : Loan) × (n : Name) × (f ≡ Lent l n.root n) × LentElsewhere older l n
+      by_depth g there true some has =
+          let found = flat_from loan_of (withheld program effects g.stage) f has in
+          let one = one_from found.0 f found.2 in
+          (loan_by found.0, place found.0, one.0, (g, there, ltb-true 0 g.stage.depth some, found.0, found.1, one.1, refl, refl))
+      by_depth g there false none has = absurd has
 
   loans_has : (older : List ViewStage) (l : Loan) (n : Name) → LentElsewhere older l n → Has (loans_there older) (Lent l n.root n)
   unfolding loans_in
-  loans_has [] l n (g, has, some, h, lent, shared) = absurd has
-  loans_has (k ∷ older) l n (g, inl same, some, h, lent, shared) =
-      Has-append_left (loans_in k) (loans_there older) (Lent l n.root n)
-      (subst (λ z. Has (loans_in z) (Lent l n.root n)) (sym same)
-      (subst (λ b. Has (if b then loans_of (facts_of program effects g.stage) else []) (Lent l n.root n)) (sym (lt-ltb 0 g.stage.depth some))
-      (taken_has (facts_of program effects g.stage) l h n lent shared)))
-  loans_has (k ∷ older) l n (g, inr has, some, h, lent, shared) =
-      Has-append_right (loans_in k) (loans_there older) (Lent l n.root n) (loans_has older l n (g, has, some, h, lent, shared))
+  loans_has older l n (g, has, some, f, there, shared, kind, is) =
+      subst (λ z. Has (loans_there older) (Lent z n.root n)) kind
+      (subst (λ (z : Name). Has (loans_there older) (Lent (loan_by f) z.root z)) is
+      (flat_has loans_in older g (Lent (loan_by f) (place f).root (place f)) has
+      (subst (λ b. Has (if b then flat_map loan_of (withheld program effects g.stage) else []) (Lent (loan_by f) (place f).root (place f))) (sym (lt-ltb 0 g.stage.depth some))
+      (flat_has loan_of (withheld program effects g.stage) f (Lent (loan_by f) (place f).root (place f)) there
+      (one_has f (ap (λ (z : Name). is_package_object s z.root) is ∙ shared))))))
+
+  -- such a way reaches its cell
+  way_reaches : (state : State) (callee : ℕ) (backs : List Return) (g : ViewStage) → IsWaiting table typed effects state callee backs g → (w : Way) (n : ℕ) → IsWayOf g w n
+      → Reaches (view_here s state) w (OfCell n)
+  way_reaches state callee backs g waits w n (inl (x, is, cell)) =
+      subst (λ z. Reaches (view_here s state) w (OfCell z)) cell
+      (reached (home s g.stage.depth) (sees_only s) (known_gone (home s g.stage.depth) (λ z. ⊥)) g.views (view_here s state) (facts_of program effects g.stage) x w (waits.views x w is))
+  way_reaches state callee backs g waits w n (inr (c, has, is, cell)) =
+      subst (λ z. Reaches (view_here s state) z (OfCell n)) is (subst (λ z. Reaches (view_here s state) c.way (OfCell z)) cell (waits.kept c has).reaches)
 
   module _ (state : State) (depth : ℕ) (older : List ViewStage) (between : (g : ViewStage) → Has older g → StandsBetween state depth g) where
     -- A way goes on from such a place.
@@ -223,26 +268,31 @@ module _ (table : Table) (typed : TypedProgram) (effects : Effects)
     IsLentFor l w = IsThrough (home s depth) (LentElsewhere older) l w
 
     -- the innermost frame has the same names for what belongs to packages
-    pub lent_for : (g : ViewStage) → Has older g → 0 < g.stage.depth → (l : Loan) (h : ℕ) (k w : Way) → Has (facts_of program effects g.stage) (Lent l h (name_of k))
-        → Named (home s g.stage.depth) k → Under k w → is_package_object s (number_of w) ≡ true → IsLentFor l w
-    lent_for g has some l h k w lent named under shared =
+    pub lent_for : (g : ViewStage) → Has older g → 0 < g.stage.depth → (f : Fact) (k w : Way) → Has (withheld program effects g.stage) f → place f ≡ name_of k
+        → Named (home s g.stage.depth) k → Under k w → is_package_object s (number_of w) ≡ true → IsLentFor (loan_by f) w
+    lent_for g has some f k w there is named under shared =
         let root : is_package_object s (number_of k) ≡ true = ap (is_package_object s) (sym (longer k w under).root) ∙ shared in
-        (k, package_named s g.stage.depth depth k root named, under, (g, has, some, h, lent, root))
+        (k, package_named s g.stage.depth depth k root named, under, (g, has, some, f, there, root, refl, is))
+
+    -- what its facts say is kept, and what was taken
+    pub kept_fact : (g : ViewStage) (f : Fact) → Has (facts_of program effects g.stage) f → Has (withheld program effects g.stage) f
+    kept_fact g f has = Has-append_left (facts_of program effects g.stage) (map (λ (to : Way). Moved (name_of to)) g.stage.returns) f has
+
+    kept_place : (g : ViewStage) (to : Way) → Has g.stage.returns to → Has (withheld program effects g.stage) (Moved (name_of to))
+    kept_place g to has =
+        Has-append_right (facts_of program effects g.stage) (map (λ (to : Way). Moved (name_of to)) g.stage.returns) (Moved (name_of to))
+        (Has-map (λ (to : Way). Moved (name_of to)) g.stage.returns to has)
 
     -- the way of a view begins at an own variable of its frame, or goes on from such a place
     way_cases : (callee : ℕ) (backs : List Return) (g : ViewStage) → Has older g → 0 < g.stage.depth → IsWaiting table typed effects state callee backs g → (x : ℕ) (w : Way)
-        → g.views.way x ≡ Some w
-        → Named (home s g.stage.depth) w × ((is_package_object s (number_of w) ≡ false) ⊎ ((l : Loan) × IsLentFor l w))
-    way_cases callee backs g has some waits x w way = (
-      waits.holds.named x w way,
-      elim (bool_cases (is_package_object s (number_of w))) [
-        | inr own ↦ inl own
-        | inl shared ↦ (
-            let goes = view_goes (home s g.stage.depth) (sees_only s) g.views (view_here s state) (facts_of program effects g.stage) waits.views x w way (waits.holds.named x w way) in
-            let place = goes.1 in
-            inr (goes.0, lent_for g has some goes.0 place.0 place.1 w place.2 place.3 place.4 shared))
-      ],
-    )
+        → g.views.way x ≡ Some w → Named (home s g.stage.depth) w → (is_package_object s (number_of w) ≡ false) ⊎ ((l : Loan) × IsLentFor l w)
+    way_cases callee backs g has some waits x w way named = elim (bool_cases (is_package_object s (number_of w))) [
+      | inr own ↦ inl own
+      | inl shared ↦ (
+          let goes = view_goes (home s g.stage.depth) (sees_only s) g.views (view_here s state) (facts_of program effects g.stage) waits.views x w way named in
+          let place = goes.1 in
+          inr (goes.0, lent_for g has some (Lent goes.0 place.0 (name_of place.1)) place.1 w (kept_fact g (Lent goes.0 place.0 (name_of place.1)) place.2) refl place.3 place.4 shared))
+    ]
 
     -- a way of a view of a frame below
     record Begins (w : Way) : Type 0 where
@@ -257,8 +307,8 @@ module _ (table : Table) (typed : TypedProgram) (effects : Effects)
     low_home false d less = less
 
     way_begins : (callee : ℕ) (backs : List Return) (g : ViewStage) → Has older g → 0 < g.stage.depth → g.stage.depth < depth
-        → IsWaiting table typed effects state callee backs g → (x : ℕ) (w : Way) → g.views.way x ≡ Some w → Lies (home s g.stage.depth) g.stage.depth w → Begins w
-    way_begins callee backs g has some less waits x w is (inr (foreign, low)) = record {
+        → IsWaiting table typed effects state callee backs g → (x : ℕ) (w : Way) → g.views.way x ≡ Some w → Lies s g.stage.depth w → Begins w
+    way_begins callee backs g has some less waits x w is (inr (foreign, low, above)) = record {
       frame = foreign.0;
       object = foreign.1;
       base = foreign.2;
@@ -272,21 +322,54 @@ module _ (table : Table) (typed : TypedProgram) (effects : Effects)
         by_kind false own e =
             (let there : home s depth foreign.1 ≡ depth = ap (λ b. if b then 0 else depth) own in omega (arith, low, less, e, there))
     way_begins callee backs g has some less waits x w is (inl named) =
-        let way = way_cases callee backs g has some waits x w is in record {
+        let way = way_cases callee backs g has some waits x w is named in record {
           frame = home s g.stage.depth (number_of w);
           object = number_of w;
           base = named_base (home s g.stage.depth) w named;
           low = low_home (is_package_object s (number_of w)) g.stage.depth less;
-          other = elim way.1 [
+          other = elim way [
             | inr lent ↦ inr lent
             | inl own ↦ inl (λ e. other_frame s g.stage.depth depth some less (number_of w) own (sym (ap (λ z. if z then 0 else g.stage.depth) own) ∙ e))
           ];
         }
 
+    -- the way of a cell of a place begins at an own variable, or goes on from that of a view
+    cell_begins : (callee : ℕ) (backs : List Return) (g : ViewStage) → Has older g → 0 < g.stage.depth → g.stage.depth < depth
+        → IsWaiting table typed effects state callee backs g → (c : Lodge) → Has g.cells c → Begins c.way
+    cell_begins callee backs g has some less waits c there =
+        let kept = waits.kept c there in
+        subst Begins kept.leads (elim (lifts g.views c.name) [
+          | inl itself ↦ subst Begins (sym itself) (record {
+            frame = home s g.stage.depth (number_of c.name);
+            object = number_of c.name;
+            base = named_base (home s g.stage.depth) c.name kept.named;
+            low = low_home (is_package_object s (number_of c.name)) g.stage.depth less;
+            other = inl (λ e. other_frame s g.stage.depth depth some less (number_of c.name) kept.own
+                (sym (ap (λ z. if z then 0 else g.stage.depth) kept.own) ∙ e));
+          })
+          | inr l ↦ subst Begins (sym (lifted_way g.views c.name l))
+              (goes_on l.way l.rest (way_begins callee backs g has some less waits l.object l.way l.has (waits.holds.lies l.object l.way l.has)))
+        ])
+      where
+        goes_on : (w : Way) (rest : List Go) → Begins w → Begins (on w rest)
+        goes_on w rest b = record {
+          frame = b.frame;
+          object = b.object;
+          base = base_on w rest ∙ b.base;
+          low = b.low;
+          other = elim b.other [
+            | inl away ↦ inl away
+            | inr (l, (k, named, under, lent)) ↦ inr (l, (k, named, under_on k w (on w rest) under (on_under w rest), lent))
+          ];
+        }
+
     begins_there : (w : Way) (n : ℕ) → KeptElsewhere older w n → Begins w
-    begins_there w n (g, has, x, is, cell) = elim (between g has) [
-      | inl first ↦ none_some x w g.views (first.2 x) is
-      | inr (some, less, callee, backs, waits) ↦ way_begins callee backs g has some less waits x w is (inl (waits.holds.named x w is))
+    begins_there w n (g, has, way) = elim (between g has) [
+      | inl first ↦ absurd (no_cells g w n first way)
+      | inr (some, less, callee, backs, waits) ↦ elim way [
+        | inl (x, is, cell) ↦ way_begins callee backs g has some less waits x w is (waits.holds.lies x w is)
+        | inr (c, there, is, cell) ↦ subst Begins is (cell_begins callee backs g has some less waits c there)
+      ]
     ]
 
     pub begins_elsewhere : (w : Way) (n : ℕ) → KeptElsewhere older w n
@@ -294,75 +377,121 @@ module _ (table : Table) (typed : TypedProgram) (effects : Effects)
     begins_elsewhere w n kept = (let b = begins_there w n kept in (b.frame, b.object, b.base, b.other))
 
     -- no variable of the innermost frame begins one
-    pub apart_elsewhere : (x : ℕ) (w : Way) (n : ℕ) → KeptElsewhere older w n → base_of w ≡ OfRoot (OfVariable depth x) → ⊥
-    apart_elsewhere x w n kept base =
+    kept_apart : (x : ℕ) (w : Way) (n : ℕ) → KeptElsewhere older w n → base_of w ≡ OfRoot (OfVariable depth x) → ⊥
+    kept_apart x w n kept base =
         let b = begins_there w n kept in
         let frames = same_frame b.frame b.object depth x (sym b.base ∙ base) in
         let low = b.low in omega (arith, low, frames)
 
+    -- or a place that is bare
+    pub apart_elsewhere : (x : ℕ) (w : Way) → ((n : ℕ) × KeptElsewhere older w n) ⊎ ((l : Loc) × (p : List Step) × BareElsewhere older w l p)
+        → base_of w ≡ OfRoot (OfVariable depth x) → ⊥
+    apart_elsewhere x w (inl (n, kept)) base = kept_apart x w n kept base
+    apart_elsewhere x w (inr (l, p, (g, has, (taken, inl (c, there, is, cell))))) base = kept_apart x w c.cell (g, has, inr (c, there, is, refl)) base
+    apart_elsewhere x w (inr (l, p, (g, has, (taken, inr (y, shared, is, at))))) base = elim (between g has) [
+      | inl first ↦ subst (λ z. Has z (along w p)) (first.1).2 taken
+      | inr (some, less, callee, backs, waits) ↦ (
+          let frames = same_frame 0 y depth x (ap base_of is ∙ base) in omega (arith, frames, some, less))
+    ]
+
     -- the ways of their views begin below
     pub kept_low : (w : Way) (n : ℕ) → KeptElsewhere older w n → (f : ℕ) × (x : ℕ) × (base_of w ≡ OfRoot (OfVariable f x)) × (f < depth)
     kept_low w n kept = (let b = begins_there w n kept in (b.frame, b.object, b.base, b.low))
+
+    -- what a moved name of a frame stands for lies there
+    stood : (callee : ℕ) (backs : List Return) (g : ViewStage) → IsWaiting table typed effects state callee backs g → (u : Way)
+        → IsMoved (home s g.stage.depth) (facts_of program effects g.stage) u → Lies s g.stage.depth (expand g.views u)
+    stood callee backs g waits u moved =
+        elim (stands (home s g.stage.depth) (sees_only s) g.views (view_here s state) (facts_of program effects g.stage) waits.views u
+        (moved.0, waits.clear.owned (name_of u) moved.1)) [
+          | inl own ↦ inl own.0
+          | inr held ↦ same_lies s g.stage.depth (expand g.views u) held.way (longer held.way (expand g.views u) held.under).base
+              (waits.holds.lies held.object held.way held.has)
+        ]
 
     -- and so does what is gone for them
     pub gone_low : (w : Way) → GoneElsewhere program effects older w → (f : ℕ) × (x : ℕ) × (base_of w ≡ OfRoot (OfVariable f x)) × (f < depth)
     gone_low w (g, has, inr taken) = elim (between g has) [
       | inl first ↦ absurd (subst (λ z. TakenBy z w) (first.1).2 taken).1
       | inr (some, less, callee, backs, waits) ↦ (
-          let base = taken_base g.stage.returns g.stage.depth
-          (words_taken s state.memory g.stage.depth (facts_of program effects g.stage) (lasting_of s waits.point.scope) backs g.stage.returns waits.taken) w taken in
-          (g.stage.depth, base.0, base.1, less))
+          let base = taken_base s g.stage.returns g.stage.depth
+          (words_taken s g.cells state.memory g.stage.depth (facts_of program effects g.stage) (lasting_of s waits.point.scope) backs g.stage.returns waits.taken) w taken in
+          (base.0, base.1, base.2, (let at_home = base.3 in let low = home_low s g.stage.depth base.1 in omega (arith, at_home, low, less))))
     ]
     gone_low w (g, has, inl (u, moved, leads)) = elim (between g has) [
       | inl first ↦ absurd (unmoved g.stage first.0 (name_of u) moved.1)
       | inr (some, less, callee, backs, waits) ↦ (
-          let named : Named (home s g.stage.depth) w =
-          subst (Named (home s g.stage.depth)) leads
-          (named_way (home s g.stage.depth) (sees_only s) (known_gone (home s g.stage.depth) (λ z. ⊥)) g.views (view_here s state) (facts_of program effects g.stage)
-          waits.views (suc (number_of u)) u (omega arith) (moved.0, waits.clear.owned (name_of u) moved.1)) in (
-            home s g.stage.depth (number_of w),
-            number_of w,
-            named_base (home s g.stage.depth) w named,
-            low_home (is_package_object s (number_of w)) g.stage.depth less,
-          ))
-    ]
-
-    -- what is near and gone elsewhere is a part of a package object that a fact says was moved, or
-    -- goes on from a place that was borrowed
-    pub near_moved : (w : Way) → IsNear depth w → GoneElsewhere program effects older w
-        → ((is_package_object s (number_of w) ≡ true) × (g : ViewStage) × Has older g × IsMoved (home s g.stage.depth) (facts_of program effects g.stage) w)
-        ⊎ IsLentFor Borrowed w
-    near_moved w near (g, has, inr taken) = elim (between g has) [
-      | inl first ↦ absurd (subst (λ z. TakenBy z w) (first.1).2 taken).1
-      | inr (some, less, callee, backs, waits) ↦ absurd (
-          let base = taken_base g.stage.returns g.stage.depth
-          (words_taken s state.memory g.stage.depth (facts_of program effects g.stage) (lasting_of s waits.point.scope) backs g.stage.returns waits.taken) w taken in
-          elim (near_base depth w g.stage.depth base.0 near base.1) [
-            | inl none ↦ omega (arith, some, none)
-            | inr same ↦ omega (arith, less, same)
+          elim (stood callee backs g waits u moved) [
+            | inr (foreign, low, above) ↦ (foreign.0, foreign.1, ap base_of (sym leads) ∙ foreign.2, omega (arith, low, less))
+            | inl there ↦ (
+                let named : Named (home s g.stage.depth) w = subst (Named (home s g.stage.depth)) leads there in (
+                  home s g.stage.depth (number_of w),
+                  number_of w,
+                  named_base (home s g.stage.depth) w named,
+                  low_home (is_package_object s (number_of w)) g.stage.depth less,
+                ))
           ])
     ]
-    near_moved w near (g, has, inl (u, moved, leads)) = elim (between g has) [
+
+    -- what is near and gone elsewhere is a part of a package object, and goes on from a place that is kept
+    pub near_lent : (w : Way) → IsNear depth w → GoneElsewhere program effects older w → IsLentFor Borrowed w
+    near_lent w near (g, has, inr (to, taken, p, is)) = elim (between g has) [
+      | inl first ↦ absurd (subst (λ z. Has z to) (first.1).2 taken)
+      | inr (some, less, callee, backs, waits) ↦ (
+          let begin = words_taken s g.cells state.memory g.stage.depth (facts_of program effects g.stage) (lasting_of s waits.point.scope) backs g.stage.returns waits.taken to taken in
+          let at : base_of to ≡ OfRoot (OfVariable (home s g.stage.depth begin.1) begin.1) = begin.2 ∙ ap (λ f. OfRoot (OfVariable f begin.1)) begin.3 in
+          let there : Named (home s g.stage.depth) w = base_named (home s g.stage.depth) w begin.1 (ap base_of is ∙ along_base to p ∙ at) in
+          lent_for g has some (Moved (name_of to)) to w (kept_place g to taken) refl (base_named (home s g.stage.depth) to begin.1 at)
+          (subst (Under to) (sym is) (under_along to to p (under_itself to))) (near_package s g.stage.depth depth some less w there near))
+    ]
+    near_lent w near (g, has, inl (u, moved, leads)) = elim (between g has) [
       | inl first ↦ absurd (unmoved g.stage first.0 (name_of u) moved.1)
       | inr (some, less, callee, backs, waits) ↦ elim (lifts g.views u) [
         | inl e ↦ (
             let here : IsMoved (home s g.stage.depth) (facts_of program effects g.stage) w =
             subst (IsMoved (home s g.stage.depth) (facts_of program effects g.stage)) (sym e ∙ leads) moved in
-            inl (near_package s g.stage.depth depth some less w here.0 near, g, has, here))
-        | inr l ↦ (
-            let plain : sees_only s (number_of u) ≡ false = waits.clear.owned (name_of u) moved.1 in
-            let goes = borrower_goes (home s g.stage.depth) (sees_only s) g.views (view_here s state) (facts_of program effects g.stage) waits.views l.object l.way
-            (ap (sees_only s) (sym (lifted_root g.views u l)) ∙ plain) l.has in
-            let stands : w ≡ on l.way l.rest = sym leads ∙ lifted_way g.views u l in
-            let named : Named (home s g.stage.depth) w =
-            subst (Named (home s g.stage.depth)) leads
-            (named_way (home s g.stage.depth) (sees_only s) (known_gone (home s g.stage.depth) (λ z. ⊥)) g.views (view_here s state) (facts_of program effects g.stage)
-            waits.views (suc (number_of u)) u (omega arith) (moved.0, plain)) in
-            inr (lent_for g has some Borrowed goes.0 goes.1 w goes.2 goes.3
-            (subst (Under goes.1) (sym stands) (under_on goes.1 l.way (on l.way l.rest) goes.4 (on_under l.way l.rest)))
-            (near_package s g.stage.depth depth some less w named near)))
+            lent_for g has some (Moved (name_of w)) w w (kept_fact g (Moved (name_of w)) here.1) refl here.0 (under_itself w)
+            (near_package s g.stage.depth depth some less w here.0 near))
+        | inr l ↦ elim (stood callee backs g waits u moved) [
+          | inr (foreign, low, above) ↦ absurd (elim (near_base depth w foreign.0 foreign.1 near (ap base_of (sym leads) ∙ foreign.2)) [
+            | inl none ↦ omega (arith, above, none)
+            | inr same ↦ omega (arith, low, less, same)
+          ])
+          | inl there ↦ (
+              let plain : sees_only s (number_of u) ≡ false = waits.clear.owned (name_of u) moved.1 in
+              let front : Named (home s g.stage.depth) l.way = on_named (home s g.stage.depth) l.way l.rest
+              (subst (Named (home s g.stage.depth)) (lifted_way g.views u l) there) in
+              let goes = borrower_goes (home s g.stage.depth) (sees_only s) g.views (view_here s state) (facts_of program effects g.stage) waits.views l.object l.way
+              (ap (sees_only s) (sym (lifted_root g.views u l)) ∙ plain) l.has front in
+              let same : w ≡ on l.way l.rest = sym leads ∙ lifted_way g.views u l in
+              let named : Named (home s g.stage.depth) w = subst (Named (home s g.stage.depth)) leads there in
+              lent_for g has some (Lent Borrowed goes.0 (name_of goes.1)) goes.1 w (kept_fact g (Lent Borrowed goes.0 (name_of goes.1)) goes.2) refl goes.3
+              (subst (Under goes.1) (sym same) (under_on goes.1 l.way (on l.way l.rest) goes.4 (on_under l.way l.rest)))
+              (near_package s g.stage.depth depth some less w named near))
+        ]
       ]
     ]
+
+    -- what is gone elsewhere and meets a way of another frame doesn't begin near
+    pub far_met : (w z : Way) → IsForeign (home s depth) w → GoneElsewhere program effects older z → Under z w ⊎ Under w z → IsFar depth (GoneElsewhere program effects older) z
+    far_met w z foreign gone meets = (λ near. apart near, gone)
+      where
+        base_there : base_of z ≡ OfRoot (OfVariable foreign.0 foreign.1)
+        base_there = elim meets [ inl above ↦ sym (longer z w above).base ∙ foreign.2 | inr below ↦ (longer w z below).base ∙ foreign.2 ]
+
+        same_object : (f x g y : ℕ) → OfRoot (OfVariable f x) ≡ OfRoot (OfVariable g y) → x ≡ y
+        same_object f x g y e = cc
+
+        at_home : Named (home s depth) z → ⊥
+        at_home named =
+            let is = sym (named_base (home s depth) z named) ∙ base_there in
+            foreign.3 (sym (same_frame (home s depth (number_of z)) (number_of z) foreign.0 foreign.1 is)
+            ∙ ap (home s depth) (same_object (home s depth (number_of z)) (number_of z) foreign.0 foreign.1 is))
+
+        apart : IsNear depth z → ⊥
+        apart near =
+            let (k, named, under, lent) = near_lent z near gone in
+            at_home (base_named (home s depth) z (number_of k) ((longer k z under).base ∙ named_base (home s depth) k named))
 
     -- a package object is no view of another frame
     pub no_view_there : (g : ViewStage) → Has older g → (r : ℕ) → is_package_object s r ≡ true → g.views.way r ≡ None
@@ -380,11 +509,64 @@ module _ (table : Table) (typed : TypedProgram) (effects : Effects)
         ]
 
     pub far : (w : Way) (n : ℕ) → KeptElsewhere older w n → Reaches (view_here s state) w (OfCell n)
-    far w n (g, has, x, is, cell) = elim (between g has) [
-      | inl first ↦ none_some x w g.views (first.2 x) is
-      | inr (some, less, callee, backs, waits) ↦ subst (λ z. Reaches (view_here s state) w (OfCell z)) cell
-          (reached (home s g.stage.depth) (sees_only s) (known_gone (home s g.stage.depth) (λ z. ⊥)) g.views (view_here s state) (facts_of program effects g.stage) x w (waits.views x w is))
+    far w n (g, has, way) = elim (between g has) [
+      | inl first ↦ absurd (no_cells g w n first way)
+      | inr (some, less, callee, backs, waits) ↦ way_reaches state callee backs g waits w n way
     ]
+
+    pub theirs : AreTheirs older (view_here s state)
+    theirs = record {
+      far = far;
+      bare = λ w l p there q k held. (let (g, has, bare) = there in elim (between g has) [
+        | inl first ↦ absurd (subst (λ z. TakenBy z (along w p)) (first.1).2 (along w p, bare.0, [], refl)).1
+        | inr (some, less, callee, backs, waits) ↦ waits.bare w l p bare q k (sym (bare_word s state g w l p (q ++ p) bare) ∙ held)
+      ]);
+    }
+
+    pub bare_rests : (w : Way) (l : Loc) (p : List Step) → BareElsewhere older w l p
+        → ((n : ℕ) × KeptElsewhere older w n × (l ≡ OfCell n)) ⊎ ((r : Root) × (w ≡ Object r) × (l ≡ OfRoot r))
+    bare_rests w l p (g, has, (taken, inl (c, there, is, cell))) = inl (c.cell, (g, has, inr (c, there, is, refl)), sym cell)
+    bare_rests w l p (g, has, (taken, inr (y, shared, is, at))) = inr (OfVariable 0 y, sym is, sym at)
+
+    pub bare_begins : (w : Way) (l : Loc) (p : List Step) → BareElsewhere older w l p
+        → (f : ℕ) × (x : ℕ) × (base_of w ≡ OfRoot (OfVariable f x)) × ((f ≡ home s depth x → ⊥) ⊎ ((k : Loan) × IsLentFor k (along w p)))
+    bare_begins w l p (g, has, (taken, inl (c, there, is, cell))) =
+        let b = begins_elsewhere w c.cell (g, has, inr (c, there, is, refl)) in (
+          b.0,
+          b.1,
+          b.2,
+          elim b.3 [
+            | inl away ↦ inl away
+            | inr (k, m) ↦ inr (k, (m.0, m.1, under_along m.0 w p m.2, m.3))
+          ],
+        )
+    bare_begins w l p (g, has, (taken, inr (y, shared, is, at))) = (
+      0,
+      y,
+      ap base_of (sym is),
+      elim (between g has) [
+        | inl first ↦ absurd (subst (λ z. Has z (along w p)) (first.1).2 taken)
+        | inr (some, less, callee, backs, waits) ↦ inr (
+          Borrowed,
+          (
+              let base : base_of (along w p) ≡ OfRoot (OfVariable (home s g.stage.depth y) y) =
+              along_base w p ∙ ap base_of (sym is) ∙ (λ j. OfRoot (OfVariable (if sym shared j then 0 else g.stage.depth) y)) in
+              let named : Named (home s g.stage.depth) (along w p) = base_named (home s g.stage.depth) (along w p) y base in
+              lent_for g has some (Moved (name_of (along w p))) (along w p) (along w p) (kept_place g (along w p) taken) refl named (under_itself (along w p))
+              (ap (is_package_object s) (number_based (home s g.stage.depth) (along w p) y named base) ∙ shared)),
+        )
+      ],
+    )
+
+    -- what was taken is gone for them
+    pub emptied_there : (w : Way) (l : Loc) (p : List Step) → BareElsewhere older w l p → (q : List Step)
+        → IsFar depth (GoneElsewhere program effects older) (along w (q ++ p)) ⊎ (IsLentFor Borrowed (along w (q ++ p)) × GoneElsewhere program effects older (along w (q ++ p)))
+    emptied_there w l p (g, has, bare) q =
+        let gone : GoneElsewhere program effects older (along w (q ++ p)) = (g, has, inr (along w p, bare.0, q, along_both w q p)) in
+        elim (near_or_far depth (along w (q ++ p))) [
+          | inr away ↦ inl (away, gone)
+          | inl near ↦ inr (near_lent (along w (q ++ p)) near gone, gone)
+        ]
 
     -- What concerns the innermost frame when it has their facts on package objects beside its own.
     abbrev pub beside_them : Around (home s depth)
@@ -395,82 +577,60 @@ module _ (table : Table) (typed : TypedProgram) (effects : Effects)
       through = λ w away. away.0;
       kept = KeptElsewhere older;
       begins = begins_elsewhere;
+      bare = BareElsewhere older;
+      rests = bare_rests;
+      bares = bare_begins;
+      emptied = emptied_there;
     }
 
-    abbrev pub moved_there : List Fact
-    moved_there = inherited program effects (stages_of older)
-
+    -- What they hand on: no fact of a moved place.
     abbrev pub handed : List Fact
-    handed = moved_there ++ loans_there older
-
-    -- What a fact is that they hand on.
-    abbrev pub IsMovedThere : Fact → Type 0
-    IsMovedThere f =
-        (name : Name) × (f ≡ Moved name) × (g : ViewStage) × Has older g × Has (facts_of program effects g.stage) (Moved name) × (is_package_object s name.root ≡ true)
+    handed = loans_there older
 
     abbrev pub IsLentThere : Fact → Type 0
     IsLentThere f = (l : Loan) × (name : Name) × (f ≡ Lent l name.root name) × LentElsewhere older l name
 
-    pub handed_cases : (f : Fact) → Has handed f → IsMovedThere f ⊎ IsLentThere f
-    handed_cases f has = elim (Has-append_cases moved_there (loans_there older) f has) [
-      | inr there ↦ inr (loans_from older f there)
-      | inl there ↦ (
-          let found = inherited_from program effects (stages_of older) f there in
-          let view = Has-map_from (λ (z : ViewStage). z.stage) older found.0 found.1 in
-          inl (by_fact f view.0 view.1 (subst (λ z. Has (facts_of program effects z) f) (sym view.2) found.2) found.3))
-    ]
-      where
-        by_fact : (f : Fact) (g : ViewStage) → Has older g → Has (facts_of program effects g.stage) f → is_inherited s f ≡ true → IsMovedThere f
-        by_fact (Moved name) g has fact shared = (name, refl, g, has, fact, shared)
-        by_fact (Lent l h n) g has fact shared = cc
+    pub handed_lent : (f : Fact) → Has handed f → IsLentThere f
+    handed_lent f has = loans_from older f has
 
-    pub moved_handed : (name : Name) → Has handed (Moved name)
-        → (g : ViewStage) × Has older g × Has (facts_of program effects g.stage) (Moved name) × (is_package_object s name.root ≡ true)
-    moved_handed name has = elim (handed_cases (Moved name) has) [
-      | inl (other, same, g, there, fact, shared) ↦ (
-          let is : other ≡ name = sym (moved_same name other same) in
-          (g, there, subst (λ z. Has (facts_of program effects g.stage) (Moved z)) is fact, subst (λ (z : Name). is_package_object s z.root ≡ true) is shared))
-      | inr (l, other, same, there) ↦ (let no : Moved name ≡ Lent l other.root other = same in cc)
-    ]
+    pub none_moved : (name : Name) → Has handed (Moved name) → ⊥
+    none_moved name has = (let found = loans_from older (Moved name) has in let no : Moved name ≡ Lent found.0 (found.1).root found.1 = found.2 in cc)
 
     pub lent_handed : (l : Loan) (h : ℕ) (name : Name) → Has handed (Lent l h name) → (h ≡ name.root) × LentElsewhere older l name
-    lent_handed l h name has = elim (handed_cases (Lent l h name) has) [
-      | inl (other, same, g, there, fact, shared) ↦ (let no : Lent l h name ≡ Moved other = same in cc)
-      | inr (k, other, same, there) ↦ (
-          let is = loan_same l k h other.root name other same in (
-            is.1 ∙ sym (ap (λ (z : Name). z.root) is.2),
-            subst (λ z. LentElsewhere older l z) (sym is.2) (subst (λ z. LentElsewhere older z other) (sym is.0) there),
-          ))
-    ]
+    lent_handed l h name has =
+        let found = loans_from older (Lent l h name) has in
+        let is = loan_same l found.0 h (found.1).root name found.1 found.2 in (
+          is.1 ∙ sym (ap (λ (z : Name). z.root) is.2),
+          subst (λ z. LentElsewhere older l z) (sym is.2) (subst (λ z. LentElsewhere older z found.1) (sym is.0) found.3),
+        )
 
     -- Their facts on package objects don't meet, nor do those of the innermost frame meet them.
     pub record AreApart (facts : List Fact) : Type 0 where
-      pub moved : (n : Name) → Has handed (Moved n) → (l : Loan) (m : Name) → LentElsewhere older l m → overlaps n m ≡ true → ⊥
       pub seen : (n m : Name) → LentElsewhere older Borrowed n → LentElsewhere older Observed m → overlaps n m ≡ true → ⊥
-      pub own_lent : (n : Name) → Has handed (Moved n) → (l : Loan) (h : ℕ) (m : Name) → Has facts (Lent l h m) → n.root ≡ m.root → ⊥
       pub own_moved : (n : Name) → Has facts (Moved n) → (l : Loan) (m : Name) → LentElsewhere older l m → n.root ≡ m.root → ⊥
       pub own_borrowed : (b : ℕ) (n : Name) → Has facts (Lent Borrowed b n) → (l : Loan) (m : Name) → LentElsewhere older l m → n.root ≡ m.root → ⊥
       pub own_seen : (h : ℕ) (m : Name) → Has facts (Lent Observed h m) → (n : Name) → LentElsewhere older Borrowed n → n.root ≡ m.root → ⊥
 
+    -- what is gone for them is excused by their facts on package objects, and by what concerns the innermost frame of them
+    pub elsewhere_excused : (v : Views) (facts : List Fact) (w : Way) → GoneElsewhere program effects older w → ExcusedBy (home s depth) v beside_them (facts ++ handed) w
+    elsewhere_excused v facts w away = elim (near_or_far depth w) [
+      | inr far ↦ inr (far, away)
+      | inl near ↦ inl (inr (near_lent w near away, away))
+    ]
+
     -- with them
     pub with_them : (v : Views) (view : View) (facts : List Fact) → ((x : ℕ) (w : Way) → v.way x ≡ Some w → is_package_object s x ≡ false)
         → ((x : ℕ) → is_package_object s x ≡ true → sees_only s x ≡ false) → AreApart facts
-        → ((w : Way) (n : ℕ) → KeptElsewhere older w n → Reaches view w (OfCell n))
+        → AreTheirs older view → ArePast s depth v older
         → Viewed (home s depth) (sees_only s) (known_gone (home s depth) (GoneElsewhere program effects older)) v view facts
         → Viewed (home s depth) (sees_only s) beside_them v view (facts ++ handed)
-    with_them v view facts only plain apart reach well = record {
+    with_them v view facts only plain apart reach past well = record {
       owned = well.owned;
       covered = well.covered;
       known = λ w l rooted r gone. elim (well.known w l rooted r gone) [
         | inl (inr none) ↦ absurd none
         | inl (inl (u, moved, leads)) ↦ inl (inl (u, (moved.0, Has-append_left facts handed (Moved (name_of u)) moved.1), leads))
-        | inr away ↦ elim (near_or_far depth w) [
-          | inr far ↦ inr (far, away)
-          | inl near ↦ elim (near_moved w near away) [
-            | inl moved ↦ inl (inl (known_near w moved))
-            | inr lent ↦ inl (inr (lent, away))
-          ]
-        ]
+        | inr away ↦ elsewhere_excused v facts w away
       ];
       clear = record {
         moved = λ l h n m has lends over. elim (cases (Moved n) has) [
@@ -478,10 +638,7 @@ module _ (table : Table) (typed : TypedProgram) (effects : Effects)
             | inl mine ↦ well.clear.moved l h n m own mine over
             | inr there ↦ apart.own_moved n own l m (lent_handed l h m there).1 (same_root n m over)
           ]
-          | inr away ↦ elim (cases (Lent l h m) lends) [
-            | inl mine ↦ apart.own_lent n away l h m mine (same_root n m over)
-            | inr there ↦ apart.moved n away l m (lent_handed l h m there).1 over
-          ]
+          | inr away ↦ none_moved n away
         ];
         lent = λ b h n m one two off over. elim (cases (Lent Borrowed b n) one) [
           | inl own ↦ elim (cases (Lent Borrowed h m) two) [
@@ -505,7 +662,7 @@ module _ (table : Table) (typed : TypedProgram) (effects : Effects)
         ];
         owned = λ n has. elim (cases (Moved n) has) [
           | inl own ↦ well.clear.owned n own
-          | inr there ↦ plain n.root (moved_handed n there).3
+          | inr there ↦ absurd (none_moved n there)
         ];
       };
       views = λ x w has.
@@ -514,12 +671,14 @@ module _ (table : Table) (typed : TypedProgram) (effects : Effects)
           (λ b n loan. own_loan (sees_only s) facts (facts ++ handed) (λ l h m own. Has-append_left facts handed (Lent l h m) own) b x n loan)
           (reached (home s depth) (sees_only s) beside_them v view facts x w (well.views x w has));
       whole = λ x w z has foreign gone meets. well.whole x w z has foreign gone.1 meets;
+      past = past;
       lends = λ l n lent. record {
-        has = Has-append_right facts handed (Lent l n.root n) (Has-append_right moved_there (loans_there older) (Lent l n.root n) (loans_has older l n lent));
+        has = Has-append_right facts handed (Lent l n.root n) (loans_has older l n lent);
         none = none_there n.root lent.5;
         plain = plain n.root lent.5;
       };
-      far = reach;
+      far = reach.far;
+      bare = reach.bare;
     }
       where
         cases : (f : Fact) → Has (facts ++ handed) f → Has facts f ⊎ Has handed f
@@ -535,28 +694,13 @@ module _ (table : Table) (typed : TypedProgram) (effects : Effects)
             by_way None is = is
             by_way (Some w) is = (let no : true ≡ false = sym shared ∙ only x w is in cc)
 
-        known_near : (w : Way) → (is_package_object s (number_of w) ≡ true) × (g : ViewStage) × Has older g × IsMoved (home s g.stage.depth) (facts_of program effects g.stage) w
-            → IsMovedBy (home s depth) v (facts ++ handed) w
-        known_near w (shared, g, has, moved) =
-            let named : Named (home s depth) w = package_named s g.stage.depth depth w shared moved.0 in (
-              w,
-              (
-                named,
-                Has-append_right facts handed (Moved (name_of w))
-                    (Has-append_left moved_there (loans_there older) (Moved (name_of w))
-                    (inherited_has program effects (stages_of older) g.stage (Has-map (λ (k : ViewStage). k.stage) older g has) (Moved (name_of w)) moved.1 shared)),
-              ),
-              stands_itself (home s depth) (sees_only s) (known_gone (home s depth) (λ z. ⊥)) v w named (none_there (number_of w) shared),
-            )
-
     -- and without them
     pub without_them : (v : Views) (view : View) (all facts : List Fact) → ((x : ℕ) (w : Way) → v.way x ≡ Some w → is_package_object s x ≡ false)
-        → ((x : ℕ) (w : Way) → v.way x ≡ Some w → Named (home s depth) w)
         → ((x : ℕ) → is_package_object s x ≡ true → sees_only s x ≡ false)
         → ((f : Fact) → Has facts f → Has all f) → Splits all facts handed
         → Viewed (home s depth) (sees_only s) beside_them v view all
         → Viewed (home s depth) (sees_only s) (known_gone (home s depth) (GoneElsewhere program effects older)) v view facts
-    without_them v view all facts only ways_named plain part from well = record {
+    without_them v view all facts only plain part from well = record {
       owned = well.owned;
       covered = well.covered;
       known = λ w l rooted r gone. elim (well.known w l rooted r gone) [
@@ -564,7 +708,7 @@ module _ (table : Table) (typed : TypedProgram) (effects : Effects)
         | inl (inr away) ↦ inr away.1
         | inl (inl (u, moved, leads)) ↦ elim (from (Moved (name_of u)) moved.1) [
           | inl mine ↦ inl (inl (u, (moved.0, mine), leads))
-          | inr there ↦ inr (known_there w u moved.0 leads (moved_handed (name_of u) there))
+          | inr there ↦ absurd (none_moved (name_of u) there)
         ]
       ];
       clear = record {
@@ -573,12 +717,14 @@ module _ (table : Table) (typed : TypedProgram) (effects : Effects)
         seen = λ b h n m one two over. well.clear.seen b h n m (part (Lent Borrowed b n) one) (part (Lent Observed h m) two) over;
         owned = λ n has. well.clear.owned n (part (Moved n) has);
       };
-      whole = λ x w z has foreign gone meets. not_elsewhere (home s depth) w (ways_named x w has) foreign;
+      whole = λ x w z has foreign gone meets. well.whole x w z has foreign (far_met w z foreign gone meets) meets;
+      past = λ x w has given plain k n none. absurd none;
       views = λ x w has.
           view_on (home s depth) (sees_only s) beside_them v view view all facts x w (well.views x w has) (λ b n loan. loan_kept x w has b n loan)
           (reached (home s depth) (sees_only s) beside_them v view all x w (well.views x w has));
       lends = λ l n none. absurd none;
       far = λ w n none. absurd none;
+      bare = λ w n p none. absurd none;
     }
       where
         not_both : (b : Bool) → b ≡ true → b ≡ false → ⊥
@@ -597,90 +743,3 @@ module _ (table : Table) (typed : TypedProgram) (effects : Effects)
           | inr there ↦ absurd (let away = lent_handed Borrowed x n there in
               not_both (is_package_object s x) (ap (is_package_object s) away.0 ∙ (away.1).5) (only x w has))
         ]
-
-        none_there : (x : ℕ) → is_package_object s x ≡ true → v.way x ≡ None
-        none_there x shared = by_way (v.way x) refl
-          where
-            by_way : (o : Option Way) → v.way x ≡ o → v.way x ≡ None
-            by_way None is = is
-            by_way (Some w) is = (let no : true ≡ false = sym shared ∙ only x w is in cc)
-
-        known_there : (w u : Way) → Named (home s depth) u → expand v u ≡ w
-            → (g : ViewStage) × Has older g × Has (facts_of program effects g.stage) (Moved (name_of u)) × (is_package_object s (number_of u) ≡ true)
-            → GoneElsewhere program effects older w
-        known_there w u named leads (g, has, moved, shared) =
-            let itself : expand v u ≡ u = stands_itself (home s depth) (sees_only s) (known_gone (home s depth) (λ z. ⊥)) v u named (none_there (number_of u) shared) in
-            let there : Named (home s g.stage.depth) u = package_named s depth g.stage.depth u shared named in
-            let by_them : expand g.views u ≡ u =
-            stands_itself (home s g.stage.depth) (sees_only s) (known_gone (home s g.stage.depth) (λ z. ⊥)) g.views u there (no_view_there g has (number_of u) shared) in
-            (g, has, inl (u, (there, moved), by_them ∙ sym itself ∙ leads))
-
-  -- ---- after a step of the innermost frame
-
-  module _ (state next : State) (depth : ℕ)
-      (still : (f x : ℕ) (p : List Step) (c : ℕ) → 0 < f → f < depth → word_in s.table (content s next.memory [] (OfRoot (OfVariable f x))) p ≡ Held c
-      → word_in s.table (content s state.memory [] (OfRoot (OfVariable f x))) p ≡ Held c)
-      (words : (f x : ℕ) → 0 < f → f < depth → is_anonymous (view_of s x) ≡ true
-      → (get_or (variable_slots s f x next.memory.variables) 0 no_slot).word ≡ (get_or (variable_slots s f x state.memory.variables) 0 no_slot).word) where
-    waits_on : (callee : ℕ) (backs : List Return) (g : ViewStage) → 0 < g.stage.depth → g.stage.depth < depth
-        → ((x : ℕ) (w : Way) → g.views.way x ≡ Some w → Reaches (view_here s next) w (OfCell (g.views.cell x)))
-        → IsWaiting table typed effects state callee backs g → IsWaiting table typed effects next callee backs g
-    waits_on callee backs g some less reach waits = record {
-      runs = waits.runs;
-      plain = waits.plain;
-      path = waits.path;
-      named = waits.named;
-      of_sub = waits.of_sub;
-      point = waits.point;
-      at_point = waits.at_point;
-      scope = λ x p c held. waits.scope x p c (still g.stage.depth x p c some less held);
-      lends = waits.lends;
-      unmoved = waits.unmoved;
-      uses = waits.uses;
-      writes = waits.writes;
-      clear = waits.clear;
-      views = λ x w has.
-          view_on (home s g.stage.depth) (sees_only s) (known_gone (home s g.stage.depth) (λ z. ⊥)) g.views (view_here s state) (view_here s next)
-          (facts_of program effects g.stage) (facts_of program effects g.stage) x w (waits.views x w has) (λ b n loan. loan) (reach x w has);
-      holds = record {
-        held = λ x n lasts view e. waits.holds.held x n lasts view (word_before x n view e);
-        within = λ x n view e. waits.holds.within x n view (word_before x n view e);
-        only = waits.holds.only;
-        named = waits.holds.named;
-      };
-      placed = waits.placed;
-      taken = still_taken s state.memory next.memory g.stage.depth (facts_of program effects g.stage) (lasting_of s waits.point.scope)
-          (λ y p c held. still g.stage.depth y p c some less held) backs g.stage.returns waits.taken;
-    }
-      where
-        word_before : (x n : ℕ) → is_anonymous (view_of s x) ≡ true
-            → (get_or (variable_slots s (home s g.stage.depth x) x next.memory.variables) 0 no_slot).word ≡ machine.Cell n
-            → (get_or (variable_slots s (home s g.stage.depth x) x state.memory.variables) 0 no_slot).word ≡ machine.Cell n
-        word_before x n view e =
-            let own : home s g.stage.depth x ≡ g.stage.depth = ap (λ z. if z then 0 else g.stage.depth) (local x view) in
-            subst (λ f. (get_or (variable_slots s f x state.memory.variables) 0 no_slot).word ≡ machine.Cell n) (sym own)
-            (sym (words g.stage.depth x some less view)
-            ∙ subst (λ f. (get_or (variable_slots s f x next.memory.variables) 0 no_slot).word ≡ machine.Cell n) own e)
-
-    pub all_on : (callee : ℕ) (backs : List Return) (older : List ViewStage) (outer : List Frame) → AreStages (stages_of older) outer → length outer ≤ depth
-        → ((g : ViewStage) → Has older g → (x : ℕ) (w : Way) → g.views.way x ≡ Some w → Reaches (view_here s next) w (OfCell (g.views.cell x)))
-        → AreWaiting table typed effects state callee backs older → AreWaiting table typed effects next callee backs older
-    all_on callee backs [] outer stages less reach waiting = waiting
-    all_on callee backs (e ∷ []) outer stages less reach waiting = waiting
-    all_on callee backs (g ∷ (h ∷ older)) [] stages less reach waiting = absurd stages
-    all_on callee backs (g ∷ (h ∷ older)) (f ∷ outer) stages less reach waiting =
-        let some = some_frames h older outer stages.2 in
-        let deep = stages.1 in (
-          waits_on callee backs g (omega (arith, some, deep)) (omega (arith, less, deep)) (reach g (inl refl)) waiting.0,
-          all_on g.stage.frame.sub g.stage.frame.returns (h ∷ older) outer stages.2 (omega (arith, less)) (λ k has. reach k (inr has)) waiting.1,
-        )
-
-    -- where owners see the same
-    pub all_same : IsSame (view_here s state) (view_here s next) → (callee : ℕ) (backs : List Return) (older : List ViewStage) (outer : List Frame) → AreStages (stages_of older) outer
-        → length outer ≤ depth → AreWaiting table typed effects state callee backs older → AreWaiting table typed effects next callee backs older
-    all_same same callee backs older outer stages less waiting =
-        all_on callee backs older outer stages less
-        (λ g has x w there. elim (all_between state callee depth backs older outer stages less waiting g has) [
-          | inl first ↦ none_some x w g.views (first.2 x) there
-          | inr (some, under, below, backs_there, waits) ↦ same_reaches (view_here s state) (view_here s next) same w (OfCell (g.views.cell x)) (reached (home s g.stage.depth) (sees_only s) (known_gone (home s g.stage.depth) (λ z. ⊥)) g.views (view_here s state) (facts_of program effects g.stage) x w (waits.views x w there))
-        ]) waiting

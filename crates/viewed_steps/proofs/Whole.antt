@@ -46,7 +46,7 @@ distinct_has (f ∷ rest) x h = elim h [
     from true is has = inl ((is_same_fact-decides f x).0 is)
     from false is has = inr (Has-filter_passes (λ g. not (is_same_fact f g)) (distinct rest) x has (ap not is))
 
-flat_has : {A B : Type 0} (f : A → List B) (xs : List A) (x : A) (y : B) → Has xs x → Has (f x) y → Has (flat_map f xs) y
+pub flat_has : {A B : Type 0} (f : A → List B) (xs : List A) (x : A) (y : B) → Has xs x → Has (f x) y → Has (flat_map f xs) y
 flat_has f [] x y h k = absurd h
 flat_has f (z ∷ xs) x y h k = elim h [
   | inl e ↦ Has-append_left (f z) (flat_map f xs) y (subst (λ w. Has (f w) y) (sym e) k)

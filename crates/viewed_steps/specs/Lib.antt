@@ -4,5 +4,7 @@ pub mod Awaited
 pub mod Taken
 -- what holds at each moment
 pub mod Sound
+-- what traversal functions give
+pub mod Traversals
 -- what is asked of a program so that it does
 pub mod Ready

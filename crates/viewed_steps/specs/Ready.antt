@@ -1,6 +1,11 @@
 -- What is asked of an accepted program with borrowers and observers so that its runs are sound: what
 -- typing, the layout and the rules see to. Nothing here speaks of a run.
-use Rattle.std.specs.Prelude.{◌≡◌, ◌⊎◌, ◌<◌, ℕ, true, false, List, [], ◌∷◌, ◌++◌, map, drop, Option, Some, is_some}
+use Rattle.machine.specs.Run.{no_point}
+use Rattle.flow_paths.specs.Effects.{path_points}
+use Rattle.flow_paths.specs.Paths.{ControlPath}
+use Rattle.place_names.specs.declared.act.Act.TheVariants.{Give}
+use Rattle.place_names.specs.Names.{Name as PlaceName}
+use Rattle.std.specs.Prelude.{◌≡◌, ◌⊎◌, ◌<◌, ℕ, true, false, List, [], ◌∷◌, ◌++◌, map, drop, Option, Some, is_some, Bool, get_or}
 use Rattle.spark_base.specs.Lists.{Has}
 use Rattle.spark_base.specs.declared.position.Pos.{Pos}
 use Rattle.place_names.specs.declared.act.Mode.{Mode}
@@ -8,6 +13,7 @@ use Rattle.place_names.specs.declared.act.Mode.TheVariants as mode
 use Rattle.place_names.specs.declared.act.Placed.{Placed}
 use Rattle.type_definitions.specs.Types.{Table, full, is_scalar, is_owning}
 use Rattle.typed_tree.specs.Trees.{TypedTree, Name, NoMore, More}
+use Rattle.typed_tree.specs.Trees as typed
 use Rattle.typed_tree.specs.Programs.{TypedProgram}
 use Rattle.flow_paths.specs.declared.report.Effects.{Effects}
 use Rattle.flow_paths.specs.Instructions.{Declare, Assign, Call, Input, EndScope, Finish}
@@ -15,15 +21,18 @@ use Rattle.flow_paths.specs.Objects.{Typing, object_at, sub_at, is_formal, is_va
 use Rattle.flow_paths.specs.Points.{NamedPoint, FlowPoint}
 use Rattle.flow_paths.specs.Laid.{FlowSub, FlowProgram, NamedSub, number_in, flow_typing, flow_program, flow_named}
 use Rattle.flow_paths.specs.Scopes.{taken, is_within}
-use Rattle.flow_paths.specs.Views.{encloses, scope_of}
+use Rattle.flow_paths.specs.Views.{encloses, scope_of, traversed_formal, sub_acts, IsOnlyRoot}
 use Rattle.machine.specs.States.{sub_of}
+use Rattle.machine.specs.Owners.{is_in}
 use Rattle.soundness.specs.Typed.{OwnsByShape}
-use Rattle.soundness.specs.Sound.{Accepted, IsNamedSub, IsAtPoint, IsProcedure, IsRunnable}
+use Rattle.soundness.specs.Sound.{Accepted, IsNamedSub, IsAtPoint, IsProcedure, IsRunnable, is_temporary_object, has_returned, IsEntered}
 use Rattle.soundness.specs.Ready.{root_of, stored_at, AreScoped, AreNew, AreElaborated, AreReturning}
-use Rattle.typed_laws.specs.Needed.{Matches, Stays, IsPlace}
-use Rattle.viewed_soundness.specs.Holds.{AllKeep}
-use Rattle.viewed_steps.specs.Awaited.{is_held, IsTaken, FillsTyped}
-use Rattle.viewed_steps.specs.Sound.{IsScalarObject, IsViewClass, Lasts}
+use Rattle.typed_laws.specs.Needed.{Matches, Leads, Stays, IsPlace}
+use Rattle.soundness.specs.Seen.{is_view_formal}
+use Rattle.viewed_soundness.specs.Holds.{sees_only, is_fixed, AllKeep, IsNamed, is_given}
+use Rattle.viewed_steps.specs.Awaited.{is_held, IsTaken, FillsTyped, TakesAlone}
+use Rattle.viewed_steps.specs.Traversals.{IsSourceName}
+use Rattle.viewed_steps.specs.Sound.{IsScalarObject, IsViewClass, Lasts, IsStoredAt}
 
 -- ---- calls
 
@@ -45,6 +54,10 @@ pub record ArePassed (table : Table) (typed : TypedProgram) : Type 0 where
       → p.instr ≡ Call n actuals result → (x : ℕ) → Has (roots_passed actuals) x
       → (is_package_object (flow_typing (flow_program table typed)) x ≡ true) ⊎ (is_within x (drop (taken p.instr) p.scope) ≡ true)
 
+-- In scope, no temporary is of an anonymous access type.
+abbrev pub AreNamedIn : Typing → List ℕ → Type 0
+AreNamedIn s xs = (x : ℕ) → Has xs x → is_temporary_object s x ≡ true → is_anonymous (view_of s x) ≡ false
+
 -- What waits: what is stored at or passed is no temporary that owns; what is taken is of scalar types, or
 -- what a function gave, alone; and what is filled fits.
 pub record AreValued (table : Table) (typed : TypedProgram) : Type 0 where
@@ -53,18 +66,41 @@ pub record AreValued (table : Table) (typed : TypedProgram) : Type 0 where
   pub passed : (sub : NamedSub) → Has (flow_named table typed) sub → (p : NamedPoint) → Has sub.points p → (n : ℕ) (actuals : TypedTree) (result : Option ℕ)
       → p.instr ≡ Call n actuals result → (x : ℕ) → Has (roots_passed actuals) x → is_held (flow_typing (flow_program table typed)) x ≡ false
   pub takes : (sub : NamedSub) → Has (flow_named table typed) sub → (p : NamedPoint) → Has sub.points p → IsTaken (flow_typing (flow_program table typed)) p
+  -- what is of an anonymous access type is taken at once
+  pub seen : (sub : NamedSub) → Has (flow_named table typed) sub → (p : NamedPoint) → Has sub.points p
+      → AreNamedIn (flow_typing (flow_program table typed)) p.scope
+      ⊎ ((alone : TakesAlone (flow_typing (flow_program table typed)) p) × AreNamedIn (flow_typing (flow_program table typed)) alone.1)
   pub fills : (sub : NamedSub) → Has (flow_named table typed) sub → (p : NamedPoint) → Has sub.points p
       → FillsTyped (flow_program table typed) p.instr (drop (taken p.instr) p.scope)
 
--- What is passed stays within what it names. One that is copied back to is a name: of a scalar type; or,
--- of mode `in out`, of a place of the type of the formal in an object that belongs to no package.
+-- What is passed stays within what it names. One that is copied back to is a name of a place of the type of
+-- the formal: of a scalar type, or in an object that is no formal of mode `in`.
 abbrev pub IsOwnPlace : Typing → TypedTree → Type 0
-IsOwnPlace s e = (y : ℕ) → Has (root_of e) y → is_package_object s y ≡ false
+IsOwnPlace s e = (y : ℕ) → Has (root_of e) y → is_view_formal s y ≡ false
 
+-- What a formal is shown that owns nothing: null, or what a name of its type designates that is rooted in an
+-- own variable of the frame, or in such a formal.
+abbrev pub IsShowable : Typing → ℕ → Type 0
+IsShowable s y = (is_package_object s y ≡ false) × (is_anonymous (view_of s y) ≡ false)
+
+abbrev pub IsSeen : Typing → ℕ → TypedTree → Type 0
+IsSeen s x typed.Null = Unit {0}
+IsSeen s x (Name p y path u) = Leads s (object_at s y).of path u × Matches s.table u (object_at s x).of × IsShowable s y
+IsSeen s x e = ⊥
+
+-- One of a type that owns nothing gets a scalar value, or a copy of what a name of its type stands for.
+abbrev pub IsCopyOf : Typing → ℕ → TypedTree → Type 0
+IsCopyOf s x (Name p y path u) = Leads s (object_at s y).of path u × Matches s.table u (object_at s x).of
+IsCopyOf s x e = ⊥
+
+abbrev pub IsValueTo : Typing → ℕ → TypedTree → Type 0
+IsValueTo s x e = (IsScalarObject s x × Stays s e) ⊎ (IsNamed s.table (object_at s x).of × IsCopyOf s x e)
+
+-- By the mode, and whether the type of the formal is owning.
 abbrev pub IsActualTo : Typing → ℕ → Mode → TypedTree → Type 0
-IsActualTo s x mode.In e = Stays s e
-IsActualTo s x mode.Out e = (t : ℕ) × IsPlace s e t × (is_scalar (full s.table t) ≡ true)
-IsActualTo s x mode.InOut e =
+IsActualTo s x mode.In e =
+    (is_owning s.table (object_at s x).of ≡ false → IsValueTo s x e) × (is_owning s.table (object_at s x).of ≡ true → IsSeen s x e)
+IsActualTo s x m e =
     (t : ℕ) × IsPlace s e t × Matches s.table t (object_at s x).of × ((is_scalar (full s.table t) ≡ true) ⊎ IsOwnPlace s e)
 
 -- So is each that there is a formal for; each formal that isn't of a scalar type has an actual.
@@ -93,27 +129,42 @@ AreCalled table typed =
 
 -- ---- borrowers and observers in order
 
--- A view is declared from a name that lasts, and a borrower from an older one that isn't rooted in
--- an observer.
+-- A view is declared from a name that lasts, or from what a function gives that goes through it; and a
+-- borrower from an older name that isn't rooted in an observer, or in a formal that nothing is changed through.
 abbrev pub IsSource : FlowProgram → List ℕ → ℕ → TypedTree → Type 0
-IsSource program scope x e =
-    (q : Pos) × (y : ℕ) × (path : TypedTree) × (u : ℕ) × (e ≡ More (Name q y path u) NoMore)
+IsSource program scope x v =
+    (q : Pos) × (y : ℕ) × (path : TypedTree) × (u : ℕ) × (e : TypedTree) × (v ≡ More e NoMore)
+    × IsSourceName (flow_typing program) (object_at (flow_typing program) x).of e q y path u
     × Lasts program scope y x
-    × (is_observer (flow_typing program) x ≡ false → (is_observer (flow_typing program) y ≡ false) × (y < x))
+    × (is_observer (flow_typing program) x ≡ false → (sees_only (flow_typing program) y ≡ false) × (y < x))
 
--- An observer is assigned from a name that lasts, and a borrower from one that is rooted in it.
+-- An observer is likewise assigned from a name that lasts, and a borrower from one that is rooted in it.
 abbrev pub IsNewSource : FlowProgram → List ℕ → ℕ → TypedTree → Type 0
 IsNewSource program scope x e =
-    (q : Pos) × (y : ℕ) × (path : TypedTree) × (u : ℕ) × (e ≡ Name q y path u)
+    (q : Pos) × (y : ℕ) × (path : TypedTree) × (u : ℕ) × IsSourceName (flow_typing program) (object_at (flow_typing program) x).of e q y path u
     × (is_observer (flow_typing program) x ≡ true → Lasts program scope y x)
     × (is_observer (flow_typing program) x ≡ false → y ≡ x)
+
+-- Nothing is copied back to through what only sees.
+abbrev pub AreUnobserved : Typing → List ℕ → TypedTree → Type 0
+AreUnobserved s (x ∷ formals) (More e rest) =
+    (is_in (object_at s x).mode ≡ false → (y : ℕ) → Has (root_of e) y → sees_only s y ≡ false) × AreUnobserved s formals rest
+AreUnobserved s formals actuals = Unit {0}
 
 -- Views at a point with its successors.
 pub record AreOrderly (program : FlowProgram) (p : NamedPoint) (next : NamedPoint → Type 0) : Type 0 where
   pub declared : (x : ℕ) (e : TypedTree) → p.instr ≡ Declare x e → is_anonymous (view_of (flow_typing program) x) ≡ true → IsSource program p.scope x e
   pub assigned : (q : Pos) (x w : ℕ) (e : TypedTree) → p.instr ≡ Assign (Name q x NoMore w) e → is_anonymous (view_of (flow_typing program) x) ≡ true
       → IsNewSource program p.scope x e
-  pub read : (q : Pos) (x w : ℕ) (path : TypedTree) → p.instr ≡ Input (Name q x path w) → is_observer (flow_typing program) x ≡ false
+  pub copied : (n : ℕ) (actuals : TypedTree) (result : Option ℕ) → p.instr ≡ Call n actuals result
+      → AreUnobserved (flow_typing program) (sub_of program n).formals actuals
+  pub read : (q : Pos) (x w : ℕ) (path : TypedTree) → p.instr ≡ Input (Name q x path w) → sees_only (flow_typing program) x ≡ false
+  -- what is declared, or ends, is no formal that owns nothing; and of an anonymous access type, it is a
+  -- variable, as what is assigned as a whole is
+  pub variables : (x : ℕ) → IsStoredAt p.instr x ⊎ (p.instr ≡ EndScope x) → is_anonymous (view_of (flow_typing program) x) ≡ true
+      → is_variable (object_at (flow_typing program) x).kind ≡ true
+  pub begun : (x : ℕ) (e : TypedTree) → p.instr ≡ Declare x e → is_view_formal (flow_typing program) x ≡ false
+  pub over : (x : ℕ) → p.instr ≡ EndScope x → is_view_formal (flow_typing program) x ≡ false
   -- where a scope ends: objects of greater numbers have ended before; and of the objects in scope,
   -- what its scope encloses is of the same region, and ends at the points that follow
   pub ended : (y x : ℕ) → p.instr ≡ EndScope y → is_within x p.scope ≡ true → (x ≡ y → ⊥)
@@ -126,8 +177,10 @@ pub record AreOrderly (program : FlowProgram) (p : NamedPoint) (next : NamedPoin
 -- What holds of a program.
 pub record ViewsAreOrderly (table : Table) (typed : TypedProgram) : Type 0 where
   pub local : (x : ℕ) → is_anonymous (view_of (flow_typing (flow_program table typed)) x) ≡ true
-      → (is_variable (object_at (flow_typing (flow_program table typed)) x).kind ≡ true)
-      × (is_package_object (flow_typing (flow_program table typed)) x ≡ false)
+      → is_package_object (flow_typing (flow_program table typed)) x ≡ false
+  -- formals that own nothing belong to no package
+  pub passed : (x : ℕ) → is_view_formal (flow_typing (flow_program table typed)) x ≡ true
+      → is_package_object (flow_typing (flow_program table typed)) x ≡ false
   -- no package object is one
   pub packages : (p : FlowPoint) → Has (sub_of (flow_program table typed) 0).points p → (x : ℕ) (e : TypedTree) → p.instr ≡ Declare x e
       → is_anonymous (view_of (flow_typing (flow_program table typed)) x) ≡ false
@@ -136,9 +189,27 @@ pub record ViewsAreOrderly (table : Table) (typed : TypedProgram) : Type 0 where
   pub itself : (a : ℕ) → encloses (flow_program table typed).scopes a a ≡ true
   pub points : (sub : NamedSub) → Has (flow_named table typed) sub → (p : NamedPoint) → Has sub.points p
       → AreOrderly (flow_program table typed) p (λ q. (n : ℕ) × Has (map (number_in sub.points) p.next) n × IsAtPoint sub.points n q)
-  -- nothing is moved, written or freed through an observer
+  -- nothing is moved, written or freed through an observer, or through a formal that owns nothing
   pub kept : (sub : FlowSub) → Has (flow_program table typed).subs sub → (p : FlowPoint) → Has sub.points p
-      → AllKeep (is_observer (flow_typing (flow_program table typed))) (map (λ (a : Placed). a.act) p.acts)
+      → AllKeep (is_fixed (flow_typing (flow_program table typed))) (map (λ (a : Placed). a.act) p.acts)
+
+-- ---- traversal functions
+
+-- What is asked of them. A call of one leads to the point that takes its result, and gives it what that
+-- designates; its first formal sees; what one returns by a name has no other root than that, or none that isn't
+-- refuted; and after a return only ends of scopes and the end of the call follow.
+pub record AreTraversing (table : Table) (typed : TypedProgram) (effects : Effects) : Type 0 where
+  pub first : (n f : ℕ) → IsEntered (flow_program table typed) n
+      → traversed_formal (flow_typing (flow_program table typed)) (sub_of (flow_program table typed) n) ≡ Some f
+      → (is_formal (flow_typing (flow_program table typed)) f ≡ true) × (is_given (flow_typing (flow_program table typed)) f ≡ true)
+  pub given : (n f : ℕ) (sub : FlowSub) → sub_of (flow_program table typed) n ≡ sub → traversed_formal (flow_typing (flow_program table typed)) sub ≡ Some f
+      → (p : FlowPoint) → Has sub.points p → (m : PlaceName) (b : Bool) → Has (map (λ (a : Placed). a.act) p.acts) (Give m b)
+      → (IsOnlyRoot (flow_typing (flow_program table typed)) (sub_acts sub) m.root f → ⊥) → ⊥
+  pub ending : (k : ℕ) → IsEntered (flow_program table typed) k → is_some (sub_of (flow_program table typed) k).result ≡ true → (before : List ℕ) (last : ℕ)
+      → ControlPath (path_points (flow_program table typed) effects (sub_of (flow_program table typed) k)) before last
+      → has_returned (sub_of (flow_program table typed) k) before ≡ true
+      → ((y : ℕ) × ((get_or (sub_of (flow_program table typed) k).points last no_point).instr ≡ EndScope y))
+      ⊎ ((get_or (sub_of (flow_program table typed) k).points last no_point).instr ≡ Finish)
 
 -- ---- all of it
 
@@ -155,6 +226,7 @@ pub record IsReady (table : Table) (typed : TypedProgram) (effects : Effects) : 
   pub called : AreCalled table typed
   pub returning : AreReturning (flow_program table typed) effects
   pub valued : AreValued table typed
+  pub traversing : AreTraversing table typed effects
   pub packages : NamedSub
   pub stands : IsNamedSub (flow_named table typed) 0 packages
   pub main : ℕ

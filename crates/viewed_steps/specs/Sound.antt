@@ -2,7 +2,9 @@
 --
 -- A frame that waits for a call to end has its views still: what was called names no object of the
 -- frame, and leaves package objects alone of which a part is lent.
-use Rattle.std.specs.Prelude.{◌≡◌, ◌⊎◌, ◌<◌, ℕ, true, false, List, [], ◌∷◌, map, get_or, Option, Some, None, suc}
+use Rattle.std.specs.List.{AllByRecursion}
+use Rattle.viewed_steps.specs.Traversals.{AreRooted, SeesFirst, AreGiven}
+use Rattle.std.specs.Prelude.{◌≡◌, ◌⊎◌, ◌<◌, ℕ, true, false, List, [], ◌∷◌, ◌++◌, map, get_or, Option, Some, None, suc, is_some}
 use Rattle.spark_base.specs.Lists.{Has}
 use Rattle.spark_base.specs.declared.position.Pos.{Pos}
 use Rattle.place_names.specs.declared.act.Mode.TheVariants as mode
@@ -11,54 +13,78 @@ use Rattle.place_names.specs.declared.fact.Fact.TheVariants.{Moved, Lent}
 use Rattle.place_names.specs.declared.rule.Loan.{Loan}
 use Rattle.place_names.specs.declared.rule.Loan.TheVariants.{Borrowed, Observed}
 use Rattle.place_names.specs.Names.{Name as PlaceName}
-use Rattle.type_definitions.specs.Types.{Table, full, is_scalar}
-use Rattle.typed_tree.specs.Trees.{TypedTree, Name, NoMore}
+use Rattle.type_definitions.specs.Types.{Table, full, is_scalar, is_owning}
+use Rattle.typed_tree.specs.Trees.{TypedTree, Name, NoMore, More}
 use Rattle.typed_tree.specs.Programs.{TypedProgram}
 use Rattle.flow_paths.specs.declared.report.Effects.{Effects}
 use Rattle.flow_paths.specs.Instructions.{Instruction, Declare, Assign, Call, EndScope, Finish}
-use Rattle.flow_paths.specs.Objects.{Typing, object_at, sub_at, is_formal, is_anonymous, is_observer, is_package_object, has_scope_end, view_of}
+use Rattle.flow_paths.specs.Objects.{Typing, object_at, sub_at, is_formal, is_observer, is_named_access, view_of, is_package_object, has_scope_end, is_anonymous}
 use Rattle.flow_paths.specs.Points.{NamedPoint, FlowPoint}
 use Rattle.flow_paths.specs.Laid.{FlowSub, FlowProgram, NamedSub, flow_typing, flow_program, flow_named}
 use Rattle.flow_paths.specs.Paths.{ControlPath}
 use Rattle.flow_paths.specs.Effects.{written_by, path_points}
 use Rattle.flow_paths.specs.Scopes.{is_within}
-use Rattle.flow_paths.specs.Views.{encloses, scope_of}
+use Rattle.flow_paths.specs.Views.{encloses, scope_of, traversed_formal, sub_acts}
 use Rattle.machine.specs.Words.{Cell}
 use Rattle.machine.specs.Memory.{Memory, variable_slots, no_slot}
 use Rattle.machine.specs.States.{Return, Waiting, Frame, State, Outcome, Goes, Ends, sub_of}
-use Rattle.machine.specs.Owners.{WellOwned, waiting_in}
+use Rattle.machine.specs.Owners.{is_in, WellOwned, waiting_in}
 use Rattle.machine.specs.Run.{step}
-use Rattle.owned_ways.specs.Ways.{Step, OfVariable, OfRoot, Held, Way, Named, name_of, number_of}
-use Rattle.soundness.specs.Seen.{content, word_in, home}
+use Rattle.owned_ways.specs.Ways.{Object, Step, OfVariable, OfRoot, Held, Way, Named, Under, Past, name_of, number_of, OfCell, Reaches, Loc, along, View}
+use Rattle.soundness.specs.Seen.{content, word_in, home, is_view_formal}
 use Rattle.soundness.specs.Typed.{Kept}
-use Rattle.soundness.specs.Sound.{AreCopied, is_temporary_object, IsNamedSub, IsAtPoint, IsRunnable, Stage, facts_of, AreStages, Uses, IsPlain, InScope, IsTrap}
+use Rattle.soundness.specs.Sound.{goes_through_none, is_temporary_object, IsNamedSub, IsAtPoint, IsRunnable, Stage, facts_of, AreStages, Uses, IsPlain, InScope, IsTrap, has_returned}
 use Rattle.soundness.specs.Sound as owners
-use Rattle.owned_loans.specs.Views.{known_gone, Views, IsMovedBy, AreClear, AreViews, Viewed}
-use Rattle.viewed_soundness.specs.Holds.{IsNamed, PartsAreNamed, sees_only}
+use Rattle.owned_loans.specs.Views.{known_gone, Views, IsMovedBy, AreClear, IsForeign, AreViews, Viewed, expand}
+use Rattle.viewed_soundness.specs.Holds.{IsNamed, IsAccess, PartsAreNamed, is_view, sees_only, IsOwners, is_given, is_exclusive}
+use Rattle.soundness.specs.Ready.{root_of}
 use Rattle.viewed_steps.specs.Awaited.{is_held, lasting_of, AreNamedResults, AreAwaited}
-use Rattle.viewed_steps.specs.Taken.{TakenBy, AreTaken, AreCarried}
+use Rattle.viewed_steps.specs.Taken.{TakenBy, Lodge, AreTaken, AreCarried}
 
 -- ---- the class
 
--- A formal of a scalar type, or of mode `in out` and of no anonymous access type.
+-- A formal of a scalar type; or of mode `out` or `in out` and of no anonymous access type; or of mode `in`
+-- and of an access type, which owns nothing, or of a type that owns nothing and is no anonymous access type.
 abbrev pub IsScalarObject : Typing → ℕ → Type 0
 IsScalarObject s x = is_scalar (full s.table (object_at s x).of) ≡ true
 
+abbrev pub IsCopiedBack : Typing → ℕ → Type 0
+IsCopiedBack s x = (object_at s x).mode ≡ mode.In → ⊥
+
+abbrev pub IsShown : Typing → ℕ → Type 0
+IsShown s x = (is_view_formal s x ≡ true) × IsAccess s x
+
+abbrev pub IsOwnless : Typing → ℕ → Type 0
+IsOwnless s x = ((object_at s x).mode ≡ mode.In) × (is_owning s.table (object_at s x).of ≡ false) × IsNamed s.table (object_at s x).of
+
 abbrev pub IsKindOfFormal : Typing → ℕ → Type 0
-IsKindOfFormal s x = IsScalarObject s x ⊎ (((object_at s x).mode ≡ mode.InOut) × IsNamed s.table (object_at s x).of)
+IsKindOfFormal s x = IsScalarObject s x ⊎ ((IsCopiedBack s x × IsNamed s.table (object_at s x).of) ⊎ (IsShown s x ⊎ IsOwnless s x))
+
+-- Actuals that are copied back to go through no access value; or they are for formals of scalar types, and are
+-- rooted in objects that belong to no package.
+abbrev pub AreKeptPlaces : Typing → List ℕ → TypedTree → Type 0
+AreKeptPlaces s (x ∷ formals) (More e rest) =
+    (is_in (object_at s x).mode ≡ false → (goes_through_none e ≡ true)
+    ⊎ (IsScalarObject s x × ((y : ℕ) → Has (root_of e) y → is_package_object s y ≡ false))) × AreKeptPlaces s formals rest
+AreKeptPlaces s formals actuals = Unit {0}
 
 -- Anonymous access types are those of objects alone, and functions that are called have no results of
--- such types; formals are such, those of functions of scalar types, and actuals that are copied back to
--- go through no access value.
+-- such types; formals are such, those of functions of mode `in`, and what they are shown isn't changed through
+-- them; those of procedures of mode `in` that own nothing are of access-to-variable types; actuals are copied
+-- back to as above.
 pub record IsViewClass (program : FlowProgram) : Type 0 where
   pub parts_named : PartsAreNamed program.table
   pub results : AreNamedResults program
   pub formals : (x : ℕ) → is_formal (flow_typing program) x ≡ true → IsKindOfFormal (flow_typing program) x
   pub functions : (n t : ℕ) → (sub_at (flow_typing program) n).result ≡ Some t → (x : ℕ) → Has (sub_at (flow_typing program) n).formals x
-      → is_formal (flow_typing program) x ≡ true → IsScalarObject (flow_typing program) x
+      → is_formal (flow_typing program) x ≡ true → is_view_formal (flow_typing program) x ≡ true → is_exclusive (flow_typing program) x ≡ false
+  pub modes : (n t : ℕ) → (sub_at (flow_typing program) n).result ≡ Some t → (x : ℕ) → Has (sub_at (flow_typing program) n).formals x
+      → (object_at (flow_typing program) x).mode ≡ mode.In
+  pub procedures : (n : ℕ) → (sub_at (flow_typing program) n).result ≡ None → (x : ℕ) → Has (sub_at (flow_typing program) n).formals x
+      → is_formal (flow_typing program) x ≡ true → is_view_formal (flow_typing program) x ≡ true → is_named_access (view_of (flow_typing program) x) ≡ true
   pub copied : (sub : FlowSub) → Has program.subs sub → (p : FlowPoint) → Has sub.points p → (n : ℕ) (actuals : TypedTree) (result : Option ℕ)
       → p.instr ≡ Call n actuals result → ((x : ℕ) → Has (sub_of program n).formals x → is_formal (flow_typing program) x ≡ true)
-      → AreCopied (flow_typing program) (sub_of program n).formals actuals
+      → AreKeptPlaces (flow_typing program) (sub_of program n).formals actuals
 
 -- ---- where objects last
 
@@ -79,50 +105,61 @@ IsFading s p x = (z : ℕ) × (p.instr ≡ EndScope z) × (is_observer s x ≡ t
 
 -- ---- views at a point
 
+-- A way is of a frame, or begins at a variable of a frame below, which isn't that of the package objects.
+abbrev pub Lies : Typing → ℕ → Way → Type 0
+Lies s frame w = Named (home s frame) w ⊎ ((foreign : IsForeign (home s frame) w) × (foreign.0 < frame) × (0 < foreign.0))
+
 -- The objects of a frame that hold the number of a cell are views with a value, but for those that
 -- fade.
 pub record HoldsAt (s : Typing) (frame : ℕ) (v : Views) (m : Memory) (p : NamedPoint) : Type 0 where
-  pub held : (x n : ℕ) → (IsFading s p x → ⊥) → is_anonymous (view_of s x) ≡ true
+  pub held : (x n : ℕ) → (IsFading s p x → ⊥) → is_view s x ≡ true
       → (get_or (variable_slots s (home s frame x) x m.variables) 0 no_slot).word ≡ Cell n
       → (w : Way) × (v.way x ≡ Some w) × (v.cell x ≡ n)
-  pub within : (x n : ℕ) → is_anonymous (view_of s x) ≡ true
+  pub within : (x n : ℕ) → is_view s x ≡ true
       → (get_or (variable_slots s (home s frame x) x m.variables) 0 no_slot).word ≡ Cell n → is_within x p.scope ≡ true
-  pub only : (x : ℕ) (w : Way) → v.way x ≡ Some w → is_anonymous (view_of s x) ≡ true
-  pub named : (x : ℕ) (w : Way) → v.way x ≡ Some w → Named (home s frame) w
+  pub only : (x : ℕ) (w : Way) → v.way x ≡ Some w → is_view s x ≡ true
+  pub lies : (x : ℕ) (w : Way) → v.way x ≡ Some w → Lies s frame w
+  pub owners : (x : ℕ) (w : Way) → v.way x ≡ Some w → IsOwners s w
+  -- what a formal sees was taken from no object of the frame, and what a borrower leads to was
+  pub passed : (x : ℕ) (w : Way) → v.way x ≡ Some w → is_given s x ≡ true → Named (home s frame) (v.up x) → ⊥
+  pub own : (x : ℕ) (w : Way) → v.way x ≡ Some w → sees_only s x ≡ false → is_given s x ≡ false → Named (home s frame) (v.up x)
 
--- A view is in scope. The roots of its way and of what it was taken from last, and so does the one
--- that holds the loan of an observer.
-pub record IsPlaced (program : FlowProgram) (facts : List Fact) (v : Views) (scope : List ℕ) (x : ℕ) (w : Way) : Type 0 where
+-- A view is in scope, and no temporary. The roots of its way and of what it was taken from last, and so does the one
+-- that holds the loan of an observer, if these are of the frame.
+pub record IsPlaced (program : FlowProgram) (frame : ℕ) (facts : List Fact) (v : Views) (scope : List ℕ) (x : ℕ) (w : Way) : Type 0 where
   pub within : is_within x scope ≡ true
-  pub up : Lasts program scope (number_of (v.up x)) x
-  pub root : Lasts program scope (number_of w) x
-  pub holder : is_observer (flow_typing program) x ≡ true
-      → (h : ℕ) × Has facts (Lent Observed h (name_of (v.loan x))) × Lasts program scope h x × (is_observer (flow_typing program) h ≡ true)
+  pub plain : is_held (flow_typing program) x ≡ false
+  pub up : Named (home (flow_typing program) frame) (v.up x) → Lasts program scope (number_of (v.up x)) x
+  pub root : Named (home (flow_typing program) frame) w → Lasts program scope (number_of w) x
+  pub holder : Named (home (flow_typing program) frame) (v.up x) → sees_only (flow_typing program) x ≡ true
+      → (h : ℕ) × Has facts (Lent Observed h (name_of (v.loan x))) × Lasts program scope h x × (sees_only (flow_typing program) h ≡ true)
 
-abbrev pub ArePlaced : FlowProgram → List Fact → Views → List ℕ → Type 0
-ArePlaced program facts v scope = (x : ℕ) (w : Way) → v.way x ≡ Some w → IsPlaced program facts v scope x w
+abbrev pub ArePlaced : FlowProgram → ℕ → List Fact → Views → List ℕ → Type 0
+ArePlaced program frame facts v scope = (x : ℕ) (w : Way) → v.way x ≡ Some w → IsPlaced program frame facts v scope x w
 
 -- Above a frame no variable of a view has a number.
 abbrev pub NoneAbove : Typing → ℕ → Memory → Type 0
-NoneAbove s depth m =
-    (f x n : ℕ) → depth < f → is_anonymous (view_of s x) ≡ true → (get_or (variable_slots s f x m.variables) 0 no_slot).word ≡ Cell n → ⊥
+NoneAbove s depth m = (f x n : ℕ) → depth < f → is_view s x ≡ true → (get_or (variable_slots s f x m.variables) 0 no_slot).word ≡ Cell n → ⊥
 
 -- ---- frames that wait
 
--- The formals of a frame are of scalar types, or are copied back; and formals alone are copied back.
+-- The formals of a frame are of scalar types, or are copied back, or own nothing; and formals alone are copied
+-- back.
 abbrev pub AreReturned : Typing → Frame → Type 0
 AreReturned s f =
-    ((x : ℕ) → Has (sub_at s f.sub).formals x → IsScalarObject s x ⊎ ((r : Return) × Has f.returns r × (r.formal ≡ x)))
+    ((x : ℕ) → Has (sub_at s f.sub).formals x → IsScalarObject s x ⊎ (((r : Return) × Has f.returns r × (r.formal ≡ x)) ⊎ ((is_view_formal s x ≡ true) ⊎ (is_owning s.table (object_at s x).of ≡ false))))
     × ((r : Return) → Has f.returns r → is_formal s r.formal ≡ true)
 
 -- Formals that may own are copied back.
 abbrev pub IsResting : Typing → Stage → Type 0
 IsResting s g = AreReturned s g.frame
 
--- A frame with its executed points and the ways of its views.
+-- A frame with its executed points and the ways of its views, and the cells in which places stand that what
+-- it called copies back to.
 pub record ViewStage : Type 0 where
   pub stage : Stage
   pub views : Views
+  pub cells : List Lodge
 
 abbrev pub stages_of : List ViewStage → List Stage
 stages_of older = map (λ (g : ViewStage). g.stage) older
@@ -140,9 +177,36 @@ abbrev pub Disturbs : Effects → Loan → ℕ → ℕ → Type 0
 Disturbs effects Borrowed n x = Uses effects n x
 Disturbs effects Observed n x = Has (written_by effects n) x
 
+-- What is kept from a callee, as a loan: it may use nothing of what was moved, as of what was borrowed.
+abbrev pub loan_by : Fact → Loan
+loan_by (Moved n) = Borrowed
+loan_by (Lent l h n) = l
+
+-- What a frame keeps from what it calls: its facts, and the places that were taken from it, as moved ones.
+abbrev pub withheld : FlowProgram → Effects → Stage → List Fact
+withheld program effects g = facts_of program effects g ++ map (λ (to : Way). Moved (name_of to)) g.returns
+
+-- A cell of a place that is copied back to is there: it is named by the frame, by a variable of its own or a
+-- view, and no way that was taken goes before the name's way.
+pub record IsKept (s : Typing) (state : State) (g : ViewStage) (c : Lodge) : Type 0 where
+  pub named : Named (home s g.stage.depth) c.name
+  pub own : is_package_object s (number_of c.name) ≡ false
+  pub leads : expand g.views c.name ≡ c.way
+  pub reaches : Reaches (owners.view_of s state) c.way (OfCell c.cell)
+  pub aside : (to : Way) → Has g.stage.returns to → Past to c.way → ⊥
+
+-- A package object: its way and its location.
+abbrev pub IsPackageAt : Typing → Way → Loc → Type 0
+IsPackageAt s w l = (y : ℕ) × (is_package_object s y ≡ true) × (Object (OfVariable 0 y) ≡ w) × (OfRoot (OfVariable 0 y) ≡ l)
+
+-- A part of such a cell, or of a package object, that was taken: its way, its location, and the steps from there.
+abbrev pub IsBareOf : Typing → ViewStage → Way → Loc → List Step → Type 0
+IsBareOf s g w l p = Has g.stage.returns (along w p) × (((c : Lodge) × Has g.cells c × (c.way ≡ w) × (OfCell c.cell ≡ l)) ⊎ IsPackageAt s w l)
+
 -- A frame that waits for a call to end. The points that it has executed form a control path to its
 -- next point. What it owns is in scope there, and so are its views, which have their ways still. The
--- callee disturbs no package object of which a part is lent, and uses none of which a part is moved.
+-- callee disturbs no package object of which a part is lent, and uses none of which a part is moved or was
+-- taken; such a one the frame writes.
 -- What the callee uses or writes, its caller does. What the callee copies back goes to scalar places,
 -- or to those that it took.
 pub record IsWaiting (table : Table) (typed : TypedProgram) (effects : Effects) (state : State) (callee : ℕ) (backs : List Return) (g : ViewStage) : Type 0 where
@@ -158,21 +222,46 @@ pub record IsWaiting (table : Table) (typed : TypedProgram) (effects : Effects) 
       → is_within x (lasting_of (flow_typing (flow_program table typed)) point.scope) ≡ true
   pub lends : (l : Loan) (h : ℕ) (name : PlaceName) → Has (facts_of (flow_program table typed) effects g.stage) (Lent l h name)
       → is_package_object (flow_typing (flow_program table typed)) name.root ≡ true → Disturbs effects l callee name.root → ⊥
-  pub unmoved : (name : PlaceName) → Has (facts_of (flow_program table typed) effects g.stage) (Moved name)
+  pub unmoved : (name : PlaceName) → Has (withheld (flow_program table typed) effects g.stage) (Moved name)
       → is_package_object (flow_typing (flow_program table typed)) name.root ≡ true → Uses effects callee name.root → ⊥
+  pub written : (to : Way) → Has g.stage.returns to → is_package_object (flow_typing (flow_program table typed)) (number_of to) ≡ true
+      → Has (written_by effects g.stage.frame.sub) (number_of to)
   pub uses : (x : ℕ) → Uses effects callee x → Uses effects g.stage.frame.sub x
   pub writes : (x : ℕ) → Has (written_by effects callee) x → Has (written_by effects g.stage.frame.sub) x
   pub clear : AreClear (sees_only (flow_typing (flow_program table typed))) (facts_of (flow_program table typed) effects g.stage)
   pub views : AreViews (home (flow_typing (flow_program table typed)) g.stage.depth) (sees_only (flow_typing (flow_program table typed))) g.views
       (owners.view_of (flow_typing (flow_program table typed)) state) (facts_of (flow_program table typed) effects g.stage)
   pub holds : HoldsAt (flow_typing (flow_program table typed)) g.stage.depth g.views state.memory point
-  pub placed : ArePlaced (flow_program table typed) (facts_of (flow_program table typed) effects g.stage) g.views point.scope
-  pub taken : AreTaken (flow_typing (flow_program table typed)) state.memory g.stage.depth (facts_of (flow_program table typed) effects g.stage)
+  pub placed : ArePlaced (flow_program table typed) g.stage.depth (facts_of (flow_program table typed) effects g.stage) g.views point.scope
+  pub kept : (c : Lodge) → Has g.cells c → IsKept (flow_typing (flow_program table typed)) state g c
+  -- no number stands in what was taken
+  pub bare : (w : Way) (l : Loc) (p : List Step) → IsBareOf (flow_typing (flow_program table typed)) g w l p → (q : List Step) (n : ℕ)
+      → word_in (flow_typing (flow_program table typed)).table (content (flow_typing (flow_program table typed)) state.memory [] l) (q ++ p) ≡ Held n → ⊥
+  pub taken : AreTaken (flow_typing (flow_program table typed)) g.cells state.memory g.stage.depth (facts_of (flow_program table typed) effects g.stage)
       (lasting_of (flow_typing (flow_program table typed)) point.scope) backs g.stage.returns
 
 -- The frame of the package objects has no views, and nothing waits in it.
 abbrev pub IsFirst : ViewStage → Type 0
-IsFirst e = (e.stage.frame.sub ≡ 0) × IsPlain e.stage × ((x : ℕ) → e.views.way x ≡ None) × (e.stage.depth ≡ 0)
+IsFirst e = (e.stage.frame.sub ≡ 0) × IsPlain e.stage × ((x : ℕ) → e.views.way x ≡ None) × (e.stage.depth ≡ 0) × (e.cells ≡ [])
+
+-- Nothing that is gone for the frames around meets what a view of a frame sees that belongs to them.
+abbrev pub AreUnmet : FlowProgram → Effects → ViewStage → List ViewStage → Type 0
+AreUnmet program effects g older =
+    (x : ℕ) (w z : Way) → g.views.way x ≡ Some w → IsForeign (home (flow_typing program) g.stage.depth) w → GoneElsewhere program effects older z
+    → Under z w ⊎ Under w z → ⊥
+
+-- A way of a frame that waits, with its cell: one of a view, or one to a place that is copied back to.
+abbrev pub IsWayOf : ViewStage → Way → ℕ → Type 0
+IsWayOf g w n =
+    ((x : ℕ) × (g.views.way x ≡ Some w) × (g.views.cell x ≡ n)) ⊎ ((c : Lodge) × Has g.cells c × (c.way ≡ w) × (c.cell ≡ n))
+
+abbrev pub KeptBy : List ViewStage → Way → ℕ → Type 0
+KeptBy older w n = (g : ViewStage) × Has older g × IsWayOf g w n
+
+-- None of the frames around goes past what a view of a frame changes that belongs to them.
+abbrev pub ArePast : Typing → ℕ → Views → List ViewStage → Type 0
+ArePast s depth v older =
+    (x : ℕ) (w : Way) → v.way x ≡ Some w → (Named (home s depth) (v.up x) → ⊥) → sees_only s x ≡ false → (k : Way) (n : ℕ) → KeptBy older k n → Past w k → ⊥
 
 -- The frames around one that runs a subprogram and copies formals back.
 abbrev pub AreWaiting : Table → TypedProgram → Effects → State → ℕ → List Return → List ViewStage → Type 0
@@ -180,6 +269,53 @@ AreWaiting table typed effects state callee backs [] = ⊥
 AreWaiting table typed effects state callee backs (e ∷ []) = IsFirst e × (backs ≡ [])
 AreWaiting table typed effects state callee backs (g ∷ (h ∷ older)) =
     IsWaiting table typed effects state callee backs g × AreWaiting table typed effects state g.stage.frame.sub g.stage.frame.returns (h ∷ older)
+    × AreUnmet (flow_program table typed) effects g (h ∷ older) × ArePast (flow_typing (flow_program table typed)) g.stage.depth g.views (h ∷ older)
+
+-- ---- traversal functions
+
+-- The latest value that waits in a frame, if it is of an anonymous type, is given to what takes it.
+abbrev pub IsGivenIn : Table → TypedProgram → View → ViewStage → Type 0
+IsGivenIn table typed view g =
+    (named : NamedSub) → IsNamedSub (flow_named table typed) g.stage.frame.sub named → (p : NamedPoint) → IsAtPoint named.points g.stage.frame.next p
+    → AreGiven (flow_typing (flow_program table typed)) view g.stage.depth p.instr g.views g.stage.frame.waits
+
+-- In a frame that waits there is none; but the innermost frame may have given the one below its result.
+abbrev pub NoneGiven : Typing → ViewStage → Type 0
+NoneGiven s g = (w : Waiting) (others : List Waiting) → g.stage.frame.waits ≡ w ∷ others → is_anonymous (full s.table w.of) ≡ true → ⊥
+
+abbrev pub IsGivenBelow : Table → TypedProgram → View → ViewStage → ViewStage → Type 0
+IsGivenBelow table typed view inner g =
+    NoneGiven (flow_typing (flow_program table typed)) g
+    ⊎ ((is_some (sub_of (flow_program table typed) inner.stage.frame.sub).result ≡ true)
+    × (has_returned (sub_of (flow_program table typed) inner.stage.frame.sub) inner.stage.before ≡ true) × (inner.stage.frame.returns ≡ [])
+    × IsGivenIn table typed view g)
+
+abbrev pub AreGivenIn : Table → TypedProgram → View → List ViewStage → Type 0
+AreGivenIn table typed view [] = Unit {0}
+AreGivenIn table typed view (e ∷ []) = IsGivenIn table typed view e
+AreGivenIn table typed view (e ∷ (g ∷ older)) =
+    IsGivenIn table typed view e × IsGivenBelow table typed view e g
+    × AllByRecursion (NoneGiven (flow_typing (flow_program table typed))) older
+
+-- What the first formal of a traversal function sees in its frame is what the first actual designates in the
+-- frame below, and each view in the frame has its root in the text.
+abbrev pub IsTraversal : Table → TypedProgram → ViewStage → ViewStage → Type 0
+IsTraversal table typed inner g =
+    (f : ℕ) → traversed_formal (flow_typing (flow_program table typed)) (sub_of (flow_program table typed) inner.stage.frame.sub) ≡ Some f
+    → (first : Option Way)
+    × AreRooted (flow_typing (flow_program table typed)) (sub_acts (sub_of (flow_program table typed) inner.stage.frame.sub)) f first inner.views
+    × ((named : NamedSub) → IsNamedSub (flow_named table typed) g.stage.frame.sub named → (p : NamedPoint) → IsAtPoint named.points g.stage.frame.next p
+    → SeesFirst (flow_typing (flow_program table typed)) g.stage.depth p.instr inner.stage.frame.sub g.views first)
+    × (inner.stage.frame.returns ≡ [])
+
+abbrev pub AreTraversals : Table → TypedProgram → List ViewStage → Type 0
+AreTraversals table typed [] = Unit {0}
+AreTraversals table typed (e ∷ []) = Unit {0}
+AreTraversals table typed (e ∷ (g ∷ older)) = IsTraversal table typed e g × AreTraversals table typed (g ∷ older)
+
+-- What traversal functions give, and what they go through.
+abbrev pub HasTraversals : Table → TypedProgram → View → List ViewStage → Type 0
+HasTraversals table typed view stages = AreGivenIn table typed view stages × AreTraversals table typed stages
 
 -- ---- a state
 
@@ -196,7 +332,7 @@ pub record IsSound (table : Table) (typed : TypedProgram) (effects : Effects) (s
   pub views : Views
   pub older : List ViewStage
   pub stages : AreStages (top ∷ stages_of older) state.frames
-  pub running : IsRunning table typed effects state (record { stage = top; views = views }) older
+  pub running : IsRunning table typed effects state (record { stage = top; views = views; cells = [] }) older
   -- what waits is what is in scope
   pub awaited : AreAwaited table typed None (top ∷ stages_of older)
   pub path : ControlPath (path_points (flow_program table typed) effects (sub_of (flow_program table typed) top.frame.sub)) top.before top.frame.next
@@ -213,8 +349,10 @@ pub record IsSound (table : Table) (typed : TypedProgram) (effects : Effects) (s
   -- variables that own are in scope, and so are views
   pub scope : InScope (flow_typing (flow_program table typed)) state.memory top.depth (lasting_of (flow_typing (flow_program table typed)) point.scope)
   pub holds : HoldsAt (flow_typing (flow_program table typed)) top.depth views state.memory point
-  pub placed : ArePlaced (flow_program table typed) (facts_of (flow_program table typed) effects top) views point.scope
+  pub placed : ArePlaced (flow_program table typed) top.depth (facts_of (flow_program table typed) effects top) views point.scope
+  pub past : ArePast (flow_typing (flow_program table typed)) top.depth views older
   pub none_above : NoneAbove (flow_typing (flow_program table typed)) top.depth state.memory
+  pub traversals : HasTraversals table typed (owners.view_of (flow_typing (flow_program table typed)) state) (record { stage = top; views = views; cells = [] } ∷ older)
 
 -- ---- where the frames come from
 
@@ -227,8 +365,8 @@ abbrev pub AreTurned : Instruction → Views → Views → Type 0
 AreTurned i before later = (x : ℕ) (w : Way) → later.way x ≡ Some w → (before.way x ≡ Some w) ⊎ IsStoredAt i x
 
 -- The views that are left where the scope of an object ends had their ways, and none begins at the object.
-abbrev pub AreLeft : ℕ → Views → Views → Type 0
-AreLeft y before later = (x : ℕ) (w : Way) → later.way x ≡ Some w → (before.way x ≡ Some w) × (number_of w ≡ y → ⊥)
+abbrev pub AreLeft : (ℕ → ℕ) → ℕ → Views → Views → Type 0
+AreLeft at_home y before later = (x : ℕ) (w : Way) → later.way x ≡ Some w → (before.way x ≡ Some w) × (Named at_home w → number_of w ≡ y → ⊥)
 
 -- How the frames after a step, with their views, come from those before it, of which `top` is the innermost one: it goes on; the
 -- scope of an object ends; after the last package object the main procedure begins; a subprogram is called, which has executed
@@ -237,7 +375,8 @@ AreLeft y before later = (x : ℕ) (w : Way) → later.way x ≡ Some w → (bef
 pub data Follows (program : FlowProgram) (effects : Effects) (i : Instruction) (m : Memory) (top : ViewStage) (older : List ViewStage) (n : Memory) (next : ViewStage) (around : List ViewStage) : Type 0 where
   steps_on : owners.IsNoCall i → (i ≡ Finish → ⊥) → ((y : ℕ) → i ≡ EndScope y → ⊥) → owners.IsOnward top.stage next.stage
       → AreTurned i top.views next.views → around ≡ older → Follows program effects i m top older n next around
-  leaves_scope : (y : ℕ) → i ≡ EndScope y → owners.IsOnward top.stage next.stage → AreLeft y top.views next.views → around ≡ older
+  leaves_scope : (y : ℕ) → i ≡ EndScope y → owners.IsOnward top.stage next.stage
+      → AreLeft (home (flow_typing program) top.stage.depth) y top.views next.views → around ≡ older
       → Follows program effects i m top older n next around
   begins_main : (below : ViewStage) → older ≡ [] → around ≡ below ∷ [] → owners.IsOnward top.stage below.stage → next.stage.before ≡ []
       → Follows program effects i m top older n next around
@@ -245,10 +384,10 @@ pub data Follows (program : FlowProgram) (effects : Effects) (i : Instruction) (
       → older ≡ below ∷ more → owners.IsOnward top.stage next.stage → AreTurned i top.views next.views
       → around ≡ record below { stage = record below.stage { frame = record below.stage.frame { waits = waits } } } ∷ more
       → Follows program effects i m top older n next around
-  calls_one : (waits : Stage) → around ≡ record { stage = waits; views = top.views } ∷ older → owners.IsOnward top.stage waits → next.stage.before ≡ []
+  calls_one : (waits : Stage) (cells : List Lodge) → around ≡ record { stage = waits; views = top.views; cells = cells } ∷ older → owners.IsOnward top.stage waits → next.stage.before ≡ []
       → ((f : Fact) → Has (facts_of program effects waits) f → Has (facts_of program effects top.stage) f)
       → AreCarried (flow_typing program) (λ f. f ≡ suc top.stage.depth → ⊥) [] m n → Follows program effects i m top older n next around
-  ends_one : older ≡ next ∷ around
+  ends_one : (cells : List Lodge) → older ≡ record { stage = next.stage; views = next.views; cells = cells } ∷ around
       → AreCarried (flow_typing program) (λ f. f ≡ top.stage.depth → ⊥) next.stage.returns m n
       → Follows program effects i m top older n next around
 
@@ -256,14 +395,14 @@ pub data Follows (program : FlowProgram) (effects : Effects) (i : Instruction) (
 abbrev pub LeadsAlong : Table → TypedProgram → Effects → Instruction → Memory → ViewStage → List ViewStage → Outcome → Type 0
 LeadsAlong table typed effects i m top older (Goes state) =
     (next : IsSound table typed effects state)
-    × Follows (flow_program table typed) effects i m top older state.memory (record { stage = next.top; views = next.views }) next.older
+    × Follows (flow_program table typed) effects i m top older state.memory (record { stage = next.top; views = next.views; cells = [] }) next.older
 LeadsAlong table typed effects i m top older (Ends e state) = (IsTrap e → ⊥) × WellOwned (flow_typing (flow_program table typed)) state
 
 -- So it is of each step.
 abbrev pub StepsLeadAlong : Table → TypedProgram → Effects → List ℕ → Type 0
 StepsLeadAlong table typed effects input =
     (state : State) (sound : IsSound table typed effects state)
-    → LeadsAlong table typed effects sound.point.instr state.memory (record { stage = sound.top; views = sound.views }) sound.older
+    → LeadsAlong table typed effects sound.point.instr state.memory (record { stage = sound.top; views = sound.views; cells = [] }) sound.older
     (step (flow_program table typed) input state)
 
 -- ---- what is to be proved

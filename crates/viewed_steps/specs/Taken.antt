@@ -6,18 +6,17 @@ use Rattle.spark_base.specs.Lists.{Has}
 use Rattle.place_names.specs.declared.fact.Fact.{Fact}
 use Rattle.place_names.specs.declared.fact.Fact.TheVariants.{Moved, Lent}
 use Rattle.place_names.specs.declared.rule.Loan.{Loan}
-use Rattle.place_names.specs.Names.{Name as PlaceName, overlaps}
+use Rattle.place_names.specs.Names.{Name as PlaceName, overlaps, covers}
 use Rattle.type_definitions.specs.Types.{full, is_scalar, is_owning}
-use Rattle.flow_paths.specs.Objects.{Typing, object_at, is_package_object}
+use Rattle.flow_paths.specs.Objects.{Typing, object_at, designated, is_package_object}
 use Rattle.flow_paths.specs.Scopes.{is_within}
 use Rattle.machine.specs.Memory.{Memory, Place}
 use Rattle.machine.specs.Memory as memory
 use Rattle.machine.specs.States.{Return}
-use Rattle.owned_ways.specs.Ways.{Step, OfVariable, OfRoot, OfCell, Way, Object, Held, Gone, Under, along, name_of}
+use Rattle.owned_ways.specs.Ways.{Step, OfVariable, OfRoot, OfCell, Way, Object, Lost, Into, All, Held, Gone, Under, along, name_of, object_of}
 use Rattle.part_offsets.specs.Parts.{type_in, offset_in, has_part}
-use Rattle.soundness.specs.Seen.{content, word_in}
-use Rattle.soundness.specs.Typed.{Matches}
-use Rattle.soundness.specs.Sound.{IsCopied}
+use Rattle.soundness.specs.Seen.{content, word_in, home, is_view_formal}
+use Rattle.soundness.specs.Typed.{Matches, IsFixed}
 use Rattle.viewed_soundness.specs.Holds.{IsNamed}
 
 -- A way is one of these, or goes on from it to a part.
@@ -33,33 +32,74 @@ pub record AreCarried (s : Typing) (these : ℕ → Type 0) (ways : List Way) (m
       → word_in s.table (content s m [] (OfRoot (OfVariable f x))) p ≡ Gone → word_in s.table (content s n [] (OfRoot (OfVariable f x))) p ≡ Gone
   pub cells : (c : ℕ) (p : List Step) → word_in s.table (content s n [] (OfCell c)) p ≡ word_in s.table (content s m [] (OfCell c)) p
 
--- A place in a variable of a frame: its way. Where it stands doesn't go by what is in memory.
+-- A place in a variable of a frame, or in a package object: its way. Where it stands doesn't go by what is in memory.
 pub record IsInside (s : Typing) (depth : ℕ) (k : Place) (to : Way) : Type 0 where
   pub object : ℕ
   pub steps : List Step
-  pub way : to ≡ along (Object (OfVariable depth object)) steps
-  pub base : k.base ≡ memory.OfVariable depth object
-  pub own : is_package_object s object ≡ false
+  pub frame : ℕ
+  pub at_home : frame ≡ home s depth object
+  pub way : to ≡ along (Object (OfVariable frame object)) steps
+  pub base : k.base ≡ memory.OfVariable frame object
+  pub owner : is_view_formal s object ≡ false
   pub there : has_part s.table (object_at s object).of steps ≡ true
   pub at : k.at ≡ offset_in s.table (object_at s object).of steps
   pub of : Matches s.table k.of (type_in s.table (object_at s object).of steps)
   pub named : IsNamed s.table k.of
 
+-- ---- places in cells
+
+-- A cell in which the place of an actual stands: its name in the frame of the call, the way of owners that
+-- the name stands for, and its number.
+pub record Lodge : Type 0 where
+  pub name : Way
+  pub way : Way
+  pub cell : ℕ
+
+-- The steps of a way within the variable or the cell that it leads to, and the type of that one.
+abbrev pub last_steps : Way → List Step
+last_steps (Into w i) = i ∷ last_steps w
+last_steps w = []
+
+abbrev pub trunk_type : Typing → Way → ℕ
+trunk_type s (Object r) = (object_at s (object_of r)).of
+trunk_type s (Lost n) = 0
+trunk_type s (Into w i) = trunk_type s w
+trunk_type s (All w) = designated s.table (type_in s.table (trunk_type s w) (last_steps w))
+
+-- A place in such a cell. Where it stands there doesn't go by what is in memory.
+pub record IsLodged (s : Typing) (k : Place) (c : Lodge) : Type 0 where
+  pub base : k.base ≡ memory.OfCell c.cell
+  pub steps : List Step
+  pub there : has_part s.table (trunk_type s c.way) steps ≡ true
+  pub at : k.at ≡ offset_in s.table (trunk_type s c.way) steps
+  pub of : Matches s.table k.of (type_in s.table (trunk_type s c.way) steps)
+
+-- A scalar place in a variable, or in such a cell.
+abbrev pub IsPlainPlace : Typing → List Lodge → Place → Type 0
+IsPlainPlace s cells k = IsFixed s k ⊎ ((c : Lodge) × Has cells c × IsLodged s k c × (is_scalar (full s.table k.of) ≡ true))
+
+abbrev pub IsCopiedTo : Typing → List Lodge → Return → Type 0
+IsCopiedTo s cells r = (is_scalar (full s.table (object_at s r.formal).of) ≡ true) × IsPlainPlace s cells r.to
+
+-- ---- what is taken
+
 -- What is passed for a formal that isn't scalar and is copied back: a place in a variable, which is in
--- scope if it may own, isn't lent and of which nothing was moved, and whose value the formal may have.
+-- scope if it may own and isn't lent, of which no part is known to be moved, and whose value the formal may
+-- have.
 pub record IsPassedOn (s : Typing) (depth : ℕ) (facts : List Fact) (scope : List ℕ) (x : ℕ) (k : Place) (to : Way) : Type 0 where
   pub inside : IsInside s depth k to
   pub fits : Matches s.table k.of (object_at s x).of
   pub formal : is_package_object s x ≡ false
+  pub owner : is_view_formal s x ≡ false
   pub many : is_scalar (full s.table (object_at s x).of) ≡ false
-  pub within : is_owning s.table (object_at s inside.object).of ≡ true → is_within inside.object scope ≡ true
+  pub within : is_package_object s inside.object ≡ false → is_owning s.table (object_at s inside.object).of ≡ true → is_within inside.object scope ≡ true
   pub unlent : (l : Loan) (h : ℕ) (n : PlaceName) → Has facts (Lent l h n) → overlaps n (name_of to) ≡ true → ⊥
-  pub whole : (n : PlaceName) → Has facts (Moved n) → overlaps n (name_of to) ≡ true → ⊥
+  pub cleared : (n : PlaceName) → Has facts (Moved n) → covers (name_of to) n ≡ true → ⊥
 
 -- No number stands in the place.
 abbrev pub IsBare : (s : Typing) (depth : ℕ) (k : Place) (to : Way) → Memory → IsInside s depth k to → Type 0
 IsBare s depth k to m inside =
-    (p : List Step) (c : ℕ) → word_in s.table (content s m [] (OfRoot (OfVariable depth inside.object))) (p ++ inside.steps) ≡ Held c → ⊥
+    (p : List Step) (c : ℕ) → word_in s.table (content s m [] (OfRoot (OfVariable inside.frame inside.object))) (p ++ inside.steps) ≡ Held c → ⊥
 
 abbrev pub IsTaken : Typing → Memory → ℕ → List Fact → List ℕ → Return → Way → Type 0
 IsTaken s m depth facts scope r to =
@@ -73,11 +113,11 @@ IsApartFrom to ways = (k : Way) → Has ways k → (Under to k → ⊥) × (Unde
 abbrev pub IsAnother : ℕ → List Return → Type 0
 IsAnother x rest = (r : Return) → Has rest r → r.formal ≡ x → ⊥
 
--- Formals of scalar types are copied back to variables, which owners don't see; the others to places
+-- Formals of scalar types are copied back to scalar places, which owners don't see; the others to places
 -- that were taken, one after the other.
-abbrev pub AreTaken : Typing → Memory → ℕ → List Fact → List ℕ → List Return → List Way → Type 0
-AreTaken s m depth facts scope [] ways = ways ≡ []
-AreTaken s m depth facts scope (r ∷ rest) [] = IsCopied s r × AreTaken s m depth facts scope rest []
-AreTaken s m depth facts scope (r ∷ rest) (to ∷ ways) =
-    (IsCopied s r × AreTaken s m depth facts scope rest (to ∷ ways))
-    ⊎ (IsTaken s m depth facts scope r to × IsApartFrom to ways × IsAnother r.formal rest × AreTaken s m depth facts scope rest ways)
+abbrev pub AreTaken : Typing → List Lodge → Memory → ℕ → List Fact → List ℕ → List Return → List Way → Type 0
+AreTaken s cells m depth facts scope [] ways = ways ≡ []
+AreTaken s cells m depth facts scope (r ∷ rest) [] = IsCopiedTo s cells r × AreTaken s cells m depth facts scope rest []
+AreTaken s cells m depth facts scope (r ∷ rest) (to ∷ ways) =
+    (IsCopiedTo s cells r × AreTaken s cells m depth facts scope rest (to ∷ ways))
+    ⊎ (IsTaken s m depth facts scope r to × IsApartFrom to ways × IsAnother r.formal rest × AreTaken s cells m depth facts scope rest ways)

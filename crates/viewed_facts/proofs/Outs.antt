@@ -1,0 +1,152 @@
+-- The leak checks of a call are those of what is passed for formals of mode `out`. None fails that is excused, if facts are
+-- exact before the call.
+use Rattle.std.proofs.Common.{◌≡◌, refl, sym, ap, ◌∙◌, subst, inl, inr, ℕ, ◌+◌, Bool, true, false, not, ◌&&◌, List, [], ◌∷◌, ◌++◌, map, length, append_assoc, arith, if◌then◌else◌}
+use Rattle.std.proofs.lemmas.List.{length-append, length-map}
+use Rattle.spark_base.specs.Lists.{Has}
+use Rattle.spark_base.specs.declared.position.Pos.{Pos}
+use Rattle.place_names.specs.declared.selector.Sel.{Sel}
+use Rattle.place_names.specs.declared.act.Mode.{Mode}
+use Rattle.place_names.specs.declared.act.Mode.TheVariants as mode
+use Rattle.place_names.specs.declared.act.Placed.{Placed}
+use Rattle.place_names.specs.declared.fact.Fact.{Fact}
+use Rattle.place_names.specs.declared.fact.Fact.TheVariants.{Moved}
+use Rattle.place_names.specs.Names.{Name as PlaceName, extend, has_elem}
+use Rattle.type_definitions.specs.Types.{shape_of, parts, parts_of, full, is_scalar, is_owning}
+use Rattle.typed_tree.specs.Trees.{TypedTree, Name, More}
+use Rattle.flow_paths.specs.declared.point.LeakSpot.{LeakSpot}
+use Rattle.flow_paths.specs.Objects.{Typing, object_at, is_named_access, view_of, passing, passing_by}
+use Rattle.flow_paths.specs.Names.{name_of, written}
+use Rattle.flow_paths.specs.Acts.{spot, actual_spots, actual_act, actual_acts, call_spots}
+use Rattle.machine.specs.Words.{offsets}
+use Rattle.machine.specs.Memory.{Memory, Place, slots_at}
+use Rattle.machine.specs.Calls.{Passed, Value, From, To, checked_at, checks_at, written_pos, out_checks}
+use Rattle.machine.specs.States.{Waiting, Leak}
+use Rattle.owned_ways.specs.Ways.{Way}
+use Rattle.owned_ways.specs.Ways as ways
+use Rattle.part_offsets.specs.Parts.{IsSettled}
+use Rattle.soundness.specs.Seen.{home, seen}
+use Rattle.soundness.specs.Typed.{Matches}
+use Rattle.soundness.proofs.Fixed.{matches_scalar}
+use Rattle.soundness.proofs.Freeing.{plain_parts}
+use Rattle.owned_loans.specs.Views.{Views, expand}
+use Rattle.viewed_steps.specs.Ready.{IsActualTo, AreActualsTo}
+use Rattle.viewed_steps.specs.Sound.{IsScalarObject}
+use Rattle.viewed_steps.proofs.LaidOut.{IsOwnPut, IsPlainAt, IsPlaceLaid, IsLaidOne, AreLaidOut}
+use Rattle.viewed_steps.proofs.Carried.{inside_at, inside_spot, inside_reached}
+use Rattle.viewed_steps.proofs.Entered.{inside_named, inside_itself}
+use Rattle.exact_facts.specs.Exact.{IsOfVariable, NoneFails}
+use Rattle.viewed_facts.specs.Exact.{IsDefinite, IsExact}
+use Rattle.viewed_facts.proofs.Checks.{place_holds}
+
+-- ---- lists of checks
+
+both_hold : (Excused : LeakSpot → Type 0) (a b : List LeakSpot) (c d : List (List Leak)) → length a ≡ length c → NoneFails Excused a c → NoneFails Excused b d
+    → NoneFails Excused (a ++ b) (c ++ d)
+both_hold Excused [] b [] d same one two = two
+both_hold Excused (x ∷ a) b (y ∷ c) d same one two = (one.0, both_hold Excused a b c d (omega (arith, same)) one.1 two)
+both_hold Excused [] b (y ∷ c) d same one two = absurd (omega (arith, same))
+both_hold Excused (x ∷ a) b [] d same one two = absurd (omega (arith, same))
+
+-- those of one that is passed
+abbrev head_checks : Typing → Pos → Memory → Passed → TypedTree → List (List Leak)
+head_checks s p m (To k) e = checks_at s (written_pos p (written e)) m k
+head_checks s p m a e = []
+
+head_first : (s : Typing) (p : Pos) (m : Memory) (a : Passed) (passed : List Passed) (e rest : TypedTree)
+    → out_checks s p m (a ∷ passed) (More e rest) ≡ head_checks s p m a e ++ out_checks s p m passed rest
+head_first s p m (Value ws) passed e rest = refl
+head_first s p m (From k) passed e rest = refl
+head_first s p m (To k) passed e rest = refl
+
+-- ---- one of them
+
+module _ (s : Typing) (settled : IsSettled s.table) (depth : ℕ) (v : Views) (elsewhere : Way → Type 0) (m : Memory) (hands : List Waiting) (leaks : List Leak)
+    (facts : List Fact) (variables : (w : Way) → IsDefinite (home s depth) v elsewhere facts w → IsOfVariable w)
+    (exact : IsExact s (home s depth) v elsewhere m facts) (Excused : LeakSpot → Type 0) (pos : Pos) where
+  -- What an excused spot says, before some acts.
+  abbrev KnowsAt : ℕ → PlaceName → Type 0
+  KnowsAt before name =
+      (p : Pos) (q : List Sel) → Excused (spot p name before q) → (has_elem (name.sels ++ q) ≡ false) × Has facts (Moved (extend name q))
+
+  abbrev Holds : List LeakSpot → List (List Leak) → Type 0
+  Holds spots checks = (length spots ≡ length checks) × NoneFails Excused spots checks
+
+  no_parts : (t : ℕ) → is_scalar (full s.table t) ≡ true → parts s.table t ≡ []
+  no_parts t scalar = settled.part_law t ∙ plain_parts (parts s.table) (shape_of s.table t) scalar
+
+  -- a scalar place has no access parts
+  scalar_holds : (spots : List Sel → LeakSpot) (check : List Sel → List Leak) (t u : ℕ) → is_scalar (full s.table t) ≡ true → is_scalar (full s.table u) ≡ true
+      → Holds (map spots (parts s.table t)) (map check (parts s.table u))
+  scalar_holds spots check t u one two =
+      subst (λ z. Holds (map spots z) (map check (parts s.table u))) (sym (no_parts t one))
+      (subst (λ z. Holds [] (map check z)) (sym (no_parts u two)) (refl, tt))
+
+  parts_same : (t u : ℕ) → shape_of s.table t ≡ shape_of s.table u → parts s.table t ≡ parts s.table u
+  parts_same t u e = settled.part_law t ∙ ap (parts_of (parts s.table)) e ∙ sym (settled.part_law u)
+
+  own_holds : (x y u before : ℕ) (p pos' : Pos) (path : TypedTree) (k : Place) → IsOwnPut s depth x (Name p y path u) k → shape_of s.table k.of ≡ shape_of s.table u → KnowsAt before (name_of y path)
+      → Holds (map (spot p (name_of y path) before) (parts s.table u)) (checks_at s pos' m k)
+  own_holds x y u before p pos' path k (to, inside, called, object_is, fits) same known =
+      subst (λ z. Holds (map (spot p (name_of y path) before) z) (checks_at s pos' m k)) (parts_same k.of u same) (
+        length-map (parts s.table k.of) (spot p (name_of y path) before)
+            ∙ sym (length-map (parts s.table k.of) (λ part. checked_at pos' k.at (slots_at s m k.base) (offsets s.table k.of part))),
+        subst (λ z. NoneFails Excused (map (spot p z before) (parts s.table k.of)) (checks_at s pos' m k)) called
+            (place_holds s settled (home s depth) v elsewhere m hands leaks facts variables exact k (inside_at s depth k to inside) to (inside_spot s depth k to inside m hands)
+            (inside_named s settled depth k to inside)
+            (subst (λ w. ways.Reaches (seen s m hands leaks) w (inside_at s depth k to inside)) (sym (inside_itself s settled depth k to inside v))
+            (inside_reached s depth k to inside (seen s m hands leaks))) Excused pos' p before
+            (λ q has. subst (KnowsAt before) (sym called) known p q)),
+      )
+
+  scalar_type : (t u : ℕ) → Matches s.table t u → is_scalar (full s.table u) ≡ true → is_scalar (full s.table t) ≡ true
+  scalar_type t u (inl e) plain = matches_scalar s u t (inl (sym e)) plain
+  scalar_type t u (inr both) plain = both.0
+
+  same_type : (t u : ℕ) → Matches s.table t u → is_scalar (full s.table u) ≡ false → shape_of s.table t ≡ shape_of s.table u
+  same_type t u (inl e) many = e
+  same_type t u (inr both) many = (let no : true ≡ false = sym both.1 ∙ many in cc)
+
+  plain_scalar : (view : ways.View) (p : Pos) (y u : ℕ) (path : TypedTree) (k : Place) → IsPlainAt s depth v view (Name p y path u) k → is_scalar (full s.table k.of) ≡ true
+  plain_scalar view p y u path k (inl fixed) = fixed.scalar
+  plain_scalar view p y u path k (inr lodged) = lodged.2
+
+  place_holds_at : (view : ways.View) (x before : ℕ) (e : TypedTree) (k : Place) (owning access : Bool) → IsPlaceLaid s depth v view x e k → IsActualTo s x mode.Out e
+      → ((name : PlaceName) → KnowsAt before name) → Holds (actual_spots s (passing_by mode.Out owning access) e before) (head_checks s pos m (To k) e)
+  place_holds_at view x before (Name p y path u) k owning access (inl (plain, at)) (t, (leads, type), match, which) known =
+      scalar_holds (spot p (name_of y path) before) (λ part. checked_at p k.at (slots_at s m k.base) (offsets s.table k.of part)) u k.of
+      (subst (λ z. is_scalar (full s.table z) ≡ true) (sym type) (scalar_type t (object_at s x).of match plain)) (plain_scalar view p y u path k at)
+  place_holds_at view x before (Name p y path u) k owning access (inr (many, own)) (t, (leads, type), match, which) known =
+      own_holds x y u before p p path k own
+      (same_type k.of (object_at s x).of own.4 many ∙ sym (same_type t (object_at s x).of match many) ∙ sym (ap (shape_of s.table) type)) (known (name_of y path))
+  place_holds_at view x before e k owning access laid (t, never, match, which) known = absurd never
+
+  one_holds : (view : ways.View) (x before : ℕ) (mode_of : Mode) (owning access : Bool) (e : TypedTree) (a : Passed) → IsLaidOne s m depth v view x mode_of e a → IsActualTo s x mode_of e
+      → ((name : PlaceName) → KnowsAt before name) → Holds (actual_spots s (passing_by mode_of owning access) e before) (head_checks s pos m a e)
+  one_holds view x before mode.In true access e (Value ws) laid stay known = (refl, tt)
+  one_holds view x before mode.In false access e (Value ws) laid stay known = (refl, tt)
+  one_holds view x before mode.InOut owning access e (From k) laid stay known = (refl, tt)
+  one_holds view x before mode.Out owning access e (To k) laid stay known = place_holds_at view x before e k owning access laid stay known
+  one_holds view x before m' owning access e a laid stay known = absurd laid
+
+  -- ---- all of them
+
+  module _ (procedure : Bool) (placed : List Placed)
+      (known : (front others : List Placed) → placed ≡ front ++ others → (name : PlaceName) → KnowsAt (length front) name) where
+    pub outs_hold : (view : ways.View) (formals : List ℕ) (actuals : TypedTree) (passed : List Passed) → AreLaidOut s m depth v view formals actuals passed → AreActualsTo s formals actuals
+        → (front : List Placed) → placed ≡ front ++ actual_acts (map (passing s procedure) formals) actuals
+        → NoneFails Excused (call_spots s (map (passing s procedure) formals) actuals (length front)) (out_checks s pos m passed actuals)
+    outs_hold view [] actuals passed laid stay front is = tt
+    outs_hold view (x ∷ formals) (More e rest) (a ∷ passed) laid stay front is =
+        let owning : Bool = is_owning s.table (object_at s x).of in
+        let access : Bool = procedure && is_named_access (view_of s x) in
+        let act : List Placed = actual_act (passing s procedure x) e in
+        let later : List Placed = actual_acts (map (passing s procedure) formals) rest in
+        let first = one_holds view x (length front) (object_at s x).mode owning access e a laid.0 stay.0 (known front (act ++ later) is) in
+        let longer : length (front ++ act) ≡ length front + length act = length-append front act in
+        subst (NoneFails Excused (call_spots s (map (passing s procedure) (x ∷ formals)) (More e rest) (length front))) (sym (head_first s pos m a passed e rest))
+        (both_hold Excused (actual_spots s (passing s procedure x) e (length front))
+        (call_spots s (map (passing s procedure) formals) rest (length front + length act)) (head_checks s pos m a e) (out_checks s pos m passed rest) first.0 first.1
+        (subst (λ z. NoneFails Excused (call_spots s (map (passing s procedure) formals) rest z) (out_checks s pos m passed rest)) longer
+        (outs_hold view formals rest passed laid.1 stay.1 (front ++ act) (is ∙ sym (append_assoc front act later)))))
+    outs_hold view (x ∷ formals) (More e rest) [] laid stay front is = absurd laid
+    outs_hold view (x ∷ formals) actuals passed laid stay front is = tt

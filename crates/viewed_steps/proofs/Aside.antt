@@ -1,0 +1,107 @@
+-- Names of places that are passed: one of them isn't above another one that doesn't overlap it, where
+-- neither is lent. And the name of the cell that such a place is in.
+use Rattle.std.proofs.Common.{◌≡◌, refl, sym, ap, ◌∙◌, subst, inl, inr, ℕ, Bool, true, List, [], ◌∷◌, Option, Some, None}
+use Rattle.place_names.specs.declared.rule.Loan.TheVariants.{Borrowed}
+use Rattle.place_names.specs.declared.fact.Fact.{Fact}
+use Rattle.place_names.specs.Names.{overlaps}
+use Rattle.owned_ways.specs.Ways.{Step, Root, OfVariable, OfHand, Loc, OfRoot, OfCell, Way, Object, Lost, Into, All, View, Reaches, Under, along, name_of}
+use Rattle.owned_ways.proofs.Named.{under_front}
+use Rattle.owned_ways.proofs.Unique.{one_location}
+use Rattle.soundness.specs.Seen.{trunk}
+use Rattle.owned_loans.specs.Views.{Views, way_at, expand, expand_root, AreClear, AreViews}
+use Rattle.owned_loans.proofs.Ways.{under_on, meet_overlaps}
+use Rattle.owned_loans.proofs.Meeting.{IsPlain, meeting}
+use Rattle.owned_loans.proofs.Safe.{Unlent, loan_of, no_both}
+
+module _ (home : ℕ → ℕ) (observer : ℕ → Bool) (v : Views) (s : View) (facts : List Fact) (views : AreViews home observer v s facts)
+    (clear : AreClear observer facts) where
+  pub names_off : (t u : Way) → IsPlain home observer v s facts views t → IsPlain home observer v s facts views u → Unlent facts t → Unlent facts u
+      → (overlaps (name_of t) (name_of u) ≡ true → ⊥) → Under (expand v t) (expand v u) → ⊥
+  names_off t u plain_t plain_u unlent_t unlent_u apart under =
+      elim (meeting home observer v s facts views t u plain_t plain_u under) [
+        | inl below ↦ apart (under_front t u below)
+        | inr more ↦ elim more [
+          | inl a ↦ unlent_u Borrowed a.object (name_of (v.loan a.object)) (loan_of home observer v s facts views clear a.object a.lends)
+              (meet_overlaps (v.loan a.object) u (inl (under_on (v.loan a.object) a.name u a.loan a.begins)))
+          | inr more ↦ elim more [
+            | inl b ↦ unlent_t Borrowed b.object (name_of (v.loan b.object)) (loan_of home observer v s facts views clear b.object b.lends)
+                (meet_overlaps (v.loan b.object) t (elim b.meets [ inl z ↦ inr z | inr z ↦ inl z ]))
+            | inr c ↦ no_both home observer v s facts views clear c
+          ]
+        ]
+      ]
+
+-- The name of a cell, which a longer name goes on from to a part of it.
+pub record IsNameOfCell (v : Views) (s : View) (w : Way) (n : ℕ) : Type 0 where
+  pub name : Way
+  pub rest : List Step
+  pub is : w ≡ along name rest
+  pub deep : (r : Root) → name ≡ Object r → ⊥
+  pub reaches : Reaches s (expand v name) (OfCell n)
+
+pub cell_name : (v : Views) (s : View) → ((x : ℕ) (w : Way) → v.way x ≡ Some w → Reaches s w (OfCell (v.cell x))) → (w : Way) (l : Loc) (n : ℕ)
+    → Reaches s (expand v w) l → trunk l ≡ OfCell n → IsNameOfCell v s w n
+cell_name v s views (Object (OfVariable f x)) l n is base = (let no : OfRoot (OfVariable f x) ≡ OfCell n = ap trunk (sym is) ∙ base in cc)
+cell_name v s views (Object (OfHand h)) l n is base = (let no : OfRoot (OfHand h) ≡ OfCell n = ap trunk (sym is) ∙ base in cc)
+cell_name v s views (Lost c) l n reach base = record {
+  name = Lost c;
+  rest = [];
+  is = refl;
+  deep = λ r e. cc;
+  reaches = (reach.0, sym base ∙ ap trunk reach.1);
+}
+cell_name v s views (Into w i) l n (m, reach, is) base =
+    let there = cell_name v s views w m n reach (ap trunk (sym is) ∙ base) in record {
+      name = there.name;
+      rest = i ∷ there.rest;
+      is = ap (λ z. Into z i) there.is;
+      deep = there.deep;
+      reaches = there.reaches;
+    }
+cell_name v s views (All w) l n reach base = record {
+  name = All w;
+  rest = [];
+  is = refl;
+  deep = λ r e. cc;
+  reaches = subst (Reaches s (expand v (All w))) (at_cell w reach) reach;
+}
+  where
+    of_cell : (u : Way) (k : Loc) → Reaches s (All u) k → trunk k ≡ OfCell n → k ≡ OfCell n
+    of_cell u k (m, c, r, held, is) at = is ∙ sym (ap trunk is) ∙ at
+
+    by_root : (o : Option Way) (r : Root) → way_at v r ≡ o → Reaches s (expand_root o r) l → l ≡ OfCell n
+    by_root None r e reach = of_cell (Object r) l reach base
+    by_root (Some w) (OfVariable f x) e reach =
+        let is = one_location s w l (OfCell (v.cell x)) reach (views x w e) in is ∙ sym (ap trunk is) ∙ base
+    by_root (Some w) (OfHand h) e reach = cc
+
+    at_cell : (w : Way) → Reaches s (expand v (All w)) l → l ≡ OfCell n
+    at_cell (Object r) reach = by_root (way_at v r) r refl reach
+    at_cell (Lost c) reach = of_cell (Lost c) l reach base
+    at_cell (Into w i) reach = of_cell (expand v (Into w i)) l reach base
+    at_cell (All w) reach = of_cell (expand v (All w)) l reach base
+
+-- No part of a cell is one of a root.
+pub part_apart : (s : View) (w : Way) (n : ℕ) → Reaches s w (OfCell n) → (r : Root) (p q : List Step) → along w p ≡ along (Object r) q → ⊥
+part_apart s w n reach r p q e = by_steps p q e
+  where
+    no_root : (w : Way) → Reaches s w (OfCell n) → w ≡ Object r → ⊥
+    no_root (Object b) reach same = cc
+    no_root (Lost c) reach same = cc
+    no_root (Into u i) reach same = cc
+    no_root (All u) reach same = cc
+
+    no_step : (w u : Way) (i : Step) → Reaches s w (OfCell n) → w ≡ Into u i → ⊥
+    no_step (Object b) u i reach same = cc
+    no_step (Lost c) u i reach same = cc
+    no_step (Into k j) u i (m, there, is) same = cc
+    no_step (All k) u i reach same = cc
+
+    longer_one : (a b : Way) (i j : Step) → Into a i ≡ Into b j → a ≡ b
+    longer_one a b i j same = cc
+
+    by_steps : (p q : List Step) → along w p ≡ along (Object r) q → ⊥
+    by_steps [] [] e = no_root w reach e
+    by_steps [] (j ∷ q) e = no_step w (along (Object r) q) j reach e
+    by_steps (i ∷ p) [] e = cc
+    by_steps (i ∷ p) (j ∷ q) e = by_steps p q (longer_one (along w p) (along (Object r) q) i j e)

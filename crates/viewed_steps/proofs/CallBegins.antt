@@ -1,0 +1,795 @@
+-- The state after a call: the caller waits, and what is called begins.
+use Rattle.flow_paths.specs.Views.{traversed_of}
+use Rattle.viewed_steps.proofs.Traversed.{none_given, empty_given, named_given}
+use Rattle.typed_tree.specs.declared.object.ObjectKind.{ObjectKind}
+use Rattle.typed_tree.specs.declared.object.ObjectKind.TheVariants as object_kind
+use Rattle.spark_base.proofs.Lists.{Has-map_from, Has-append_left}
+use Rattle.std.proofs.Common.{◌≡◌, refl, sym, ap, ◌∙◌, subst, ◌⊎◌, inl, inr, ℕ, suc, ◌<◌, true, false, List, [], ◌∷◌, ◌++◌, map, take, drop, length, get_or, arith, Option, Some, None, Bool, ◌||◌, flat_map, ◌&&◌}
+use Rattle.spark_base.specs.Lists.{Has}
+use Rattle.spark_base.proofs.Lists.{Has-append_cases, Has-map_from}
+use Rattle.place_names.specs.declared.fact.Fact.{Fact}
+use Rattle.place_names.specs.declared.fact.Fact.TheVariants.{Moved, Lent}
+use Rattle.place_names.specs.declared.rule.Loan.{Loan}
+use Rattle.place_names.specs.Names.{Name as PlaceName}
+use Rattle.place_names.specs.declared.act.Mode.TheVariants as mode
+use Rattle.type_definitions.specs.Types.{Table, is_owning}
+use Rattle.typed_tree.specs.Trees.{TypedTree}
+use Rattle.typed_tree.specs.Programs.{TypedProgram}
+use Rattle.flow_paths.specs.declared.report.Effects.{Effects}
+use Rattle.flow_paths.specs.Instructions.{Call, EndScope, Finish}
+use Rattle.flow_paths.specs.Objects.{Typing, object_at, sub_at, is_anonymous, is_package_object, view_of, traverses, passings, Passing, Signature, is_formal_kind}
+use Rattle.flow_paths.specs.Aliases.{overlap_reports, passed_reports, call_reports}
+use Rattle.flow_paths.specs.Aliases as alias
+use Rattle.flow_paths.specs.Points.{NamedPoint}
+use Rattle.flow_paths.specs.Laid.{FlowSub, FlowProgram, NamedSub, flow_sub, typing_of, flow_typing, flow_program, flow_named}
+use Rattle.flow_paths.specs.Paths.{PathPoint, is_some_point, ControlPath, begins, goes_on, facts_before}
+use Rattle.flow_paths.specs.Effects.{flow_sub_at, path_points}
+use Rattle.flow_paths.specs.Scopes.{taken, scope_behind, Leads, is_temporary}
+use Rattle.machine.specs.Words as machine
+use Rattle.machine.specs.Memory.{Memory, no_slot, variable_slots}
+use Rattle.machine.specs.Evaluate.{Now, Exception}
+use Rattle.machine.specs.States.{Frame, State, Leak, sub_of, frame_at_start, Outcome, Goes}
+use Rattle.machine.specs.Step.{Turn, turn, start, led, successor}
+use Rattle.machine.specs.Step as steps
+use Rattle.machine.specs.Calls.{Passed, all_passed, with_formals, returns_of, out_checks}
+use Rattle.machine.specs.Owners.{is_in_formal, waiting_in}
+use Rattle.place_names.specs.declared.act.Mode.TheVariants as mode
+use Rattle.owned_ways.specs.Ways.{Step, Way, after, AllowsAll, Past}
+use Rattle.owned_ways.specs.Ways as ways
+use Rattle.owned_ways.proofs.Locations.{past_under, under_along, under_itself}
+use Rattle.soundness.specs.Seen.{is_view_formal, IsNear, content, seen, home, trunk, word_in}
+use Rattle.soundness.specs.Typed.{Kept}
+use Rattle.soundness.specs.Sound.{Stage, facts_of, AreStages, Uses, IsRunnable, returns_value, InScope, IsNamedSub, IsAtPoint, view_of as view_here}
+use Rattle.soundness.proofs.Stays.{Quiet}
+use Rattle.soundness.proofs.Numbers.{index_law}
+use Rattle.soundness.proofs.Lasting.{keeps}
+use Rattle.soundness.proofs.Passing.{entered, TakesAll, signature_is}
+use Rattle.soundness.proofs.Points.{path_there}
+use Rattle.soundness.proofs.Used.{called_used}
+use Rattle.soundness.proofs.Around.{IsFar}
+use Rattle.soundness.proofs.Waits.{led_waits}
+use Rattle.soundness.proofs.Eased.{eased}
+use Rattle.owned_loans.specs.Views.{expand, Around, known_gone, Views, IsMovedBy, ExcusedBy, AreClear as FactsAreClear, IsForeign, AreViews, Viewed}
+use Rattle.owned_loans.proofs.Ways.{under_on, Meet, meets_front, flip}
+use Rattle.owned_loans.proofs.Moves.{expand_under}
+use Rattle.viewed_soundness.proofs.Names.{true_false, owner_sees}
+use Rattle.viewed_soundness.proofs.Outcomes.{named_plain}
+use Rattle.viewed_soundness.specs.Holds.{Holds, is_view, sees_only, IsOwners, is_given}
+use Rattle.viewed_soundness.proofs.Given.{IsLow, foreign_there, low_there}
+use Rattle.viewed_steps.specs.Awaited.{temporaries_of, lasting_of, awaited, WaitsAt, AreAwaited, AreScalar, TakesScalars}
+use Rattle.viewed_steps.proofs.Waited.{within_lasting, Shares, plain_unheld}
+use Rattle.viewed_steps.specs.Sound.{IsCopiedBack, ArePast, AreUnmet, HoldsAt, ArePlaced, NoneAbove, ViewStage, stages_of, GoneElsewhere, Disturbs, IsWaiting, AreWaiting, calls_one, LeadsAlong, IsResting, IsKindOfFormal, AreReturned, withheld, KeptBy, IsWayOf, IsBareOf, HasTraversals, NoneGiven}
+use Rattle.viewed_steps.specs.Ready.{IsReady, IsCalled}
+use Rattle.viewed_steps.specs.Taken.{TakenBy, AreTaken, AreCarried, Lodge}
+use Rattle.viewed_steps.proofs.Apart.{moved_same}
+use Rattle.viewed_steps.proofs.Waiting.{StandsBetween, kept_low, beside_them, handed, elsewhere_excused, bare_still}
+use Rattle.viewed_steps.proofs.Onward.{all_on}
+use Rattle.viewed_steps.proofs.Between.{gone_also, base_under, IsHomed, taken_bare}
+use Rattle.viewed_steps.proofs.Outside.{IsSpared, kept_clear}
+use Rattle.flow_paths.specs.Effects.{written_by}
+use Rattle.viewed_steps.proofs.Aside.{part_apart}
+use Rattle.viewed_steps.proofs.LaidOut.{AreLaidOut}
+use Rattle.viewed_steps.proofs.Outs.{Out, found_in}
+use Rattle.viewed_steps.proofs.Entered.{ArePassedOn, IsOpen, AreBlank, not_above, inside_plain, inside_named, inside_number, inside_itself, passed_one}
+use Rattle.viewed_steps.proofs.Entering.{owns_there, AreDeclared, Enter, formals_of_returns, all_declared}
+use Rattle.viewed_steps.proofs.Passed.{IsNamedBy, found_there, all_returned, call_goes}
+use Rattle.viewed_steps.proofs.Cells.{passed_formal, IsCellNamed}
+use Rattle.viewed_steps.proofs.Standing.{or_right}
+use Rattle.viewed_steps.proofs.Uses.{called_writes}
+use Rattle.viewed_steps.proofs.Standing as standing
+use Rattle.viewed_steps.proofs.Packages as packages
+use Rattle.viewed_steps.proofs.Innermost as innermost
+use Rattle.viewed_steps.proofs.Views.{AreAccess, AreFar, formal_view, anonymous_view, scalar_no_view, view_cases}
+use Rattle.viewed_steps.proofs.Shown.{same_cells}
+use Rattle.viewed_steps.proofs.Exclusive.{AreLent, IsFrom, from_past, from_far, from_apart, from_place}
+use Rattle.viewed_steps.proofs.Opening.{Opens, all_opened, low_of, opened_from, opened_views, opened_whole, opened_lies, opened_held, opened_placed}
+use Rattle.viewed_steps.proofs.Calling as calling
+
+module _ (table : Table) (typed : TypedProgram) (effects : Effects) (input : List ℕ) (ready : IsReady table typed effects) where
+  abbrev program : FlowProgram
+  program = flow_program table typed
+
+  abbrev s : Typing
+  s = flow_typing program
+
+  abbrev own : Typing
+  own = typing_of table typed
+
+  abbrev in_formals : AreAccess s
+  in_formals = standing.in_formals table typed effects input ready
+
+  abbrev local : (x : ℕ) → is_view s x ≡ true → is_package_object s x ≡ false
+  local = standing.local table typed effects input ready
+
+  abbrev unmoved_stage : (e : Stage) → e.frame.sub ≡ 0 → (name : PlaceName) → Has (facts_of program effects e) (Moved name) → ⊥
+  unmoved_stage = packages.unmoved_stage table typed effects input ready
+
+  abbrev first_point : (k : ℕ) (named : NamedSub) → IsNamedSub (flow_named table typed) k named → (p : NamedPoint) (rest : List NamedPoint) → named.points ≡ p ∷ rest
+      → is_some_point (path_points program effects (sub_of program k))
+  first_point = packages.first_point table typed effects input ready
+
+  module _ (state : State) (top : Stage) (below : ViewStage) (more_frames : List ViewStage) (rest : List Frame) (named : NamedSub) (p : NamedPoint)
+      (frames : state.frames ≡ top.frame ∷ (below.stage.frame ∷ rest)) (deep : top.depth ≡ suc (length rest))
+      (stages : AreStages (stages_of (below ∷ more_frames)) (below.stage.frame ∷ rest))
+      (running : IsRunnable table typed top.frame.sub × IsResting s top × AreWaiting table typed effects state top.frame.sub top.frame.returns (below ∷ more_frames))
+      (awaiting : AreAwaited table typed None (top ∷ stages_of (below ∷ more_frames)))
+      (of_sub : IsNamedSub (flow_named table typed) top.frame.sub named) (at_point : IsAtPoint named.points top.frame.next p)
+      (path : ControlPath (path_points program effects (sub_of program top.frame.sub)) top.before top.frame.next) (views : Views)
+      (viewed_before : Viewed (home s (suc (length rest))) (sees_only s) (known_gone (home s (suc (length rest))) (GoneElsewhere program effects (below ∷ more_frames))) views
+      (view_here s state) (facts_of program effects top))
+      (kept : Kept s state.memory (waiting_in state)) (scope : InScope s state.memory (suc (length rest)) (lasting_of s p.scope)) (holds : HoldsAt s (suc (length rest)) views state.memory p)
+      (placed_before : ArePlaced program (suc (length rest)) (facts_of program effects top) views p.scope × ArePast s (suc (length rest)) views (below ∷ more_frames)) (above : NoneAbove s (suc (length rest)) state.memory
+      × HasTraversals table typed (view_here s state) (record { stage = top; views = views; cells = [] } ∷ (below ∷ more_frames))) where
+    abbrev outer : List Frame
+    outer = below.stage.frame ∷ rest
+
+    abbrev older : List ViewStage
+    older = below ∷ more_frames
+
+    abbrev depth : ℕ
+    depth = suc (length rest)
+
+    abbrev between : (g : ViewStage) → Has (below ∷ more_frames) g → StandsBetween table typed effects unmoved_stage local state (suc (length rest)) g
+    between = innermost.between table typed effects input ready state top below more_frames rest named p frames deep stages running awaiting of_sub at_point path views viewed_before kept scope holds placed_before above
+
+    abbrev other : Around (home s (suc (length rest)))
+    other = beside_them table typed effects unmoved_stage local state (suc (length rest)) (below ∷ more_frames) between
+
+    abbrev alone : (w : Way) → IsNear (suc (length rest)) w → IsFar (suc (length rest)) (GoneElsewhere program effects (below ∷ more_frames)) w → ⊥
+    alone = innermost.alone table typed effects input ready state top below more_frames rest named p frames deep stages running awaiting of_sub at_point path views viewed_before kept scope holds placed_before above
+
+    abbrev main_turn : Turn
+    main_turn = standing.t table typed effects input ready state top older outer named p frames of_sub at_point
+
+    abbrev own_facts : List Fact
+    own_facts = standing.facts table typed effects input ready state top older outer named p frames of_sub at_point path
+
+    abbrev handed_on : List Fact
+    handed_on = handed table typed effects unmoved_stage local state (suc (length rest)) (below ∷ more_frames) between
+
+    abbrev facts_now : List Fact
+    facts_now = own_facts ++ handed_on
+
+    abbrev sub_at_all : flow_sub_at program top.frame.sub ≡ flow_sub own named
+    sub_at_all = innermost.sub_at_all table typed effects input ready state top below more_frames rest named p frames deep stages running awaiting of_sub at_point path views viewed_before kept scope holds placed_before above
+
+    abbrev sub_less : top.frame.sub < length program.subs
+    sub_less = innermost.sub_less table typed effects input ready state top below more_frames rest named p frames deep stages running awaiting of_sub at_point path views viewed_before kept scope holds placed_before above
+
+    abbrev viewed : Viewed (home s depth) (sees_only s) other views (view_here s state) facts_now
+    viewed = innermost.viewed table typed effects input ready state top below more_frames rest named p frames deep stages running awaiting of_sub at_point path views viewed_before kept scope holds placed_before above
+
+    abbrev left_scope : List ℕ
+    left_scope = drop (taken p.instr) p.scope
+
+    abbrev shared : Shares s (taken p.instr) top.frame.waits p.scope
+    shared = innermost.shared table typed effects input ready state top below more_frames rest named p frames deep stages running awaiting of_sub at_point path views viewed_before kept scope holds placed_before above
+
+    abbrev given_words : List (List machine.Word)
+    given_words = (start main_turn).waits
+
+    abbrev Plain : Type 0
+    Plain = AreScalar s (temporaries_of s (take (taken p.instr) p.scope))
+
+    abbrev easy : Turn
+    easy = eased main_turn
+
+    abbrev viewed_easy : Plain → Viewed (home s depth) (sees_only s) other views (view_here s easy.state) facts_now × Kept s state.memory (waiting_in easy.state)
+    viewed_easy = innermost.viewed_easy table typed effects input ready state top below more_frames rest named p frames deep stages running awaiting of_sub at_point path views viewed_before kept scope holds placed_before above
+
+    abbrev others_await : returns_value p.instr ≡ false → AreAwaited table typed (awaited (sub_of program top.frame.sub) (top.frame.next ∷ top.before)) (stages_of older)
+    others_await = innermost.others_await table typed effects input ready state top below more_frames rest named p frames deep stages running awaiting of_sub at_point path views viewed_before kept scope holds placed_before above
+
+    -- where it leads, and how the frames come from those before
+    abbrev Along : Outcome → Type 0
+    Along outcome = LeadsAlong table typed effects p.instr state.memory (record { stage = top; views = views; cells = [] }) (below ∷ more_frames) outcome
+
+    abbrev ends_raised : (how : Exception) (m : Memory) → Along (steps.raised main_turn how m)
+    ends_raised = innermost.ends_raised table typed effects input ready state top below more_frames rest named p frames deep stages running awaiting of_sub at_point path views viewed_before kept scope holds placed_before above
+
+    module _ (n : ℕ) (actuals : TypedTree) (result : Option ℕ) (e : p.instr ≡ Call n actuals result) where
+      abbrev called : IsCalled table typed n actuals result
+      called = calling.called table typed effects input ready state top below more_frames rest named p frames deep stages running awaiting of_sub at_point path views viewed_before kept scope holds placed_before above n actuals result e
+
+      abbrev formals : List ℕ
+      formals = calling.formals table typed effects input ready state top below more_frames rest named p frames deep stages running awaiting of_sub at_point path views viewed_before kept scope holds placed_before above n actuals result e
+
+      abbrev kinds : (x : ℕ) → Has formals x → IsKindOfFormal s x
+      kinds = calling.kinds table typed effects input ready state top below more_frames rest named p frames deep stages running awaiting of_sub at_point path views viewed_before kept scope holds placed_before above n actuals result e
+
+      abbrev no_traversal : traverses s.table (sub_of program n).result ≡ false
+      no_traversal = calling.no_traversal table typed effects input ready state top below more_frames rest named p frames deep stages running awaiting of_sub at_point path views viewed_before kept scope holds placed_before above n actuals result e
+
+      abbrev plain_there : Plain × TakesScalars s p.instr
+      plain_there = calling.plain_there table typed effects input ready state top below more_frames rest named p frames deep stages running awaiting of_sub at_point path views viewed_before kept scope holds placed_before above n actuals result e
+
+      abbrev procedure : Bool
+      procedure = calling.procedure table typed effects input ready state top below more_frames rest named p frames deep stages running awaiting of_sub at_point path views viewed_before kept scope holds placed_before above n actuals result e
+
+      abbrev ways_there : List Passing
+      ways_there = calling.ways_there table typed effects input ready state top below more_frames rest named p frames deep stages running awaiting of_sub at_point path views viewed_before kept scope holds placed_before above n actuals result e
+
+      abbrev ways_are : passings s (sub_at s n) ≡ ways_there
+      ways_are = calling.ways_are table typed effects input ready state top below more_frames rest named p frames deep stages running awaiting of_sub at_point path views viewed_before kept scope holds placed_before above n actuals result e
+
+      abbrev facts_called : List Fact
+      facts_called = calling.facts_called table typed effects input ready state top below more_frames rest named p frames deep stages running awaiting of_sub at_point path views viewed_before kept scope holds placed_before above n actuals result e
+
+      abbrev holds_now : Holds s depth views state.memory
+      holds_now = calling.holds_now table typed effects input ready state top below more_frames rest named p frames deep stages running awaiting of_sub at_point path views viewed_before kept scope holds placed_before above n actuals result e
+
+      abbrev live_now : (w : Way) (l : ways.Loc) → IsOwners s w → ways.Reaches (seen s state.memory (waiting_in easy.state) state.leaks) w l
+          → (content s state.memory (waiting_in easy.state) (trunk l)).owns ≡ true
+      live_now = calling.live_now table typed effects input ready state top below more_frames rest named p frames deep stages running awaiting of_sub at_point path views viewed_before kept scope holds placed_before above n actuals result e
+
+      abbrev formals_low : (x : ℕ) (w : Way) → views.way x ≡ Some w → is_view_formal s x ≡ true → (foreign : IsForeign (home s depth) w) × (foreign.0 < depth) × (0 < foreign.0)
+      formals_low = calling.formals_low table typed effects input ready state top below more_frames rest named p frames deep stages running awaiting of_sub at_point path views viewed_before kept scope holds placed_before above n actuals result e
+
+      abbrev by_callee : (((x : ℕ) → Has formals x → (object_at s x).mode ≡ mode.In) × ((x : ℕ) → Has formals x → IsCopiedBack s x → ⊥)
+          × ((x : ℕ) → Has formals x → is_view_formal s x ≡ true → sees_only s x ≡ true))
+          ⊎ AreLent s facts_now formals actuals
+      by_callee = calling.by_callee table typed effects input ready state top below more_frames rest named p frames deep stages running awaiting of_sub at_point path views viewed_before kept scope holds placed_before above n actuals result e
+
+      abbrev Given : List Passed → Type 0
+      Given = calling.Given table typed effects input ready state top below more_frames rest named p frames deep stages running awaiting of_sub at_point path views viewed_before kept scope holds placed_before above n actuals result e
+
+      abbrev taken_there : (on : List (List machine.Word)) × TakesAll formals actuals given_words on
+      taken_there = calling.taken_there table typed effects input ready state top below more_frames rest named p frames deep stages running awaiting of_sub at_point path views viewed_before kept scope holds placed_before above n actuals result e
+
+      abbrev then_now : Now
+      then_now = calling.then_now table typed effects input ready state top below more_frames rest named p frames deep stages running awaiting of_sub at_point path views viewed_before kept scope holds placed_before above n actuals result e
+
+      abbrev passed_quiet : Quiet then_now Given (all_passed (steps.here main_turn) ways_there formals actuals (start main_turn))
+      passed_quiet = calling.passed_quiet table typed effects input ready state top below more_frames rest named p frames deep stages running awaiting of_sub at_point path views viewed_before kept scope holds placed_before above n actuals result e
+
+      abbrev view_now : ways.View
+      view_now = calling.view_now table typed effects input ready state top below more_frames rest named p frames deep stages running awaiting of_sub at_point path views viewed_before kept scope holds placed_before above n actuals result e
+
+      abbrev call_point : (k : ℕ) × (successor main_turn 0 ≡ Some k) × Has main_turn.point.next k
+      call_point = calling.call_point table typed effects input ready state top below more_frames rest named p frames deep stages running awaiting of_sub at_point path views viewed_before kept scope holds placed_before above n actuals result e
+
+      abbrev waits_with : List Way → Stage
+      waits_with = calling.waits_with table typed effects input ready state top below more_frames rest named p frames deep stages running awaiting of_sub at_point path views viewed_before kept scope holds placed_before above n actuals result e
+
+      abbrev facts_there : facts_before (path_points program effects (sub_of program top.frame.sub)) (top.frame.next ∷ top.before) ≡ facts_called
+      facts_there = calling.facts_there table typed effects input ready state top below more_frames rest named p frames deep stages running awaiting of_sub at_point path views viewed_before kept scope holds placed_before above n actuals result e
+
+      abbrev none_new : (f : Fact) → Has (facts_before (path_points program effects (sub_of program top.frame.sub)) (top.frame.next ∷ top.before)) f → Has (facts_of program effects top) f
+      none_new = calling.none_new table typed effects input ready state top below more_frames rest named p frames deep stages running awaiting of_sub at_point path views viewed_before kept scope holds placed_before above n actuals result e
+
+      abbrev spared_then : (name : PlaceName) → Has facts_called (Moved name) → is_package_object s name.root ≡ true → Uses effects n name.root → ⊥
+      spared_then = calling.spared_then table typed effects input ready state top below more_frames rest named p frames deep stages running awaiting of_sub at_point path views viewed_before kept scope holds placed_before above n actuals result e
+
+      abbrev callee_less : n < length program.subs
+      callee_less = calling.callee_less table typed effects input ready state top below more_frames rest named p frames deep stages running awaiting of_sub at_point path views viewed_before kept scope holds placed_before above n actuals result e
+
+      abbrev lends_there : (l : Loan) (h : ℕ) (name : PlaceName) → Has (facts_before (path_points program effects (sub_of program top.frame.sub)) (top.frame.next ∷ top.before)) (Lent l h name) → is_package_object s name.root ≡ true
+          → Disturbs effects l n name.root → ⊥
+      lends_there = calling.lends_there table typed effects input ready state top below more_frames rest named p frames deep stages running awaiting of_sub at_point path views viewed_before kept scope holds placed_before above n actuals result e
+
+      abbrev at_successor : (q : NamedPoint) × IsAtPoint named.points call_point.0 q × Leads s (scope_behind p) q.scope
+      at_successor = calling.at_successor table typed effects input ready state top below more_frames rest named p frames deep stages running awaiting of_sub at_point path views viewed_before kept scope holds placed_before above n actuals result e
+
+      abbrev next_scope : InScope s state.memory depth (lasting_of s (at_successor.0).scope)
+      next_scope = calling.next_scope table typed effects input ready state top below more_frames rest named p frames deep stages running awaiting of_sub at_point path views viewed_before kept scope holds placed_before above n actuals result e
+
+      abbrev next_placed : ArePlaced program (suc (length rest)) facts_called views (at_successor.0).scope
+      next_placed = calling.next_placed table typed effects input ready state top below more_frames rest named p frames deep stages running awaiting of_sub at_point path views viewed_before kept scope holds placed_before above n actuals result e
+
+      abbrev late : Option ℕ
+      late = calling.late table typed effects input ready state top below more_frames rest named p frames deep stages running awaiting of_sub at_point path views viewed_before kept scope holds placed_before above n actuals result e
+
+      abbrev waits_late : (ways_taken : List Way) → WaitsAt table typed late (waits_with ways_taken)
+      waits_late = calling.waits_late table typed effects input ready state top below more_frames rest named p frames deep stages running awaiting of_sub at_point path views viewed_before kept scope holds placed_before above n actuals result e
+
+      abbrev next_there : List ℕ
+      next_there = calling.next_there table typed effects input ready state top below more_frames rest named p frames deep stages running awaiting of_sub at_point path views viewed_before kept scope holds placed_before above n actuals result e
+
+      module _ (passed : List Passed) (given : Given passed) where
+        abbrev other_all : Around (home s depth)
+        other_all = calling.other_all table typed effects input ready state top below more_frames rest named p frames deep stages running awaiting of_sub at_point path views viewed_before kept scope holds placed_before above n actuals result e passed given
+
+        abbrev far_views : AreFar (home s depth) views depth
+        far_views = calling.far_views table typed effects input ready state top below more_frames rest named p frames deep stages running awaiting of_sub at_point path views viewed_before kept scope holds placed_before above n actuals result e passed given
+
+        abbrev laid : AreLaidOut s state.memory depth views view_now formals actuals passed
+        laid = calling.laid table typed effects input ready state top below more_frames rest named p frames deep stages running awaiting of_sub at_point path views viewed_before kept scope holds placed_before above n actuals result e passed given
+
+        abbrev outs : List Out
+        outs = calling.outs table typed effects input ready state top below more_frames rest named p frames deep stages running awaiting of_sub at_point path views viewed_before kept scope holds placed_before above n actuals result e passed given
+
+        abbrev cells : List Lodge
+        cells = calling.cells table typed effects input ready state top below more_frames rest named p frames deep stages running awaiting of_sub at_point path views viewed_before kept scope holds placed_before above n actuals result e passed given
+
+        abbrev all_passed_ways : (ways_taken : List Way) × ArePassedOn s state.memory cells depth facts_called next_there formals passed ways_taken outs
+            × ((k : Way) → Has ways_taken k → IsNamedBy s formals actuals k)
+        all_passed_ways = calling.all_passed_ways table typed effects input ready state top below more_frames rest named p frames deep stages running awaiting of_sub at_point path views viewed_before kept scope holds placed_before above n actuals result e passed given
+
+        abbrev ways_taken : List Way
+        ways_taken = calling.ways_taken table typed effects input ready state top below more_frames rest named p frames deep stages running awaiting of_sub at_point path views viewed_before kept scope holds placed_before above n actuals result e passed given
+
+        abbrev homed : (to : Way) → Has ways_taken to → IsHomed s depth to
+        homed = calling.homed table typed effects input ready state top below more_frames rest named p frames deep stages running awaiting of_sub at_point path views viewed_before kept scope holds placed_before above n actuals result e passed given
+
+        abbrev around_outs : Around (home s depth)
+        around_outs = calling.around_outs table typed effects input ready state top below more_frames rest named p frames deep stages running awaiting of_sub at_point path views viewed_before kept scope holds placed_before above n actuals result e passed given
+
+        abbrev well_all : Viewed (home s depth) (sees_only s) around_outs views (view_here s easy.state) facts_called
+        well_all = calling.well_all table typed effects input ready state top below more_frames rest named p frames deep stages running awaiting of_sub at_point path views viewed_before kept scope holds placed_before above n actuals result e passed given
+
+        abbrev named_cell : (c : Lodge) → Has cells c → IsCellNamed s depth facts_called views view_now formals actuals c
+        named_cell = calling.named_cell table typed effects input ready state top below more_frames rest named p frames deep stages running awaiting of_sub at_point path views viewed_before kept scope holds placed_before above n actuals result e passed given
+
+        abbrev cell_root : (c : Lodge) (has : Has cells c) → ways.number_of c.name ≡ ways.number_of (named_cell c has).whole
+        cell_root = calling.cell_root table typed effects input ready state top below more_frames rest named p frames deep stages running awaiting of_sub at_point path views viewed_before kept scope holds placed_before above n actuals result e passed given
+
+        abbrev cell_plain : (c : Lodge) → Has cells c → ways.Named (home s depth) c.name × (sees_only s (ways.number_of c.name) ≡ false)
+        cell_plain = calling.cell_plain table typed effects input ready state top below more_frames rest named p frames deep stages running awaiting of_sub at_point path views viewed_before kept scope holds placed_before above n actuals result e passed given
+
+        abbrev cell_begins : (c : Lodge) → Has cells c → (g : ℕ) × (y : ℕ) × (ways.base_of c.way ≡ ways.OfRoot (ways.OfVariable g y)) × (g ≡ suc depth → ⊥)
+        cell_begins = calling.cell_begins table typed effects input ready state top below more_frames rest named p frames deep stages running awaiting of_sub at_point path views viewed_before kept scope holds placed_before above n actuals result e passed given
+
+        abbrev cell_aside : (c : Lodge) → Has cells c → (to : Way) → Has ways_taken to → ways.Past to c.way → ⊥
+        cell_aside = calling.cell_aside table typed effects input ready state top below more_frames rest named p frames deep stages running awaiting of_sub at_point path views viewed_before kept scope holds placed_before above n actuals result e passed given
+
+        abbrev written_to : (to : Way) → Has ways_taken to → is_package_object s (ways.number_of to) ≡ true → Has (written_by effects top.frame.sub) (ways.number_of to)
+        written_to = calling.written_to table typed effects input ready state top below more_frames rest named p frames deep stages running awaiting of_sub at_point path views viewed_before kept scope holds placed_before above n actuals result e passed given
+
+        abbrev unused_to : (to : Way) → Has ways_taken to → is_package_object s (ways.number_of to) ≡ true → Uses effects n (ways.number_of to) → ⊥
+        unused_to = calling.unused_to table typed effects input ready state top below more_frames rest named p frames deep stages running awaiting of_sub at_point path views viewed_before kept scope holds placed_before above n actuals result e passed given
+
+        abbrev spared_to : (to : Way) (has : Has ways_taken to) → IsSpared table typed effects unmoved_stage local state depth older between (homed to has).1
+        spared_to = calling.spared_to table typed effects input ready state top below more_frames rest named p frames deep stages running awaiting of_sub at_point path views viewed_before kept scope holds placed_before above n actuals result e passed given
+
+        abbrev open_there : IsOpen (home s depth) other_all ways_taken
+        open_there = calling.open_there table typed effects input ready state top below more_frames rest named p frames deep stages running awaiting of_sub at_point path views viewed_before kept scope holds placed_before above n actuals result e passed given
+
+        abbrev blank_formals : AreBlank s depth state.memory formals
+        blank_formals = calling.blank_formals table typed effects input ready state top below more_frames rest named p frames deep stages running awaiting of_sub at_point path views viewed_before kept scope holds placed_before above n actuals result e passed given
+
+        abbrev with_all : Memory
+        with_all = with_formals s (suc depth) formals passed state.memory
+
+        abbrev checks_there : List (List Leak)
+        checks_there = out_checks s main_turn.point.pos state.memory passed actuals
+
+        abbrev leaks_then : List Leak
+        leaks_then = state.leaks ++ found_in s state.memory outs
+
+        leaks_same : leaks_then ≡ state.leaks ++ flat_map (λ (leaks : List Leak). leaks) checks_there
+        leaks_same = ap (λ z. state.leaks ++ z) (sym (found_there s ready.accepted.settled depth views view_now main_turn.point.pos state.memory formals actuals passed laid))
+
+        enters : Enter s ready.accepted.settled ready.owns in_formals (waiting_in easy.state) depth views far_views facts_called next_there cells cell_begins other_all state.leaks leaks_then formals passed ways_taken
+            state.memory with_all
+        enters =
+            all_declared s ready.accepted.settled ready.owns in_formals (waiting_in easy.state) depth views far_views facts_called next_there cells cell_begins other_all state.leaks formals passed ways_taken outs
+            state.memory state.memory all_passed_ways.1 open_there (viewed_easy plain_there.0).1 (viewed_easy plain_there.0).1
+            (λ c has. ((named_cell c has).reaches, cell_aside c has)) well_all blank_formals (λ o has f y q some is k. refl) (same_cells state.memory state.memory refl)
+
+        abbrev declared_there : AreDeclared s ready.accepted.settled ready.owns in_formals (waiting_in easy.state) depth views far_views facts_called next_there cells cell_begins formals passed ways_taken state.leaks leaks_then
+            state.memory with_all
+        declared_there = enters.0
+
+        abbrev after_call : State
+        after_call = steps.leaking checks_there (entered main_turn ready.accepted.settled n actuals passed)
+
+        abbrev called_stage : Stage
+        called_stage = record { frame = frame_at_start n (returns_of formals passed); depth = suc depth; before = []; returns = [] }
+
+        abbrev waits_stage : Stage
+        waits_stage = waits_with all_passed_ways.0
+
+        abbrev waits_there : ViewStage
+        waits_there = record { stage = waits_with all_passed_ways.0; views = views; cells = cells }
+
+        frames_there : after_call.frames ≡ frame_at_start n (returns_of formals passed) ∷ (waits_stage.frame ∷ outer)
+        frames_there =
+            ap (λ z. frame_at_start n (returns_of formals passed) ∷ led main_turn (record top.frame { waits = steps.waiting main_turn }) z) call_point.1
+
+        hands_there : waiting_in after_call ≡ waiting_in easy.state
+        hands_there = led_waits main_turn (record top.frame { waits = steps.waiting main_turn }) (successor main_turn 0)
+
+        abbrev called_view : ways.View
+        called_view = seen s with_all (waiting_in easy.state) leaks_then
+
+        view_called : called_view ≡ view_here s after_call
+        view_called = (λ j. seen s with_all (sym hands_there j) (leaks_same j))
+
+        abbrev around_taken : Around (home s depth)
+        around_taken = gone_also (home s depth) other_all (λ w. GoneElsewhere program effects older w ⊎ TakenBy all_passed_ways.0 w)
+
+        well_called : Viewed (home s depth) (sees_only s) around_taken views (view_here s after_call) facts_called
+        well_called = subst (λ z. Viewed (home s depth) (sees_only s) around_taken views z facts_called) view_called enters.1
+
+        held_called : (f x : ℕ) (q : List Step) (k : ℕ) → (f ≡ suc depth → ⊥) → word_in s.table (content s with_all [] (ways.OfRoot (ways.OfVariable f x))) q ≡ ways.Held k
+            → word_in s.table (content s state.memory [] (ways.OfRoot (ways.OfVariable f x))) q ≡ ways.Held k
+        held_called f x q k off held = elim (declared_there.held f x q k held) [ inl before ↦ before | inr mine ↦ absurd (off mine.0) ]
+
+        not_up : (x : ℕ) → home s depth x ≡ suc depth → ⊥
+        not_up = not_above s ready.accepted.settled ready.owns in_formals (waiting_in easy.state) state.leaks depth views far_views facts_called next_there
+
+        -- the variables of its views stay
+        word_still : (x : ℕ) → is_view s x ≡ true
+            → (get_or (variable_slots s (home s depth x) x with_all.variables) 0 no_slot).word ≡ (get_or (variable_slots s (home s depth x) x state.memory.variables) 0 no_slot).word
+        word_still x view = elim (declared_there.views (home s depth x) x view) [
+          | inl same ↦ same
+          | inr shown ↦ absurd (not_up x shown.0)
+        ]
+
+        -- what is moved or taken of package objects isn't used
+        kept_unused : (name : PlaceName) → Has (withheld program effects (waits_with all_passed_ways.0)) (Moved name) → is_package_object s name.root ≡ true
+            → Uses effects n name.root → ⊥
+        kept_unused name has shared uses =
+            elim (Has-append_cases (facts_of program effects (waits_with all_passed_ways.0)) (map (λ (to : Way). Moved (ways.name_of to)) ways_taken) (Moved name) has) [
+              | inl fact ↦ spared_then name (subst (λ z. Has z (Moved name)) facts_there fact) shared uses
+              | inr taken ↦ (
+                  let from = Has-map_from (λ (to : Way). Moved (ways.name_of to)) ways_taken (Moved name) taken in
+                  let same : ways.name_of from.0 ≡ name = moved_same (ways.name_of from.0) name from.2 in
+                  unused_to from.0 from.1 (ap (λ (z : PlaceName). is_package_object s z.root) same ∙ shared) (subst (λ (z : PlaceName). Uses effects n z.root) (sym same) uses))
+            ]
+
+        taken_then : AreTaken s cells with_all depth facts_called next_there (returns_of formals passed) ways_taken
+        taken_then = enters.2
+
+        -- no number stands in what is taken
+        bare_there : (w : Way) (l : ways.Loc) (q : List Step) → IsBareOf s waits_there w l q → (r : List Step) (k : ℕ)
+            → word_in s.table (content s with_all [] l) (r ++ q) ≡ ways.Held k → ⊥
+        bare_there w l q (taken, inl (c, has, way, is)) r k held =
+            let inside = ((passed_one s state.memory cells depth facts_called next_there formals passed ways_taken outs all_passed_ways.1 (ways.along w q) taken).2).inside in
+            part_apart (view_here s easy.state) w c.cell (subst (λ z. ways.Reaches (view_here s easy.state) z (ways.OfCell c.cell)) way (named_cell c has).reaches)
+            (ways.OfVariable inside.frame inside.object) q inside.steps inside.way
+        bare_there w l q (taken, inr (y, also, way, is)) r k held =
+            taken_bare s cells with_all depth facts_called next_there (returns_of formals passed) ways_taken taken_then 0 y q
+            (subst (λ z. Has ways_taken (ways.along z q)) (sym way) taken) r k
+            (subst (λ z. word_in s.table (content s with_all [] z) (r ++ q) ≡ ways.Held k) (sym is) held)
+
+        is_waiting : IsWaiting table typed effects after_call n (returns_of formals passed) waits_there
+        is_waiting = record {
+          runs = running.0;
+          plain = running.1;
+          path = subst (λ (z : FlowSub). ControlPath (path_points program effects z) (top.frame.next ∷ top.before) call_point.0)
+              (sym (standing.sub_is table typed effects input ready state top older outer named p frames of_sub at_point))
+              (goes_on top.before top.frame.next call_point.0 (standing.path_here table typed effects input ready state top older outer named p frames of_sub at_point path)
+              (subst (λ (z : PathPoint). Has z.next call_point.0) (sym (path_there own named top.frame.next p at_point program effects)) call_point.2));
+          named = named;
+          of_sub = of_sub;
+          point = at_successor.0;
+          at_point = at_successor.1;
+          scope = λ x q k held. elim (next_scope top.depth x q k (held_called top.depth x q k (λ above_it. (let d = deep in omega (arith, above_it, d))) held)) [
+            | inl less ↦ absurd (omega (arith, less, deep))
+            | inr mine ↦ mine.1
+          ];
+          lends = lends_there;
+          unmoved = λ name has shared uses. kept_unused name has shared uses;
+          written = λ to has shared. written_to to has shared;
+          uses = λ x uses. called_used program effects ready.accepted.effects_are top.frame.sub (flow_sub own named) sub_at_all sub_less n callee_less
+              main_turn.point (standing.in_sub table typed effects input ready state top older outer named p frames of_sub at_point) actuals result e x uses;
+          writes = λ x written. called_writes program effects ready.accepted.effects_are top.frame.sub (flow_sub own named) sub_at_all sub_less n callee_less
+              main_turn.point (standing.in_sub table typed effects input ready state top older outer named p frames of_sub at_point) actuals result e x written;
+          clear = subst (FactsAreClear (sees_only s)) (sym facts_there) well_called.clear;
+          views = subst (λ z. AreViews (home s top.depth) (sees_only s) views (view_here s after_call) z) (sym facts_there)
+              (subst (λ d. AreViews (home s d) (sees_only s) views (view_here s after_call) facts_called) (sym deep) well_called.views);
+          holds = subst (λ d. HoldsAt s d views with_all at_successor.0) (sym deep) (record {
+            held = λ x k lasts view at. holds_now.held x k view (sym (word_still x view) ∙ at);
+            within = λ x k view at. (let own_way = holds_now.held x k view (sym (word_still x view) ∙ at) in (next_placed x own_way.0 own_way.1).within);
+            only = holds.only;
+            lies = holds.lies;
+            owners = holds.owners;
+            passed = holds.passed;
+            own = holds.own;
+          });
+          placed = subst (λ d. ArePlaced program d (facts_of program effects (waits_with all_passed_ways.0)) views (at_successor.0).scope) (sym deep)
+              (subst (λ z. ArePlaced program depth z views (at_successor.0).scope) (sym facts_there) next_placed);
+          kept = λ c has. record {
+            named = subst (λ d. ways.Named (home s d) c.name) (sym deep) (cell_plain c has).0;
+            own = ap (is_package_object s) (cell_root c has) ∙ (named_cell c has).own;
+            leads = (named_cell c has).leads;
+            reaches = subst (λ z. ways.Reaches z c.way (ways.OfCell c.cell)) view_called
+                (let begin = cell_begins c has in
+                declared_there.stays c.way begin.0 begin.1 begin.2 begin.3 (cell_aside c has) c.cell (named_cell c has).reaches);
+            aside = cell_aside c has;
+          };
+          bare = bare_there;
+          taken = subst (λ z. AreTaken s cells with_all top.depth z next_there (returns_of formals passed) all_passed_ways.0) (sym facts_there)
+              (subst (λ d. AreTaken s cells with_all d facts_called next_there (returns_of formals passed) all_passed_ways.0) (sym deep) enters.2);
+        }
+
+        others_wait : AreWaiting table typed effects after_call top.frame.sub top.frame.returns older
+        others_wait =
+            all_on table typed effects unmoved_stage local state after_call depth
+            (λ f x q k some less held. held_called f x q k (λ above_it. omega (arith, less, above_it)) held)
+            (λ f x some less view. elim (declared_there.views f x view) [
+              | inl same ↦ same
+              | inr shown ↦ (let up = shown.0 in absurd (omega (arith, less, up)))
+            ])
+            top.frame.sub top.frame.returns older outer stages (omega arith)
+            (record {
+              far = λ w k keeps_it. (let root = kept_low table typed effects unmoved_stage local state depth older between w k keeps_it in
+                  subst (λ z. ways.Reaches z w (ways.OfCell k)) view_called
+                  (declared_there.stays w root.0 root.1 root.2 (λ same. (let less = root.3 in omega (arith, less, same)))
+                  (λ to taken past. kept_clear table typed effects unmoved_stage local state depth older between to (homed to taken) (spared_to to taken) w k keeps_it
+                  (base_under to w (past_under to w past))) k
+                  (((viewed_easy plain_there.0).0).far w k keeps_it)));
+              bare = bare_still table typed effects unmoved_stage local older easy.state after_call (λ c q k held. sym (declared_there.carried.cells c q) ∙ held)
+                  (λ y q r k there shared held. held_called 0 y (r ++ q) k (λ above_it. omega (arith, above_it)) held) ((viewed_easy plain_there.0).0).bare;
+            }) running.2
+
+        -- what is gone then is known to those that wait
+        known_called : (w : Way) (l : ways.Loc) → ways.IsRooted w → ways.Reaches (view_here s after_call) w l → (view_here s after_call).word l ≡ ways.Gone
+            → GoneElsewhere program effects (waits_there ∷ older) w
+        known_called w l rooted r gone = elim (well_called.known w l rooted r gone) [
+          | inr (inl (g, has, what)) ↦ (g, inr has, what)
+          | inr (inr taken_there) ↦ (waits_there, inl refl, inr taken_there)
+          | inl (inr none) ↦ absurd none
+          | inl (inl moved) ↦ (
+            waits_there,
+            inl refl,
+            inl (subst (λ d. IsMovedBy (home s d) views (facts_of program effects waits_stage) w) (sym deep)
+                (subst (λ z. IsMovedBy (home s depth) views z w) (sym facts_there) moved)),
+          )
+        ]
+
+        returned_there : AreReturned s (frame_at_start n (returns_of formals passed))
+        returned_there = (
+          λ x has. all_returned s ready.accepted.settled depth views view_now state.memory formals actuals passed laid called.actuals_stay kinds x
+              (subst (λ z. Has z x) (ap (λ (z : Signature). z.formals) (signature_is program n)) has),
+          λ r has. called.formals r.formal
+              (formals_of_returns s ready.accepted.settled ready.owns in_formals (waiting_in easy.state) depth views far_views facts_called next_there cells cell_begins formals passed r has),
+        )
+
+        -- nothing that is gone meets what its views see of others
+        viewed_before_whole : AreUnmet program effects waits_there older
+        viewed_before_whole =
+            subst (λ d. (x : ℕ) (w z : Way) → views.way x ≡ Some w → IsForeign (home s d) w → GoneElsewhere program effects older z → ways.Under z w ⊎ ways.Under w z → ⊥)
+            (sym deep) viewed_before.whole
+
+        -- ---- the views of what is called
+
+        abbrev opened : Opens (steps.here main_turn) ready.accepted.settled (waiting_in easy.state) state.leaks state.memory [] other facts_now views (viewed_easy plain_there.0).1
+            (viewed_easy plain_there.0).0 holds_now alone live_now in_formals index_law ready.owns ready.class.parts_named formals_low procedure formals actuals passed
+        opened =
+            all_opened (steps.here main_turn) ready.accepted.settled (waiting_in easy.state) state.leaks state.memory [] other facts_now views (viewed_easy plain_there.0).1
+            (viewed_easy plain_there.0).0 holds_now alone live_now in_formals index_law ready.owns ready.class.parts_named formals_low procedure formals actuals passed called.differ given
+
+        abbrev callee_views : Views
+        callee_views = opened.0
+
+        from_there : AreLent s facts_now formals actuals → (y : ℕ) (w : Way) → callee_views.way y ≡ Some w
+            → IsFrom s depth views facts_now (alias.passed formals actuals) y w
+        from_there lent =
+            opened_from (steps.here main_turn) ready.accepted.settled (waiting_in easy.state) state.leaks state.memory [] other facts_now views (viewed_easy plain_there.0).1
+            (viewed_easy plain_there.0).0 holds_now alone live_now in_formals index_law ready.owns ready.class.parts_named formals_low procedure formals actuals passed callee_views opened.1 lent
+
+        low_called : (y : ℕ) (w : Way) → callee_views.way y ≡ Some w → IsLow s depth w
+        low_called =
+            low_of (steps.here main_turn) ready.accepted.settled (waiting_in easy.state) state.leaks state.memory [] other facts_now views (viewed_easy plain_there.0).1
+            (viewed_easy plain_there.0).0 holds_now alone live_now in_formals index_law ready.owns ready.class.parts_named formals_low procedure formals actuals passed callee_views opened.1
+
+        less_now : (f : Fact) → Has facts_called f → Has facts_now f
+        less_now f has =
+            Has-append_left own_facts handed_on f
+            (subst (λ fs. Has fs f) (standing.facts_are table typed effects input ready state top older outer named p frames of_sub at_point path)
+            (none_new f (subst (λ z. Has z f) (sym facts_there) has)))
+
+        -- no place that is taken meets what they see
+        meets_taken : (y : ℕ) (w : Way) → callee_views.way y ≡ Some w → (to : Way) → Has ways_taken to → Meet w to → ⊥
+        meets_taken y w has to taken meets =
+            let by = all_passed_ways.2 to taken in
+            elim by_callee [
+              | inl modes ↦ modes.1 (by.0).formal (passed_formal formals actuals by.0 by.1) by.2
+              | inr lent ↦ (
+                  let one = passed_one s state.memory cells depth facts_called next_there formals passed ways_taken outs all_passed_ways.1 to taken in
+                  let inside = (one.2).inside in
+                  from_place s depth views facts_now (alias.passed formals actuals) y w (from_there lent y w has) around_outs (view_here s easy.state) facts_called well_all less_now
+                  by.0 by.1 by.2 to by.3 (inside_named s ready.accepted.settled depth one.1 to inside)
+                  (ap (sees_only s) (inside_number s ready.accepted.settled depth one.1 to inside)
+                  ∙ owner_sees s inside.object (inside_plain s ready.accepted.settled depth one.1 to inside) inside.owner)
+                  (one.2).unlent (subst (Meet w) (sym (inside_itself s ready.accepted.settled depth one.1 to inside views)) meets))
+            ]
+
+        -- nor one that another one of them sees, if it changes that
+        callee_apart : (x y : ℕ) (w u : Way) → callee_views.way x ≡ Some w → callee_views.way y ≡ Some u → (y ≡ x → ⊥) → sees_only s x ≡ false
+            → ways.Under w u ⊎ ways.Under u w → ⊥
+        callee_apart x y w u has there differs plain meets =
+            let found = opened.1.way x w has in
+            elim by_callee [
+              | inl modes ↦ true_false (sees_only s x) (modes.2 x found.1 found.0) plain
+              | inr lent ↦ from_apart s depth views facts_now (alias.passed formals actuals) x w (from_there lent x w has) other (view_here s easy.state) (viewed_easy plain_there.0).0
+                  y u (from_there lent y u there) differs meets
+            ]
+
+        -- none of the frames around goes past what it changes
+        callee_past : ArePast s (suc depth) callee_views (waits_there ∷ older)
+        callee_past x w has named plain k m keeps past =
+            let found = opened.1.way x w has in
+            elim by_callee [
+              | inl modes ↦ true_false (sees_only s x) (modes.2 x found.1 found.0) plain
+              | inr lent ↦ by_frame (from_there lent x w has) keeps
+            ]
+          where
+            by_frame : IsFrom s depth views facts_now (alias.passed formals actuals) x w → KeptBy (waits_there ∷ older) k m → ⊥
+            by_frame from (g, inr there, way) =
+                from_far s depth views facts_now (alias.passed formals actuals) x w from other (view_here s easy.state) (viewed_easy plain_there.0).0 k m (g, there, way) past
+            by_frame from (g, inl same, way) = elim (subst (λ z. IsWayOf z k m) (sym same) way) [
+              | inl (y, is, cell) ↦ from_past s depth views facts_now (alias.passed formals actuals) x w from other (view_here s easy.state) (viewed_easy plain_there.0).0 y k is past
+              | inr (c, there, is, number) ↦ (
+                  let cell = named_cell c there in
+                  let below : ways.Under c.way (expand views cell.whole) =
+                  subst (λ z. ways.Under z (expand views cell.whole)) cell.leads (expand_under views c.name cell.whole (λ r is. absurd (cell.deep r is)) cell.begins) in
+                  from_place s depth views facts_now (alias.passed formals actuals) x w from around_outs (view_here s easy.state) facts_called well_all less_now
+                  cell.by cell.among cell.back cell.whole cell.called cell.named cell.plain cell.unlent
+                  (inl (under_on w c.way (expand views cell.whole) (past_under w c.way (subst (Past w) (sym is) past)) below)))
+            ]
+
+        -- its way reaches what it reached
+        reach_called : (y : ℕ) (w : Way) (k : ℕ) → callee_views.way y ≡ Some w → ways.Reaches (seen s state.memory (waiting_in easy.state) state.leaks) w (ways.OfCell k)
+            → ways.Reaches (view_here s after_call) w (ways.OfCell k)
+        reach_called y w k has reach =
+            let low = low_called y w has in
+            let foreign = foreign_there s depth w low in
+            let below = low_there s depth w (omega (arith)) low in
+            subst (λ z. ways.Reaches z w (ways.OfCell k)) view_called
+            (declared_there.stays w foreign.0 foreign.1 foreign.2 (λ same. (let less = below.0 in omega (arith, less, same)))
+            (λ to taken past. meets_taken y w has to taken (inr (past_under to w past))) k reach)
+
+        -- what is gone for the caller and the frames around it is excused by its facts before the call, or is taken
+        excused_called : (z : Way) → GoneElsewhere program effects (waits_there ∷ older) z → ExcusedBy (home s depth) views other facts_now z ⊎ TakenBy ways_taken z
+        excused_called z (g, inr has, what) =
+            inl (elsewhere_excused table typed effects unmoved_stage local state depth older between views own_facts z (g, has, what))
+        excused_called z (g, inl same, what) = elim (subst (λ (y : ViewStage). IsMovedBy (home s y.stage.depth) y.views (facts_of program effects y.stage) z ⊎ TakenBy y.stage.returns z) (sym same) what) [
+          | inr taken ↦ inr taken
+          | inl (u, moved, leads) ↦ inl (inl (inl (
+            u,
+            (
+              subst (λ d. ways.Named (home s d) u) deep moved.0,
+              Has-append_left own_facts handed_on (Moved (ways.name_of u))
+                  (subst (λ fs. Has fs (Moved (ways.name_of u))) (standing.facts_are table typed effects input ready state top older outer named p frames of_sub at_point path)
+                  (none_new (Moved (ways.name_of u)) moved.1)),
+            ),
+            leads,
+          )))
+        ]
+
+        callee_whole : (x : ℕ) (w z : Way) → callee_views.way x ≡ Some w → GoneElsewhere program effects (waits_there ∷ older) z → ways.Under z w ⊎ ways.Under w z → ⊥
+        callee_whole x w z has gone meets = elim (excused_called z gone) [
+          | inl excused ↦ opened_whole (steps.here main_turn) ready.accepted.settled (waiting_in easy.state) state.leaks state.memory [] other facts_now views (viewed_easy plain_there.0).1
+              (viewed_easy plain_there.0).0 holds_now alone live_now in_formals index_law ready.owns ready.class.parts_named formals_low procedure formals actuals passed callee_views opened.1
+              (ExcusedBy (home s depth) views other facts_now) (λ y is. is) x w z has excused meets
+          | inr (to, taken, steps_on, is) ↦ meets_taken x w has to taken
+              (meets_front to z w (subst (ways.Under to) (sym is) (under_along to to steps_on (under_itself to))) (flip z w meets))
+        ]
+
+        -- no result waits in the frame below, since a call comes after no return
+        none_below : NoneGiven s below
+        none_below = elim (above.1).0.1 [
+          | inl none ↦ none
+          | inr (some, returned, none_back, was) ↦ absurd (elim (ready.traversing.ending top.frame.sub (running.0).entered some top.before top.frame.next path returned) [
+            | inl (z, ends) ↦ (let never : Call n actuals result ≡ EndScope z = sym e ∙ sym (innermost.instr_there table typed effects input ready state top below more_frames rest named p frames deep stages running awaiting of_sub at_point path views viewed_before kept scope holds placed_before above) ∙ ends in cc)
+            | inr finishes ↦ (let never : Call n actuals result ≡ Finish = sym e ∙ sym (innermost.instr_there table typed effects input ready state top below more_frames rest named p frames deep stages running awaiting of_sub at_point path views viewed_before kept scope holds placed_before above) ∙ finishes in cc)
+          ])
+        ]
+
+        entered_sound : Along (Goes after_call)
+        entered_sound = (
+          record {
+            top = called_stage;
+            views = callee_views;
+            older = waits_there ∷ older;
+            stages = subst (AreStages (called_stage ∷ stages_of (waits_there ∷ older))) (sym frames_there) (refl, refl, (refl, deep, stages));
+            running = (
+              called.runs,
+              returned_there,
+              (is_waiting, others_wait, viewed_before_whole, subst (λ d. ArePast s d views older) (sym deep) placed_before.1),
+            );
+            awaited = (
+              packages.first_waits table typed effects input ready (suc depth) n (returns_of formals passed) called.runs.named called.runs.stands called.runs.point
+                  called.runs.points called.runs.begins,
+              (waits_late all_passed_ways.0, others_await (ap returns_value e)),
+            );
+            path = begins (first_point n called.runs.named called.runs.stands called.runs.point called.runs.points called.runs.begins);
+            viewed = record {
+              owned = well_called.owned;
+              covered = well_called.covered;
+              known = λ w l rooted r gone. inr (known_called w l rooted r gone);
+              clear = record {
+                moved = λ l h k m has there over. has;
+                lent = λ b h k m has there off over. has;
+                seen = λ b h k m has there over. has;
+                owned = λ k has. absurd has;
+              };
+              views = opened_views (steps.here main_turn) ready.accepted.settled (waiting_in easy.state) state.leaks state.memory [] other facts_now views (viewed_easy plain_there.0).1
+                  (viewed_easy plain_there.0).0 holds_now alone live_now in_formals index_law ready.owns ready.class.parts_named formals_low procedure formals actuals passed callee_views opened.1
+                  (view_here s after_call) (facts_of program effects called_stage) callee_apart reach_called;
+              whole = λ x w z has foreign gone meets. callee_whole x w z has gone meets;
+              past = λ x w has named sees_not k m none. absurd none;
+              lends = λ l k none. absurd none;
+              far = λ w k none. absurd none;
+              bare = λ w k q none. absurd none;
+            };
+            kept = subst (Kept s with_all) (sym hands_there) declared_there.typed;
+            named = called.runs.named;
+            of_sub = called.runs.stands;
+            point = called.runs.point;
+            at_point = ([], called.runs.points, called.runs.begins, refl);
+            scope = λ f x q k held. elim (declared_there.held f x q k held) [
+              | inl before ↦ elim (scope f x q k before) [
+                | inl less ↦ inl (omega (arith, less))
+                | inr mine ↦ (let is = mine.0 in inl (omega (arith, is)))
+              ]
+              | inr mine ↦ inr (
+                mine.0,
+                within_lasting s x called.runs.point.scope (called.begins x mine.1 (owns_there s ready.accepted.settled ready.owns with_all f x q k held))
+                    (plain_unheld s x (formal_lasts (object_at s x).kind (called.formals x mine.1))),
+              )
+            ];
+            holds = record {
+              held = λ x k lasts view at. callee_held x k view at;
+              within = λ x k view at. (let own_way = callee_held x k view at in (callee_placed x own_way.0 own_way.1).within);
+              only = λ x w has. formal_view s x (opened.1.way x w has).0;
+              lies = opened_lies (steps.here main_turn) ready.accepted.settled (waiting_in easy.state) state.leaks state.memory [] other facts_now views (viewed_easy plain_there.0).1
+                  (viewed_easy plain_there.0).0 holds_now alone live_now in_formals index_law ready.owns ready.class.parts_named formals_low procedure formals actuals passed callee_views opened.1 (omega (arith));
+              owners = λ x w has. (let found = opened.1.way x w has in subst (IsOwners s) found.3 ((found.2).1).owners);
+              passed = λ x w has formal at_home. subst (ways.Named (home s (suc depth))) (opened.1.ups x) at_home;
+              own = λ x w has sees_not given_not. absurd (true_false (is_given s x) (ap (λ b. b || (is_in_formal s x && is_anonymous (view_of s x))) (opened.1.way x w has).0) given_not);
+            };
+            placed = callee_placed;
+            past = callee_past;
+            none_above = λ f x k less view at. elim (declared_there.views f x view) [
+              | inl same ↦ above.0 f x k (omega (arith, less)) view (sym same ∙ at)
+              | inr shown ↦ (let up = shown.0 in omega (arith, less, up))
+            ];
+            traversals = (
+              (
+                none_given table typed (view_here s after_call) (record { stage = called_stage; views = callee_views; cells = [] })
+                    (empty_given table typed (record { stage = called_stage; views = callee_views; cells = [] }) refl),
+                inl (named_given table typed waits_there left_scope shared.left (innermost.named_left_here table typed effects input ready state top below more_frames rest named p frames deep stages running awaiting of_sub at_point path views viewed_before kept scope holds placed_before above)),
+                (none_below, (above.1).0.2),
+              ),
+              (
+                λ f traversed. (let never : None ≡ Some f = sym (ap (λ b. traversed_of b (sub_of program n).formals) no_traversal) ∙ traversed in cc),
+                ((above.1).1.0, (above.1).1.1),
+              ),
+            );
+          },
+          calls_one waits_stage cells refl (refl, refl, refl) refl none_new (subst (λ d. AreCarried s (λ f. f ≡ suc d → ⊥) [] state.memory with_all) (sym deep) declared_there.carried),
+        )
+          where
+            formal_lasts : (k : ObjectKind) → is_formal_kind k ≡ true → is_temporary k ≡ false
+            formal_lasts object_kind.Formal is = refl
+            formal_lasts k is = cc
+
+            second_true : (a b : Bool) → a && b ≡ true → b ≡ true
+            second_true true b is = is
+            second_true false b is = cc
+
+            -- no formal is of an anonymous type
+            formal_only : (x : ℕ) → Has formals x → is_view s x ≡ true → is_view_formal s x ≡ true
+            formal_only x has view = elim (view_cases s x view) [
+              | inr formal ↦ formal
+              | inl anonymous ↦ absurd (no_anonymous (kinds x has) anonymous)
+            ]
+              where
+                no_anonymous : IsKindOfFormal s x → is_anonymous (view_of s x) ≡ true → ⊥
+                no_anonymous (inl plain) anonymous = scalar_no_view s in_formals x plain (anonymous_view s x anonymous)
+                no_anonymous (inr (inl back)) anonymous = true_false (is_anonymous (view_of s x)) anonymous (named_plain s.table (object_at s x).of back.1)
+                no_anonymous (inr (inr (inl shown))) anonymous = (in_formals x shown.0).1 anonymous
+                no_anonymous (inr (inr (inr plain))) anonymous = true_false (is_anonymous (view_of s x)) anonymous (named_plain s.table (object_at s x).of plain.2)
+
+            callee_held : (x k : ℕ) → is_view s x ≡ true → (get_or (variable_slots s (home s (suc depth) x) x with_all.variables) 0 no_slot).word ≡ machine.Cell k
+                → (w : Way) × (callee_views.way x ≡ Some w) × (callee_views.cell x ≡ k)
+            callee_held =
+                opened_held (steps.here main_turn) ready.accepted.settled (waiting_in easy.state) state.leaks state.memory [] other facts_now views (viewed_easy plain_there.0).1
+                (viewed_easy plain_there.0).0 holds_now alone live_now in_formals index_law ready.owns ready.class.parts_named formals_low procedure formals actuals passed callee_views opened.1
+                with_all above.0 local declared_there.views formal_only
+
+            callee_placed : ArePlaced program (suc depth) (facts_of program effects called_stage) callee_views called.runs.point.scope
+            callee_placed =
+                opened_placed (steps.here main_turn) ready.accepted.settled (waiting_in easy.state) state.leaks state.memory [] other facts_now views (viewed_easy plain_there.0).1
+                (viewed_easy plain_there.0).0 holds_now alone live_now in_formals index_law ready.owns ready.class.parts_named formals_low procedure formals actuals passed callee_views opened.1
+                program (facts_of program effects called_stage) called.runs.point.scope refl
+                (λ y has formal. called.begins y has (second_true (is_in_formal s y) (is_owning s.table (object_at s y).of) formal))
+
+      pub calls_it : Along (turn main_turn (Call n actuals result))
+      calls_it =
+          call_goes main_turn ready.accepted.settled n actuals Along ends_raised Given entered_sound ways_there ways_are
+          (start main_turn) then_now refl refl passed_quiet

@@ -1,0 +1,194 @@
+-- What a place of the frame has is leaked, and the place is gone: a call with a formal of mode `out`, before the
+-- formal is declared.
+use Rattle.std.proofs.Common.{◌≡◌, refl, sym, ap, ◌∙◌, subst, ◌⊎◌, inl, inr, ℕ, Bool, not, true, List, [], ◌∷◌, ◌<◌, Some}
+use Rattle.spark_base.specs.Lists.{Has}
+use Rattle.place_names.specs.declared.fact.Fact.{Fact}
+use Rattle.place_names.specs.declared.fact.Fact.TheVariants.{Moved, Lent}
+use Rattle.place_names.specs.declared.rule.Loan.{Loan}
+use Rattle.place_names.specs.Names.{Name as PlaceName}
+use Rattle.owned_ways.specs.Ways.{Step, Loc, OfCell, Way, Object, Lost, Into, All, Empty, Gone, Held, View, Owned, Covered, Below, Reaches, IsRooted, Under, Past, Named, part, along, name_of}
+use Rattle.owned_ways.specs.Ways as ways
+use Rattle.owned_ways.proofs.Locations.{below, reaches_along, past_under, under_along, under_itself}
+use Rattle.owned_ways.proofs.Unique.{one_location, one_way}
+use Rattle.owned_ways.proofs.Assigned.{is_false, kept_fact}
+use Rattle.owned_ways.proofs.Named.{covered_under}
+use Rattle.place_names.specs.Names.{covers}
+use Rattle.place_names.specs.Facts.{removes, effect}
+use Rattle.place_names.specs.declared.act.Act.TheVariants as act
+use Rattle.place_names.specs.declared.act.Mode.TheVariants as mode
+use Rattle.spark_base.proofs.Lists.{Has-append_cases, Has-filter}
+use Rattle.soundness.proofs.Contents.{bool_cases}
+use Rattle.std.specs.List.{filter}
+use Rattle.owned_loans.specs.Views.{Around, Views, AreClear, expand, Viewed, IsForeign}
+use Rattle.owned_loans.proofs.Moves.{view_on, reached, own_loan, lends_on}
+use Rattle.viewed_steps.proofs.Between.{gone_also, IsClearOf}
+
+-- The numbers at a place and in it are leaked, and the place has none.
+pub record IsEmptied (s t : View) (l : Loc) : Type 0 where
+  pub made : t.made ≡ s.made
+  pub freed : (c : ℕ) → t.freed c ≡ s.freed c
+  pub off : (m : Loc) → (Below l m → ⊥) → t.word m ≡ s.word m
+  pub goes : (p : List Step) (c : ℕ) → t.word (part l p) ≡ Held c → ⊥
+  pub keeps : (c : ℕ) → s.leaked c ≡ true → t.leaked c ≡ true
+  pub checks : (p : List Step) (c : ℕ) → s.word (part l p) ≡ Held c → t.leaked c ≡ true
+  pub only : (c : ℕ) → t.leaked c ≡ true → (s.leaked c ≡ true) ⊎ ((p : List Step) × (s.word (part l p) ≡ Held c))
+
+module _ (s t : View) (l : Loc) (d : IsEmptied s t l) where
+  pub owner_before : (m : Loc) (c : ℕ) → t.word m ≡ Held c → (s.word m ≡ Held c) × (Below l m → ⊥)
+  owner_before m c h =
+      let outside : Below l m → ⊥ = λ b. d.goes b.0 c (ap t.word (sym b.1) ∙ h) in
+      (sym (d.off m outside) ∙ h, outside)
+
+  before : (w : Way) (m : Loc) → IsRooted w → Reaches t w m → Reaches s w m
+  before (Object y) m n r = r
+  before (Lost y) m n r = absurd n
+  before (Into w i) m n (k, r, e) = (k, before w k n r, e)
+  before (All w) m n (k, c, r, h, e) = (k, c, before w k n r, (owner_before k c h).0, e)
+
+  still : (w : Way) (m : Loc) → Reaches s w m → (v : Way) × Reaches t v m
+  still (Object y) m r = (Object y, r)
+  still (Lost y) m r = (Lost y, (d.keeps y r.0, r.1))
+  still (Into w i) m (k, r, e) = let whole = still w k r in (Into whole.0 i, (k, whole.1, e))
+  still (All w) m (k, c, r, h, e) = elim (below l k) [
+    | inl b ↦ (Lost c, (d.checks b.0 c (subst (λ y. s.word y ≡ Held c) b.1 h), e))
+    | inr off ↦ (let whole = still w k r in (All whole.0, (k, c, whole.1, d.off k off ∙ h, e)))
+  ]
+
+  pub owned_then : Owned s → Owned t
+  owned_then owned = record {
+    unique = λ m k c a b. owned.unique m k c (owner_before m c a).0 (owner_before k c b).0;
+    live = λ m c a. d.freed c ∙ owned.live m c (owner_before m c a).0;
+    within = λ m c a. subst (λ z. c < z) (sym d.made) (owned.within m c (owner_before m c a).0);
+    kept = λ m c a. (let o = owner_before m c a in
+        is_false (t.leaked c) (λ e. elim (d.only c e) [
+          | inl old ↦ (let kept = owned.kept m c o.0 in cc)
+          | inr y ↦ o.1 (y.0, owned.unique m (part l y.0) c o.0 y.1)
+        ]));
+    counted = λ c e. subst (λ z. c < z) (sym d.made) (elim (d.only c e) [
+      | inl old ↦ owned.counted c old
+      | inr y ↦ owned.within (part l y.0) c y.1
+    ]);
+  }
+
+  pub covered_then : Covered s → Covered t
+  covered_then covered c less free =
+      let old = covered c (subst (λ z. c < z) d.made less) (sym (d.freed c) ∙ free) in still old.0 (OfCell c) old.1
+
+  module _ (owned : Owned s) (u : Way) (rooted : IsRooted u) (reaches : Reaches s u l) where
+    here : (w : Way) (m : Loc) → u ≡ w → Reaches s w m → Below l m
+    here w m same r = ([], one_location s u m l (subst (λ z. Reaches s z m) (sym same) r) reaches)
+
+    -- a way that goes on from that of the place stays in it
+    inside_there : (w : Way) (m : Loc) → IsRooted w → Under u w → Reaches t w m → Below l m
+    inside_there (Object y) m n same r = here (Object y) m same (before (Object y) m n r)
+    inside_there (Lost y) m n under r = absurd n
+    inside_there (Into w i) m n (inl same) r = here (Into w i) m same (before (Into w i) m n r)
+    inside_there (Into w i) m n (inr under) (k, r, e) = (let b = inside_there w k n under r in (i ∷ b.0, e ∙ ap (λ y. ways.Inside y i) b.1))
+    inside_there (All w) m n (inl same) r = here (All w) m same (before (All w) m n r)
+    inside_there (All w) m n (inr under) (k, c, r, h, e) = absurd ((owner_before k c h).1 (inside_there w k n under r))
+
+    -- one that goes through the place nowhere reaches what it reached
+    pub keeps_off : (w : Way) (m : Loc) → Reaches s w m → (Past u w → ⊥) → Reaches t w m
+    keeps_off (Object y) m r off = r
+    keeps_off (Lost y) m r off = (d.keeps y r.0, r.1)
+    keeps_off (Into w i) m (k, r, e) off = (k, keeps_off w k r off, e)
+    keeps_off (All w) m (k, c, r, h, e) off =
+        let apart : Below l k → ⊥ = λ b. (
+        let same = one_way s owned w (along u b.0) k r (subst (Reaches s (along u b.0)) (sym b.1) (reaches_along s u l b.0 reaches)) in
+        off (subst (Under u) (sym same) (under_along u u b.0 (under_itself u)))) in
+        (k, c, keeps_off w k r (λ p. off (past_under u w p)), d.off k apart ∙ h, e)
+
+-- ---- with views
+
+fewer_clear : (observer : ℕ → Bool) (facts facts' : List Fact) → ((f : Fact) → Has facts' f → Has facts f) → AreClear observer facts → AreClear observer facts'
+fewer_clear observer facts facts' part clear = record {
+  moved = λ k h n m has lent. clear.moved k h n m (part (Moved n) has) (part (Lent k h m) lent);
+  lent = λ b h n m one two. clear.lent b h n m (part _ one) (part _ two);
+  seen = λ b h n m one two. clear.seen b h n m (part _ one) (part _ two);
+  owned = λ n has. clear.owned n (part (Moved n) has);
+}
+
+-- Facts that stay: loans, and moved names, but for some that stand for ways that go on from the place.
+pub record AreLeft (home : ℕ → ℕ) (v : Views) (facts facts' : List Fact) (u : Way) : Type 0 where
+  pub part : (f : Fact) → Has facts' f → Has facts f
+  pub loans : (k : Loan) (h : ℕ) (n : PlaceName) → Has facts (Lent k h n) → Has facts' (Lent k h n)
+  pub moved : (w : Way) → Named home w → Has facts (Moved (name_of w)) → Has facts' (Moved (name_of w)) ⊎ Under u (expand v w)
+
+pub none_left : (home : ℕ → ℕ) (v : Views) (facts : List Fact) (u : Way) → AreLeft home v facts facts u
+none_left home v facts u = record { part = λ f has. has; loans = λ k h n has. has; moved = λ w named has. inl has }
+
+-- So are the facts after the act of an actual of mode `out`, if names that go on from it stand for themselves.
+pub out_left : (home : ℕ → ℕ) (v : Views) (facts : List Fact) (to : Way) (owning access : Bool) → Named home to
+    → ((w : Way) → Named home w → Under to w → expand v w ≡ w)
+    → AreLeft home v facts (effect (act.Actual (name_of to) mode.Out owning access) facts) to
+out_left home v facts to owning access named itself = record {
+  part = λ f has. elim (Has-append_cases (filter (λ g. not (removes (act.Actual (name_of to) mode.Out owning access) g)) facts) [] f has) [
+    | inl old ↦ (Has-filter (λ g. not (removes (act.Actual (name_of to) mode.Out owning access) g)) facts f old).0
+    | inr never ↦ absurd never
+  ];
+  loans = λ k h n has. kept_fact (act.Actual (name_of to) mode.Out owning access) facts (Lent k h n) has refl;
+  moved = λ w named_w has. elim (bool_cases (covers (name_of to) (name_of w))) [
+    | inl covered ↦ inr (let under = covered_under home to w named named_w covered in subst (Under to) (sym (itself w named_w under)) under)
+    | inr other ↦ inl (kept_fact (act.Actual (name_of to) mode.Out owning access) facts (Moved (name_of w)) has other)
+  ];
+}
+
+module _ (home : ℕ → ℕ) (observer : ℕ → Bool) (v : Views) (other : Around home) (gone : Way → Type 0)
+    (apart : (x : ℕ) (w z : Way) → v.way x ≡ Some w → IsForeign home w → gone z → Under z w ⊎ Under w z → ⊥) where
+  -- An act that takes back what was moved at a way or past it: meanwhile others know of that.
+  pub taken_back : (s : View) (u : Way) (facts facts' : List Fact) → Viewed home observer other v s facts → AreLeft home v facts facts' u
+      → ((w : Way) → other.gone w → gone w) → ((w : Way) → Under u w → gone w)
+      → Viewed home observer (gone_also home other gone) v s facts'
+  taken_back s u facts facts' viewed left more adds = record {
+    owned = viewed.owned;
+    covered = viewed.covered;
+    known = λ w m n r h. elim (viewed.known w m n r h) [
+      | inr else ↦ inr (more w else)
+      | inl (inr away) ↦ inl (inr away)
+      | inl (inl (z, moved, leads)) ↦ elim (left.moved z moved.0 moved.1) [
+        | inl stays ↦ inl (inl (z, (moved.0, stays), leads))
+        | inr under ↦ inr (adds w (subst (Under u) leads under))
+      ]
+    ];
+    clear = fewer_clear observer facts facts' left.part viewed.clear;
+    views = λ x w has.
+        view_on home observer other v s s facts facts' x w (viewed.views x w has) (λ b n loan. own_loan observer facts facts' left.loans b x n loan)
+        (reached home observer other v s facts x w (viewed.views x w has));
+    whole = apart;
+    past = viewed.past;
+    lends = λ k n lent. lends_on observer v facts facts' left.loans k n (viewed.lends k n lent);
+    far = viewed.far;
+    bare = λ w n p none. absurd none;
+  }
+
+  pub emptied : (s t : View) (u : Way) (l : Loc) (facts facts' : List Fact) → IsEmptied s t l → Viewed home observer other v s facts → IsRooted u
+      → Reaches s u l → AreLeft home v facts facts' u → IsClearOf home observer v other gone apart u
+      → ((w : Way) → other.gone w → (Under u w → ⊥) → gone w)
+      → ((p : List Step) → gone (along u p)) → Viewed home observer (gone_also home other gone) v t facts'
+  emptied s t u l facts facts' d viewed rooted reaches left off more adds = record {
+    owned = owned_then s t l d viewed.owned;
+    covered = covered_then s t l d viewed.covered;
+    known = λ w m n r h. elim (below l m) [
+      | inl b ↦ (
+          let same : w ≡ along u b.0 =
+          one_way s viewed.owned w (along u b.0) m (before s t l d w m n r) (subst (Reaches s (along u b.0)) (sym b.1) (reaches_along s u l b.0 reaches)) in
+          inr (subst gone (sym same) (adds b.0)))
+      | inr outside ↦ elim (viewed.known w m n (before s t l d w m n r) (sym (d.off m outside) ∙ h)) [
+        | inr else ↦ inr (more w else (λ under. outside (inside_there s t l d viewed.owned u rooted reaches w m n under r)))
+        | inl (inr away) ↦ inl (inr away)
+        | inl (inl (z, moved, leads)) ↦ elim (left.moved z moved.0 moved.1) [
+          | inl stays ↦ inl (inl (z, (moved.0, stays), leads))
+          | inr under ↦ absurd (outside (inside_there s t l d viewed.owned u rooted reaches w m n (subst (Under u) leads under) r))
+        ]
+      ]
+    ];
+    clear = fewer_clear observer facts facts' left.part viewed.clear;
+    views = λ x w has.
+        view_on home observer other v s t facts facts' x w (viewed.views x w has) (λ b n loan. own_loan observer facts facts' left.loans b x n loan)
+        (keeps_off s t l d viewed.owned u rooted reaches w (OfCell (v.cell x)) (reached home observer other v s facts x w (viewed.views x w has)) (λ past. off.own x w has past));
+    whole = apart;
+    past = viewed.past;
+    lends = λ k n lent. lends_on observer v facts facts' left.loans k n (viewed.lends k n lent);
+    far = λ w n held. keeps_off s t l d viewed.owned u rooted reaches w (OfCell n) (viewed.far w n held) (λ past. off.far w n held past);
+    bare = λ w n p none. absurd none;
+  }

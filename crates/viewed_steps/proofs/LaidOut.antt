@@ -1,0 +1,135 @@
+-- What is passed for actuals that are copied back to: places in variables, and scalar ones in cells.
+use Rattle.std.proofs.Common.{◌≡◌, ◌⊎◌, inl, inr, ℕ, true, false, List, [], ◌∷◌, ◌++◌}
+use Rattle.place_names.specs.declared.act.Mode.{Mode}
+use Rattle.place_names.specs.declared.act.Mode.TheVariants as mode
+use Rattle.place_names.specs.declared.fact.Fact.{Fact}
+use Rattle.type_definitions.specs.Types.{full, is_scalar, is_owning}
+use Rattle.typed_tree.specs.Trees.{TypedTree, Name, More}
+use Rattle.flow_paths.specs.Objects.{Typing, object_at, is_package_object}
+use Rattle.flow_paths.specs.Names.{name_of}
+use Rattle.machine.specs.Words as machine
+use Rattle.machine.specs.Memory.{Memory, Place}
+use Rattle.machine.specs.Calls.{Passed, Value, From, To}
+use Rattle.machine.specs.Owners.{is_in}
+use Rattle.owned_ways.specs.Ways.{Way, Named, Reaches}
+use Rattle.owned_ways.specs.Ways as ways
+use Rattle.soundness.specs.Seen.{home}
+use Rattle.soundness.specs.Typed.{Matches, IsFixed}
+use Rattle.soundness.specs.Sound.{goes_through_none}
+use Rattle.owned_loans.specs.Views.{Views, expand}
+use Rattle.owned_loans.proofs.Safe.{Open}
+use Rattle.viewed_soundness.specs.Holds.{sees_only}
+use Rattle.viewed_steps.specs.Taken.{Lodge, IsLodged, IsInside}
+use Rattle.viewed_steps.specs.Sound.{IsScalarObject}
+use Rattle.viewed_steps.proofs.Outs.{Out}
+use Rattle.viewed_steps.proofs.Entered.{IsTyped, IsFit}
+
+-- ---- what is passed
+
+-- A place in a variable of a frame: the way of the name.
+abbrev pub IsOwnPut : Typing → ℕ → ℕ → TypedTree → Place → Type 0
+IsOwnPut s depth x (Name p y path u) k =
+    (to : Way) × (inside : IsInside s depth k to) × (ways.name_of to ≡ name_of y path) × (inside.object ≡ y) × Matches s.table k.of (object_at s x).of
+IsOwnPut s depth x e k = ⊥
+
+-- A place in a cell: a name of the cell begins that of the actual, which is rooted in an object that belongs
+-- to no package and isn't an observer.
+pub record IsInCell (s : Typing) (depth : ℕ) (v : Views) (view : ways.View) (y : ℕ) (path : TypedTree) (k : Place) (c : Lodge) : Type 0 where
+  pub lodged : IsLodged s k c
+  pub whole : Way
+  pub named : Named (home s depth) whole
+  pub called : ways.name_of whole ≡ name_of y path
+  pub begins : ways.Under c.name whole
+  pub deep : (r : ways.Root) → c.name ≡ ways.Object r → ⊥
+  pub own : is_package_object s y ≡ false
+  pub plain : sees_only s y ≡ false
+  pub leads : expand v c.name ≡ c.way
+  pub reaches : Reaches view c.way (ways.OfCell c.cell)
+
+-- A scalar place in a variable, or in such a cell.
+abbrev pub IsPlainAt : Typing → ℕ → Views → ways.View → TypedTree → Place → Type 0
+IsPlainAt s depth v view (Name p y path u) k =
+    IsFixed s k ⊎ ((c : Lodge) × IsInCell s depth v view y path k c × (is_scalar (full s.table k.of) ≡ true))
+IsPlainAt s depth v view e k = ⊥
+
+-- A scalar place, or another place in a variable of the frame.
+abbrev pub IsPlaceLaid : Typing → ℕ → Views → ways.View → ℕ → TypedTree → Place → Type 0
+IsPlaceLaid s depth v view x e k =
+    (IsScalarObject s x × IsPlainAt s depth v view e k) ⊎ ((is_scalar (full s.table (object_at s x).of) ≡ false) × IsOwnPut s depth x e k)
+
+-- A value of the type of the formal, or an access value.
+abbrev pub IsValueLaid : Typing → Memory → ℕ → List machine.Word → Type 0
+IsValueLaid s m x ws =
+    (is_owning s.table (object_at s x).of ≡ false → IsFit s m (object_at s x).of ws)
+    × (is_owning s.table (object_at s x).of ≡ true → (z : machine.Word) × (ws ≡ z ∷ []) × IsTyped s m x z)
+
+-- By the mode: such a value, or a place.
+abbrev pub IsLaidOne : Typing → Memory → ℕ → Views → ways.View → ℕ → Mode → TypedTree → Passed → Type 0
+IsLaidOne s m depth v view x mode.In e (Value ws) = IsValueLaid s m x ws
+IsLaidOne s m depth v view x mode.Out e (To k) = IsPlaceLaid s depth v view x e k
+IsLaidOne s m depth v view x mode.InOut e (From k) = IsPlaceLaid s depth v view x e k
+IsLaidOne s m depth v view x how e a = ⊥
+
+abbrev pub AreLaidOut : Typing → Memory → ℕ → Views → ways.View → List ℕ → TypedTree → List Passed → Type 0
+AreLaidOut s m depth v view (x ∷ formals) (More e rest) (a ∷ passed) =
+    IsLaidOne s m depth v view x (object_at s x).mode e a × AreLaidOut s m depth v view formals rest passed
+AreLaidOut s m depth v view (x ∷ formals) (More e rest) [] = ⊥
+AreLaidOut s m depth v view formals actuals passed = passed ≡ []
+
+-- Those that are emptied.
+abbrev pub own_out : (s : Typing) (depth x : ℕ) (e : TypedTree) (k : Place) → IsOwnPut s depth x e k → List Out
+own_out s depth x (Name p y path u) k own = record { way = own.0; place = k; pos = p } ∷ []
+own_out s depth x e k own = []
+
+abbrev pub place_out : (s : Typing) (depth : ℕ) (v : Views) (view : ways.View) (x : ℕ) (e : TypedTree) (k : Place) → IsPlaceLaid s depth v view x e k → List Out
+place_out s depth v view x e k (inl plain) = []
+place_out s depth v view x e k (inr own) = own_out s depth x e k own.1
+
+abbrev pub out_of : (s : Typing) (m : Memory) (depth : ℕ) (v : Views) (view : ways.View) (x : ℕ) (how : Mode) (e : TypedTree) (a : Passed) → IsLaidOne s m depth v view x how e a → List Out
+out_of s m depth v view x mode.Out e (To k) laid = place_out s depth v view x e k laid
+out_of s m depth v view x how e a laid = []
+
+abbrev pub outs_of : (s : Typing) (m : Memory) (depth : ℕ) (v : Views) (view : ways.View) (formals : List ℕ) (actuals : TypedTree) (passed : List Passed)
+    → AreLaidOut s m depth v view formals actuals passed → List Out
+outs_of s m depth v view (x ∷ formals) (More e rest) (a ∷ passed) laid =
+    out_of s m depth v view x (object_at s x).mode e a laid.0 ++ outs_of s m depth v view formals rest passed laid.1
+outs_of s m depth v view formals actuals passed laid = []
+
+-- The cells that there are.
+abbrev pub plain_cell : (s : Typing) (depth : ℕ) (v : Views) (view : ways.View) (e : TypedTree) (k : Place) → IsPlainAt s depth v view e k → List Lodge
+plain_cell s depth v view (Name p y path u) k (inl fixed) = []
+plain_cell s depth v view (Name p y path u) k (inr lodged) = lodged.0 ∷ []
+plain_cell s depth v view e k never = []
+
+abbrev pub place_cell : (s : Typing) (depth : ℕ) (v : Views) (view : ways.View) (x : ℕ) (e : TypedTree) (k : Place) → IsPlaceLaid s depth v view x e k → List Lodge
+place_cell s depth v view x e k (inl plain) = plain_cell s depth v view e k plain.1
+place_cell s depth v view x e k (inr own) = []
+
+abbrev pub cell_of : (s : Typing) (m : Memory) (depth : ℕ) (v : Views) (view : ways.View) (x : ℕ) (how : Mode) (e : TypedTree) (a : Passed) → IsLaidOne s m depth v view x how e a → List Lodge
+cell_of s m depth v view x mode.Out e (To k) laid = place_cell s depth v view x e k laid
+cell_of s m depth v view x mode.InOut e (From k) laid = place_cell s depth v view x e k laid
+cell_of s m depth v view x how e a laid = []
+
+abbrev pub cells_of : (s : Typing) (m : Memory) (depth : ℕ) (v : Views) (view : ways.View) (formals : List ℕ) (actuals : TypedTree) (passed : List Passed)
+    → AreLaidOut s m depth v view formals actuals passed → List Lodge
+cells_of s m depth v view (x ∷ formals) (More e rest) (a ∷ passed) laid =
+    cell_of s m depth v view x (object_at s x).mode e a laid.0 ++ cells_of s m depth v view formals rest passed laid.1
+cells_of s m depth v view formals actuals passed laid = []
+
+-- ---- what is asked of an actual that is copied back to
+
+-- It goes through no access value; or it is rooted in an object that belongs to no package and isn't an
+-- observer, and nothing that was moved or is borrowed leads to it.
+abbrev pub IsOpenActual : Typing → ℕ → List Fact → TypedTree → Type 0
+IsOpenActual s depth facts (Name p y path u) =
+    (goes_through_none path ≡ true)
+    ⊎ ((is_package_object s y ≡ false) × (sees_only s y ≡ false)
+    × ((q : Way) → Named (home s depth) q → ways.name_of q ≡ name_of y path → Open facts q))
+IsOpenActual s depth facts e = Unit {0}
+
+-- So is each for a formal of a scalar type; the others go through none.
+abbrev pub AreOpenActuals : Typing → ℕ → List Fact → List ℕ → TypedTree → Type 0
+AreOpenActuals s depth facts (x ∷ formals) (More e rest) =
+    (is_in (object_at s x).mode ≡ false → (goes_through_none e ≡ true) ⊎ (IsScalarObject s x × IsOpenActual s depth facts e))
+    × AreOpenActuals s depth facts formals rest
+AreOpenActuals s depth facts formals actuals = Unit {0}

@@ -1,0 +1,304 @@
+-- The views of what is called: its formals that own nothing, with the ways of what they are shown.
+use Rattle.std.proofs.Common.{◌≡◌, refl, sym, ap, ◌∙◌, subst, ◌⊎◌, inl, inr, ℕ, suc, ◌<◌, get_or, arith, Bool, true, false, ◌&&◌, ◌==◌, eqb-true, eq-eqb, List, [], ◌∷◌, Some, None, if◌then◌else◌}
+use Rattle.spark_base.specs.Lists.{Has}
+use Rattle.place_names.specs.declared.act.Mode.{Mode}
+use Rattle.place_names.specs.declared.act.Mode.TheVariants as mode
+use Rattle.place_names.specs.declared.fact.Fact.{Fact}
+use Rattle.type_definitions.specs.Types.{is_owning}
+use Rattle.typed_tree.specs.declared.object.ObjectKind.{ObjectKind}
+use Rattle.typed_tree.specs.declared.object.ObjectKind.TheVariants as object_kind
+use Rattle.typed_tree.specs.Trees.{TypedTree, More}
+use Rattle.flow_paths.specs.Objects.{Typing, object_at, is_formal, is_formal_kind, is_package_object}
+use Rattle.flow_paths.specs.Laid.{FlowProgram, flow_typing}
+use Rattle.flow_paths.specs.Scopes.{is_within, is_temporary}
+use Rattle.machine.specs.Words as machine
+use Rattle.machine.specs.Memory.{Memory, variable_slots, no_slot}
+use Rattle.machine.specs.Owners.{is_in, is_in_formal}
+use Rattle.machine.specs.Evaluate.{Here}
+use Rattle.machine.specs.Calls.{Passed, Value, From, To}
+use Rattle.machine.specs.States.{Waiting, Leak}
+use Rattle.owned_ways.specs.Ways.{Loc, OfCell, Way, Lost, View, Reaches, Under, Named}
+use Rattle.part_offsets.specs.Parts.{IsSettled}
+use Rattle.soundness.specs.Seen.{IsNear, content, trunk, seen, home, is_view_formal}
+use Rattle.soundness.specs.Typed.{OwnsByShape, Kept}
+use Rattle.typed_laws.specs.Needed.{IndexLaw}
+use Rattle.owned_loans.specs.Views.{Around, Views, IsForeign, AreViews, ExcusedBy, Viewed, with_view}
+use Rattle.viewed_soundness.specs.Holds.{PartsAreNamed, is_view, sees_only, IsOwners, Holds}
+use Rattle.viewed_soundness.proofs.Given.{IsLow, foreign_there, low_there}
+use Rattle.viewed_soundness.proofs.Names.{true_false}
+use Rattle.viewed_steps.specs.Sound.{Lies, ArePlaced, NoneAbove}
+use Rattle.viewed_steps.specs.Awaited.{is_held}
+use Rattle.viewed_steps.specs.Ready.{AreDifferent}
+use Rattle.viewed_steps.proofs.Called.{IsGiven, AreGiven}
+use Rattle.viewed_steps.proofs.Entered.{IsShownTo}
+use Rattle.flow_paths.specs.Aliases as alias
+use Rattle.viewed_steps.proofs.Seeing.{Sees, named_written}
+use Rattle.viewed_steps.proofs.Exclusive.{AreLent, IsFrom}
+use Rattle.viewed_steps.proofs.Lending.{IsActualOf, actual_named}
+use Rattle.viewed_steps.proofs.Views.{AreAccess, not_elsewhere}
+use Rattle.viewed_steps.proofs.Waited.{plain_unheld}
+
+abbrev pub no_views : Views
+no_views = record { way = λ x. None; loan = λ x. Lost 0; up = λ x. Lost 0; cell = λ x. 0 }
+
+second_true : (a b : Bool) → a && b ≡ true → b ≡ true
+second_true true b e = e
+second_true false b e = cc
+
+shown_has : (formals : List ℕ) (passed : List Passed) (y : ℕ) (z : machine.Word) → IsShownTo formals passed y z → Has formals y
+shown_has [] passed y z shown = absurd shown
+shown_has (x ∷ formals) [] y z shown = absurd shown
+shown_has (x ∷ formals) (a ∷ passed) y z (inl here) = inl here.0
+shown_has (x ∷ formals) (a ∷ passed) y z (inr later) = inr (shown_has formals passed y z later)
+
+same_values : (a b : machine.Word) → Value (a ∷ []) ≡ Value (b ∷ []) → a ≡ b
+same_values a b e = cc
+
+module _ (h : Here) (settled : IsSettled h.typing.table) (hands : List Waiting) (leaks : List Leak) (m : Memory) (waits : List (List machine.Word))
+    (other : Around (home h.typing h.frame)) (facts : List Fact) (v : Views)
+    (kept : Kept h.typing m hands)
+    (well : Viewed (home h.typing h.frame) (sees_only h.typing) other v (seen h.typing m hands leaks) facts)
+    (holds : Holds h.typing h.frame v m)
+    (alone : (w : Way) → IsNear h.frame w → other.gone w → ⊥)
+    (live : (w : Way) (l : Loc) → IsOwners h.typing w → Reaches (seen h.typing m hands leaks) w l → (content h.typing m hands (trunk l)).owns ≡ true)
+    (in_formals : AreAccess h.typing)
+    (index_law : IndexLaw)
+    (own_law : OwnsByShape h.typing.table)
+    (parts_named : PartsAreNamed h.typing.table)
+    (formals_low : (x : ℕ) (w : Way) → v.way x ≡ Some w → is_view_formal h.typing x ≡ true → (foreign : IsForeign (home h.typing h.frame) w) × (foreign.0 < h.frame) × (0 < foreign.0))
+    (procedure : Bool) where
+  abbrev s : Typing
+  s = h.typing
+
+  abbrev SeesHere : ℕ → Type 0
+  SeesHere n =
+      (e : TypedTree) × Sees h settled hands leaks m waits other facts v kept well holds alone live index_law own_law parts_named formals_low e n
+
+  abbrev Given : List ℕ → TypedTree → List Passed → Type 0
+  Given formals actuals passed =
+      AreGiven h settled hands leaks m waits other facts v kept well holds alone live in_formals index_law own_law parts_named formals_low procedure formals actuals passed
+
+  -- These formals have the ways of what they are shown, and nothing else has one.
+  pub record AreOpened (formals : List ℕ) (actuals : TypedTree) (passed : List Passed) (t : Views) : Type 0 where
+    pub way : (y : ℕ) (w : Way) → t.way y ≡ Some w → (is_view_formal h.typing y ≡ true) × Has formals y × (sees : SeesHere (t.cell y)) × ((sees.1).way ≡ w)
+        × IsActualOf formals actuals y sees.0
+    pub held : (y n : ℕ) → is_view_formal h.typing y ≡ true → IsShownTo formals passed y (machine.Cell n) → (w : Way) × (t.way y ≡ Some w) × (t.cell y ≡ n)
+    pub ups : (y : ℕ) → t.up y ≡ Lost 0
+
+  abbrev pub Opens : List ℕ → TypedTree → List Passed → Type 0
+  Opens formals actuals passed = (t : Views) × AreOpened formals actuals passed t
+
+  no_opened : (formals : List ℕ) (actuals : TypedTree) (passed : List Passed) → ((y : ℕ) (z : machine.Word) → IsShownTo formals passed y z → ⊥)
+      → Opens formals actuals passed
+  no_opened formals actuals passed none = (
+    no_views,
+    record {
+      way = λ y w has. (let no : None ≡ Some w = has in cc);
+      held = λ y n formal shown. absurd (none y (machine.Cell n) shown);
+      ups = λ y. refl;
+    },
+  )
+
+  -- a formal without a cell changes nothing
+  passes_by : (x : ℕ) (e : TypedTree) (a : Passed) (formals : List ℕ) (rest : TypedTree) (passed : List Passed)
+      → (is_view_formal s x ≡ true → (n : ℕ) → a ≡ Value (machine.Cell n ∷ []) → ⊥) → Opens formals rest passed → Opens (x ∷ formals) (More e rest) (a ∷ passed)
+  passes_by x e a formals rest passed none (t, are) = (
+    t,
+    record {
+      way = λ y w has. (let found = are.way y w has in (found.0, inr found.1, found.2, found.3, inr found.4));
+      held = λ y n formal shown. elim shown [
+        | inl here ↦ absurd (none (ap (is_view_formal s) here.0 ∙ formal) n here.1)
+        | inr later ↦ are.held y n formal later
+      ];
+      ups = are.ups;
+    },
+  )
+
+  abbrev IsWay : List ℕ → TypedTree → TypedTree → ℕ → ℕ → Way → ℕ → Type 0
+  IsWay formals e rest x y w c =
+      (is_view_formal s y ≡ true) × Has (x ∷ formals) y × (found : SeesHere c) × ((found.1).way ≡ w) × IsActualOf (x ∷ formals) (More e rest) y found.0
+
+  -- one with a cell has the way to it
+  opens_one : (x n : ℕ) (e : TypedTree) (formals : List ℕ) (rest : TypedTree) (passed : List Passed) → is_view_formal s x ≡ true → (sees : SeesHere n) → e ≡ sees.0
+      → ((y : ℕ) → Has formals y → y ≡ x → ⊥) → Opens formals rest passed → Opens (x ∷ formals) (More e rest) (Value (machine.Cell n ∷ []) ∷ passed)
+  opens_one x n e formals rest passed formal sees named differ (t, are) =
+      (with_view t x (Some (sees.1).way) (Lost 0) (Lost 0) n, record { way = way_of; held = held_of; ups = ups_of })
+    where
+      same_some : (a b : Way) → Some a ≡ Some b → a ≡ b
+      same_some a b e = cc
+
+      same_cell : (a b : ℕ) → machine.Cell a ≡ machine.Cell b → a ≡ b
+      same_cell a b e = cc
+
+      way_of : (y : ℕ) (w : Way) → (if y == x then Some (sees.1).way else t.way y) ≡ Some w → IsWay formals e rest x y w (if y == x then n else t.cell y)
+      way_of y w has = by_object (y == x) refl has
+        where
+          by_object : (b : Bool) → (y == x) ≡ b → (if b then Some (sees.1).way else t.way y) ≡ Some w → IsWay formals e rest x y w (if b then n else t.cell y)
+          by_object true same is = (
+            subst (λ z. is_view_formal s z ≡ true) (sym (eqb-true y x same)) formal,
+            inl (sym (eqb-true y x same)),
+            sees,
+            same_some (sees.1).way w is,
+            inl (sym (eqb-true y x same), named),
+          )
+          by_object false same is = (let found = are.way y w is in (found.0, inr found.1, found.2, found.3, inr found.4))
+
+      held_of : (y k : ℕ) → is_view_formal s y ≡ true → IsShownTo (x ∷ formals) (Value (machine.Cell n ∷ []) ∷ passed) y (machine.Cell k)
+          → (w : Way) × ((if y == x then Some (sees.1).way else t.way y) ≡ Some w) × ((if y == x then n else t.cell y) ≡ k)
+      held_of y k own shown = by_object (y == x) refl shown
+        where
+          by_object : (b : Bool) → (y == x) ≡ b → IsShownTo (x ∷ formals) (Value (machine.Cell n ∷ []) ∷ passed) y (machine.Cell k)
+              → (w : Way) × ((if b then Some (sees.1).way else t.way y) ≡ Some w) × ((if b then n else t.cell y) ≡ k)
+          by_object true e (inl here) = ((sees.1).way, refl, same_cell n k (same_values (machine.Cell n) (machine.Cell k) here.1))
+          by_object true e (inr later) = absurd (differ y (shown_has formals passed y (machine.Cell k) later) (eqb-true y x e))
+          by_object false e (inl here) = (let no = eq-eqb y x (sym here.0) in let never : true ≡ false = sym no ∙ e in cc)
+          by_object false e (inr later) = are.held y k own later
+
+      ups_of : (y : ℕ) → (if y == x then Lost 0 else t.up y) ≡ Lost 0
+      ups_of y = by_object (y == x)
+        where
+          by_object : (b : Bool) → (if b then Lost 0 else t.up y) ≡ Lost 0
+          by_object true = refl
+          by_object false = are.ups y
+
+  no_cell : (n : ℕ) (z : machine.Word) → Value (z ∷ []) ≡ Value (machine.Cell n ∷ []) → ((k : ℕ) → z ≡ machine.Cell k → ⊥) → ⊥
+  no_cell n z e none = none n (same_values z (machine.Cell n) e)
+
+  abbrev SeesBy : TypedTree → ℕ → Type 0
+  SeesBy e n = (sees : SeesHere n) × (e ≡ sees.0)
+
+  by_word : (x : ℕ) (z : machine.Word) (e : TypedTree) (formals : List ℕ) (rest : TypedTree) (passed : List Passed) → is_view_formal s x ≡ true
+      → ((n : ℕ) → z ≡ machine.Cell n → SeesBy e n) → ((y : ℕ) → Has formals y → y ≡ x → ⊥)
+      → Opens formals rest passed → Opens (x ∷ formals) (More e rest) (Value (z ∷ []) ∷ passed)
+  by_word x (machine.Cell n) e formals rest passed formal sees differ more =
+      opens_one x n e formals rest passed formal (sees n refl).0 (sees n refl).1 differ more
+  by_word x (machine.Int k) e formals rest passed formal sees differ more =
+      passes_by x e (Value (machine.Int k ∷ [])) formals rest passed (λ own n is. no_cell n (machine.Int k) is (λ q no. cc)) more
+  by_word x (machine.Enumerated k) e formals rest passed formal sees differ more =
+      passes_by x e (Value (machine.Enumerated k ∷ [])) formals rest passed (λ own n is. no_cell n (machine.Enumerated k) is (λ q no. cc)) more
+  by_word x machine.Null e formals rest passed formal sees differ more =
+      passes_by x e (Value (machine.Null ∷ [])) formals rest passed (λ own n is. no_cell n machine.Null is (λ q no. cc)) more
+
+  by_value : (x : ℕ) (ws : List machine.Word) (e : TypedTree) (formals : List ℕ) (rest : TypedTree) (passed : List Passed)
+      → (is_view_formal s x ≡ true → (z : machine.Word) × (ws ≡ z ∷ []) × ((n : ℕ) → z ≡ machine.Cell n → SeesBy e n))
+      → ((y : ℕ) → Has formals y → y ≡ x → ⊥) → Opens formals rest passed → Opens (x ∷ formals) (More e rest) (Value ws ∷ passed)
+  by_value x ws e formals rest passed sees differ more = by_kind (is_view_formal s x) refl
+    where
+      by_kind : (b : Bool) → is_view_formal s x ≡ b → Opens (x ∷ formals) (More e rest) (Value ws ∷ passed)
+      by_kind false none = passes_by x e (Value ws) formals rest passed (λ own n is. true_false (is_view_formal s x) own none) more
+      by_kind true formal =
+          let found = sees formal in
+          subst (λ z. Opens (x ∷ formals) (More e rest) (Value z ∷ passed)) (sym found.1) (by_word x found.0 e formals rest passed formal found.2 differ more)
+
+  one_opened : (x : ℕ) (how : Mode) (e : TypedTree) (a : Passed) (formals : List ℕ) (rest : TypedTree) (passed : List Passed)
+      → IsGiven h settled hands leaks m waits other facts v kept well holds alone live in_formals index_law own_law parts_named formals_low procedure x how e a
+      → ((y : ℕ) → Has formals y → y ≡ x → ⊥) → Opens formals rest passed → Opens (x ∷ formals) (More e rest) (a ∷ passed)
+  one_opened x mode.In e (Value ws) formals rest passed given differ more =
+      by_value x ws e formals rest passed
+      (λ formal. (let found = given.1 (second_true (is_in_formal s x) (is_owning s.table (object_at s x).of) formal) in (found.0, found.1, λ n is. ((e, found.3 n is), refl)))) differ more
+  one_opened x mode.Out e (To k) formals rest passed given differ more = passes_by x e (To k) formals rest passed (λ own n is. cc) more
+  one_opened x mode.InOut e (From k) formals rest passed given differ more = passes_by x e (From k) formals rest passed (λ own n is. cc) more
+  one_opened x how e a formals rest passed given differ more = absurd given
+
+  pub all_opened : (formals : List ℕ) (actuals : TypedTree) (passed : List Passed) → AreDifferent formals → Given formals actuals passed → Opens formals actuals passed
+  all_opened [] actuals passed differ given = no_opened [] actuals passed (λ y z shown. shown)
+  all_opened (x ∷ formals) (More e rest) (a ∷ passed) differ given =
+      one_opened x (object_at s x).mode e a formals rest passed given.0 differ.0 (all_opened formals rest passed differ.1 given.1)
+  all_opened (x ∷ formals) (More e rest) [] differ given = absurd given
+  all_opened (x ∷ formals) actuals passed differ given =
+      subst (Opens (x ∷ formals) actuals) (sym given) (no_opened (x ∷ formals) actuals [] (λ y z shown. shown))
+
+  -- ---- what holds of these views in the frame of what is called
+
+  module _ (formals : List ℕ) (actuals : TypedTree) (passed : List Passed) (t : Views) (opened : AreOpened formals actuals passed t) where
+    abbrev next : ℕ
+    next = suc h.frame
+
+    abbrev Next : ℕ → ℕ
+    Next = home h.typing (suc h.frame)
+
+    -- what each sees is foreign, and below
+    pub sees_of : (y : ℕ) (w : Way) → t.way y ≡ Some w → (found : SeesHere (t.cell y)) × ((found.1).way ≡ w)
+    sees_of y w has = (let found = opened.way y w has in (found.2, found.3))
+
+    pub low_of : (y : ℕ) (w : Way) → t.way y ≡ Some w → IsLow h.typing h.frame w
+    low_of y w has = (let found = opened.way y w has in subst (IsLow s h.frame) found.3 ((found.2).1).low)
+
+    pub opened_views : (view : View) (at_first : List Fact)
+        → ((x y : ℕ) (w u : Way) → t.way x ≡ Some w → t.way y ≡ Some u → (y ≡ x → ⊥) → sees_only h.typing x ≡ false → Under w u ⊎ Under u w → ⊥)
+        → ((y : ℕ) (w : Way) (n : ℕ) → t.way y ≡ Some w → Reaches (seen h.typing m hands leaks) w (OfCell n) → Reaches view w (OfCell n))
+        → AreViews Next (sees_only h.typing) t view at_first
+    opened_views view at_first apart on y w has =
+        let found = opened.way y w has in
+        inr (record {
+          foreign = foreign_there s h.frame w (low_of y w has);
+          given = λ named. subst (Named Next) (opened.ups y) named;
+          alone = λ plain x u there differs given meets. apart y x w u has there differs plain meets;
+          reaches = on y w (t.cell y) has (subst (λ z. Reaches (seen s m hands leaks) z (OfCell (t.cell y))) found.3 ((found.2).1).reaches);
+        })
+
+    -- with the name of its actual
+    pub opened_from : AreLent h.typing facts formals actuals → (y : ℕ) (w : Way) → t.way y ≡ Some w → IsFrom h.typing h.frame v facts (alias.passed formals actuals) y w
+    opened_from lent y w has =
+        let found = opened.way y w has in
+        let sees = (found.2).1 in
+        let actual = named_written h settled hands leaks m waits other facts v kept well holds alone live index_law own_law parts_named formals_low (found.2).0 sees.from sees.called in
+        let of = actual_named formals actuals y (found.2).0 actual.0 found.4 actual.1 in
+        record {
+          from = sees.from;
+          named = sees.from_named;
+          leads = sym found.3 ∙ sees.leads;
+          actual = actual.0;
+          of = of;
+          called = actual.2;
+          lent = lent y found.1 found.0 actual.0 of;
+        }
+
+    pub opened_whole : (gone : Way → Type 0) → ((z : Way) → gone z → ExcusedBy (home h.typing h.frame) v other facts z)
+        → (y : ℕ) (w z : Way) → t.way y ≡ Some w → gone z → Under z w ⊎ Under w z → ⊥
+    opened_whole gone excused y w z has away meets =
+        let found = opened.way y w has in
+        ((found.2).1).whole z (excused z away) (subst (λ q. Under z q ⊎ Under q z) (sym found.3) meets)
+
+    pub opened_lies : 0 < h.frame → (y : ℕ) (w : Way) → t.way y ≡ Some w → Lies h.typing (suc h.frame) w
+    opened_lies deep y w has = (let low = low_there s h.frame w deep (low_of y w has) in inr (foreign_there s h.frame w (low_of y w has), low.0, low.1))
+
+    pub opened_held : (n : Memory) → NoneAbove h.typing h.frame m → ((x : ℕ) → is_view h.typing x ≡ true → is_package_object h.typing x ≡ false)
+        → ((g y : ℕ) → is_view h.typing y ≡ true → ((get_or (variable_slots h.typing g y n.variables) 0 no_slot).word ≡ (get_or (variable_slots h.typing g y m.variables) 0 no_slot).word)
+        ⊎ ((g ≡ suc h.frame) × IsShownTo formals passed y (get_or (variable_slots h.typing g y n.variables) 0 no_slot).word))
+        → ((y : ℕ) → Has formals y → is_view h.typing y ≡ true → is_view_formal h.typing y ≡ true)
+        → (y k : ℕ) → is_view h.typing y ≡ true → (get_or (variable_slots h.typing (home h.typing (suc h.frame) y) y n.variables) 0 no_slot).word ≡ machine.Cell k
+        → (w : Way) × (t.way y ≡ Some w) × (t.cell y ≡ k)
+    opened_held n above local words formal y k view at =
+        let up : Next y ≡ next = ap (λ b. if b then 0 else next) (local y view) in
+        elim (words (Next y) y view) [
+          | inl same ↦ absurd (above (Next y) y k (omega (arith, up)) view (sym same ∙ at))
+          | inr shown ↦ (
+              let has = shown_has formals passed y (get_or (variable_slots s (Next y) y n.variables) 0 no_slot).word shown.1 in
+              opened.held y k (formal y has view) (subst (IsShownTo formals passed y) at shown.1))
+        ]
+
+    formal_unheld : (y : ℕ) → is_view_formal h.typing y ≡ true → is_held h.typing y ≡ false
+    formal_unheld y formal =
+        plain_unheld s y (by_kind (object_at s y).kind (first_true (is_formal s y) (is_in (object_at s y).mode)
+        (first_true (is_in_formal s y) (is_owning s.table (object_at s y).of) formal)))
+      where
+        first_true : (a b : Bool) → a && b ≡ true → a ≡ true
+        first_true true b e = refl
+        first_true false b e = cc
+
+        by_kind : (k : ObjectKind) → is_formal_kind k ≡ true → is_temporary k ≡ false
+        by_kind object_kind.Formal is = refl
+        by_kind k is = cc
+
+    pub opened_placed : (program : FlowProgram) (at_first : List Fact) (scope : List ℕ) → flow_typing program ≡ h.typing → ((y : ℕ) → Has formals y → is_view_formal h.typing y ≡ true → is_within y scope ≡ true)
+        → ArePlaced program (suc h.frame) at_first t scope
+    opened_placed program at_first scope same within y w has =
+        let found = opened.way y w has in
+        record {
+          within = within y found.1 found.0;
+          plain = ap (λ z. is_held z y) same ∙ formal_unheld y found.0;
+          up = λ named. absurd (subst (Named (home (flow_typing program) next)) (opened.ups y) named);
+          root = λ named. absurd (not_elsewhere Next w (subst (λ z. Named (home z next) w) same named) (foreign_there s h.frame w (low_of y w has)));
+          holder = λ named sees. absurd (subst (Named (home (flow_typing program) next)) (opened.ups y) named);
+        }

@@ -1,0 +1,196 @@
+-- What is passed for a formal that owns nothing: null, or the number of a cell that a way of the caller leads
+-- to. Nothing that is gone meets that way, and it is foreign in what is called.
+use Rattle.std.proofs.Common.{◌≡◌, refl, sym, ap, ◌∙◌, subst, ◌⊎◌, inl, inr, ℕ, ◌<◌, Bool, true, false, List, [], ◌∷◌, Option, Some, None, arith}
+use Rattle.spark_base.specs.declared.position.Pos.{Pos}
+use Rattle.place_names.specs.declared.fact.Fact.{Fact}
+use Rattle.place_names.specs.Names.{Name as PlaceName}
+use Rattle.type_definitions.specs.declared.table.Shape.TheVariants as shape
+use Rattle.type_definitions.specs.Types.{shape_of, is_scalar, view_of as view_of_shape}
+use Rattle.typed_tree.specs.Trees.{TypedTree, Number, Literal, Text, Name, Component as IntoComponent, Designated, Element, Call, EndOfFile, Parens, Image, Unary, Binary, Short, IsNull, Aggregate, Alike, New, NoMore, More}
+use Rattle.typed_tree.specs.Trees as typed
+use Rattle.flow_paths.specs.Objects.{Typing, object_at, is_anonymous, is_package_object, view_of}
+use Rattle.flow_paths.specs.Names.{Written, written, waiting as waits_in, name_of}
+use Rattle.flow_paths.specs.Acts.{index_acts}
+use Rattle.machine.specs.Words as machine
+use Rattle.machine.specs.Memory.{Memory}
+use Rattle.machine.specs.Evaluate.{Here, Now, AsView, Evaluated, Done, Raises, Traps, evaluate, viewed}
+use Rattle.machine.specs.States.{Waiting, Leak}
+use Rattle.owned_ways.specs.Ways.{Root, OfVariable, OfHand, Loc, OfCell, Way, Object, All, Reaches, Under, Named, AllowsAll, number_of, base_of}
+use Rattle.owned_ways.specs.Ways as ways
+use Rattle.part_offsets.specs.Parts.{IsSettled}
+use Rattle.soundness.specs.Seen.{IsNear, content, trunk, seen, home, is_view_formal}
+use Rattle.soundness.specs.Typed.{IsCell, OwnsByShape, Kept}
+use Rattle.typed_laws.specs.Needed.{IndexLaw}
+use Rattle.soundness.proofs.Scalars.{acts}
+use Rattle.soundness.proofs.Stays.{Quiet}
+use Rattle.soundness.proofs.Taking.{Takes, takes_zero}
+use Rattle.owned_loans.specs.Views.{Around, Views, expand, ExcusedBy, IsForeign, Viewed}
+use Rattle.owned_loans.proofs.Allowed.{Cleared}
+use Rattle.owned_loans.proofs.Ended.{stands_itself}
+use Rattle.owned_loans.proofs.Ways.{Lifted, lifted_way, base_on}
+use Rattle.viewed_soundness.specs.Holds.{PartsAreNamed, is_view, sees_only, IsOwners, Holds, IsAccess}
+use Rattle.viewed_soundness.proofs.Given.{IsLow, lent_whole, seen_whole}
+use Rattle.viewed_soundness.proofs.Names.{true_false, both_no, either_true, plain_sees, stands_owners}
+use Rattle.viewed_soundness.proofs.Sources.{Shows, source_on}
+use Rattle.viewed_steps.specs.Ready.{IsSeen, IsShowable}
+use Rattle.viewed_steps.proofs.Entered.{IsTyped}
+
+-- Nothing of a name was moved or is borrowed, unless it is looked at through an observer or a formal.
+abbrev pub IsClear : Typing → List Fact → TypedTree → Type 0
+IsClear s facts (Name p y path u) = (w : Way) → ways.name_of w ≡ name_of y path → sees_only s y ≡ false → Cleared facts w
+IsClear s facts e = Unit {0}
+
+-- What is shown is so.
+abbrev pub AreClear : Typing → List Fact → List ℕ → TypedTree → Type 0
+AreClear s facts (x ∷ formals) (More e rest) = (is_view_formal s x ≡ true → IsClear s facts e) × AreClear s facts formals rest
+AreClear s facts formals actuals = Unit {0}
+
+module _ (h : Here) (settled : IsSettled h.typing.table) (hands : List Waiting) (leaks : List Leak) (m : Memory) (waits : List (List machine.Word))
+    (other : Around (home h.typing h.frame)) (facts : List Fact) (v : Views)
+    (kept : Kept h.typing m hands)
+    (well : Viewed (home h.typing h.frame) (sees_only h.typing) other v (seen h.typing m hands leaks) facts)
+    (holds : Holds h.typing h.frame v m)
+    (alone : (w : Way) → IsNear h.frame w → other.gone w → ⊥)
+    (live : (w : Way) (l : Loc) → IsOwners h.typing w → Reaches (seen h.typing m hands leaks) w l → (content h.typing m hands (trunk l)).owns ≡ true)
+    (index_law : IndexLaw)
+    (own_law : OwnsByShape h.typing.table)
+    (parts_named : PartsAreNamed h.typing.table)
+    (formals_low : (x : ℕ) (w : Way) → v.way x ≡ Some w → is_view_formal h.typing x ≡ true → (foreign : IsForeign (home h.typing h.frame) w) × (foreign.0 < h.frame) × (0 < foreign.0)) where
+  abbrev s : Typing
+  s = h.typing
+
+  abbrev Home : ℕ → ℕ
+  Home = home h.typing h.frame
+
+  abbrev at : List (List machine.Word) → Now
+  at ws = record { memory = m; waits = ws }
+
+  abbrev pub Meets : Way → Way → Type 0
+  Meets z w = Under z w ⊎ Under w z
+
+  -- A name is that of an actual.
+  abbrev pub IsCalledBy : TypedTree → Way → Type 0
+  IsCalledBy (Name p y path u) w = ways.name_of w ≡ name_of y path
+  IsCalledBy e w = ⊥
+
+  -- A way to the cell with a number: what the name of the actual designates.
+  pub record Sees (e : TypedTree) (n : ℕ) : Type 0 where
+    pub from : Way
+    pub from_named : Named (home h.typing h.frame) from
+    pub called : IsCalledBy e from
+    pub way : Way
+    pub leads : way ≡ expand v (All from)
+    pub owners : IsOwners h.typing way
+    pub reaches : Reaches (seen h.typing m hands leaks) way (OfCell n)
+    pub low : IsLow h.typing h.frame way
+    pub whole : (z : Way) → ExcusedBy (home h.typing h.frame) v other facts z → Meets z way → ⊥
+
+  -- what is called by its name is written
+  pub named_written : (e : TypedTree) (w : Way) → IsCalledBy e w → (k : Written) × (written e ≡ Some k) × (k.name ≡ ways.name_of w)
+  named_written (Name p y path u) w called = (record { pos = p; name = name_of y path; of = u }, refl, sym called)
+  named_written e w none = absurd none
+
+  abbrev pub IsSeenAs : ℕ → TypedTree → List machine.Word → Type 0
+  IsSeenAs x e ws = (z : machine.Word) × (ws ≡ z ∷ []) × IsTyped h.typing m x z × ((n : ℕ) → z ≡ machine.Cell n → Sees e n)
+
+  -- the rest is about a name that shows a cell
+  module _ (e : TypedTree) (y : ℕ) (showable : IsShowable h.typing y) (w : Way) (called : IsCalledBy e w) (named : Named (home h.typing h.frame) w) (root : number_of w ≡ y)
+      (clears : sees_only h.typing y ≡ false → Cleared facts w) (n : ℕ) (reaches : Reaches (seen h.typing m hands leaks) (expand v (All w)) (OfCell n))
+      (lifted : is_view h.typing y ≡ true → (l : Lifted v (All w)) × (l.object ≡ y)) where
+    no_way : is_view_formal h.typing y ≡ false → v.way y ≡ None
+    no_way owner = by_way (v.way y) refl
+      where
+        by_way : (o : Option Way) → v.way y ≡ o → v.way y ≡ None
+        by_way None e = e
+        by_way (Some k) e = absurd (true_false (is_view s y) (holds.only y k e) (both_no (is_anonymous (view_of s y)) (is_view_formal s y) showable.1 owner))
+
+    by_owner : is_view_formal h.typing y ≡ false → Sees e n
+    by_owner owner =
+        let plain : sees_only s (number_of w) ≡ false =
+        ap (sees_only s) root ∙ plain_sees s y (both_no (is_anonymous (view_of s y)) (is_view_formal s y) showable.1 owner) in
+        let itself : expand v (All w) ≡ All w = stands_itself Home (sees_only s) other v (All w) named (ap v.way root ∙ no_way owner) in
+        record {
+          from = w;
+          from_named = named;
+          called = called;
+          way = expand v (All w);
+          leads = refl;
+          owners = stands_owners s h.frame v m (All w) holds named (inl (ap (is_view_formal s) root ∙ owner));
+          reaches = reaches;
+          low = inl (subst (Named Home) (sym itself) named, ap (λ z. is_package_object s (number_of z)) itself ∙ ap (is_package_object s) root ∙ showable.0);
+          whole = lent_whole s h.frame other v (seen s m hands leaks) facts well alone w named plain (clears (sym (ap (sees_only s) root) ∙ plain));
+        }
+
+    by_formal : is_view_formal h.typing y ≡ true → Sees e n
+    by_formal formal =
+        let l = lifted (either_true (is_anonymous (view_of s y)) (is_view_formal s y) formal) in
+        let has : v.way y ≡ Some l.0.way = subst (λ z. v.way z ≡ Some l.0.way) l.1 l.0.has in
+        let far = formals_low y l.0.way has formal in
+        let base : base_of (expand v (All w)) ≡ base_of l.0.way = ap base_of (lifted_way v (All w) l.0) ∙ base_on l.0.way l.0.rest in
+        record {
+          from = w;
+          from_named = named;
+          called = called;
+          way = expand v (All w);
+          leads = refl;
+          owners = stands_owners s h.frame v m (All w) holds named (inr l.0);
+          reaches = reaches;
+          low = inr (((far.0).0, (far.0).1, base ∙ (far.0).2, (far.0).3), (let less = far.1 in omega (arith, less)), far.2);
+          whole = by_sees (sees_only s y) refl;
+        }
+      where
+        by_sees : (b : Bool) → sees_only s y ≡ b → (z : Way) → ExcusedBy (home h.typing h.frame) v other facts z → Meets z (expand v (All w)) → ⊥
+        by_sees true sees =
+            let l = lifted (either_true (is_anonymous (view_of s y)) (is_view_formal s y) formal) in
+            seen_whole s h.frame other v (seen s m hands leaks) facts well alone w named l.0 (ap (sees_only s) l.1 ∙ sees)
+        by_sees false plain = lent_whole s h.frame other v (seen s m hands leaks) facts well alone w named (ap (sees_only s) root ∙ plain) (clears plain)
+
+    pub sees_it : Sees e n
+    sees_it = by_kind (is_view_formal s y) refl
+      where
+        by_kind : (b : Bool) → is_view_formal s y ≡ b → Sees e n
+        by_kind false e = by_owner e
+        by_kind true e = by_formal e
+
+  same_designated : (k d : ℕ) (e o c n : Bool) → shape.Access k e o ≡ shape.Access d c n → k ≡ d
+  same_designated k d e o c n is = cc
+
+  not_scalar : (d : ℕ) (c n : Bool) → is_scalar (view_of_shape (shape.Access d c n)) ≡ true → ⊥
+  not_scalar d c n e = cc
+
+  -- what the source has
+  from_source : (on : List (List machine.Word)) (p : Pos) (x y d u : ℕ) (c n : Bool) (path : TypedTree) → IsShowable s y → shape_of s.table (object_at s x).of ≡ shape.Access d c n
+      → ((w : Way) → ways.name_of w ≡ name_of y path → sees_only s y ≡ false → Cleared facts w) → (e : Evaluated (List machine.Word))
+      → Quiet (at on) (λ ws. (w : Way) × Named Home w × (ways.name_of w ≡ name_of y path)
+      × Shows h settled hands leaks m waits other facts v kept well holds alone live index_law own_law parts_named y d w ws) e
+      → Quiet (at on) (IsSeenAs x (Name p y path u)) e
+  from_source on p x y d u c n path showable is clears (Done ws now) (same, (w, named, called, shows)) = (
+    same,
+    (
+      shows.word,
+      shows.is,
+      (λ d' c' n' k shape_is e. subst (λ z. IsCell s m z k) (same_designated d d' c n c' n' (sym is ∙ shape_is)) (shows.typed k e)),
+      λ k e. sees_it (Name p y path u) y showable w called named (ap (λ (z : PlaceName). z.root) called) (λ plain. clears w called plain) k (shows.designated k e) (λ view. shows.lifted view k e),
+    ),
+  )
+  from_source on p x y d u c n path showable is clears (Raises e now) same = same
+  from_source on p x y d u c n path showable is clears (Traps e now) none = none
+
+  at_same : {before on : List (List machine.Word)} → Takes 0 before on → at before ≡ at on
+  at_same {before} {on} takes = ap at (takes_zero before on takes)
+
+  -- what is passed for such a formal
+  pub seen_given : (before on : List (List machine.Word)) (x : ℕ) (e : TypedTree) → IsAccess h.typing x → IsSeen h.typing x e → Takes (waits_in e) before on
+      → AllowsAll facts (acts (index_acts h.typing e)) → IsClear h.typing facts e → Quiet (at on) (IsSeenAs x e) (viewed h e (at before))
+  unfolding evaluate waits_in
+  seen_given before on x typed.Null access seen_there takes allowed clears =
+      (at_same takes, (machine.Null, refl, (λ d c n k is e. cc), λ n e. cc))
+  seen_given before on x (Name p y path u) access (leads, fits, showable) takes allowed clears =
+      let of_access : shape_of s.table u ≡ shape.Access access.0 access.1 access.2 = elim fits [
+        | inl same ↦ same ∙ access.3
+        | inr scalar ↦ absurd (not_scalar access.0 access.1 access.2 (sym (ap (λ z. is_scalar (view_of_shape z)) access.3) ∙ scalar.1))
+      ] in
+      from_source on p x y access.0 u access.1 access.2 path showable access.3 clears (evaluate h AsView (Name p y path u) (at before))
+      (source_on h settled hands leaks m waits other facts v kept well holds alone live index_law own_law parts_named before on p y u access.0 access.1 access.2 path
+      leads of_access takes allowed clears)
+  seen_given before on x e access never takes allowed clears = absurd never
