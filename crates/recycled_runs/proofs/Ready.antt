@@ -6,15 +6,14 @@ use Rattle.flow_paths.specs.declared.report.Effects.{Effects}
 use Rattle.flow_paths.specs.Laid.{FlowProgram, flow_typing, flow_program}
 use Rattle.machine.specs.States.{Trapped, Outcome, Goes, Ends, sub_of}
 use Rattle.machine.specs.Run.{step, ended, run, run_of, main_of}
-use Rattle.soundness.specs.Ready.{IsReady}
-use Rattle.soundness.specs.Sound.{IsSound, LeadsOn, ending_of}
-use Rattle.soundness.proofs.Beginning.{sound_start}
-use Rattle.soundness.proofs.Standing.{no_in_formals}
-use Rattle.soundness.proofs.Stepping.{sound_step}
-use Rattle.soundness.proofs.Main.{ready_sound}
+use Rattle.viewed_steps.specs.Ready.{IsReady}
+use Rattle.soundness.specs.Sound.{ending_of}
+use Rattle.viewed_steps.specs.Sound.{IsSound, LeadsOn}
+use Rattle.viewed_steps.proofs.Stepping.{sound_step}
+use Rattle.viewed_steps.proofs.Main.{sound_start, ready_sound}
 use Rattle.null_places.specs.Compares.{AreCompared}
 use Rattle.null_places.proofs.Runs.{GoesOn}
-use Rattle.null_places.proofs.Steps.{step_same}
+use Rattle.viewed_nulls.proofs.Steps.{step_same}
 use Rattle.run_codes.specs.Points.{is_declaring}
 use Rattle.run_codes.specs.Programs.{Program}
 use Rattle.run_points.specs.Turns.{IsLowered, HasTypes}
@@ -22,7 +21,7 @@ use Rattle.run_points.specs.Frames.{HasFrames}
 use Rattle.handled_steps.specs.States as handled
 use Rattle.handled_steps.specs.Runs.{NeverTraps, RunOf}
 use Rattle.recycled_runs.proofs.Runs.{GivesSame, recycled}
-use Rattle.recycled_runs.proofs.Checks.{ChecksLive, leaks_live}
+use Rattle.recycled_runs.proofs.Checks.{EndsOwn, ChecksLive, leaks_live}
 
 module _ (table : Table) (typed : TypedProgram) (effects : Effects) (input : List ℕ) (ready : IsReady table typed effects)
     (compared : AreCompared (flow_program table typed)) where
@@ -42,11 +41,10 @@ module _ (table : Table) (typed : TypedProgram) (effects : Effects) (input : Lis
       by (Ends e state) found is = (ready_sound table typed effects input ready).no_trap n (Trapped x at) (ap ending_of found ∙ ap Some is) tt
 
   -- As it is lowered, its run over a heap that uses its slots again gives what the machine's run gives, or memory is out.
-  pub ready_recycled : (p : Program) → HasTypes program → IsLowered program p → HasFrames program → ChecksLive program p input (λ state. IsSound table typed effects state)
+  pub ready_recycled : (p : Program) → HasTypes program → IsLowered program p → HasFrames program → EndsOwn program → ChecksLive program p input (λ state. IsSound table typed effects state)
       → (main n : ℕ) → program.main ≡ Some main → (r : handled.Outcome) → RunOf (flow_typing program).table p (is_declaring program) (sub_of program main).pos main input n r → GivesSame (run program input n) r
-  ready_recycled p has lowered frames checks main n is r so =
-      recycled program p input has ready.accepted.settled lowered frames (λ state. IsSound table typed effects state) (sound_start table typed effects ready)
+  ready_recycled p has lowered frames ends checks main n is r so =
+      recycled program p input has ready.accepted.settled lowered frames (λ state. IsSound table typed effects state) (sound_start table typed effects input ready)
       (λ state sound. leads (step program input state) (sound_step table typed effects input ready state sound))
       (step_same table typed effects input ready compared)
-      (leaks_live program p input lowered has.laws ready.accepted.settled (λ state. IsSound table typed effects state) (λ state sound. sound.sound.owned)
-      (λ n k x less is. no_in_formals table typed effects input ready x) checks) main n is r so (never_traps n)
+      (leaks_live program p input lowered has.laws ready.accepted.settled (λ state. IsSound table typed effects state) (λ state sound. sound.viewed.owned) ends checks) main n is r so (never_traps n)
