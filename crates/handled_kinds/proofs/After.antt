@@ -1,17 +1,12 @@
 -- The law: the kinds of the stack after a point are those of the frames that there are.
-use Rattle.std.proofs.Common.{◌≡◌, refl, sym, ap, ◌∙◌, ℕ, ◌+◌, Bool, true, false, List, [], ◌∷◌, ◌++◌, take, length, Option, Some, None}
-use Rattle.type_definitions.specs.Types.{Table}
+use Rattle.std.proofs.Common.{◌≡◌, refl, ap, ◌∙◌, ℕ, ◌+◌, List, [], ◌∷◌, ◌++◌, take, length, Option, Some, None}
 use Rattle.run_values.specs.declared.value.Kind.{Kind}
-use Rattle.run_codes.specs.Programs.{Program}
-use Rattle.run_codes.specs.Codes.{Sub, Does, Go, Put, Store, Assign, Call, Output, Input, Release, Test, Choose, Start, Next, EvaluateLeft, EvaluateRight, Hold, EndPointer, EndScope, Finish, Fall}
+use Rattle.run_codes.specs.Codes.{Does, Go, Put, Store, Assign, Call, Output, Input, Release, Test, Choose, Start, Next, EvaluateLeft, EvaluateRight, Hold, EndPointer, EndScope, Finish, Fall}
 use Rattle.run_codes.specs.Flat.{Got, Given, Stops, Broken, and_then, word}
 use Rattle.run_codes.specs.Points.{Frame, sub_at, next_value}
 use Rattle.run_codes.specs.Points as points
 use Rattle.handled_steps.specs.Alike.{frame_kinds, left_kinds, begun_kinds, led_kinds, got_kinds, stack_word, turn_next, tested, decided_by, kinds_after}
-use Rattle.handled_steps.specs.Runs.{main_kinds, first_kinds}
-use Rattle.handled_runs.proofs.Filled.{numbers_long}
-use Rattle.handled_steps.proofs.Tables.{template_numbers}
-use Rattle.handled_kinds.specs.Stacks.{stack_kinds, IsStacked, begun_subs, left_subs, led_subs, got_subs, subs_after}
+use Rattle.handled_kinds.specs.Stacks.{stack_kinds, begun_subs, left_subs, led_subs, got_subs, subs_after}
 
 take_first : (ks js : List Kind) → take (length ks) (ks ++ js) ≡ ks
 take_first [] js = refl
@@ -60,18 +55,3 @@ module _ (t : points.Turn) where
   after_same sub rest (EndScope at of n) base = led_same (sub ∷ rest) n
   after_same sub rest Finish base = ap (λ n. take n (all (sub ∷ rest))) base ∙ take_first (all rest) (frame_kinds t.table (sub_at t.program sub))
   after_same sub rest Fall base = refl
-
--- ---- before the first step
-
-long : (table : Table) (sub : Sub) → length (points.template table sub) ≡ length (frame_kinds table sub)
-long table sub = sym (numbers_long (frame_kinds table sub) (points.template table sub) (template_numbers table sub))
-
--- The frames that a run starts with begin one after the other.
-pub start_stacked : (table : Table) (p : Program) (declares : Bool)
-    → (ns : List ℕ) × IsStacked table p ns (points.state_at_start table p declares).frames (first_kinds table p declares)
-start_stacked table p true = (0 ∷ [], record { ends = refl; kinds = refl; based = (refl, tt) })
-start_stacked table p false = by p.main
-  where
-    by : (main : Option ℕ) → (ns : List ℕ) × IsStacked table p ns (points.state_at_start table (record p { main = main }) false).frames (main_kinds table p (frame_kinds table (sub_at p 0)) main)
-    by None = (0 ∷ [], record { ends = refl; kinds = refl; based = (refl, tt) })
-    by (Some main) = (main ∷ 0 ∷ [], record { ends = refl; kinds = refl; based = (long table (sub_at p 0), (refl, tt)) })

@@ -36,7 +36,7 @@ module _ (program : FlowProgram) (p : Program) (lowered : IsLowered program p) (
   truth_data = (sort.Enum, ap (map kind_of) truth, tt)
 
   pub step_looks : (input : List ℕ) (s : points.State) (f : Frame) (outer : List Frame) (here : List Kind) → StandsOn program p f here
-      → ((q : Point) → slice_get p.points f.next ≡ Some q → IsClear here (taken_kinds (turn_of table p input s f outer q)) (points.start (turn_of table p input s f outer q)) × LeaksThere (turn_of table p input s f outer q) q.does)
+      → ((q : Point) → slice_get p.points f.next ≡ Some q → IsClear here (taken_kinds (turn_of table p input s f outer q)) (points.start (turn_of table p input s f outer q)) × (points.are_taken (turn_of table p input s f outer q) ≡ true → LeaksThere (turn_of table p input s f outer q) q.does))
       → LooksPoint table p input s here f outer (slice_get p.points f.next)
   step_looks input s f outer here on kept =
       let there = lowered.points on.sub on.at on.within on.few in
@@ -55,7 +55,7 @@ module _ (program : FlowProgram) (p : Program) (lowered : IsLowered program p) (
   -- Where a state stands for one of the machine, the frame that runs is at a point of its subprogram.
   pub state_looks : (input : List ℕ) (s : machine.State) (g : points.State) (here : List Kind) → StateStands program s g → IsStacked table p (subs_of s) g.frames here
       → ((f : Frame) (outer : List Frame) (q : Point) → g.frames ≡ f ∷ outer → slice_get p.points f.next ≡ Some q
-      → IsClear here (taken_kinds (turn_of table p input g f outer q)) (points.start (turn_of table p input g f outer q)) × LeaksThere (turn_of table p input g f outer q) q.does)
+      → IsClear here (taken_kinds (turn_of table p input g f outer q)) (points.start (turn_of table p input g f outer q)) × (points.are_taken (turn_of table p input g f outer q) ≡ true → LeaksThere (turn_of table p input g f outer q) q.does))
       → LooksStep table p input g here g.frames
   state_looks input s g here stands stacked kept = by s.frames g.frames stands.frames stands.runs stacked.ends stacked.kinds stacked.based (λ f outer q same next. kept f outer q same next)
     where
@@ -63,7 +63,7 @@ module _ (program : FlowProgram) (p : Program) (lowered : IsLowered program p) (
           → EndsWithPackages (map (λ (f : machine.Frame). f.sub) fs) → here ≡ stack_kinds table p (map (λ (f : machine.Frame). f.sub) fs)
           → AreBased table p (map (λ (f : machine.Frame). f.sub) fs) gs
           → ((f : Frame) (outer : List Frame) (q : Point) → gs ≡ f ∷ outer → slice_get p.points f.next ≡ Some q
-          → IsClear here (taken_kinds (turn_of table p input g f outer q)) (points.start (turn_of table p input g f outer q)) × LeaksThere (turn_of table p input g f outer q) q.does)
+          → IsClear here (taken_kinds (turn_of table p input g f outer q)) (points.start (turn_of table p input g f outer q)) × (points.are_taken (turn_of table p input g f outer q) ≡ true → LeaksThere (turn_of table p input g f outer q) q.does))
           → LooksStep table p input g here gs
       by [] [] stand runs ends all based kept = tt
       by [] (h ∷ gs) stand runs ends all based kept = absurd stand

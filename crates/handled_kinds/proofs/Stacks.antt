@@ -141,7 +141,7 @@ module _ (s : Typing) where
   frame_within all x at e = let less = offset_within all 0 x at e in omega (arith, less)
 
   -- What lies in a frame has the kinds of its type.
-  pub lying_kinds : (d base : ℕ) (all : List Kept) (l : Lying) → Has (lyings s d base all) l → (o : ℕ) × (l.at ≡ base + o) × IsFront (kinds s.table (object_at s l.object).of) (drop o (kept_kinds all))
+  lying_kinds : (d base : ℕ) (all : List Kept) (l : Lying) → Has (lyings s d base all) l → (o : ℕ) × (l.at ≡ base + o) × IsFront (kinds s.table (object_at s l.object).of) (drop o (kept_kinds all))
   lying_kinds d base [] l has = absurd has
   lying_kinds d base (k ∷ all) l has = elim has [
     | inl same ↦ (
@@ -215,7 +215,7 @@ module _ (s : Typing) where
   with_loop_cases false first c all has = inr has
 
   -- So do loops.
-  pub looping_kinds : (d base : ℕ) (all : List Kept) (c : LoopAt) → Has (loops_from s d base all) c → (o : ℕ) × (c.at ≡ base + o) × IsFront counter (drop o (kept_kinds s all))
+  looping_kinds : (d base : ℕ) (all : List Kept) (c : LoopAt) → Has (loops_from s d base all) c → (o : ℕ) × (c.at ≡ base + o) × IsFront counter (drop o (kept_kinds s all))
   looping_kinds d base [] c has = absurd has
   looping_kinds d base (k ∷ all) c has = elim (with_loop_cases k.loops (loop_from s d base k) c (loops_from s d (base + kept_words s k) all) has) [
     | inl first ↦

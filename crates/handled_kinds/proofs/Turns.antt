@@ -379,14 +379,14 @@ pub point_looks : (a : Around) → IsTable a.site.typing.table → IsOneData (ki
     → (program : Program) (input : List ℕ) (s : points.State) (f : Frame) (outer : List Frame) (p : Point) (q : FlowPoint) → HaveFormals a.site.typing program → point a q ≡ Some p
     → (points.are_taken (turn_of a.site.typing.table program input s f outer p) ≡ true
     → HasKinds (record a.site { takes = p.takes }) f.base here (taken_kinds (turn_of a.site.typing.table program input s f outer p)))
-    → LeaksThere (turn_of a.site.typing.table program input s f outer p) p.does
+    → (points.are_taken (turn_of a.site.typing.table program input s f outer p) ≡ true → LeaksThere (turn_of a.site.typing.table program input s f outer p) p.does)
     → points.are_taken (turn_of a.site.typing.table program input s f outer p) ≡ true
     → LooksDoes (turn_of a.site.typing.table program input s f outer p) here (taken_kinds (turn_of a.site.typing.table program input s f outer p)) p.does
 point_looks a laws truth here program input s f outer p q formals is has kept taken =
     let takes : List ℕ = point_takes (typing a) q.instr in
     let as_point : Does → Point = λ d. record { takes = takes; does = d; pos = q.pos } in
     let on = map_some as_point (does (with_takes a takes) q q.instr) p is in
-    subst Asked on.2 (λ has kept. does_looks (with_takes a takes) laws truth here (taken_kinds (turn (as_point on.0))) program input s f outer (as_point on.0) has q formals q.instr on.0 on.1 kept) (has taken) kept
+    subst Asked on.2 (λ has kept. does_looks (with_takes a takes) laws truth here (taken_kinds (turn (as_point on.0))) program input s f outer (as_point on.0) has q formals q.instr on.0 on.1 kept) (has taken) (kept taken)
   where
     turn : Point → points.Turn
     turn x = turn_of a.site.typing.table program input s f outer x

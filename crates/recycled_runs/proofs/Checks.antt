@@ -49,7 +49,7 @@ MakesChecks (Call sub e result) = Unit {0}
 MakesChecks (Release e) = Unit {0}
 MakesChecks _ = ⊥
 
-which : (i : Instruction) → ChecksNone i ⊎ (MakesChecks i ⊎ ((x : ℕ) × (i ≡ EndScope x)))
+which : (i : Instruction) → ChecksNone i ⊎ (MakesChecks i ⊎ (((x : ℕ) × (i ≡ EndScope x)) ⊎ (i ≡ Finish)))
 which Skip = inl tt
 which (Declare x v) = inl tt
 which (Assign target e) = inr (inl tt)
@@ -64,8 +64,8 @@ which (Next x reversed low high) = inl tt
 which (Evaluate t e left) = inl tt
 which (LeaveLoop e) = inl tt
 which (Hold v) = inl tt
-which (EndScope x) = inr (inr (x, refl))
-which Finish = inl tt
+which (EndScope x) = inr (inr (inl (x, refl)))
+which Finish = inr (inr (inr refl))
 which Fall = inl tt
 
 quiet_there : (t : points.Turn) (d : Does) → IsQuiet d → LeaksThere t d
@@ -87,7 +87,7 @@ quiet_there t (codes.EvaluateRight c n) is = tt
 quiet_there t (codes.Hold v of n) is = tt
 quiet_there t (codes.EndPointer at n) is = absurd is
 quiet_there t (codes.EndScope at of n) is = absurd is
-quiet_there t codes.Finish is = tt
+quiet_there t codes.Finish is = absurd is
 quiet_there t codes.Fall is = tt
 
 -- ---- words of the stack
@@ -215,12 +215,13 @@ abbrev pub ChecksLive : FlowProgram → Program → List ℕ → (machine.State 
 ChecksLive program p input sound =
     (s t : machine.State) (g : State) → sound s → OnlyOwners (flow_typing program) s.memory → SameState s t → StateStands program t g
     → (m : machine.Frame) (fs : List machine.Frame) (f : Frame) (outer : List Frame) (q : Point) → t.frames ≡ m ∷ fs → g.frames ≡ f ∷ outer → slice_get p.points f.next ≡ Some q
-    → MakesChecks (get_or (sub_of program m.sub).points m.next no_point).instr → LeaksThere (turn_of (flow_typing program).table p input g f outer q) q.does
+    → points.are_taken (turn_of (flow_typing program).table p input g f outer q) ≡ true → MakesChecks (get_or (sub_of program m.sub).points m.next no_point).instr
+    → LeaksThere (turn_of (flow_typing program).table p input g f outer q) q.does
 
 module _ (program : FlowProgram) (p : Program) (input : List ℕ) (lowered : IsLowered program p) (laws : IsTable (flow_typing program).table) (settled : IsSettled (flow_typing program).table) where
   -- So it is of all points, where sound states are owned.
   pub leaks_live : (sound : machine.State → Type 0) → ((s : machine.State) → sound s → Owned (view_of (flow_typing program) s)) → EndsOwn program → ChecksLive program p input sound → LeaksLive program p input sound
-  leaks_live sound owned ends checks s t g good only same stands f outer q frames next = by t.frames g.frames refl stands.frames stands.runs frames
+  leaks_live sound owned ends checks s t g good only same stands f outer q frames next taken = by t.frames g.frames refl stands.frames stands.runs frames
     where
       by : (fs : List machine.Frame) (gs : List Frame) → t.frames ≡ fs → FramesStand program stands.laid (types t.memory) g.memory.stack fs gs → FirstRuns program fs → gs ≡ f ∷ outer
           → LeaksThere (turn_of (flow_typing program).table p input g f outer q) q.does
@@ -239,10 +240,15 @@ module _ (program : FlowProgram) (p : Program) (input : List ℕ) (lowered : IsL
           elim (which fp.instr) [
             | inl none ↦ quiet_there (turn_of (flow_typing program).table p input g f outer q) q.does (quiet (with_takes (around_sub program m.sub) takes) fp fp.instr q.does none lowers)
             | inr other ↦ elim other [
-              | inl makes ↦ checks s t g good only same stands m fs f outer q these frames next makes
-              | inr scope ↦
-                  subst (AllThere program p input lowered laws settled s t g (owned s good) same stands m (length fs) f frame outer q takes)
-                  (ap (does (with_takes (around_sub program m.sub) takes) fp) (sym scope.1) ∙ lowers)
-                  (scope_there program p input lowered laws settled s t g (owned s good) same stands m (length fs) f frame outer q takes fp scope.0 (ends m.sub m.next scope.0 runs scope.1))
+              | inl makes ↦ checks s t g good only same stands m fs f outer q these frames next taken makes
+              | inr last ↦ elim last [
+                | inl scope ↦
+                    subst (AllThere program p input lowered laws settled s t g (owned s good) same stands m (length fs) f frame outer q takes)
+                    (ap (does (with_takes (around_sub program m.sub) takes) fp) (sym scope.1) ∙ lowers)
+                    (scope_there program p input lowered laws settled s t g (owned s good) same stands m (length fs) f frame outer q takes fp scope.0 (ends m.sub m.next scope.0 runs scope.1))
+                | inr finish ↦
+                    subst (AllThere program p input lowered laws settled s t g (owned s good) same stands m (length fs) f frame outer q takes)
+                    (ap (does (with_takes (around_sub program m.sub) takes) fp) (sym finish) ∙ lowers) tt
+              ]
             ]
           ]

@@ -94,7 +94,7 @@ template_kept table sub = numbers_kept (frame_kinds table sub) (points.template 
 
 -- ---- values that wait
 
-pub fresh_kept : (table : Table) (made : List ℕ) (all : List Sort) (ws : List Word) (zs : List ℤ) → AllStand table made all (fresh ws) zs → AreKept (map kind_of all) zs
+fresh_kept : (table : Table) (made : List ℕ) (all : List Sort) (ws : List Word) (zs : List ℤ) → AllStand table made all (fresh ws) zs → AreKept (map kind_of all) zs
 fresh_kept table made [] ws zs stand = tt
 fresh_kept table made (s ∷ all) [] zs stand = absurd stand
 fresh_kept table made (s ∷ all) (w ∷ ws) [] stand = absurd stand

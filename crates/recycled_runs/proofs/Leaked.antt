@@ -28,7 +28,7 @@ use Rattle.handled_runs.specs.Leaks.{IsLeaked, AreLeaked}
 
 -- ---- one word
 
-pub record Names (made : List ℕ) (x : Slot) (n : ℕ) : Type 0 where
+record Names (made : List ℕ) (x : Slot) (n : ℕ) : Type 0 where
   pub word : x.word ≡ Cell (suc n)
   pub whole : x.gone ≡ false
   pub within : n < length made

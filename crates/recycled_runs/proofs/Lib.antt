@@ -1,3 +1,5 @@
+-- points that make no leak check
+pub mod Quiet
 -- points that are neither a call nor its end
 pub mod Plain
 -- the frames of the machine after a step
@@ -10,8 +12,6 @@ pub mod Subs
 pub mod Clear
 -- null where something was moved
 pub mod Nulls
--- points that make no leak check
-pub mod Quiet
 -- what names of what owns are
 pub mod Leaked
 -- before the first step

@@ -69,7 +69,7 @@ module _ (table : Table) (made : List ℕ) where
   one_stands (Pointer d) x (pos (suc n)) gone is = stays (Pointer d) x (pos (suc n)) is.1 is
   one_stands (Pointer d) x (negsuc n) gone is = subst (λ b. OneStands (Pointer d) (if b then no_slot else x) (pos 0)) (sym is.1) (refl, tt)
 
-  pub all_stand : (all : List Sort) (xs : List Slot) (zs : List ℤ) (ks : List Kind) → IsFront (map kind_of all) ks → ((o : ℕ) → IsGone xs o → (d : ℕ) × (slice_get all o ≡ Some (Pointer d)))
+  all_stand : (all : List Sort) (xs : List Slot) (zs : List ℤ) (ks : List Kind) → IsFront (map kind_of all) ks → ((o : ℕ) → IsGone xs o → (d : ℕ) × (slice_get all o ≡ Some (Pointer d)))
       → AllStand table made all xs zs → AllStand table made all (map cleared_slot xs) (cleared_words ks zs)
   all_stand [] xs zs ks front gone is = tt
   all_stand (s ∷ all) [] zs ks front gone is = absurd is
@@ -220,13 +220,13 @@ module _ (program : FlowProgram) (p : Program) (rows : HasRows program p) (laws 
   variable_gone : (m n : Memory) → OnlyOwners typed m → Agrees m n → (f x o : ℕ) → IsGone (slots_at typed n (OfVariable f x)) o → (d : ℕ) × (slice_get (sorts table (object_at typed x).of) o ≡ Some (Pointer d))
   variable_gone m n only agrees f x o gone =
       let back = gone_back (slots_at typed m (OfVariable f x)) (slots_at typed n (OfVariable f x)) (slots_agree typed m n agrees (OfVariable f x)) o gone in
-      let owner = only (OfVariable f x) o back in
+      let owner = only.0 (OfVariable f x) o back in
       laws.accesses (object_at typed x).of o (subst (Has (access_offsets table (object_at typed x).of)) owner.2 (leaf_at table settled (object_at typed x).of owner.0 owner.1))
 
   cell_gone : (m n : Memory) → OnlyOwners typed m → Agrees m n → (k o : ℕ) → IsGone (cell n (suc k)).slots o → (d : ℕ) × (slice_get (sorts table (cell n (suc k)).of) o ≡ Some (Pointer d))
   cell_gone m n only agrees k o gone =
       let agree = cell_agree m n agrees (suc k) in
-      let owner = only (OfCell (suc k)) o (gone_back (cell m (suc k)).slots (cell n (suc k)).slots agree.2 o gone) in
+      let owner = only.0 (OfCell (suc k)) o (gone_back (cell m (suc k)).slots (cell n (suc k)).slots agree.2 o gone) in
       subst (λ t. (d : ℕ) × (slice_get (sorts table t) o ≡ Some (Pointer d))) agree.0
       (laws.accesses (cell m (suc k)).of o (subst (Has (access_offsets table (cell m (suc k)).of)) owner.2 (leaf_at table settled (cell m (suc k)).of owner.0 owner.1)))
 

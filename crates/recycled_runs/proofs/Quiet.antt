@@ -1,4 +1,4 @@
--- A point that is lowered from none of some instructions makes no leak check.
+-- Most instructions are lowered to points without leak checks, which are neither calls nor their ends.
 use Rattle.std.proofs.Common.{◌≡◌, subst, ℕ, zero, ◌+◌, Bool, List, [], ◌∷◌, Option, Some, None, ℤ, pos}
 use Rattle.std.specs.Prelude.{option_and_then}
 use Rattle.typed_tree.specs.Trees.{TypedTree, NoMore, More}
@@ -16,13 +16,14 @@ use Rattle.run_codes.specs.Lowered.{Placed, Scalar, scalar_of, option_map, no_in
 use Rattle.run_codes.specs.Flat.{default_words}
 use Rattle.run_codes.specs.Programs.{Around, typing, type_of, own_offset, own_loop, going, on_going, on_next, put_at, stored_at, use_for, scalar_code, condition, chosen_code, alternatives, text_pieces, is_or_else, tested, declared, input_to, started, next_turn, operand, gone_on, held_result, does}
 
--- What makes no leak check.
+-- What makes no leak check, and is no call nor its end.
 abbrev pub IsQuiet : Does → Type 0
 IsQuiet (Assign p v of (Some at) n) = ⊥
 IsQuiet (Call sub actuals n) = ⊥
 IsQuiet (Release p of at n) = ⊥
 IsQuiet (EndPointer at n) = ⊥
 IsQuiet (EndScope at of n) = ⊥
+IsQuiet Finish = ⊥
 IsQuiet _ = Unit {0}
 
 abbrev pub ChecksNone : Instruction → Type 0
@@ -30,6 +31,7 @@ ChecksNone (instruction.Assign target e) = ⊥
 ChecksNone (instruction.Call sub actuals result) = ⊥
 ChecksNone (instruction.Release e) = ⊥
 ChecksNone (instruction.EndScope x) = ⊥
+ChecksNone instruction.Finish = ⊥
 ChecksNone _ = Unit {0}
 
 abbrev AllQuiet : Option Does → Type 0
@@ -174,7 +176,7 @@ module _ (a : Around) (q : FlowPoint) where
   does_quiet (LeaveLoop e) alone = gone_quiet
   does_quiet (instruction.Hold v) alone = held_quiet v a.result
   does_quiet (instruction.EndScope x) alone = absurd alone
-  does_quiet instruction.Finish alone = tt
+  does_quiet instruction.Finish alone = absurd alone
   does_quiet instruction.Fall alone = tt
 
   pub quiet : (i : Instruction) (d : Does) → ChecksNone i → does a q i ≡ Some d → IsQuiet d

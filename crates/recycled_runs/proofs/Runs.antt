@@ -78,7 +78,8 @@ GivesSame x r = (given r ≡ Some (ran_of x)) ⊎ (r ≡ handled.Wants)
 abbrev pub LeaksLive : FlowProgram → Program → List ℕ → (machine.State → Type 0) → Type 0
 LeaksLive program p input sound =
     (s t : machine.State) (g : State) → sound s → OnlyOwners (flow_typing program) s.memory → SameState s t → StateStands program t g → (f : Frame) (outer : List Frame) (q : Point) → g.frames ≡ f ∷ outer
-    → slice_get p.points f.next ≡ Some q → LeaksThere (turn_of (flow_typing program).table p input g f outer q) q.does
+    → slice_get p.points f.next ≡ Some q → points.are_taken (turn_of (flow_typing program).table p input g f outer q) ≡ true
+    → LeaksThere (turn_of (flow_typing program).table p input g f outer q) q.does
 
 module _ (program : FlowProgram) (p : Program) (input : List ℕ) (has : HasTypes program) (settled : IsSettled (flow_typing program).table) (lowered : IsLowered program p) (frames : HasFrames program) (small : MainBegins program p)
     (sound : machine.State → Type 0) (steps : (s : machine.State) → sound s → GoesOn sound (machine_run.step program input s))

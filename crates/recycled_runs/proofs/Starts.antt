@@ -5,12 +5,14 @@ use Rattle.flow_paths.specs.Objects.{object_at}
 use Rattle.flow_paths.specs.Points.{FlowPoint}
 use Rattle.flow_paths.specs.Laid.{FlowSub, FlowProgram, flow_typing}
 use Rattle.machine.specs.Words.{default}
-use Rattle.machine.specs.Memory.{OfVariable, OfCell}
+use Rattle.soundness.specs.Seen.{content}
+use Rattle.soundness.specs.Typed.{loc_of}
+use Rattle.machine.specs.Memory.{Base, OfVariable, OfCell}
 use Rattle.machine.specs.States.{Frame, sub_of, frame_words, frame_at_start}
 use Rattle.machine.specs.States as machine
 use Rattle.machine.specs.Run.{empty_memory, frames_at_start}
 use Rattle.machine.specs.Run as machine_run
-use Rattle.null_places.proofs.Only.{OnlyOwners, fresh_whole}
+use Rattle.null_places.proofs.Only.{OwnersGone, OnlyOwners, fresh_whole}
 use Rattle.run_codes.specs.Points.{no_sub, sub_at, is_declaring}
 use Rattle.run_codes.specs.Points as points
 use Rattle.run_codes.specs.Programs.{Program, sub_rows}
@@ -25,10 +27,16 @@ use Rattle.recycled_runs.proofs.Clear.{NoneGone, kept_on, template_kept}
 -- ---- the machine's memory
 
 pub start_only : (program : FlowProgram) → OnlyOwners (flow_typing program) empty_memory
-start_only program (OfVariable f x) o gone =
-    (let no : true ≡ false = sym gone ∙ fresh_whole (default (flow_typing program).table (object_at (flow_typing program) x).of) o in cc)
-start_only program (OfCell zero) o gone = cc
-start_only program (OfCell (suc k)) o gone = cc
+start_only program = (
+  owners,
+  λ f x o gone. (let no : true ≡ false = sym gone ∙ fresh_whole (default (flow_typing program).table (object_at (flow_typing program) x).of) o in cc),
+)
+  where
+    owners : (b : Base) → OwnersGone (flow_typing program).table (content (flow_typing program) empty_memory [] (loc_of b))
+    owners (OfVariable f x) o gone =
+        (let no : true ≡ false = sym gone ∙ fresh_whole (default (flow_typing program).table (object_at (flow_typing program) x).of) o in cc)
+    owners (OfCell zero) o gone = cc
+    owners (OfCell (suc k)) o gone = cc
 
 -- ---- the counts of words
 
