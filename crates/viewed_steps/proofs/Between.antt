@@ -10,8 +10,8 @@ use Rattle.owned_ways.proofs.Locations.{under_along, under_itself}
 use Rattle.owned_ways.proofs.Named.{longer}
 use Rattle.owned_ways.proofs.Moving.{Given, keeps, owned_after, covered_after, known_after}
 use Rattle.owned_ways.proofs.Dropped.{named_base}
-use Rattle.owned_loans.specs.Views.{Around, Views, ExcusedBy, Viewed, IsForeign}
-use Rattle.owned_loans.proofs.Ways.{beginnings}
+use Rattle.owned_loans.specs.Views.{Around, Views, ExcusedBy, Viewed, AreShared, IsForeign, IsOuter}
+use Rattle.owned_loans.proofs.Ways.{Meet, beginnings, flip, meets_front, named_base_of}
 use Rattle.owned_loans.proofs.Moves.{view_on, reached}
 use Rattle.flow_paths.specs.Objects.{Typing, is_package_object}
 use Rattle.machine.specs.Memory.{Memory, Place}
@@ -44,7 +44,7 @@ gone_also home other gone = record {
 }
 
 module _ (home : ℕ → ℕ) (observer : ℕ → Bool) (v : Views) (other : Around home) (gone : Way → Type 0)
-    (apart : (x : ℕ) (w z : Way) → v.way x ≡ Some w → IsForeign home w → gone z → Under z w ⊎ Under w z → ⊥) where
+    (apart : (x : ℕ) (w z : Way) → v.way x ≡ Some w → IsOuter home v x w → gone z → Under z w ⊎ Under w z → ⊥) where
   -- more may be gone
   pub more_gone : (s : View) (facts : List Fact) → ((w : Way) → other.gone w → gone w) → Viewed home observer other v s facts
       → Viewed home observer (gone_also home other gone) v s facts
@@ -56,6 +56,8 @@ module _ (home : ℕ → ℕ) (observer : ℕ → Bool) (v : Views) (other : Aro
     views = λ x w has. view_on home observer other v s s facts facts x w (viewed.views x w has) (λ seen n loan. loan)
         (reached home observer other v s facts x w (viewed.views x w has));
     whole = apart;
+    whole_away = viewed.whole_away;
+    shown = viewed.shown;
     past = viewed.past;
     lends = viewed.lends;
     far = viewed.far;
@@ -83,6 +85,8 @@ module _ (home : ℕ → ℕ) (observer : ℕ → Bool) (v : Views) (other : Aro
         view_on home observer other v s t facts facts x w view (λ seen n loan. loan)
         (keeps s t f k from to given w (OfCell (v.cell x)) (reached home observer other v s facts x w view) (λ p. off.own x w has p) (λ p. away.own x w has p)));
     whole = apart;
+    whole_away = viewed.whole_away;
+    shown = viewed.shown;
     past = viewed.past;
     lends = viewed.lends;
     far = λ w n held. keeps s t f k from to given w (OfCell n) (viewed.far w n held) (λ p. off.far w n held p) (λ p. away.far w n held p);
@@ -167,6 +171,17 @@ homed_apart s depth to (f, y, base, at_home) w z foreign under meets =
     ] in
     let same = same_variable foreign.0 foreign.1 f y (sym foreign.2 ∙ there) in
     foreign.3 (same.0 ∙ at_home ∙ ap (home s depth) (sym same.1))
+
+-- nor does it meet what a view was given, where what others have lent doesn't
+pub homed_outer : (s : Typing) (depth : ℕ) (observer : ℕ → Bool) (lent : Loan → PlaceName → Type 0) (v : Views) (to : Way) → IsHomed s depth to
+    → AreShared (home s depth) observer lent v → ((l : Loan) (k : Way) → lent l (name_of k) → Meet to k → ⊥)
+    → (y : ℕ) (w z : Way) → v.way y ≡ Some w → IsOuter (home s depth) v y w → Under to z → Under z w ⊎ Under w z → ⊥
+homed_outer s depth observer lent v to homed shown unlent y w z has (inl foreign) under meets = homed_apart s depth to homed w z foreign under meets
+homed_outer s depth observer lent v to homed shown unlent y w z has (inr given) under meets =
+    let base : base_of w ≡ base_of to = elim meets [ inl above ↦ base_under z w above ∙ base_under to z under | inr below ↦ sym (base_under w z below) ∙ base_under to z under ] in
+    let named : Named (home s depth) w = named_base_of (home s depth) w homed.1 (base ∙ homed.2 ∙ ap (λ f. OfRoot (OfVariable f homed.1)) homed.3) in
+    let (l, (k, at_home, above, lent_it), changed) = shown y w has given named in
+    unlent l k lent_it (meets_front k w to above (flip w to (meets_front to z w under (flip z w meets))))
 
 pub number_based : (home : ℕ → ℕ) (w : Way) (y : ℕ) → Named home w → base_of w ≡ OfRoot (OfVariable (home y) y) → number_of w ≡ y
 number_based home w y named base = (same_variable (home (number_of w)) (number_of w) (home y) y (sym (named_base home w named) ∙ base)).1

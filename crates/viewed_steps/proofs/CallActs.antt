@@ -41,12 +41,12 @@ use Rattle.soundness.proofs.Scalars.{acts, acts_append, allows_both}
 use Rattle.soundness.proofs.Used.{called_are, fact_added}
 use Rattle.soundness.proofs.Around.{IsFar}
 use Rattle.soundness.proofs.Eased.{eased}
-use Rattle.owned_loans.specs.Views.{Around, known_gone, Views, IsForeign, Viewed}
+use Rattle.owned_loans.specs.Views.{Around, known_gone, Views, IsForeign, Viewed, ViewedAlone}
 use Rattle.viewed_soundness.specs.Holds.{Holds, is_view, sees_only, IsOwners, is_exclusive, AllKeep, is_fixed}
 use Rattle.viewed_soundness.proofs.Given.{IsLow}
 use Rattle.viewed_soundness.proofs.Evaluated.{live_trunk, keep_both}
 use Rattle.viewed_steps.specs.Awaited.{temporaries_of, lasting_of, AreAwaited, AreScalar, TakesScalars, IsTakenBy}
-use Rattle.viewed_steps.specs.Sound.{IsCopiedBack, ArePast, HoldsAt, ArePlaced, NoneAbove, ViewStage, stages_of, GoneElsewhere, AreWaiting, IsResting, IsKindOfFormal, HasTraversals, LendsShared, AreShownOwn}
+use Rattle.viewed_steps.specs.Sound.{IsCopiedBack, IsBeyond, HoldsAt, ArePlaced, NoneAbove, ViewStage, stages_of, GoneElsewhere, AreWaiting, IsResting, IsKindOfFormal, HasTraversals}
 use Rattle.viewed_steps.specs.Ready.{IsReady, IsCalled}
 use Rattle.viewed_steps.proofs.Lent.{Spare, spare_both}
 use Rattle.viewed_steps.proofs.Waiting.{StandsBetween, beside_them, handed}
@@ -59,7 +59,7 @@ use Rattle.viewed_steps.proofs.Standing as standing
 use Rattle.viewed_steps.proofs.Packages as packages
 use Rattle.viewed_steps.proofs.Innermost as innermost
 use Rattle.viewed_steps.proofs.Views.{AreAccess, all_held, not_elsewhere}
-use Rattle.viewed_steps.proofs.Seeing.{AreClear, IsLowRoot, AreLowRoots}
+use Rattle.viewed_steps.proofs.Seeing.{AreClear}
 use Rattle.viewed_steps.proofs.Roots.{view_goes}
 use Rattle.soundness.specs.Ready.{root_of}
 use Rattle.viewed_steps.proofs.Clear.{all_clear}
@@ -91,10 +91,10 @@ module _ (table : Table) (typed : TypedProgram) (effects : Effects) (input : Lis
       (awaiting : AreAwaited table typed None (top ∷ stages_of (below ∷ more_frames)))
       (of_sub : IsNamedSub (flow_named table typed) top.frame.sub named) (at_point : IsAtPoint named.points top.frame.next p)
       (path : ControlPath (path_points program effects (sub_of program top.frame.sub)) top.before top.frame.next) (views : Views)
-      (viewed_before : Viewed (home s (suc (length rest))) (sees_only s) (known_gone (home s (suc (length rest))) (GoneElsewhere program effects (below ∷ more_frames))) views
+      (viewed_before : ViewedAlone (home s (suc (length rest))) (sees_only s) (known_gone (home s (suc (length rest))) (GoneElsewhere program effects (below ∷ more_frames))) views
       (view_here s state) (facts_of program effects top))
       (kept : Kept s state.memory (waiting_in state)) (scope : InScope s state.memory (suc (length rest)) (lasting_of s p.scope)) (holds : HoldsAt s (suc (length rest)) views state.memory p)
-      (placed_before : ArePlaced program (suc (length rest)) (facts_of program effects top) views p.scope × ArePast s (suc (length rest)) views (below ∷ more_frames)) (above : NoneAbove s (suc (length rest)) state.memory
+      (placed_before : ArePlaced program (suc (length rest)) (facts_of program effects top) views p.scope × IsBeyond program effects (suc (length rest)) views (below ∷ more_frames)) (above : NoneAbove s (suc (length rest)) state.memory
       × HasTraversals table typed (view_here s state) (record { stage = top; views = views; cells = [] } ∷ (below ∷ more_frames))) where
     abbrev outer : List Frame
     outer = below.stage.frame ∷ rest
@@ -105,7 +105,7 @@ module _ (table : Table) (typed : TypedProgram) (effects : Effects) (input : Lis
     abbrev depth : ℕ
     depth = suc (length rest)
 
-    abbrev between : (g : ViewStage) → Has (below ∷ more_frames) g → StandsBetween table typed effects unmoved_stage local state (suc (length rest)) g
+    abbrev between : (g : ViewStage) → Has (below ∷ more_frames) g → StandsBetween table typed effects unmoved_stage local state (suc (length rest)) (below ∷ more_frames) g
     between = innermost.between table typed effects input ready state top below more_frames rest named p frames deep stages running awaiting of_sub at_point path views viewed_before kept scope holds placed_before above
 
     abbrev other : Around (home s (suc (length rest)))
@@ -270,14 +270,11 @@ module _ (table : Table) (typed : TypedProgram) (effects : Effects) (input : Lis
           live_trunk (steps.here main_turn) ready.accepted.settled state.leaks [] other alone (keeps s ready.accepted.settled ready.owns) index_law
           ready.owns views ready.class.parts_named state.memory (waiting_in easy.state) ((viewed_easy plain_there.0).0).owned
 
-      -- formals of the frame see what belongs to frames below
-      pub formals_low : (x : ℕ) (w : Way) → views.way x ≡ Some w → is_view_formal s x ≡ true → (foreign : IsForeign (home s depth) w) × (foreign.0 < depth) × (0 < foreign.0)
-      formals_low x w has formal = elim (viewed.views x w has) [
-        | inl view ↦ absurd (holds.passed x w has (ap (λ b. b || (is_in_formal s x && is_anonymous (view_of s x))) formal) view.named)
-        | inr passed ↦ elim (holds.lies x w has) [
-          | inl named ↦ absurd (not_elsewhere (home s depth) w named passed.foreign)
-          | inr far ↦ far
-        ]
+      -- views of the frame see what it has names for, or what belongs to frames below
+      pub formals_low : (x : ℕ) (w : Way) → views.way x ≡ Some w → IsLow s depth w
+      formals_low x w has = elim (holds.lies x w has) [
+        | inl named ↦ inl named
+        | inr far ↦ inr (far.0, (let less = far.1 in omega (arith, less)), far.2)
       ]
 
       there_formals : (x : ℕ) → Has formals x → Has (sub_at s n).formals x
@@ -334,50 +331,3 @@ module _ (table : Table) (typed : TypedProgram) (effects : Effects) (input : Lis
         | inl modes ↦ all_clear s procedure formals actuals facts_now modes.0 copies_allowed
         | inr lent ↦ lent_clears s facts_now formals actuals (λ y has formal m of. (lent y has formal m of).clear)
       ]
-
-      -- borrowers and observers that are shown see nothing of package objects
-      pub lows_there : AreLowRoots s depth views formals actuals
-      lows_there =
-          all_low formals actuals
-          (ready.class.shown (flow_sub own named) (standing.in_program table typed effects input ready state top older outer named p frames of_sub at_point) main_turn.point
-          (standing.in_sub table typed effects input ready state top older outer named p frames of_sub at_point) n actuals result e)
-        where
-          Shared : Type 0
-          Shared = LendsShared s (flow_sub own named)
-
-          shared_way : (x : ℕ) (k : Way) → views.way x ≡ Some k → ways.Named (home s depth) k → is_package_object s (ways.number_of k) ≡ true → Shared
-          shared_way x k has at_home is_shared =
-              let goes = view_goes (home s depth) (sees_only s) views (view_here s state) (facts_of program effects top) viewed_before.views x k has at_home in
-              let lent = (goes.1).2 in
-              let from = fact_added program effects ready.accepted.effects_are (flow_sub own named) top.before (Lent goes.0 (goes.1).0 (ways.name_of (goes.1).1))
-              (subst (λ fs. Has fs (Lent goes.0 (goes.1).0 (ways.name_of (goes.1).1)))
-              (standing.facts_are table typed effects input ready state top older outer named p frames of_sub at_point path) lent) in (
-                from.0,
-                from.2,
-                from.1,
-                from.3,
-                goes.0,
-                (goes.1).0,
-                ways.name_of (goes.1).1,
-                from.4,
-                ap (is_package_object s) (sym (longer (goes.1).1 k (goes.1).4).root) ∙ is_shared,
-              )
-
-          low_way : (x : ℕ) (k : Way) → views.way x ≡ Some k → (Shared → ⊥) → IsLow s depth k
-          low_way x k has own_alone = elim (holds.lies x k has) [
-            | inr far ↦ inr (far.0, (let less = far.1 in omega (arith, less)), far.2)
-            | inl at_home ↦ inl (at_home, by_kind (is_package_object s (ways.number_of k)) refl at_home)
-          ]
-            where
-              by_kind : (b : Bool) → is_package_object s (ways.number_of k) ≡ b → ways.Named (home s depth) k → is_package_object s (ways.number_of k) ≡ false
-              by_kind false is at_home = is
-              by_kind true is at_home = absurd (own_alone (shared_way x k has at_home is))
-
-          one_low : (a : TypedTree) → ((y : ℕ) → Has (root_of a) y → is_anonymous (view_of s y) ≡ true → Shared → ⊥) → IsLowRoot s depth views a
-          one_low (Name q y path u) own_alone = λ k has anonymous. low_way y k has (own_alone y (inl refl) anonymous)
-          one_low a own_alone = tt
-
-          all_low : (xs : List ℕ) (es : TypedTree) → AreShownOwn s Shared xs es → AreLowRoots s depth views xs es
-          all_low [] es shown = tt
-          all_low (x ∷ xs) (More a rest) shown = ((λ formal. one_low a (shown.0 formal)), all_low xs rest shown.1)
-          all_low (x ∷ xs) es shown = tt

@@ -49,7 +49,7 @@ use Rattle.soundness.proofs.Used.{called_used}
 use Rattle.soundness.proofs.Around.{IsFar}
 use Rattle.soundness.proofs.Waits.{led_waits}
 use Rattle.soundness.proofs.Eased.{eased}
-use Rattle.owned_loans.specs.Views.{expand, Around, known_gone, Views, IsMovedBy, ExcusedBy, AreClear as FactsAreClear, IsForeign, AreViews, Viewed}
+use Rattle.owned_loans.specs.Views.{expand, Around, known_gone, Views, IsMovedBy, ExcusedBy, AreClear as FactsAreClear, IsForeign, AreViews, Viewed, ViewedAlone, IsOuter}
 use Rattle.owned_loans.proofs.Ways.{under_on, Meet, meets_front, flip}
 use Rattle.owned_loans.proofs.Moves.{expand_under}
 use Rattle.viewed_soundness.proofs.Names.{true_false, owner_sees}
@@ -58,7 +58,7 @@ use Rattle.viewed_soundness.specs.Holds.{Holds, is_view, sees_only, IsOwners, is
 use Rattle.viewed_soundness.proofs.Given.{IsLow, foreign_there, low_there}
 use Rattle.viewed_steps.specs.Awaited.{temporaries_of, lasting_of, awaited, WaitsAt, AreAwaited, AreScalar, TakesScalars}
 use Rattle.viewed_steps.proofs.Waited.{within_lasting, Shares, plain_unheld}
-use Rattle.viewed_steps.specs.Sound.{IsCopiedBack, ArePast, AreUnmet, HoldsAt, ArePlaced, NoneAbove, ViewStage, stages_of, GoneElsewhere, Disturbs, IsWaiting, AreWaiting, calls_one, LeadsAlong, IsResting, IsKindOfFormal, AreReturned, withheld, KeptBy, IsWayOf, IsBareOf, HasTraversals, NoneGiven}
+use Rattle.viewed_steps.specs.Sound.{IsCopiedBack, IsBeyond, AreUnmet, HoldsAt, ArePlaced, NoneAbove, ViewStage, stages_of, GoneElsewhere, Disturbs, IsWaiting, AreWaiting, calls_one, LeadsAlong, IsResting, IsKindOfFormal, AreReturned, withheld, KeptBy, IsWayOf, IsBareOf, HasTraversals, NoneGiven}
 use Rattle.viewed_steps.specs.Ready.{IsReady, IsCalled}
 use Rattle.viewed_steps.specs.Taken.{TakenBy, AreTaken, AreCarried, Lodge}
 use Rattle.viewed_steps.proofs.Apart.{moved_same}
@@ -115,10 +115,10 @@ module _ (table : Table) (typed : TypedProgram) (effects : Effects) (input : Lis
       (awaiting : AreAwaited table typed None (top ∷ stages_of (below ∷ more_frames)))
       (of_sub : IsNamedSub (flow_named table typed) top.frame.sub named) (at_point : IsAtPoint named.points top.frame.next p)
       (path : ControlPath (path_points program effects (sub_of program top.frame.sub)) top.before top.frame.next) (views : Views)
-      (viewed_before : Viewed (home s (suc (length rest))) (sees_only s) (known_gone (home s (suc (length rest))) (GoneElsewhere program effects (below ∷ more_frames))) views
+      (viewed_before : ViewedAlone (home s (suc (length rest))) (sees_only s) (known_gone (home s (suc (length rest))) (GoneElsewhere program effects (below ∷ more_frames))) views
       (view_here s state) (facts_of program effects top))
       (kept : Kept s state.memory (waiting_in state)) (scope : InScope s state.memory (suc (length rest)) (lasting_of s p.scope)) (holds : HoldsAt s (suc (length rest)) views state.memory p)
-      (placed_before : ArePlaced program (suc (length rest)) (facts_of program effects top) views p.scope × ArePast s (suc (length rest)) views (below ∷ more_frames)) (above : NoneAbove s (suc (length rest)) state.memory
+      (placed_before : ArePlaced program (suc (length rest)) (facts_of program effects top) views p.scope × IsBeyond program effects (suc (length rest)) views (below ∷ more_frames)) (above : NoneAbove s (suc (length rest)) state.memory
       × HasTraversals table typed (view_here s state) (record { stage = top; views = views; cells = [] } ∷ (below ∷ more_frames))) where
     abbrev outer : List Frame
     outer = below.stage.frame ∷ rest
@@ -129,7 +129,7 @@ module _ (table : Table) (typed : TypedProgram) (effects : Effects) (input : Lis
     abbrev depth : ℕ
     depth = suc (length rest)
 
-    abbrev between : (g : ViewStage) → Has (below ∷ more_frames) g → StandsBetween table typed effects unmoved_stage local state (suc (length rest)) g
+    abbrev between : (g : ViewStage) → Has (below ∷ more_frames) g → StandsBetween table typed effects unmoved_stage local state (suc (length rest)) (below ∷ more_frames) g
     between = innermost.between table typed effects input ready state top below more_frames rest named p frames deep stages running awaiting of_sub at_point path views viewed_before kept scope holds placed_before above
 
     abbrev other : Around (home s (suc (length rest)))
@@ -222,7 +222,7 @@ module _ (table : Table) (typed : TypedProgram) (effects : Effects) (input : Lis
           → (content s state.memory (waiting_in easy.state) (trunk l)).owns ≡ true
       live_now = calling.live_now table typed effects input ready state top below more_frames rest named p frames deep stages running awaiting of_sub at_point path views viewed_before kept scope holds placed_before above n actuals result e
 
-      abbrev formals_low : (x : ℕ) (w : Way) → views.way x ≡ Some w → is_view_formal s x ≡ true → (foreign : IsForeign (home s depth) w) × (foreign.0 < depth) × (0 < foreign.0)
+      abbrev formals_low : (x : ℕ) (w : Way) → views.way x ≡ Some w → IsLow s depth w
       formals_low = calling.formals_low table typed effects input ready state top below more_frames rest named p frames deep stages running awaiting of_sub at_point path views viewed_before kept scope holds placed_before above n actuals result e
 
       abbrev by_callee : (((x : ℕ) → Has formals x → (object_at s x).mode ≡ mode.In) × ((x : ℕ) → Has formals x → IsCopiedBack s x → ⊥)
@@ -545,7 +545,7 @@ module _ (table : Table) (typed : TypedProgram) (effects : Effects) (input : Lis
         -- nothing that is gone meets what its views see of others
         viewed_before_whole : AreUnmet program effects waits_there older
         viewed_before_whole =
-            subst (λ d. (x : ℕ) (w z : Way) → views.way x ≡ Some w → IsForeign (home s d) w → GoneElsewhere program effects older z → ways.Under z w ⊎ ways.Under w z → ⊥)
+            subst (λ d. (x : ℕ) (w z : Way) → views.way x ≡ Some w → IsOuter (home s d) views x w → GoneElsewhere program effects older z → ways.Under z w ⊎ ways.Under w z → ⊥)
             (sym deep) viewed_before.whole
 
         -- ---- the views of what is called
@@ -604,7 +604,7 @@ module _ (table : Table) (typed : TypedProgram) (effects : Effects) (input : Lis
             ]
 
         -- none of the frames around goes past what it changes
-        callee_past : ArePast s (suc depth) callee_views (waits_there ∷ older)
+        callee_past : IsBeyond program effects (suc depth) callee_views (waits_there ∷ older)
         callee_past x w has named plain k m keeps past =
             let found = opened.1.way x w has in
             elim by_callee [
@@ -684,7 +684,7 @@ module _ (table : Table) (typed : TypedProgram) (effects : Effects) (input : Lis
             running = (
               called.runs,
               returned_there,
-              (is_waiting, others_wait, viewed_before_whole, subst (λ d. ArePast s d views older) (sym deep) placed_before.1),
+              (is_waiting, others_wait, viewed_before_whole, subst (λ d. IsBeyond program effects d views older) (sym deep) placed_before.1),
             );
             awaited = (
               packages.first_waits table typed effects input ready (suc depth) n (returns_of formals passed) called.runs.named called.runs.stands called.runs.point

@@ -42,13 +42,13 @@ use Rattle.soundness.proofs.Typings.{package_same, formal_same}
 use Rattle.soundness.proofs.Around.{same_or_not}
 use Rattle.owned_ways.proofs.Locations.{under_itself, past_under}
 use Rattle.soundness.proofs.Returning.{returned_kept, left_same, left_held, returns_lead, ends_lead, left_waits, ended_owned, Backs}
-use Rattle.owned_loans.specs.Views.{known_gone, Views, IsMovedBy, IsForeign, Viewed, ExcusedBy, Around, IsAway}
+use Rattle.owned_loans.specs.Views.{known_gone, Views, IsMovedBy, IsForeign, Viewed, ExcusedBy, Around, IsAway, ViewedAlone, IsOuter}
 use Rattle.owned_loans.proofs.Moves.{view_on, reached}
 use Rattle.owned_loans.proofs.Ended.{stands_itself}
 use Rattle.viewed_soundness.proofs.Names.{neither, true_false}
 use Rattle.viewed_steps.specs.Awaited.{AreFor, AreValues, temporaries_of, lasting_of, awaited, AreAwaited}
 use Rattle.viewed_steps.proofs.Waited.{others_only, lasting_within}
-use Rattle.viewed_steps.specs.Sound.{loan_by, ArePast, HoldsAt, ArePlaced, NoneAbove, ViewStage, stages_of, GoneElsewhere, IsWaiting, AreWaiting, ends_one, LeadsAlong, IsResting, HasTraversals, NoneGiven, AreTraversals}
+use Rattle.viewed_steps.specs.Sound.{loan_by, IsBeyond, HoldsAt, ArePlaced, NoneAbove, ViewStage, stages_of, GoneElsewhere, IsWaiting, AreWaiting, ends_one, LeadsAlong, IsResting, HasTraversals, NoneGiven, AreTraversals}
 use Rattle.viewed_steps.specs.Ready.{IsReady}
 use Rattle.viewed_steps.proofs.Waiting.{StandsBetween, all_between, handed, gone_low, kept_low, far, theirs, bare_still, some_frames, unused_there, BareElsewhere, bare_reached}
 use Rattle.viewed_steps.proofs.Onward.{all_on}
@@ -108,10 +108,10 @@ module _ (table : Table) (typed : TypedProgram) (effects : Effects) (input : Lis
       (awaiting : AreAwaited table typed None (top ∷ stages_of (below ∷ more_frames)))
       (of_sub : IsNamedSub (flow_named table typed) top.frame.sub named) (at_point : IsAtPoint named.points top.frame.next p)
       (path : ControlPath (path_points program effects (sub_of program top.frame.sub)) top.before top.frame.next) (views : Views)
-      (viewed_before : Viewed (home s (suc (length rest))) (sees_only s) (known_gone (home s (suc (length rest))) (GoneElsewhere program effects (below ∷ more_frames))) views
+      (viewed_before : ViewedAlone (home s (suc (length rest))) (sees_only s) (known_gone (home s (suc (length rest))) (GoneElsewhere program effects (below ∷ more_frames))) views
       (view_here s state) (facts_of program effects top))
       (kept : Kept s state.memory (waiting_in state)) (scope : InScope s state.memory (suc (length rest)) (lasting_of s p.scope)) (holds : HoldsAt s (suc (length rest)) views state.memory p)
-      (placed_before : ArePlaced program (suc (length rest)) (facts_of program effects top) views p.scope × ArePast s (suc (length rest)) views (below ∷ more_frames)) (above : NoneAbove s (suc (length rest)) state.memory
+      (placed_before : ArePlaced program (suc (length rest)) (facts_of program effects top) views p.scope × IsBeyond program effects (suc (length rest)) views (below ∷ more_frames)) (above : NoneAbove s (suc (length rest)) state.memory
       × HasTraversals table typed (view_here s state) (record { stage = top; views = views; cells = [] } ∷ (below ∷ more_frames))) where
     abbrev outer : List Frame
     outer = below.stage.frame ∷ rest
@@ -122,7 +122,7 @@ module _ (table : Table) (typed : TypedProgram) (effects : Effects) (input : Lis
     abbrev depth : ℕ
     depth = suc (length rest)
 
-    abbrev between : (g : ViewStage) → Has (below ∷ more_frames) g → StandsBetween table typed effects unmoved_stage local state (suc (length rest)) g
+    abbrev between : (g : ViewStage) → Has (below ∷ more_frames) g → StandsBetween table typed effects unmoved_stage local state (suc (length rest)) (below ∷ more_frames) g
     between = innermost.between table typed effects input ready state top below more_frames rest named p frames deep stages running awaiting of_sub at_point path views viewed_before kept scope holds placed_before above
 
     abbrev waits_here : AreValues s top.frame.waits p.scope
@@ -146,7 +146,7 @@ module _ (table : Table) (typed : TypedProgram) (effects : Effects) (input : Lis
     abbrev acts_of_main : Instruction → List Act
     acts_of_main i = standing.acts_here table typed effects input ready state top older outer named p frames of_sub at_point i
 
-    abbrev viewed_own : Viewed (home s depth) (sees_only s) (known_gone (home s depth) (GoneElsewhere program effects older)) views (view_here s state) own_facts
+    abbrev viewed_own : ViewedAlone (home s depth) (sees_only s) (known_gone (home s depth) (GoneElsewhere program effects older)) views (view_here s state) own_facts
     viewed_own = innermost.viewed_own table typed effects input ready state top below more_frames rest named p frames deep stages running awaiting of_sub at_point path views viewed_before kept scope holds placed_before above
 
     abbrev placed : ArePlaced program (suc (length rest)) facts_now views p.scope
@@ -253,7 +253,7 @@ module _ (table : Table) (typed : TypedProgram) (effects : Effects) (input : Lis
 
     module _ (h : ViewStage) (others : List ViewStage) (stages_there : AreStages (stages_of (below ∷ (h ∷ others))) (below.stage.frame ∷ rest))
         (waiting : AreWaiting table typed effects state top.frame.sub top.frame.returns (below ∷ (h ∷ others)))
-        (well : Viewed (home s depth) (sees_only s) (known_gone (home s depth) (GoneElsewhere program effects (below ∷ (h ∷ others)))) views (view_here s state) own_facts)
+        (well : ViewedAlone (home s depth) (sees_only s) (known_gone (home s depth) (GoneElsewhere program effects (below ∷ (h ∷ others)))) views (view_here s state) own_facts)
         (still_awaited : AreAwaited table typed (awaited (sub_of program top.frame.sub) top.before) (stages_of (below ∷ (h ∷ others))))
         (is : p.instr ≡ Finish) where
       abbrev pub low : ℕ
@@ -268,7 +268,7 @@ module _ (table : Table) (typed : TypedProgram) (effects : Effects) (input : Lis
       abbrev pub their_facts : List Fact
       their_facts = facts_of program effects below.stage
 
-      between_low : (g : ViewStage) → Has (h ∷ others) g → StandsBetween table typed effects unmoved_stage local state below.stage.depth g
+      between_low : (g : ViewStage) → Has (h ∷ others) g → StandsBetween table typed effects unmoved_stage local state below.stage.depth (h ∷ others) g
       between_low g has =
           all_between table typed effects unmoved_stage local state below.stage.frame.sub below.stage.depth below.stage.frame.returns (h ∷ others) rest stages_there.2
           (let same_depth = low_is in omega (arith, same_depth)) waiting.1 g has
@@ -357,8 +357,7 @@ module _ (table : Table) (typed : TypedProgram) (effects : Effects) (input : Lis
               ∙ ap (λ f. OfRoot (OfVariable f (number_of w))) (ap (λ z. if z then 0 else depth) own_object ∙ deep_low)
 
       -- nothing of that meets what views of the frame see that belongs to others
-      whole_away : (x : ℕ) (w z : Way) → below.views.way x ≡ Some w → IsForeign (home s below.stage.depth) w
-          → GoneElsewhere program effects (h ∷ others) z ⊎ (TakenBy below.stage.returns z
+      whole_away : (x : ℕ) (w z : Way) → below.views.way x ≡ Some w → IsOuter (home s below.stage.depth) below.views x w → GoneElsewhere program effects (h ∷ others) z ⊎ (TakenBy below.stage.returns z
           ⊎ ((y : ℕ) × (ways.base_of z ≡ OfRoot (OfVariable (suc below.stage.depth) y)) × ((r : Return) → Has top.frame.returns r → r.formal ≡ y → ⊥)))
           → ways.Under z w ⊎ ways.Under w z → ⊥
       whole_away x w z has foreign (inl gone) meets = waiting.2 x w z has foreign gone meets
@@ -479,7 +478,7 @@ module _ (table : Table) (typed : TypedProgram) (effects : Effects) (input : Lis
                   whole_there s mid depth (waiting_in state) state.leaks nothing_mid w l x (base ∙ ap (λ f. OfRoot (OfVariable f x)) depths) r gone)
             ]
 
-        viewed_left : Viewed (home s low) (sees_only s) (known_gone (home s low) (GoneElsewhere program effects (h ∷ others))) below.views left_view
+        viewed_left : ViewedAlone (home s low) (sees_only s) (known_gone (home s low) (GoneElsewhere program effects (h ∷ others))) below.views left_view
             (facts_of program effects below.stage)
         viewed_left = record {
           owned = owned_left s mid depth (waiting_in state) state.leaks nothing_mid on.viewed.owned;
@@ -607,7 +606,7 @@ module _ (table : Table) (typed : TypedProgram) (effects : Effects) (input : Lis
             running = (waits.runs, waits.plain, others_left);
             awaited = subst (λ n. AreAwaited table typed n (stages_of (below ∷ (h ∷ others)))) (returned_then is) still_awaited;
             path = waits.path;
-            viewed = subst (λ z. Viewed (home s low) (sees_only s) (known_gone (home s low) (GoneElsewhere program effects (h ∷ others))) below.views z
+            viewed = subst (λ z. ViewedAlone (home s low) (sees_only s) (known_gone (home s low) (GoneElsewhere program effects (h ∷ others))) below.views z
                 (facts_of program effects below.stage)) view_left viewed_left;
             kept = subst (Kept s left_memory) (sym hands_left)
                 (returned_kept s mid depth (waiting_in state) state.leaks nothing_mid on.typed);
@@ -651,7 +650,7 @@ module _ (table : Table) (typed : TypedProgram) (effects : Effects) (input : Lis
       where
         by_rest : (r : List Frame) (m : List ViewStage) → rest ≡ r → more_frames ≡ m → AreStages (stages_of (below ∷ m)) (below.stage.frame ∷ r)
             → AreWaiting table typed effects state top.frame.sub top.frame.returns (below ∷ m)
-            → Viewed (home s depth) (sees_only s) (known_gone (home s depth) (GoneElsewhere program effects (below ∷ m))) views (view_here s state) own_facts
+            → ViewedAlone (home s depth) (sees_only s) (known_gone (home s depth) (GoneElsewhere program effects (below ∷ m))) views (view_here s state) own_facts
             → AreAwaited table typed (awaited (sub_of program top.frame.sub) top.before) (stages_of (below ∷ m)) → Along (turn main_turn Finish)
         by_rest [] [] same_rest same_more stages_there waiting well still =
             ends_lead main_turn Along (λ m. m ≡ state.memory)

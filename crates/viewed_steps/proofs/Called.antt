@@ -41,13 +41,14 @@ use Rattle.viewed_soundness.proofs.Evaluated.{matches_named}
 use Rattle.viewed_steps.specs.Sound.{IsScalarObject, IsShown, AreOwners, IsReachedBack}
 use Rattle.viewed_steps.specs.Ready.{IsOwnPlace, IsSeen, IsActualTo, AreActualsTo, IsCopyOf}
 use Rattle.viewed_steps.proofs.Views.{AreAccess}
-use Rattle.viewed_steps.proofs.Seeing.{IsSeenAs, IsOpenTo, AreOpenTo, seen_given}
+use Rattle.viewed_steps.proofs.Seeing.{IsSeenAs, IsClear, AreClear, seen_given}
 use Rattle.viewed_steps.proofs.LaidOut.{IsOwnPut, IsOpenActual, AreOpenActuals, IsHousedPut}
 use Rattle.viewed_steps.proofs.Entered.{IsFit}
 use Rattle.viewed_steps.proofs.Lent.{ends, Spare, spare_both, spare_naming}
 use Rattle.soundness.proofs.Keeping.{scalar}
 use Rattle.viewed_steps.proofs.Reading.{no_reads, one_read, both_reads, naming_adds, unowned_read, index_reads, reads_in}
 use Rattle.viewed_steps.proofs.Puts as puts
+use Rattle.viewed_soundness.proofs.Given.{IsLow}
 
 module _ (s : Typing) (own_law : OwnsByShape s.table) (procedure : Bool) where
   abbrev pub way_to : ℕ → Passing
@@ -183,7 +184,7 @@ module _ (h : Here) (settled : IsSettled h.typing.table) (hands : List Waiting) 
     (index_law : IndexLaw)
     (own_law : OwnsByShape h.typing.table)
     (parts_named : PartsAreNamed h.typing.table)
-    (formals_low : (x : ℕ) (w : Way) → v.way x ≡ Some w → is_view_formal h.typing x ≡ true → (foreign : IsForeign (home h.typing h.frame) w) × (foreign.0 < h.frame) × (0 < foreign.0))
+    (formals_low : (x : ℕ) (w : Way) → v.way x ≡ Some w → IsLow h.typing h.frame w)
     (procedure : Bool) where
   abbrev at : List (List machine.Word) → Now
   at = puts.at h settled hands leaks m waits other facts v kept well holds alone live in_formals index_law own_law parts_named formals_low procedure
@@ -285,7 +286,7 @@ module _ (h : Here) (settled : IsSettled h.typing.table) (hands : List Waiting) 
 
   shown_given : (before on : List (List machine.Word)) (x : ℕ) (e : TypedTree) → IsShown h.typing x → is_owning h.typing.table (object_at h.typing x).of ≡ true → IsSeen h.typing x e
       → Takes (waits_in e) before on → AllowsAll facts (acts (index_acts h.typing e))
-      → IsOpenTo h.typing h.frame v facts e
+      → IsClear h.typing facts e
       → Quiet (at on) (λ a. IsGiven x mode.In e a) (followed_by (viewed h e (at before)) value_passed)
   shown_given before on x e shown owning seen takes allowed clears =
       quiet_then (at on) (λ ws. IsSeenAs h settled hands leaks m waits other facts v kept well holds alone live index_law own_law parts_named formals_low x e ws)
@@ -380,7 +381,7 @@ module _ (h : Here) (settled : IsSettled h.typing.table) (hands : List Waiting) 
 
   pub one_given : (before on : List (List machine.Word)) (mode_of : Mode) (owning access : Bool) (x : ℕ) (e : TypedTree) → (object_at h.typing x).mode ≡ mode_of
       → is_owning h.typing.table (object_at h.typing x).of ≡ owning → IsKind x → IsActualTo h.typing x mode_of e
-      → (is_view_formal h.typing x ≡ true → IsOpenTo h.typing h.frame v facts e)
+      → (is_view_formal h.typing x ≡ true → IsClear h.typing facts e)
       → IsCopiedName x mode_of e → Takes (waits_in e) before on
       → AllowsAll facts (acts (head_of h.typing own_law procedure mode_of owning e)) → Quiet (at on) (λ a. IsGiven x mode_of e a) (passed h (passing_by mode_of owning access) x e (at before))
   one_given before on mode.In false access x e is fits kind actual clears copied takes allowed =
@@ -403,7 +404,7 @@ module _ (h : Here) (settled : IsSettled h.typing.table) (hands : List Waiting) 
       from_given before on x e (back_given before on x e kind actual (copied refl) takes allowed)
 
   pub all_given : (before on : List (List machine.Word)) (formals : List ℕ) (actuals : TypedTree) → ((x : ℕ) → Has formals x → IsKind x) → AreActualsTo h.typing formals actuals
-      → AreOpenTo h.typing h.frame v facts formals actuals → AreOpenActuals h.typing h.frame facts formals actuals → TakesAll formals actuals before on
+      → AreClear h.typing facts formals actuals → AreOpenActuals h.typing h.frame facts formals actuals → TakesAll formals actuals before on
       → AllowsAll facts (acts (actual_values h.typing (ways_of formals) actuals))
       → Quiet (at on) (λ passed. AreGiven formals actuals passed) (all_passed h (ways_of formals) formals actuals (at before))
   all_given before on [] actuals kinds stay clears copied takes allowed = ((ap at takes), refl)

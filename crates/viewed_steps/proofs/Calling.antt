@@ -60,7 +60,7 @@ use Rattle.soundness.proofs.Taking.{Takes}
 use Rattle.soundness.proofs.Eased.{eased}
 use Rattle.soundness.proofs.Scoped.{Inside}
 use Rattle.soundness.proofs.Successors.{below_one, successor_there}
-use Rattle.owned_loans.specs.Views.{expand, Around, known_gone, Views, IsForeign, Viewed}
+use Rattle.owned_loans.specs.Views.{expand, Around, known_gone, Views, IsForeign, Viewed, ViewedAlone, IsOuter}
 use Rattle.owned_loans.proofs.Ways.{under_on}
 use Rattle.owned_loans.proofs.Meeting.{stands}
 use Rattle.owned_loans.proofs.Moves.{expand_under}
@@ -70,7 +70,7 @@ use Rattle.viewed_soundness.specs.Holds.{Holds, is_view, sees_only, IsOwners}
 use Rattle.soundness.specs.Ready.{IsSupplied, Fills}
 use Rattle.viewed_steps.specs.Awaited.{AreValuesBut, temporaries_of, lasting_of, awaited, WaitsAt, AreAwaited, AreScalar, FillsTyped, TakesScalars}
 use Rattle.viewed_steps.proofs.Waited.{late_scope, within_lasting, lasting_more, Shares}
-use Rattle.viewed_steps.specs.Sound.{IsCopiedBack, ArePast, HoldsAt, ArePlaced, NoneAbove, ViewStage, stages_of, GoneElsewhere, Disturbs, AreWaiting, IsResting, IsKindOfFormal, IsScalarObject, HasTraversals}
+use Rattle.viewed_steps.specs.Sound.{IsCopiedBack, IsBeyond, HoldsAt, ArePlaced, NoneAbove, ViewStage, stages_of, GoneElsewhere, Disturbs, AreWaiting, IsResting, IsKindOfFormal, IsScalarObject, HasTraversals}
 use Rattle.viewed_steps.specs.Ready.{IsReady, roots_passed, IsCalled}
 use Rattle.viewed_steps.specs.Taken.{Lodge, IsPassedOn}
 use Rattle.viewed_steps.proofs.Lent.{Spare, loans_stay}
@@ -95,11 +95,12 @@ use Rattle.viewed_steps.proofs.Standing as standing
 use Rattle.viewed_steps.proofs.Packages as packages
 use Rattle.viewed_steps.proofs.Innermost as innermost
 use Rattle.viewed_steps.proofs.Views.{AreAccess, AreFar, lies_far, base_named}
-use Rattle.viewed_steps.proofs.Seeing.{AreClear, AreLowRoots, open_to}
+use Rattle.viewed_steps.proofs.Seeing.{AreClear}
 use Rattle.viewed_steps.proofs.Exclusive.{AreLent}
 use Rattle.owned_ways.proofs.Unique.{one_way}
 use Rattle.viewed_steps.proofs.Bared.{not_before}
 use Rattle.viewed_steps.proofs.CallActs as acting
+use Rattle.viewed_soundness.proofs.Given.{IsLow}
 
 module _ (table : Table) (typed : TypedProgram) (effects : Effects) (input : List ℕ) (ready : IsReady table typed effects) where
   abbrev program : FlowProgram
@@ -127,10 +128,10 @@ module _ (table : Table) (typed : TypedProgram) (effects : Effects) (input : Lis
       (awaiting : AreAwaited table typed None (top ∷ stages_of (below ∷ more_frames)))
       (of_sub : IsNamedSub (flow_named table typed) top.frame.sub named) (at_point : IsAtPoint named.points top.frame.next p)
       (path : ControlPath (path_points program effects (sub_of program top.frame.sub)) top.before top.frame.next) (views : Views)
-      (viewed_before : Viewed (home s (suc (length rest))) (sees_only s) (known_gone (home s (suc (length rest))) (GoneElsewhere program effects (below ∷ more_frames))) views
+      (viewed_before : ViewedAlone (home s (suc (length rest))) (sees_only s) (known_gone (home s (suc (length rest))) (GoneElsewhere program effects (below ∷ more_frames))) views
       (view_here s state) (facts_of program effects top))
       (kept : Kept s state.memory (waiting_in state)) (scope : InScope s state.memory (suc (length rest)) (lasting_of s p.scope)) (holds : HoldsAt s (suc (length rest)) views state.memory p)
-      (placed_before : ArePlaced program (suc (length rest)) (facts_of program effects top) views p.scope × ArePast s (suc (length rest)) views (below ∷ more_frames)) (above : NoneAbove s (suc (length rest)) state.memory
+      (placed_before : ArePlaced program (suc (length rest)) (facts_of program effects top) views p.scope × IsBeyond program effects (suc (length rest)) views (below ∷ more_frames)) (above : NoneAbove s (suc (length rest)) state.memory
       × HasTraversals table typed (view_here s state) (record { stage = top; views = views; cells = [] } ∷ (below ∷ more_frames))) where
     abbrev outer : List Frame
     outer = below.stage.frame ∷ rest
@@ -141,7 +142,7 @@ module _ (table : Table) (typed : TypedProgram) (effects : Effects) (input : Lis
     abbrev depth : ℕ
     depth = suc (length rest)
 
-    abbrev between : (g : ViewStage) → Has (below ∷ more_frames) g → StandsBetween table typed effects unmoved_stage local state (suc (length rest)) g
+    abbrev between : (g : ViewStage) → Has (below ∷ more_frames) g → StandsBetween table typed effects unmoved_stage local state (suc (length rest)) (below ∷ more_frames) g
     between = innermost.between table typed effects input ready state top below more_frames rest named p frames deep stages running awaiting of_sub at_point path views viewed_before kept scope holds placed_before above
 
     abbrev other : Around (home s (suc (length rest)))
@@ -164,7 +165,7 @@ module _ (table : Table) (typed : TypedProgram) (effects : Effects) (input : Lis
 
     abbrev apart_from_them : (done : List Act) (v : Views) (view : ways.View) → ((x : ℕ) (w : Way) → v.way x ≡ Some w → is_view s x ≡ true)
         → Viewed (home s depth) (sees_only s) other v view (after done facts_now)
-        → Viewed (home s depth) (sees_only s) (known_gone (home s depth) (GoneElsewhere program effects older)) v view (after done own_facts)
+        → ViewedAlone (home s depth) (sees_only s) (known_gone (home s depth) (GoneElsewhere program effects older)) v view (after done own_facts)
     apart_from_them = innermost.apart_from_them table typed effects input ready state top below more_frames rest named p frames deep stages running awaiting of_sub at_point path views viewed_before kept scope holds placed_before above
 
     abbrev placed_own : ArePlaced program (suc (length rest)) own_facts views p.scope
@@ -279,7 +280,7 @@ module _ (table : Table) (typed : TypedProgram) (effects : Effects) (input : Lis
           → (content s state.memory (waiting_in easy.state) (trunk l)).owns ≡ true
       live_now = acting.live_now table typed effects input ready state top below more_frames rest named p frames deep stages running awaiting of_sub at_point path views viewed_before kept scope holds placed_before above n actuals result e
 
-      abbrev pub formals_low : (x : ℕ) (w : Way) → views.way x ≡ Some w → is_view_formal s x ≡ true → (foreign : IsForeign (home s depth) w) × (foreign.0 < depth) × (0 < foreign.0)
+      abbrev pub formals_low : (x : ℕ) (w : Way) → views.way x ≡ Some w → IsLow s depth w
       formals_low = acting.formals_low table typed effects input ready state top below more_frames rest named p frames deep stages running awaiting of_sub at_point path views viewed_before kept scope holds placed_before above n actuals result e
 
       abbrev pub by_callee : (((x : ℕ) → Has formals x → (object_at s x).mode ≡ mode.In) × ((x : ℕ) → Has formals x → IsCopiedBack s x → ⊥)
@@ -289,9 +290,6 @@ module _ (table : Table) (typed : TypedProgram) (effects : Effects) (input : Lis
 
       abbrev pub clear_there : AreClear s facts_now formals actuals
       clear_there = acting.clear_there table typed effects input ready state top below more_frames rest named p frames deep stages running awaiting of_sub at_point path views viewed_before kept scope holds placed_before above n actuals result e
-
-      abbrev pub lows_there : AreLowRoots s depth views formals actuals
-      lows_there = acting.lows_there table typed effects input ready state top below more_frames rest named p frames deep stages running awaiting of_sub at_point path views viewed_before kept scope holds placed_before above n actuals result e
 
       abbrev pub Given : List Passed → Type 0
       Given passed =
@@ -308,7 +306,7 @@ module _ (table : Table) (typed : TypedProgram) (effects : Effects) (input : Lis
       pub passed_quiet : Quiet then_now Given (all_passed (steps.here main_turn) ways_there formals actuals (start main_turn))
       passed_quiet =
           all_given (steps.here main_turn) ready.accepted.settled (waiting_in easy.state) state.leaks state.memory [] other facts_now views (viewed_easy plain_there.0).1 (viewed_easy plain_there.0).0 holds_now alone live_now in_formals
-          index_law ready.owns ready.class.parts_named formals_low procedure given_words taken_there.0 formals actuals kinds called.actuals_stay (open_to s depth views facts_now formals actuals clear_there lows_there) copied_there taken_there.1 values_allowed
+          index_law ready.owns ready.class.parts_named formals_low procedure given_words taken_there.0 formals actuals kinds called.actuals_stay clear_there copied_there taken_there.1 values_allowed
 
       abbrev pub view_now : ways.View
       view_now = seen s state.memory (waiting_in easy.state) state.leaks
@@ -495,7 +493,7 @@ module _ (table : Table) (typed : TypedProgram) (effects : Effects) (input : Lis
         abbrev outs_gone : Way → Type 0
         outs_gone w = GoneElsewhere program effects older w ⊎ IsUnderOne outs w
 
-        outs_apart : (y : ℕ) (w z : Way) → views.way y ≡ Some w → IsForeign (home s depth) w → outs_gone z → ways.Under z w ⊎ ways.Under w z → ⊥
+        outs_apart : (y : ℕ) (w z : Way) → views.way y ≡ Some w → IsOuter (home s depth) views y w → outs_gone z → ways.Under z w ⊎ ways.Under w z → ⊥
         outs_apart y w z has foreign (inl gone) meets = well_before.whole y w z has foreign gone meets
         outs_apart y w z has foreign (inr (o, has_o, under)) meets =
             homed_apart s depth o.way (out_base o has_o) w z foreign under meets

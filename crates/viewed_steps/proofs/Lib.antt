@@ -49,6 +49,8 @@ pub mod Acted
 -- the views of what is called
 pub mod Exclusive
 pub mod Opening
+-- what a call shows
+pub mod Showing
 pub mod Backed
 pub mod Whole
 pub mod Passed

@@ -27,7 +27,7 @@ module _ (table : Table) (typed : TypedProgram) (effects : Effects)
     (unmoved : (e : Stage) → e.frame.sub ≡ 0 → (name : Name) → Has (facts_of (flow_program table typed) effects e) (Moved name) → ⊥)
     (local : (x : ℕ) → is_view (flow_typing (flow_program table typed)) x ≡ true
     → is_package_object (flow_typing (flow_program table typed)) x ≡ false) (state : State) (depth : ℕ) (older : List ViewStage)
-    (between : (g : ViewStage) → Has older g → StandsBetween table typed effects unmoved local state depth g) where
+    (between : (g : ViewStage) → Has older g → StandsBetween table typed effects unmoved local state depth older g) where
   abbrev program : FlowProgram
   program = flow_program table typed
 

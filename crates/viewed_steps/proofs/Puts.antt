@@ -59,6 +59,7 @@ use Rattle.owned_loans.proofs.Allowed.{read_open}
 use Rattle.std.proofs.lemmas.List.{length-map}
 use Rattle.soundness.proofs.Moments.{number_part}
 use Rattle.viewed_steps.proofs.Reading.{unowned, unowned_read}
+use Rattle.viewed_soundness.proofs.Given.{IsLow}
 
 module _ (h : Here) (settled : IsSettled h.typing.table) (hands : List Waiting) (leaks : List Leak) (m : Memory) (waits : List (List machine.Word))
     (other : Around (home h.typing h.frame)) (facts : List Fact) (v : Views)
@@ -71,7 +72,7 @@ module _ (h : Here) (settled : IsSettled h.typing.table) (hands : List Waiting) 
     (index_law : IndexLaw)
     (own_law : OwnsByShape h.typing.table)
     (parts_named : PartsAreNamed h.typing.table)
-    (formals_low : (x : ℕ) (w : Way) → v.way x ≡ Some w → is_view_formal h.typing x ≡ true → (foreign : IsForeign (home h.typing h.frame) w) × (foreign.0 < h.frame) × (0 < foreign.0))
+    (formals_low : (x : ℕ) (w : Way) → v.way x ≡ Some w → IsLow h.typing h.frame w)
     (procedure : Bool) where
   abbrev pub at : List (List machine.Word) → Now
   at ws = record { memory = m; waits = ws }

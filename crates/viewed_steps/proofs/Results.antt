@@ -51,12 +51,12 @@ use Rattle.soundness.proofs.Taking.{Takes, takes_as, nothing_more}
 use Rattle.soundness.proofs.Waited.{FillsNone}
 use Rattle.soundness.proofs.Eased.{eased, waits_same}
 use Rattle.soundness.proofs.Successors.{below_one}
-use Rattle.owned_loans.specs.Views.{Around, known_gone, Views, Viewed}
+use Rattle.owned_loans.specs.Views.{Around, known_gone, Views, Viewed, ViewedAlone}
 use Rattle.viewed_soundness.specs.Holds.{IsNamed, AllKeep, is_view, sees_only, is_fixed}
 use Rattle.viewed_soundness.proofs.Outcomes.{IsGood, Leads_on}
 use Rattle.viewed_steps.specs.Awaited.{AreFor, AreValues, AreValuesBut, temporaries_of, lasting_of, awaited, AreAwaited, AreScalar, FillsTyped, TakesScalars, IsTakenBy, TakesAlone}
 use Rattle.viewed_steps.proofs.Waited.{temporary_first, lasting_more, Shares}
-use Rattle.viewed_steps.specs.Sound.{IsWayOf, ArePast, HoldsAt, ArePlaced, NoneAbove, ViewStage, stages_of, GoneElsewhere, AreWaiting, IsStoredAt, returns_one, LeadsAlong, IsResting, HasTraversals, NoneGiven, IsGivenBelow}
+use Rattle.viewed_steps.specs.Sound.{IsWayOf, IsBeyond, HoldsAt, ArePlaced, NoneAbove, ViewStage, stages_of, GoneElsewhere, AreWaiting, IsStoredAt, returns_one, LeadsAlong, IsResting, HasTraversals, NoneGiven, IsGivenBelow}
 use Rattle.viewed_steps.specs.Taken.{TakenBy}
 use Rattle.viewed_steps.specs.Ready.{IsReady}
 use Rattle.viewed_steps.proofs.Lent.{Spare, loans_stay}
@@ -128,10 +128,10 @@ module _ (table : Table) (typed : TypedProgram) (effects : Effects) (input : Lis
       (awaiting : AreAwaited table typed None (top ∷ stages_of (below ∷ more_frames)))
       (of_sub : IsNamedSub (flow_named table typed) top.frame.sub named) (at_point : IsAtPoint named.points top.frame.next p)
       (path : ControlPath (path_points program effects (sub_of program top.frame.sub)) top.before top.frame.next) (views : Views)
-      (viewed_before : Viewed (home s (suc (length rest))) (sees_only s) (known_gone (home s (suc (length rest))) (GoneElsewhere program effects (below ∷ more_frames))) views
+      (viewed_before : ViewedAlone (home s (suc (length rest))) (sees_only s) (known_gone (home s (suc (length rest))) (GoneElsewhere program effects (below ∷ more_frames))) views
       (view_here s state) (facts_of program effects top))
       (kept : Kept s state.memory (waiting_in state)) (scope : InScope s state.memory (suc (length rest)) (lasting_of s p.scope)) (holds : HoldsAt s (suc (length rest)) views state.memory p)
-      (placed_before : ArePlaced program (suc (length rest)) (facts_of program effects top) views p.scope × ArePast s (suc (length rest)) views (below ∷ more_frames)) (above : NoneAbove s (suc (length rest)) state.memory
+      (placed_before : ArePlaced program (suc (length rest)) (facts_of program effects top) views p.scope × IsBeyond program effects (suc (length rest)) views (below ∷ more_frames)) (above : NoneAbove s (suc (length rest)) state.memory
       × HasTraversals table typed (view_here s state) (record { stage = top; views = views; cells = [] } ∷ (below ∷ more_frames))) where
     abbrev outer : List Frame
     outer = below.stage.frame ∷ rest
@@ -142,7 +142,7 @@ module _ (table : Table) (typed : TypedProgram) (effects : Effects) (input : Lis
     abbrev depth : ℕ
     depth = suc (length rest)
 
-    abbrev between : (g : ViewStage) → Has (below ∷ more_frames) g → StandsBetween table typed effects unmoved_stage local state (suc (length rest)) g
+    abbrev between : (g : ViewStage) → Has (below ∷ more_frames) g → StandsBetween table typed effects unmoved_stage local state (suc (length rest)) (below ∷ more_frames) g
     between = innermost.between table typed effects input ready state top below more_frames rest named p frames deep stages running awaiting of_sub at_point path views viewed_before kept scope holds placed_before above
 
     abbrev other : Around (home s (suc (length rest)))
@@ -175,7 +175,7 @@ module _ (table : Table) (typed : TypedProgram) (effects : Effects) (input : Lis
 
     abbrev apart_from_them : (done : List Act) (v : Views) (view : ways.View) → ((x : ℕ) (w : Way) → v.way x ≡ Some w → is_view s x ≡ true)
         → Viewed (home s depth) (sees_only s) other v view (after done facts_now)
-        → Viewed (home s depth) (sees_only s) (known_gone (home s depth) (GoneElsewhere program effects older)) v view (after done own_facts)
+        → ViewedAlone (home s depth) (sees_only s) (known_gone (home s depth) (GoneElsewhere program effects older)) v view (after done own_facts)
     apart_from_them = innermost.apart_from_them table typed effects input ready state top below more_frames rest named p frames deep stages running awaiting of_sub at_point path views viewed_before kept scope holds placed_before above
 
     abbrev placed_by : (some all : List Fact) (v : Views) (scope_there : List ℕ) → ((h : ℕ) (m : PlaceName) → sees_only s h ≡ true → Has some (Lent Observed h m) → Has all (Lent Observed h m))
@@ -555,7 +555,7 @@ module _ (table : Table) (typed : TypedProgram) (effects : Effects) (input : Lis
             waits.3,
           )
 
-      past_with : (v : Waiting) → ArePast s depth views (below ∷ more_frames) → ArePast s depth views (below_with v ∷ more_frames)
+      past_with : (v : Waiting) → IsBeyond program effects depth views (below ∷ more_frames) → IsBeyond program effects depth views (below_with v ∷ more_frames)
       past_with v past x w has given sees k n (g, inr there, way) goes = past x w has given sees k n (g, inr there, way) goes
       past_with v past x w has given sees k n (g, inl same, way) goes =
           past x w has given sees k n (below, inl refl, way_from way) goes
@@ -650,9 +650,9 @@ module _ (table : Table) (typed : TypedProgram) (effects : Effects) (input : Lis
               path = subst (λ (z : FlowSub). ControlPath (path_points program effects z) (top.frame.next ∷ top.before) next_number)
                   (sym (standing.sub_is table typed effects input ready state top older outer named p frames of_sub at_point))
                   (goes_on top.before top.frame.next next_number (standing.path_here table typed effects input ready state top older outer named p frames of_sub at_point path) step_on);
-              viewed = subst (λ z. Viewed (home s top.depth) (sees_only s) (known_gone (home s top.depth) (GoneElsewhere program effects (below_with v ∷ more_frames))) views z (facts_of program effects top_then)) view_same
-                  (subst (λ d. Viewed (home s d) (sees_only s) (known_gone (home s d) (GoneElsewhere program effects (below_with v ∷ more_frames))) views view (facts_of program effects top_then)) (sym deep)
-                  (subst (Viewed (home s depth) (sees_only s) (known_gone (home s depth) (GoneElsewhere program effects (below_with v ∷ more_frames))) views view) (sym facts_there)
+              viewed = subst (λ z. ViewedAlone (home s top.depth) (sees_only s) (known_gone (home s top.depth) (GoneElsewhere program effects (below_with v ∷ more_frames))) views z (facts_of program effects top_then)) view_same
+                  (subst (λ d. ViewedAlone (home s d) (sees_only s) (known_gone (home s d) (GoneElsewhere program effects (below_with v ∷ more_frames))) views view (facts_of program effects top_then)) (sym deep)
+                  (subst (ViewedAlone (home s depth) (sees_only s) (known_gone (home s depth) (GoneElsewhere program effects (below_with v ∷ more_frames))) views view) (sym facts_there)
                   (record {
                     owned = well.owned;
                     covered = well.covered;
@@ -683,7 +683,7 @@ module _ (table : Table) (typed : TypedProgram) (effects : Effects) (input : Lis
               });
               placed = subst (λ d. ArePlaced program d (facts_of program effects top_then) views (found.0).scope) (sym deep) (subst (λ z. ArePlaced program depth z views (found.0).scope) (sym facts_there)
                   (placed_by (after (acts_of_main p.instr) facts_now) facts_then views (found.0).scope (own_loans (acts_of_main p.instr)) placed_next));
-              past = subst (λ d. ArePast s d views (below_with v ∷ more_frames)) (sym deep) (past_with v placed_before.1);
+              past = subst (λ d. IsBeyond program effects d views (below_with v ∷ more_frames)) (sym deep) (past_with v placed_before.1);
               none_above = subst (λ d. NoneAbove s d m) (sym deep) (still_above m stay);
               traversals = (
                 (
