@@ -8,12 +8,12 @@ use Rattle.place_names.specs.declared.fact.Fact.{Fact}
 use Rattle.place_names.specs.declared.fact.Fact.TheVariants.{Moved, Lent}
 use Rattle.place_names.specs.Names.{Name as PlaceName}
 use Rattle.place_names.specs.declared.act.Mode.TheVariants as mode
-use Rattle.type_definitions.specs.Types.{Table, is_owning}
+use Rattle.type_definitions.specs.Types.{Table, is_owning, full}
 use Rattle.typed_tree.specs.Trees.{TypedTree, Name, NoMore, More}
 use Rattle.typed_tree.specs.Programs.{TypedProgram}
 use Rattle.flow_paths.specs.declared.report.Effects.{Effects}
 use Rattle.flow_paths.specs.Instructions.{Instruction, Call, EndScope, Declare, Assign, Hold}
-use Rattle.flow_paths.specs.Objects.{Typing, object_at, sub_at, is_anonymous, is_package_object, view_of, traverses, passings, Passing, Signature, passing, is_observer, is_formal}
+use Rattle.flow_paths.specs.Objects.{Typing, object_at, sub_at, is_anonymous, is_package_object, view_of, traverses, passings, Passing, Signature, passing, is_observer, is_formal, is_borrowing, is_observing}
 use Rattle.place_names.specs.Reports.{Report}
 use Rattle.flow_paths.specs.Aliases.{overlap_reports, passed_reports, call_reports}
 use Rattle.flow_paths.specs.Aliases as alias
@@ -42,7 +42,7 @@ use Rattle.soundness.proofs.Used.{called_are, fact_added}
 use Rattle.soundness.proofs.Around.{IsFar}
 use Rattle.soundness.proofs.Eased.{eased}
 use Rattle.owned_loans.specs.Views.{Around, known_gone, Views, IsForeign, Viewed}
-use Rattle.viewed_soundness.specs.Holds.{Holds, is_view, sees_only, IsOwners, is_exclusive, AllKeep, is_fixed}
+use Rattle.viewed_soundness.specs.Holds.{Holds, is_view, is_first, sees_only, IsOwners, is_exclusive, AllKeep, is_fixed}
 use Rattle.viewed_soundness.proofs.Given.{IsLow}
 use Rattle.viewed_soundness.proofs.Evaluated.{live_trunk, keep_both}
 use Rattle.viewed_steps.specs.Awaited.{temporaries_of, lasting_of, AreAwaited, AreScalar, TakesScalars, IsTakenBy}
@@ -313,6 +313,10 @@ module _ (table : Table) (typed : TypedProgram) (effects : Effects) (input : Lis
           ⊎ AreLent s facts_now formals actuals
       by_callee = by_result (sub_of program n).result refl
         where
+          lends_nothing : (a b : Bool) → a || b ≡ false → a ≡ false
+          lends_nothing true b none = cc
+          lends_nothing false b none = refl
+
           by_result : (r : Option ℕ) → (sub_of program n).result ≡ r
               → (((x : ℕ) → Has formals x → (object_at s x).mode ≡ mode.In) × ((x : ℕ) → Has formals x → IsCopiedBack s x → ⊥)
               × ((x : ℕ) → Has formals x → is_view_formal s x ≡ true → sees_only s x ≡ true))
@@ -325,7 +329,10 @@ module _ (table : Table) (typed : TypedProgram) (effects : Effects) (input : Lis
                 (λ x has back. back (modes x has)),
                 λ x has formal.
                     sees_shown (is_observer s x) (is_view_formal s x) (is_in_formal s x && is_anonymous (view_of s x)) (is_exclusive s x) formal
-                    (ready.class.functions n of answers x (there_formals x has) (called.formals x has) formal),
+                    (ready.class.functions n of answers x (there_formals x has) (called.formals x has) (ap (λ b. b || (is_in_formal s x && is_anonymous (view_of s x))) formal)
+                    (ap (λ r. flow.gives_variable s r && is_first x (sub_at s n).formals) answers
+                    ∙ ap (λ b. b && is_first x (sub_at s n).formals)
+                    (lends_nothing (is_borrowing (full s.table of)) (is_observing (full s.table of)) (sym (ap (traverses s.table) is) ∙ no_traversal)))),
               )
           by_result None is = inr (lent_there is)
 

@@ -38,7 +38,7 @@ use Rattle.soundness.specs.Typed.{Kept}
 use Rattle.soundness.specs.Sound.{goes_through_none, is_temporary_object, IsNamedSub, IsAtPoint, IsRunnable, Stage, facts_of, AreStages, Uses, IsPlain, InScope, IsTrap, has_returned}
 use Rattle.soundness.specs.Sound as owners
 use Rattle.owned_loans.specs.Views.{known_gone, Views, IsMovedBy, AreClear, IsForeign, AreViews, Viewed, expand}
-use Rattle.viewed_soundness.specs.Holds.{IsNamed, IsAccess, PartsAreNamed, is_view, sees_only, IsOwners, is_given, is_exclusive}
+use Rattle.viewed_soundness.specs.Holds.{IsNamed, IsAccess, PartsAreNamed, is_view, sees_only, IsOwners, is_given, lends_first, is_exclusive}
 use Rattle.soundness.specs.Ready.{root_of}
 use Rattle.viewed_steps.specs.Awaited.{is_held, lasting_of, AreNamedResults, AreAwaited}
 use Rattle.viewed_steps.specs.Taken.{TakenBy, Lodge, AreTaken, AreCarried}
@@ -98,7 +98,8 @@ pub record IsViewClass (program : FlowProgram) : Type 0 where
   pub results : AreNamedResults program
   pub formals : (x : ℕ) → is_formal (flow_typing program) x ≡ true → IsKindOfFormal (flow_typing program) x
   pub functions : (n t : ℕ) → (sub_at (flow_typing program) n).result ≡ Some t → (x : ℕ) → Has (sub_at (flow_typing program) n).formals x
-      → is_formal (flow_typing program) x ≡ true → is_view_formal (flow_typing program) x ≡ true → is_exclusive (flow_typing program) x ≡ false
+      → is_formal (flow_typing program) x ≡ true → is_given (flow_typing program) x ≡ true
+      → lends_first (flow_typing program) x (sub_at (flow_typing program) n) ≡ false → is_exclusive (flow_typing program) x ≡ false
   pub modes : (n t : ℕ) → (sub_at (flow_typing program) n).result ≡ Some t → (x : ℕ) → Has (sub_at (flow_typing program) n).formals x
       → (object_at (flow_typing program) x).mode ≡ mode.In
   pub procedures : (n : ℕ) → (sub_at (flow_typing program) n).result ≡ None → (x : ℕ) → Has (sub_at (flow_typing program) n).formals x
