@@ -38,7 +38,7 @@ use Rattle.viewed_steps.proofs.Views.{AreAccess}
 use Rattle.viewed_steps.proofs.Between.{gone_also, number_under}
 use Rattle.viewed_steps.proofs.Emptied.{out_left, taken_back}
 use Rattle.viewed_steps.proofs.Outs.{Out, IsUnderOne}
-use Rattle.viewed_steps.proofs.LaidOut.{IsValueLaid, IsOwnPut, IsPlainAt, IsPlaceLaid, IsLaidOne, AreLaidOut, own_out, place_out, out_of, outs_of}
+use Rattle.viewed_steps.proofs.LaidOut.{IsValueLaid, IsOwnPut, IsPlainAt, IsPlaceLaid, IsLaidOne, AreLaidOut, own_out, place_out, out_of, outs_of, IsHousedPut}
 use Rattle.viewed_steps.proofs.Entered.{inside_plain, inside_named, inside_number}
 use Rattle.viewed_steps.proofs.Released.{nothing_written}
 use Rattle.viewed_steps.proofs.Called as called
@@ -66,6 +66,9 @@ module _ (h : Here) (settled : IsSettled h.typing.table) (hands : List Waiting) 
   abbrev IsPlaceGiven : ℕ → TypedTree → Place → Type 0
   IsPlaceGiven = called.IsPlaceGiven h settled hands leaks m waits other facts v kept well holds alone live in_formals index_law own_law parts_named formals_low procedure
 
+  abbrev IsBackGiven : ℕ → TypedTree → Place → Type 0
+  IsBackGiven = called.IsBackGiven h settled hands leaks m waits other facts v kept well holds alone live in_formals index_law own_law parts_named formals_low procedure
+
   abbrev IsValueGiven : ℕ → TypedTree → List machine.Word → Type 0
   IsValueGiven = called.IsValueGiven h settled hands leaks m waits other facts v kept well holds alone live in_formals index_law own_law parts_named formals_low procedure
 
@@ -82,6 +85,12 @@ module _ (h : Here) (settled : IsSettled h.typing.table) (hands : List Waiting) 
   place_laid x e k (inl (plain, put)) = inl (plain, put.0)
   place_laid x e k (inr own) = inr own
 
+  abbrev pub back_laid : (x : ℕ) (e : TypedTree) (k : Place) → IsBackGiven x e k
+      → IsPlaceLaid h.typing h.frame v (seen h.typing m hands leaks) x e k
+      ⊎ ((is_scalar (full h.typing.table (object_at h.typing x).of) ≡ false) × IsHousedPut h.typing h.frame v (seen h.typing m hands leaks) x e k)
+  back_laid x e k (inl put) = inl (place_laid x e k put)
+  back_laid x e k (inr housed) = inr housed
+
   abbrev pub laid_one : (x : ℕ) (mode_of : Mode) (e : TypedTree) (a : Passed) → IsGiven x mode_of e a → IsLaidOne h.typing m h.frame v (seen h.typing m hands leaks) x mode_of e a
   laid_one x mode.In e (Value ws) is = value_laid x e ws is
   laid_one x mode.In e (From k) is = absurd is
@@ -90,7 +99,7 @@ module _ (h : Here) (settled : IsSettled h.typing.table) (hands : List Waiting) 
   laid_one x mode.Out e (From k) is = absurd is
   laid_one x mode.Out e (To k) is = place_laid x e k is
   laid_one x mode.InOut e (Value ws) is = absurd is
-  laid_one x mode.InOut e (From k) is = place_laid x e k is
+  laid_one x mode.InOut e (From k) is = back_laid x e k is
   laid_one x mode.InOut e (To k) is = absurd is
 
   abbrev pub all_laid_out : (formals : List ℕ) (actuals : TypedTree) (passed : List Passed) → AreGiven formals actuals passed → AreLaidOut h.typing m h.frame v (seen h.typing m hands leaks) formals actuals passed
@@ -133,7 +142,7 @@ module _ (h : Here) (settled : IsSettled h.typing.table) (hands : List Waiting) 
     own_acted : (owning access : Bool) (x : ℕ) (p : Pos) (y u : ℕ) (path : TypedTree) (k : Place) (known : List Fact)
         → (own : IsOwnPut h.typing h.frame x (Name p y path u) k) → AreGone (own_out h.typing h.frame x (Name p y path u) k own) → ViewedWith known
         → ViewedWith (effect (act.Actual (name_of y path) mode.Out owning access) known)
-    own_acted owning access x p y u path k known (to, inside, called, is, fits) adds there =
+    own_acted owning access x p y u path k known (to, inside, called, is, fits, at_variable) adds there =
         subst (λ z. ViewedWith (effect (act.Actual z mode.Out owning access) known)) called
         (taken_back (home h.typing h.frame) (sees_only h.typing) v (gone_also (home h.typing h.frame) around gone) gone apart (seen h.typing m hands leaks) to known
         (effect (act.Actual (ways.name_of to) mode.Out owning access) known) there

@@ -80,28 +80,3 @@ cell_name v s views (All w) l n reach base = record {
     at_cell (Lost c) reach = of_cell (Lost c) l reach base
     at_cell (Into w i) reach = of_cell (expand v (Into w i)) l reach base
     at_cell (All w) reach = of_cell (expand v (All w)) l reach base
-
--- No part of a cell is one of a root.
-pub part_apart : (s : View) (w : Way) (n : ℕ) → Reaches s w (OfCell n) → (r : Root) (p q : List Step) → along w p ≡ along (Object r) q → ⊥
-part_apart s w n reach r p q e = by_steps p q e
-  where
-    no_root : (w : Way) → Reaches s w (OfCell n) → w ≡ Object r → ⊥
-    no_root (Object b) reach same = cc
-    no_root (Lost c) reach same = cc
-    no_root (Into u i) reach same = cc
-    no_root (All u) reach same = cc
-
-    no_step : (w u : Way) (i : Step) → Reaches s w (OfCell n) → w ≡ Into u i → ⊥
-    no_step (Object b) u i reach same = cc
-    no_step (Lost c) u i reach same = cc
-    no_step (Into k j) u i (m, there, is) same = cc
-    no_step (All k) u i reach same = cc
-
-    longer_one : (a b : Way) (i j : Step) → Into a i ≡ Into b j → a ≡ b
-    longer_one a b i j same = cc
-
-    by_steps : (p q : List Step) → along w p ≡ along (Object r) q → ⊥
-    by_steps [] [] e = no_root w reach e
-    by_steps [] (j ∷ q) e = no_step w (along (Object r) q) j reach e
-    by_steps (i ∷ p) [] e = cc
-    by_steps (i ∷ p) (j ∷ q) e = by_steps p q (longer_one (along w p) (along (Object r) q) i j e)

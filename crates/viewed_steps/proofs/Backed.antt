@@ -36,9 +36,9 @@ use Rattle.owned_loans.proofs.Meeting.{stands}
 use Rattle.viewed_soundness.proofs.Names.{both_no, true_false, owner_sees}
 use Rattle.viewed_soundness.proofs.Evaluated.{matches_named}
 use Rattle.viewed_steps.proofs.Left.{cells_same}
-use Rattle.viewed_steps.specs.Taken.{Lodge, IsPlainPlace, IsCopiedTo, AreCarried, TakenBy, IsInside, IsPassedOn, IsBare, IsTaken, IsApartFrom, IsAnother, AreTaken}
+use Rattle.viewed_steps.specs.Taken.{Lodge, IsPlainPlace, IsCopiedTo, AreCarried, TakenBy, IsInside, IsAmong, IsTakenIn, IsPassedOn, IsBare, IsTaken, IsApartFrom, IsAnother, AreTaken}
 use Rattle.viewed_steps.proofs.Between.{IsHomed, home_low, carried_same, carried_then, taken_more, same_reaches, gone_also, more_gone, IsClearOf, base_along, base_under, same_variable, not_named, taken_less}
-use Rattle.viewed_steps.proofs.Carried.{inside_homed, inside_low, trunk_is, carried_gone, carried_cells, carried_gone_to, carried_cells_to, inside_at, inside_spot, inside_reached, inside_base, inside_owns, inside_word, variable_clear, carried_bare, carried_held, carried_off, carried_off_stays, carried_holds, carried_to, carried_to_stays, past_other}
+use Rattle.viewed_steps.proofs.Carried.{inside_homed, inside_low, trunk_is, start_reached, inside_other, carried_gone, carried_gone_cell, carried_held_cell, carried_gone_to, carried_gone_cell_to, carried_holds_cell, inside_at, inside_spot, inside_reached, inside_base, inside_owns, inside_word, variable_clear, carried_bare, carried_held, carried_off, carried_off_stays, carried_holds, carried_to, carried_to_stays, past_other}
 use Rattle.viewed_steps.proofs.Beside.{put_beside}
 use Rattle.viewed_steps.proofs.Alike.{Enters, moved_there, stored_there, one_then, if_back, backs_on, IsPlainSpot, fixed_plain, plain_place, one_there}
 use Rattle.viewed_steps.proofs.Entered.{matches_back, inside_plain, inside_named, inside_number, inside_itself}
@@ -59,14 +59,9 @@ pub place_is : (t : Turn) (r : Return) (rest : List Return) (begun : Now) (b : m
 place_is t r rest begun (memory.OfVariable f x) base there = rw base refl
 place_is t r rest begun (memory.OfCell n) base there = rw (base, there) refl
 
-pub given_is : (t : Turn) (r : Return) (rest : List Return) (begun : Now) (f x : ℕ) → r.to.base ≡ memory.OfVariable f x → copied_back t (r ∷ rest) begun
-    ≡ followed_by (checked (here t) r.to.of (words_of (typing t) begun.memory (variable_place (here t) r.formal)) begun)
-    (λ ws n. copied_back t rest (record n { memory = stored (typing t) r.to ws (moved_out (typing t) (variable_place (here t) r.formal) n.memory) }))
-given_is t r rest begun f x base = rw base refl
-
 module _ (t : Turn) (settled : IsSettled (typing t).table) (own_law : OwnsByShape (typing t).table) (in_formals : AreAccess (typing t))
     (hands : List Waiting) (leaks : List Leak) (depth : ℕ) (deep : length t.outer ≡ suc depth) (v : Views)
-    (far : AreFar (home (typing t) depth) v depth) (facts : List Fact) (scope : List ℕ)
+    (far : AreFar (home (typing t) depth) v depth) (only : (x : ℕ) (w : Way) → v.way x ≡ Some w → is_view (typing t) x ≡ true) (facts : List Fact) (scope : List ℕ)
     (other : Around (home (typing t) depth))
     (free : (h : ℕ) (w : Way) → Under (Object (OfHand h)) w → other.gone w → ⊥)
     (whole : (x : ℕ) (w : Way) → base_of w ≡ OfRoot (OfVariable (suc depth) x) → other.gone w → ⊥)
@@ -104,7 +99,7 @@ module _ (t : Turn) (settled : IsSettled (typing t).table) (own_law : OwnsByShap
         → word_in (typing t).table (content (typing t) n [] (OfRoot (OfVariable (suc depth) r.formal))) p ≡ Held c → ⊥
     pub views : (g y : ℕ) → is_view (typing t) y ≡ true
         → (get_or (variable_slots (typing t) g y n.variables) 0 no_slot).word ≡ (get_or (variable_slots (typing t) g y m.variables) 0 no_slot).word
-    pub carried : AreCarried (typing t) (λ g. g ≡ suc depth → ⊥) ways m n
+    pub carried : AreCarried (typing t) (λ g. g ≡ suc depth → ⊥) cells ways m n
     -- ways from the variables of other frames that don't go on after a place reach what they reached
     pub stays : (w : Way) (g y : ℕ) → base_of w ≡ OfRoot (OfVariable g y) → (g ≡ suc depth → ⊥) → ((to : Way) → Has ways to → Past to w → ⊥) → (c : ℕ)
         → Reaches (seen (typing t) m hands leaks) w (OfCell c) → Reaches (seen (typing t) n hands leaks) w (OfCell c)
@@ -132,10 +127,11 @@ module _ (t : Turn) (settled : IsSettled (typing t).table) (own_law : OwnsByShap
 
   -- ---- one that is given back
 
-  module _ (r : Return) (rest : List Return) (to : Way) (ways : List Way) (m : Memory) (taken : IsTaken (typing t) m depth facts scope r to)
+  module _ (r : Return) (rest : List Return) (to : Way) (ways : List Way) (m : Memory) (taken : IsTaken (typing t) cells m depth facts scope r to)
       (apart : IsApartFrom to ways) (another : IsAnother r.formal rest) (begin : (k : Way) → Has ways k → IsHomed s depth k)
-      (typed : Kept (typing t) m hands) (viewed : ViewedAway (r ∷ rest) (to ∷ ways) m) where
-    abbrev passed : IsPassedOn (typing t) depth facts scope r.formal r.to to
+      (typed : Kept (typing t) m hands) (viewed : ViewedAway (r ∷ rest) (to ∷ ways) m)
+      (cells_at : (c : Lodge) → Has cells c → Reaches (seen (typing t) m hands leaks) c.way (OfCell c.cell)) where
+    abbrev passed : IsPassedOn (typing t) cells depth facts scope r.formal r.to to
     passed = taken.0
 
     abbrev inside : IsInside (typing t) depth r.to to
@@ -159,14 +155,20 @@ module _ (t : Turn) (settled : IsSettled (typing t).table) (own_law : OwnsByShap
     abbrev observer : ℕ → Bool
     observer = sees_only s
 
+    formal_base : (variable_place (here t) r.formal).base ≡ memory.OfVariable (suc depth) r.formal
+    formal_base = ap (λ z. memory.OfVariable z r.formal) (ap (λ b. if b then 0 else length t.outer) passed.formal ∙ deep)
+
     pub formal_inside : IsInside s (suc depth) formal root
     formal_inside = record {
       object = r.formal;
       steps = [];
       frame = suc depth;
       at_home = sym (ap (λ b. if b then 0 else suc depth) passed.formal);
+      trunk = root;
+      start = OfRoot (OfVariable (suc depth) r.formal);
+      stands = inl (refl, refl, formal_base);
+      root = refl;
       way = refl;
-      base = ap (λ z. memory.OfVariable z r.formal) (ap (λ b. if b then 0 else length t.outer) passed.formal ∙ deep);
       owner = passed.owner;
       there = refl;
       at = refl;
@@ -176,7 +178,7 @@ module _ (t : Turn) (settled : IsSettled (typing t).table) (own_law : OwnsByShap
 
     spot : Spot s m hands formal (OfRoot (OfVariable (suc depth) r.formal))
     unfolding formal_inside
-    spot = inside_spot s (suc depth) formal root formal_inside m hands
+    spot = inside_spot s (suc depth) formal root formal_inside settled m hands leaks typed refl
 
     owns : (content s m hands (OfRoot (OfVariable (suc depth) r.formal))).owns ≡ true
     owns = ap not passed.owner
@@ -249,19 +251,54 @@ module _ (t : Turn) (settled : IsSettled (typing t).table) (own_law : OwnsByShap
         (OfRoot (OfVariable (suc depth) r.formal)) root viewed typed spot tt refl owns clean p c
         (ap (λ z. word_in s.table (content s mid (got ∷ hands) (OfRoot (OfVariable (suc depth) r.formal))) z) (append-nil p) ∙ held)
 
+    held_mid_cell : (n : ℕ) (p : List Step) (c : ℕ) → word_in s.table (content s mid [] (OfCell n)) p ≡ Held c → word_in s.table (content s m [] (OfCell n)) p ≡ Held c
+    held_mid_cell n p c held =
+        carried_held_cell s settled (home s depth) observer v first (AwayBy rest (to ∷ ways)) first_apart m hands leaks facts formal
+        (OfRoot (OfVariable (suc depth) r.formal)) root viewed typed spot tt refl owns clean n p c held
+
+    -- where a place stands
+    held_mid_start : (k : Place) (w : Way) (there : IsInside s depth k w) (p : List Step) (c : ℕ) → word_in s.table (content s mid [] there.start) p ≡ Held c
+        → word_in s.table (content s m [] there.start) p ≡ Held c
+    held_mid_start k w there p c held = elim there.stands [
+      | inl variable ↦
+          subst (λ z. word_in s.table (content s m [] z) p ≡ Held c) (sym variable.1)
+          (held_mid there.frame there.object p c (subst (λ z. word_in s.table (content s mid [] z) p ≡ Held c) variable.1 held))
+      | inr cell ↦
+          subst (λ z. word_in s.table (content s m [] z) p ≡ Held c) (sym (cell.0).1)
+          (held_mid_cell (cell.0).0 p c (subst (λ z. word_in s.table (content s mid [] z) p ≡ Held c) (cell.0).1 held))
+    ]
+
+    -- a way from another frame reaches what it reached
+    mid_stays : (w : Way) (g y : ℕ) → base_of w ≡ OfRoot (OfVariable g y) → (g ≡ suc depth → ⊥) → (c : ℕ)
+        → Reaches (seen s m hands leaks) w (OfCell c) → Reaches (seen s mid (got ∷ hands) leaks) w (OfCell c)
+    mid_stays w g y base off c reach =
+        carried_off_stays s settled (home s depth) observer v first (AwayBy rest (to ∷ ways)) first_apart m hands leaks facts formal
+        (OfRoot (OfVariable (suc depth) r.formal)) root viewed typed spot tt refl owns clean (suc depth) r.formal refl w g y base
+        (past_other root w (suc depth) r.formal g y refl base off) c reach
+
+    start_mid : (k : Place) (w : Way) (there : IsInside s depth k w) → IsAmong cells there.start there.trunk → Reaches (seen s mid (got ∷ hands) leaks) there.trunk there.start
+    start_mid k w there among =
+        start_reached s depth k w there (seen s mid (got ∷ hands) leaks) (λ n is. (
+        let found = among n is in
+        mid_stays there.trunk there.frame there.object there.root (λ same. (let low = inside_low s depth k w there in omega (arith, same, low))) n
+        (subst (λ z. Reaches (seen s m hands leaks) z (OfCell n)) found.2 (subst (λ z. Reaches (seen s m hands leaks) found.0.way (OfCell z)) found.3 (cells_at found.0 found.1)))))
+
     -- ---- into the place
+
+    there_mid : Reaches (seen s mid (got ∷ hands) leaks) inside.trunk inside.start
+    there_mid = start_mid r.to to inside passed.among
 
     abbrev at : Loc
     at = inside_at s depth r.to to (taken.0).inside
 
     spot_to : Spot s mid (got ∷ hands) r.to at
-    spot_to = inside_spot s depth r.to to inside mid (got ∷ hands)
+    spot_to = inside_spot s depth r.to to inside settled mid (got ∷ hands) leaks kept_mid there_mid
 
     reached : Reaches (seen s mid (got ∷ hands) leaks) to at
-    reached = inside_reached s depth r.to to inside (seen s mid (got ∷ hands) leaks)
+    reached = inside_reached s depth r.to to inside (seen s mid (got ∷ hands) leaks) there_mid
 
     owns_to : (content s mid (got ∷ hands) (trunk at)).owns ≡ true
-    owns_to = inside_owns s depth r.to to inside mid (got ∷ hands) inside.owner
+    owns_to = inside_owns s depth r.to to inside settled mid (got ∷ hands) leaks kept_mid viewed_mid.owned there_mid
 
     long : length got.words ≡ words s.table r.to.of
     long =
@@ -273,7 +310,7 @@ module _ (t : Turn) (settled : IsSettled (typing t).table) (own_law : OwnsByShap
     fits = matches_back s r.to.of (object_at s r.formal).of passed.fits
 
     bare : (p : List Step) (c : ℕ) → word_in s.table (content s mid (got ∷ hands) (trunk at)) (p ++ steps_in at) ≡ Held c → ⊥
-    bare p c held = taken.1 p c (held_mid inside.frame inside.object (p ++ inside.steps) c (sym (inside_word s depth r.to to inside mid (got ∷ hands) p) ∙ held))
+    bare p c held = taken.1 p c (held_mid_start r.to to inside (p ++ inside.steps) c (sym (inside_word s depth r.to to inside mid (got ∷ hands) p) ∙ held))
 
     plain_name : observer (number_of to) ≡ false
     plain_name = ap observer (inside_number s settled depth r.to to inside) ∙ owner_sees s inside.object (inside_plain s settled depth r.to to inside) inside.owner
@@ -283,7 +320,7 @@ module _ (t : Turn) (settled : IsSettled (typing t).table) (own_law : OwnsByShap
       own = λ y w has past.
           off_view (home s depth) observer v (seen s mid (got ∷ hands) leaks) facts viewed_mid.views viewed_mid.clear to y w
           (inside_named s settled depth r.to to inside, plain_name) passed.unlent has
-          (subst (λ z. Past z w) (sym (inside_itself s settled depth r.to to inside v)) past);
+          (subst (λ z. Past z w) (sym (inside_itself s settled depth r.to to inside v only)) past);
       far = λ w n keeps_it past. none w n keeps_it;
     }
 
@@ -324,8 +361,12 @@ module _ (t : Turn) (settled : IsSettled (typing t).table) (own_law : OwnsByShap
 
     in_place : (g y : ℕ) (p q : List Step) → part (OfRoot (OfVariable g y)) p ≡ part at q → (g ≡ inside.frame) × (y ≡ inside.object)
     in_place g y p q is =
-        same_variable g y inside.frame inside.object
-        (sym (trunk_part (OfRoot (OfVariable g y)) p) ∙ ap trunk is ∙ trunk_part at q ∙ trunk_part (OfRoot (OfVariable inside.frame inside.object)) inside.steps)
+        let start_is : OfRoot (OfVariable g y) ≡ inside.start =
+        sym (trunk_part (OfRoot (OfVariable g y)) p) ∙ ap trunk is ∙ trunk_part at q ∙ trunk_is s depth r.to to inside in
+        elim inside.stands [
+          | inl variable ↦ same_variable g y inside.frame inside.object (start_is ∙ variable.1)
+          | inr cell ↦ (let never : OfRoot (OfVariable g y) ≡ OfCell (cell.0).0 = start_is ∙ (cell.0).1 in cc)
+        ]
 
     -- the way of what is in the place
     in_place_way : (g y : ℕ) (p q : List Step) → part (OfRoot (OfVariable g y)) p ≡ part at q → along (Object (OfVariable g y)) p ≡ along to q
@@ -335,8 +376,34 @@ module _ (t : Turn) (settled : IsSettled (typing t).table) (own_law : OwnsByShap
         (subst (Reaches now (along (Object (OfVariable g y)) p)) is (reaches_along now (Object (OfVariable g y)) (OfRoot (OfVariable g y)) p refl))
         (reaches_along now to at q reached)
 
+    holds_cell : (n : ℕ) (p : List Step) (c : ℕ) → word_in s.table (content s next [] (OfCell n)) p ≡ Held c
+        → (word_in s.table (content s mid [] (OfCell n)) p ≡ Held c) ⊎ ((q : List Step) × (part (OfCell n) p ≡ part at q))
+    holds_cell n p c held =
+        carried_holds_cell s settled (home s depth) observer v second (AwayBy rest ways) second_apart mid got hands leaks facts r.to at to viewed_mid kept_mid spot_to reached owns_to
+        long fits bare n p c held
+
+    -- the cell that it is in
+    in_place_cell : (n : ℕ) (p q : List Step) → part (OfCell n) p ≡ part at q → IsTakenIn cells (to ∷ []) n p
+    in_place_cell n p q is =
+        let start_is : OfCell n ≡ inside.start = sym (trunk_part (OfCell n) p) ∙ ap trunk is ∙ trunk_part at q ∙ trunk_is s depth r.to to inside in
+        let found = passed.among n (sym start_is) in
+        let now = seen s mid (got ∷ hands) leaks in
+        let there : Reaches now inside.trunk (OfCell n) = subst (Reaches now inside.trunk) (sym start_is) there_mid in (
+          found.0,
+          found.1,
+          found.3,
+          (
+            to,
+            inl refl,
+            q,
+            ap (λ z. along z p) found.2
+                ∙ one_way now viewed_mid.owned (along inside.trunk p) (along to q) (part at q)
+                (subst (Reaches now (along inside.trunk p)) is (reaches_along now inside.trunk (OfCell n) p there)) (reaches_along now to at q reached),
+          ),
+        )
+
     -- what was gone stays so, but in the place
-    pub one_carried : AreCarried s (λ g. g ≡ suc depth → ⊥) (to ∷ []) m next
+    pub one_carried : AreCarried s (λ g. g ≡ suc depth → ⊥) cells (to ∷ []) m next
     one_carried = record {
       held = λ g y p c other_frame off held. elim (holds_next g y p c held) [
         | inl before ↦ held_mid g y p c before
@@ -347,11 +414,15 @@ module _ (t : Turn) (settled : IsSettled (typing t).table) (own_law : OwnsByShap
           long fits bare g y p (λ there. off (to, inl refl, there.0, in_place_way g y p there.0 there.1))
           (carried_gone s settled (home s depth) observer v first (AwayBy rest (to ∷ ways)) first_apart m hands leaks facts formal
           (OfRoot (OfVariable (suc depth) r.formal)) root viewed typed spot tt refl owns clean g y p gone);
-      cells = λ c p.
-          carried_cells_to s settled (home s depth) observer v second (AwayBy rest ways) second_apart mid got hands leaks facts r.to at to viewed_mid kept_mid spot_to reached owns_to
-          long fits bare inside.frame inside.object (trunk_is s depth r.to to inside) c p
-          ∙ carried_cells s settled (home s depth) observer v first (AwayBy rest (to ∷ ways)) first_apart m hands leaks facts formal
-          (OfRoot (OfVariable (suc depth) r.formal)) root viewed typed spot tt refl owns clean (suc depth) r.formal refl c p;
+      in_cells = λ n p c off held. elim (holds_cell n p c held) [
+        | inl before ↦ held_mid_cell n p c before
+        | inr (q, is) ↦ absurd (off (in_place_cell n p q is))
+      ];
+      gone_cells = λ n p off gone.
+          carried_gone_cell_to s settled (home s depth) observer v second (AwayBy rest ways) second_apart mid got hands leaks facts r.to at to viewed_mid kept_mid spot_to reached owns_to
+          long fits bare n p (λ there. off (in_place_cell n p there.0 there.1))
+          (carried_gone_cell s settled (home s depth) observer v first (AwayBy rest (to ∷ ways)) first_apart m hands leaks facts formal
+          (OfRoot (OfVariable (suc depth) r.formal)) root viewed typed spot tt refl owns clean n p gone);
     }
 
     -- an object with a number owns
@@ -386,26 +457,36 @@ module _ (t : Turn) (settled : IsSettled (typing t).table) (own_law : OwnsByShap
     ]
 
     -- the other places have none still
-    pub one_bare : (k : Place) (w : Way) → Has ways w → (there : IsInside s depth k w) → IsBare s depth k w m there → IsBare s depth k w next there
-    one_bare k w has there none p c held = elim (holds_next there.frame there.object (p ++ there.steps) c held) [
-      | inl before ↦ none p c (held_mid there.frame there.object (p ++ there.steps) c before)
+    pub one_bare : (k : Place) (w : Way) → Has ways w → (there : IsInside s depth k w) → IsAmong cells there.start there.trunk → IsBare s depth k w m there → IsBare s depth k w next there
+    one_bare k w has there among none p c held = elim (holds_start (p ++ there.steps) c held) [
+      | inl before ↦ none p c (held_mid_start k w there (p ++ there.steps) c before)
       | inr (q, is) ↦
           parts_apart (seen s mid (got ∷ hands) leaks) to w at (inside_at s depth k w there) viewed_mid.owned reached
-          (inside_reached s depth k w there (seen s mid (got ∷ hands) leaks)) (apart w has).0 (apart w has).1 q p
-          (sym is ∙ part_append (OfRoot (OfVariable there.frame there.object)) p there.steps)
+          (inside_reached s depth k w there (seen s mid (got ∷ hands) leaks) (start_mid k w there among)) (apart w has).0 (apart w has).1 q p
+          (sym is ∙ part_append there.start p there.steps)
     ]
       where
         part_append : (l : Loc) (p q : List Step) → part l (p ++ q) ≡ part (part l q) p
         part_append l [] q = refl
         part_append l (i ∷ p) q = ap (λ z. Inside z i) (part_append l p q)
 
+        holds_start : (q : List Step) (c : ℕ) → word_in s.table (content s next [] there.start) q ≡ Held c
+            → (word_in s.table (content s mid [] there.start) q ≡ Held c) ⊎ ((p : List Step) × (part there.start q ≡ part at p))
+        holds_start q c held = elim there.stands [
+          | inl variable ↦
+              subst (λ z. (word_in s.table (content s mid [] z) q ≡ Held c) ⊎ ((p : List Step) × (part z q ≡ part at p))) (sym variable.1)
+              (holds_next there.frame there.object q c (subst (λ z. word_in s.table (content s next [] z) q ≡ Held c) variable.1 held))
+          | inr cell ↦
+              subst (λ z. (word_in s.table (content s mid [] z) q ≡ Held c) ⊎ ((p : List Step) × (part z q ≡ part at p))) (sym (cell.0).1)
+              (holds_cell (cell.0).0 q c (subst (λ z. word_in s.table (content s next [] z) q ≡ Held c) (cell.0).1 held))
+        ]
+
     pub one_stays : (w : Way) (g y : ℕ) → base_of w ≡ OfRoot (OfVariable g y) → (g ≡ suc depth → ⊥) → (Past to w → ⊥) → (c : ℕ)
         → Reaches (seen s m hands leaks) w (OfCell c) → Reaches (seen s next hands leaks) w (OfCell c)
     one_stays w g y base off aside c reach =
         carried_to_stays s settled (home s depth) observer v second (AwayBy rest ways) second_apart mid got hands leaks facts r.to at to viewed_mid kept_mid spot_to reached owns_to
         long fits bare inside.frame inside.object (inside_base s depth r.to to inside) w g y base aside c
-        (carried_off_stays s settled (home s depth) observer v first (AwayBy rest (to ∷ ways)) first_apart m hands leaks facts formal
-        (OfRoot (OfVariable (suc depth) r.formal)) root viewed typed spot tt refl owns clean (suc depth) r.formal refl w g y base (past_other root w (suc depth) r.formal g y refl base off) c reach)
+        (mid_stays w g y base off c reach)
 
     pub one_views : (g y : ℕ) → is_view s y ≡ true
         → (get_or (variable_slots s g y next.variables) 0 no_slot).word ≡ (get_or (variable_slots s g y m.variables) 0 no_slot).word
@@ -413,9 +494,9 @@ module _ (t : Turn) (settled : IsSettled (typing t).table) (own_law : OwnsByShap
     one_views g y view =
         ap (λ z. (get_or z 0 no_slot).word)
         (put_beside s 0 r.to.base (take r.to.at (slots_at s mid r.to.base) ++ fresh (words_of s m formal) ++ drop (r.to.at + length (fresh (words_of s m formal))) (slots_at s mid r.to.base)) mid g y
-        (λ e. no_view inside.object (inside_plain s settled depth r.to to inside) inside.owner (same_names (sym inside.base ∙ e)).1)
+        (λ e. inside_other s depth r.to to inside g y (λ same. no_view inside.object (inside_plain s settled depth r.to to inside) inside.owner (same_variable inside.frame inside.object g y (ap OfRoot same)).1) e)
         ∙ put_beside s 0 formal.base (take 0 (slots_at s m formal.base) ++ marks ++ drop (0 + length marks) (slots_at s m formal.base)) m g y
-        (λ e. no_view r.formal (inside_plain s settled (suc depth) formal root formal_inside) passed.owner (same_names (sym formal_inside.base ∙ e)).1))
+        (λ e. no_view r.formal (inside_plain s settled (suc depth) formal root formal_inside) passed.owner (same_names (sym formal_base ∙ e)).1))
       where
         no_view : (x : ℕ) → is_anonymous (view_of s x) ≡ false → is_view_formal s x ≡ false → x ≡ y → ⊥
         no_view x plain owner same = true_false (is_view s y) view (ap (is_view s) (sym same) ∙ both_no (is_anonymous (view_of s x)) (is_view_formal s x) plain owner)
@@ -435,13 +516,13 @@ module _ (t : Turn) (settled : IsSettled (typing t).table) (own_law : OwnsByShap
   taken_base m (r ∷ rest) (to ∷ ways) (inr (one, apart, another, more)) k (inr has) = taken_base m rest ways more k has
 
   pub taken_on : (m n : Memory) (returns : List Return) (ways : List Way)
-      → ((k : Place) (w : Way) → Has ways w → (there : IsInside s depth k w) → IsBare s depth k w m there → IsBare s depth k w n there)
+      → ((k : Place) (w : Way) → Has ways w → (there : IsInside s depth k w) → IsAmong cells there.start there.trunk → IsBare s depth k w m there → IsBare s depth k w n there)
       → AreTaken s cells m depth facts scope returns ways → AreTaken s cells n depth facts scope returns ways
   taken_on m n [] ways bare none = none
   taken_on m n (r ∷ rest) [] bare taken = (taken.0, taken_on m n rest [] bare taken.1)
   taken_on m n (r ∷ rest) (to ∷ ways) bare (inl copied) = inl (copied.0, taken_on m n rest (to ∷ ways) bare copied.1)
   taken_on m n (r ∷ rest) (to ∷ ways) bare (inr (one, apart, another, more)) =
-      inr ((one.0, bare r.to to (inl refl) (one.0).inside one.1), apart, another, taken_on m n rest ways (λ k w has. bare k w (inr has)) more)
+      inr ((one.0, bare r.to to (inl refl) (one.0).inside (one.0).among one.1), apart, another, taken_on m n rest ways (λ k w has. bare k w (inr has)) more)
 
   abbrev GivenBack : List Return → List Way → Memory → Evaluated Memory → Type 0
   GivenBack returns ways m y = Backs (λ n. IsBack returns ways m n) y
@@ -466,8 +547,8 @@ module _ (t : Turn) (settled : IsSettled (typing t).table) (own_law : OwnsByShap
       | inr later ↦ back.empty q later
     ];
     views = λ g y view. back.views g y view ∙ on.views g y view;
-    carried = carried_then s (λ g. g ≡ suc depth → ⊥) ways ways ways m later n (λ w taken. taken) (λ w taken. taken)
-        (carried_same s (λ g. g ≡ suc depth → ⊥) ways m later on.hold (λ c p. cells_same s m later hands leaks on.same c p)) back.carried;
+    carried = carried_then s (λ g. g ≡ suc depth → ⊥) cells ways ways ways m later n (λ w taken. taken) (λ w taken. taken)
+        (carried_same s (λ g. g ≡ suc depth → ⊥) cells ways m later on.hold (λ c p. cells_same s m later hands leaks on.same c p)) back.carried;
     stays = λ w g y base off aside c reach. back.stays w g y base off aside c (same_reaches (seen s m hands leaks) (seen s later hands leaks) on.same w (OfCell c) reach);
   }
 
@@ -477,6 +558,28 @@ module _ (t : Turn) (settled : IsSettled (typing t).table) (own_law : OwnsByShap
   place_there m k (inl fixed) typed owned there = subst (IsThere m) (sym fixed.base) tt
   place_there m k (inr (c, has, lodged, plain)) typed owned there =
       let begin = begins c has in subst (IsThere m) (sym lodged.base) (cell_live s settled m hands leaks typed c.way begin.0 begin.1 c.cell begin.2 owned (there c has))
+
+  -- another place that is given back to
+  taken_there : (m : Memory) (r : Return) (to : Way) → IsTaken s cells m depth facts scope r to → Kept s m hands → Owned (seen s m hands leaks)
+      → ((c : Lodge) → Has cells c → Reaches (seen s m hands leaks) c.way (OfCell c.cell)) → IsThere m r.to.base
+  taken_there m r to taken typed owned there = elim (taken.0).inside.stands [
+    | inl variable ↦ subst (IsThere m) (sym variable.2) tt
+    | inr cell ↦ (
+        let found = (taken.0).among (cell.0).0 (cell.0).1 in
+        let begin = begins found.0 found.1 in
+        subst (IsThere m) (ap memory.OfCell found.3 ∙ sym (cell.0).2)
+        (cell_live s settled m hands leaks typed found.0.way begin.0 begin.1 found.0.cell begin.2 owned (there found.0 found.1)))
+  ]
+
+  -- where a place stands
+  start_same : (m n : Memory) (k : Place) (w : Way) (there : IsInside s depth k w)
+      → ((f x : ℕ) (p : List Step) → word_in s.table (content s n [] (OfRoot (OfVariable f x))) p ≡ word_in s.table (content s m [] (OfRoot (OfVariable f x))) p)
+      → ((c : ℕ) (p : List Step) → word_in s.table (content s n [] (OfCell c)) p ≡ word_in s.table (content s m [] (OfCell c)) p)
+      → (q : List Step) → word_in s.table (content s n [] there.start) q ≡ word_in s.table (content s m [] there.start) q
+  start_same m n k w there same same_cells q = elim there.stands [
+    | inl variable ↦ subst (λ z. word_in s.table (content s n [] z) q ≡ word_in s.table (content s m [] z) q) (sym variable.1) (same there.frame there.object q)
+    | inr cell ↦ subst (λ z. word_in s.table (content s n [] z) q ≡ word_in s.table (content s m [] z) q) (sym (cell.0).1) (same_cells (cell.0).0 q)
+  ]
 
   copied_first : (r : Return) (rest : List Return) (ways : List Way) (begun : Now) → IsCopiedTo s cells r → AreThere ways begun.memory → Kept s begun.memory hands
       → ViewedAway (r ∷ rest) ways begun.memory → AreTaken s cells begun.memory depth facts scope rest ways
@@ -506,9 +609,9 @@ module _ (t : Turn) (settled : IsSettled (typing t).table) (own_law : OwnsByShap
         | inr later ↦ elim later [ inl taken_there ↦ inr (inl taken_there) | inr left ↦ inr (inr (left_more r rest w left)) ]
       ])
       (same_viewed (home s depth) (sees_only s) (away (r ∷ rest) ways) v (seen s begun.memory hands leaks) (seen s next hands leaks) facts on.same viewed))
-      (taken_on begun.memory next rest ways (λ k w has there none p c held. none p c (sym (on.hold there.frame there.object (p ++ there.steps)) ∙ held)) taken))))
+      (taken_on begun.memory next rest ways (λ k w has there among none p c held. none p c (sym (start_same begun.memory next k w there on.hold (λ n q. cells_same s begun.memory next hands leaks on.same n q) (p ++ there.steps)) ∙ held)) taken))))
 
-  taken_first : (r : Return) (rest : List Return) (to : Way) (ways : List Way) (begun : Now) → (taken : IsTaken s begun.memory depth facts scope r to)
+  taken_first : (r : Return) (rest : List Return) (to : Way) (ways : List Way) (begun : Now) → (taken : IsTaken s cells begun.memory depth facts scope r to)
       → IsApartFrom to ways → IsAnother r.formal rest → AreTaken s cells begun.memory depth facts scope rest ways → AreThere (to ∷ ways) begun.memory → Kept s begun.memory hands
       → ViewedAway (r ∷ rest) (to ∷ ways) begun.memory
       → ((next : Memory) → AreThere ways next → Kept s next hands → ViewedAway rest ways next → AreTaken s cells next depth facts scope rest ways
@@ -519,8 +622,9 @@ module _ (t : Turn) (settled : IsSettled (typing t).table) (own_law : OwnsByShap
       let formal : Place = variable_place (here t) r.formal in
       let ws : List machine.Word = words_of s begun.memory formal in
       let begin_ways = taken_base m rest ways later in
+      let cells_now : (c : Lodge) → Has cells c → Reaches (seen s m hands leaks) c.way (OfCell c.cell) = λ c has. (cells_there c has).0 in
       let next : Memory = stored s r.to ws (moved_out s formal begun.memory) in
-      subst (GivenBack (r ∷ rest) (to ∷ ways) begun.memory) (sym (given_is t r rest begun (taken.0).inside.frame (taken.0).inside.object (taken.0).inside.base))
+      subst (GivenBack (r ∷ rest) (to ∷ ways) begun.memory) (sym (place_is t r rest begun r.to.base refl (taken_there begun.memory r to taken typed viewed.owned (λ c has. (cells_there c has).0))))
       (if_back (λ n. IsBack (r ∷ rest) (to ∷ ways) begun.memory n) (fits_type s.table r.to.of ws) ws begun
       (λ us n. copied_back t rest (record n { memory = stored s r.to us (moved_out s formal n.memory) }))
       (backs_on (λ n. IsBack rest ways next n) (λ n. IsBack (r ∷ rest) (to ∷ ways) begun.memory n)
@@ -528,30 +632,30 @@ module _ (t : Turn) (settled : IsSettled (typing t).table) (own_law : OwnsByShap
         typed = back.typed;
         viewed = back.viewed;
         held = λ g y p c held. elim (back.held g y p c held) [
-          | inl h ↦ one_held r rest to ways m taken apart another begin_ways typed viewed g y p c h
+          | inl h ↦ one_held r rest to ways m taken apart another begin_ways typed viewed cells_now g y p c h
           | inr h ↦ inr h
         ];
         empty = λ q has. elim has [
           | inr there ↦ back.empty q there
           | inl same ↦ (λ p c held. elim (back.held (suc depth) r.formal p c (subst (λ (z : Return). word_in s.table (content s n [] (OfRoot (OfVariable (suc depth) z.formal))) p ≡ Held c) (sym same) held)) [
-            | inl h ↦ one_empty r rest to ways m taken apart another begin_ways typed viewed p c h
+            | inl h ↦ one_empty r rest to ways m taken apart another begin_ways typed viewed cells_now p c h
             | inr h ↦ (let frames = h.0 in let low = home_low s depth r.formal in omega (arith, frames, low))
           ])
         ];
-        views = λ g y view. back.views g y view ∙ one_views r rest to ways m taken apart another begin_ways typed viewed g y view;
-        carried = carried_then s (λ g. g ≡ suc depth → ⊥) (to ∷ []) ways (to ∷ ways) m next n
+        views = λ g y view. back.views g y view ∙ one_views r rest to ways m taken apart another begin_ways typed viewed cells_now g y view;
+        carried = carried_then s (λ g. g ≡ suc depth → ⊥) cells (to ∷ []) ways (to ∷ ways) m next n
             (λ w there. elim there.1 [ inl same ↦ (there.0, inl same, there.2, there.3) | inr never ↦ absurd never ]) (λ w there. taken_more to ways w there)
-            (one_carried r rest to ways m taken apart another begin_ways typed viewed) back.carried;
+            (one_carried r rest to ways m taken apart another begin_ways typed viewed cells_now) back.carried;
         stays = λ w g y base off aside c reach. back.stays w g y base off (λ k has. aside k (inr has)) c
-            (one_stays r rest to ways m taken apart another begin_ways typed viewed w g y base off (aside to (inl refl)) c reach);
+            (one_stays r rest to ways m taken apart another begin_ways typed viewed cells_now w g y base off (aside to (inl refl)) c reach);
       })
       (copied_back t rest (record begun { memory = next }))
       (more next (λ c has. (
-        (let begin = begins c has in one_stays r rest to ways m taken apart another begin_ways typed viewed c.way begin.0 begin.1 begin.2 begin.3
+        (let begin = begins c has in one_stays r rest to ways m taken apart another begin_ways typed viewed cells_now c.way begin.0 begin.1 begin.2 begin.3
             ((cells_there c has).1 to (inl refl)) c.cell (cells_there c has).0),
         (λ k there. (cells_there c has).1 k (inr there)),
-      )) (one_kept r rest to ways m taken apart another begin_ways typed viewed) (one_viewed r rest to ways m taken apart another begin_ways typed viewed)
-      (taken_on m next rest ways (λ k w has there none. one_bare r rest to ways m taken apart another begin_ways typed viewed k w has there none) later))))
+      )) (one_kept r rest to ways m taken apart another begin_ways typed viewed cells_now) (one_viewed r rest to ways m taken apart another begin_ways typed viewed cells_now)
+      (taken_on m next rest ways (λ k w has there among none. one_bare r rest to ways m taken apart another begin_ways typed viewed cells_now k w has there among none) later))))
 
   pub all_given_back : (returns : List Return) (ways : List Way) (begun : Now) → AreTaken s cells begun.memory depth facts scope returns ways
       → AreThere ways begun.memory → Kept s begun.memory hands → ViewedAway returns ways begun.memory → GivenBack returns ways begun.memory (copied_back t returns begun)
@@ -561,7 +665,7 @@ module _ (t : Turn) (settled : IsSettled (typing t).table) (own_law : OwnsByShap
     held = λ g y p c held. inl held;
     empty = λ r has. absurd has;
     views = λ g y view. refl;
-    carried = carried_same s (λ g. g ≡ suc depth → ⊥) ways begun.memory begun.memory (λ g y p. refl) (λ c p. refl);
+    carried = carried_same s (λ g. g ≡ suc depth → ⊥) cells ways begun.memory begun.memory (λ g y p. refl) (λ c p. refl);
     stays = λ w g y base off aside c reach. reach;
   }
   all_given_back (r ∷ rest) [] begun taken there typed viewed =

@@ -17,7 +17,7 @@ use Rattle.flow_paths.specs.Objects.{Typing, is_package_object}
 use Rattle.machine.specs.Memory.{Memory, Place}
 use Rattle.machine.specs.States.{Return}
 use Rattle.soundness.specs.Seen.{IsNear, content, word_in, home}
-use Rattle.viewed_steps.specs.Taken.{last_steps, Lodge, IsInside, IsBare, TakenBy, AreTaken, AreCarried}
+use Rattle.viewed_steps.specs.Taken.{Lodge, IsInside, IsAmong, IsBare, TakenBy, AreTaken, AreCarried}
 
 -- where owners see the same, ways reach the same
 pub same_reaches : (s t : View) → IsSame s t → (w : Way) (l : Loc) → Reaches s w l → Reaches t w l
@@ -108,25 +108,31 @@ taken_less to ways w (k, inr has, p, is) off = (k, has, p, is)
 
 -- ---- what is carried
 
-pub carried_same : (s : Typing) (these : ℕ → Type 0) (ways : List Way) (m n : Memory)
+pub carried_same : (s : Typing) (these : ℕ → Type 0) (cells : List Lodge) (ways : List Way) (m n : Memory)
     → ((f x : ℕ) (p : List Step) → word_in s.table (content s n [] (OfRoot (OfVariable f x))) p ≡ word_in s.table (content s m [] (OfRoot (OfVariable f x))) p)
-    → ((c : ℕ) (p : List Step) → word_in s.table (content s n [] (OfCell c)) p ≡ word_in s.table (content s m [] (OfCell c)) p) → AreCarried s these ways m n
-carried_same s these ways m n same cells = record {
+    → ((c : ℕ) (p : List Step) → word_in s.table (content s n [] (OfCell c)) p ≡ word_in s.table (content s m [] (OfCell c)) p) → AreCarried s these cells ways m n
+carried_same s these cells ways m n same same_cells = record {
   held = λ f x p c there off held. sym (same f x p) ∙ held;
   gone = λ f x p there off gone. same f x p ∙ gone;
-  cells = cells;
+  in_cells = λ k p c off held. sym (same_cells k p) ∙ held;
+  gone_cells = λ k p off gone. same_cells k p ∙ gone;
 }
 
-pub carried_then : (s : Typing) (these : ℕ → Type 0) (first second all : List Way) (m k n : Memory) → ((w : Way) → TakenBy first w → TakenBy all w)
-    → ((w : Way) → TakenBy second w → TakenBy all w) → AreCarried s these first m k → AreCarried s these second k n → AreCarried s these all m n
-carried_then s these first second all m k n less more one two = record {
+pub carried_then : (s : Typing) (these : ℕ → Type 0) (cells : List Lodge) (first second all : List Way) (m k n : Memory) → ((w : Way) → TakenBy first w → TakenBy all w)
+    → ((w : Way) → TakenBy second w → TakenBy all w) → AreCarried s these cells first m k → AreCarried s these cells second k n → AreCarried s these cells all m n
+carried_then s these cells first second all m k n less more one two = record {
   held = λ f x p c there off held.
       one.held f x p c there (λ taken. off (less (along (Object (OfVariable f x)) p) taken))
       (two.held f x p c there (λ taken. off (more (along (Object (OfVariable f x)) p) taken)) held);
   gone = λ f x p there off gone.
       two.gone f x p there (λ taken. off (more (along (Object (OfVariable f x)) p) taken))
       (one.gone f x p there (λ taken. off (less (along (Object (OfVariable f x)) p) taken)) gone);
-  cells = λ c p. two.cells c p ∙ one.cells c p;
+  in_cells = λ k p c off held.
+      one.in_cells k p c (λ (l, has, is, taken). off (l, has, is, less (along l.way p) taken))
+      (two.in_cells k p c (λ (l, has, is, taken). off (l, has, is, more (along l.way p) taken)) held);
+  gone_cells = λ k p off gone.
+      two.gone_cells k p (λ (l, has, is, taken). off (l, has, is, more (along l.way p) taken))
+      (one.gone_cells k p (λ (l, has, is, taken). off (l, has, is, less (along l.way p) taken)) gone);
 }
 
 -- ---- where ways begin
@@ -179,7 +185,7 @@ taken_from s cells m depth facts scope (r ∷ rest) (to ∷ ways) (inl copied) k
 taken_from s cells m depth facts scope (r ∷ rest) (to ∷ ways) (inr (one, apart, another, more)) k (inl same) = (
   (one.0).inside.frame,
   (one.0).inside.object,
-  ap base_of (sym same ∙ (one.0).inside.way) ∙ base_along (Object (OfVariable (one.0).inside.frame (one.0).inside.object)) (one.0).inside.steps,
+  ap base_of (sym same ∙ (one.0).inside.way) ∙ base_along (one.0).inside.trunk (one.0).inside.steps ∙ (one.0).inside.root,
   (one.0).inside.at_home,
 )
 taken_from s cells m depth facts scope (r ∷ rest) (to ∷ ways) (inr (one, apart, another, more)) k (inr has) = taken_from s cells m depth facts scope rest ways more k has
@@ -207,37 +213,15 @@ home_low s d y = by_package (is_package_object s y)
     by_package true = omega arith
     by_package false = omega arith
 
-pub last_along : (r : Root) (p : List Step) → last_steps (along (Object r) p) ≡ p
-last_along r [] = refl
-last_along r (i ∷ p) = ap (λ z. i ∷ z) (last_along r p)
-
--- no number stands in what was taken
-pub taken_bare : (s : Typing) (cells : List Lodge) (m : Memory) (depth : ℕ) (facts : List Fact) (scope : List ℕ) (returns : List Return) (ways : List Way)
-    → AreTaken s cells m depth facts scope returns ways → (f y : ℕ) (p : List Step) → Has ways (along (Object (OfVariable f y)) p) → (q : List Step) (c : ℕ)
-    → word_in s.table (content s m [] (OfRoot (OfVariable f y))) (q ++ p) ≡ Held c → ⊥
-taken_bare s cells m depth facts scope [] ways none f y p has q c held = absurd (subst (λ z. Has z (along (Object (OfVariable f y)) p)) none has)
-taken_bare s cells m depth facts scope (r ∷ rest) [] taken f y p has q c held = absurd has
-taken_bare s cells m depth facts scope (r ∷ rest) (to ∷ ways) (inl copied) f y p has q c held =
-    taken_bare s cells m depth facts scope rest (to ∷ ways) copied.1 f y p has q c held
-taken_bare s cells m depth facts scope (r ∷ rest) (to ∷ ways) (inr (one, apart, another, more)) f y p (inl same) q c held =
-    let inside = (one.0).inside in
-    let is : along (Object (OfVariable inside.frame inside.object)) inside.steps ≡ along (Object (OfVariable f y)) p = sym inside.way ∙ same in
-    let base = same_variable inside.frame inside.object f y (sym (base_along (Object (OfVariable inside.frame inside.object)) inside.steps) ∙ ap base_of is
-    ∙ base_along (Object (OfVariable f y)) p) in
-    let steps : inside.steps ≡ p = sym (last_along (OfVariable inside.frame inside.object) inside.steps) ∙ ap last_steps is ∙ last_along (OfVariable f y) p in
-    one.1 q c ((λ j. word_in s.table (content s m [] (OfRoot (OfVariable (base.0 j) (base.1 j)))) (q ++ steps j)) ∙ held)
-taken_bare s cells m depth facts scope (r ∷ rest) (to ∷ ways) (inr (one, apart, another, more)) f y p (inr has) q c held =
-    taken_bare s cells m depth facts scope rest ways more f y p has q c held
-
 -- it stays so where no number comes to them
 pub still_taken : (s : Typing) (cells : List Lodge) (m n : Memory) (depth : ℕ) (facts : List Fact) (scope : List ℕ) (returns : List Return) (ways : List Way)
-    → ((k : Place) (to : Way) → Has ways to → (inside : IsInside s depth k to) → IsBare s depth k to m inside → IsBare s depth k to n inside)
+    → ((k : Place) (to : Way) → Has ways to → (inside : IsInside s depth k to) → IsAmong cells inside.start inside.trunk → IsBare s depth k to m inside → IsBare s depth k to n inside)
     → AreTaken s cells m depth facts scope returns ways → AreTaken s cells n depth facts scope returns ways
 still_taken s cells m n depth facts scope [] ways still none = none
 still_taken s cells m n depth facts scope (r ∷ rest) [] still taken = (taken.0, still_taken s cells m n depth facts scope rest [] still taken.1)
 still_taken s cells m n depth facts scope (r ∷ rest) (to ∷ ways) still (inl copied) = inl (copied.0, still_taken s cells m n depth facts scope rest (to ∷ ways) still copied.1)
 still_taken s cells m n depth facts scope (r ∷ rest) (to ∷ ways) still (inr (one, apart, another, more)) = inr (
-  (one.0, still r.to to (inl refl) (one.0).inside one.1),
+  (one.0, still r.to to (inl refl) (one.0).inside (one.0).among one.1),
   apart,
   another,
   still_taken s cells m n depth facts scope rest ways (λ k w has. still k w (inr has)) more,

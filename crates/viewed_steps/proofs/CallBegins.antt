@@ -26,7 +26,8 @@ use Rattle.flow_paths.specs.Paths.{PathPoint, is_some_point, ControlPath, begins
 use Rattle.flow_paths.specs.Effects.{flow_sub_at, path_points}
 use Rattle.flow_paths.specs.Scopes.{taken, scope_behind, Leads, is_temporary}
 use Rattle.machine.specs.Words as machine
-use Rattle.machine.specs.Memory.{Memory, no_slot, variable_slots}
+use Rattle.machine.specs.Memory as memory
+use Rattle.machine.specs.Memory.{Memory, no_slot, variable_slots, Place}
 use Rattle.machine.specs.Evaluate.{Now, Exception}
 use Rattle.machine.specs.States.{Frame, State, Leak, sub_of, frame_at_start, Outcome, Goes}
 use Rattle.machine.specs.Step.{Turn, turn, start, led, successor}
@@ -37,7 +38,7 @@ use Rattle.place_names.specs.declared.act.Mode.TheVariants as mode
 use Rattle.owned_ways.specs.Ways.{Step, Way, after, AllowsAll, Past}
 use Rattle.owned_ways.specs.Ways as ways
 use Rattle.owned_ways.proofs.Locations.{past_under, under_along, under_itself}
-use Rattle.soundness.specs.Seen.{is_view_formal, IsNear, content, seen, home, trunk, word_in}
+use Rattle.soundness.specs.Seen.{is_view_formal, IsNear, content, seen, home, trunk, word_in, steps_in}
 use Rattle.soundness.specs.Typed.{Kept}
 use Rattle.soundness.specs.Sound.{Stage, facts_of, AreStages, Uses, IsRunnable, returns_value, InScope, IsNamedSub, IsAtPoint, view_of as view_here}
 use Rattle.soundness.proofs.Stays.{Quiet}
@@ -64,14 +65,13 @@ use Rattle.viewed_steps.specs.Taken.{TakenBy, AreTaken, AreCarried, Lodge}
 use Rattle.viewed_steps.proofs.Apart.{moved_same}
 use Rattle.viewed_steps.proofs.Waiting.{StandsBetween, kept_low, beside_them, handed, elsewhere_excused, bare_still}
 use Rattle.viewed_steps.proofs.Onward.{all_on}
-use Rattle.viewed_steps.proofs.Between.{gone_also, base_under, IsHomed, taken_bare}
+use Rattle.viewed_steps.proofs.Between.{gone_also, base_under, IsHomed}
 use Rattle.viewed_steps.proofs.Outside.{IsSpared, kept_clear}
 use Rattle.flow_paths.specs.Effects.{written_by}
-use Rattle.viewed_steps.proofs.Aside.{part_apart}
 use Rattle.viewed_steps.proofs.LaidOut.{AreLaidOut}
 use Rattle.viewed_steps.proofs.Outs.{Out, found_in}
 use Rattle.viewed_steps.proofs.Entered.{ArePassedOn, IsOpen, AreBlank, not_above, inside_plain, inside_named, inside_number, inside_itself, passed_one}
-use Rattle.viewed_steps.proofs.Entering.{owns_there, AreDeclared, Enter, formals_of_returns, all_declared}
+use Rattle.viewed_steps.proofs.Entering.{owns_there, AreDeclared, Enter, formals_of_returns, all_declared, AtFirst}
 use Rattle.viewed_steps.proofs.Passed.{IsNamedBy, found_there, all_returned, call_goes}
 use Rattle.viewed_steps.proofs.Cells.{passed_formal, IsCellNamed}
 use Rattle.viewed_steps.proofs.Standing.{or_right}
@@ -84,6 +84,7 @@ use Rattle.viewed_steps.proofs.Shown.{same_cells}
 use Rattle.viewed_steps.proofs.Exclusive.{AreLent, IsFrom, from_past, from_far, from_apart, from_place}
 use Rattle.viewed_steps.proofs.Opening.{Opens, all_opened, low_of, opened_from, opened_views, opened_whole, opened_lies, opened_held, opened_placed}
 use Rattle.viewed_steps.proofs.Calling as calling
+use Rattle.viewed_steps.proofs.Bared.{taken_bare}
 
 module _ (table : Table) (typed : TypedProgram) (effects : Effects) (input : List ℕ) (ready : IsReady table typed effects) where
   abbrev program : FlowProgram
@@ -317,7 +318,7 @@ module _ (table : Table) (typed : TypedProgram) (effects : Effects) (input : Lis
         abbrev well_all : Viewed (home s depth) (sees_only s) around_outs views (view_here s easy.state) facts_called
         well_all = calling.well_all table typed effects input ready state top below more_frames rest named p frames deep stages running awaiting of_sub at_point path views viewed_before kept scope holds placed_before above n actuals result e passed given
 
-        abbrev named_cell : (c : Lodge) → Has cells c → IsCellNamed s depth facts_called views view_now formals actuals c
+        abbrev named_cell : (c : Lodge) → Has cells c → IsCellNamed s depth facts_called views view_now formals actuals passed c
         named_cell = calling.named_cell table typed effects input ready state top below more_frames rest named p frames deep stages running awaiting of_sub at_point path views viewed_before kept scope holds placed_before above n actuals result e passed given
 
         abbrev cell_root : (c : Lodge) (has : Has cells c) → ways.number_of c.name ≡ ways.number_of (named_cell c has).whole
@@ -359,14 +360,17 @@ module _ (table : Table) (typed : TypedProgram) (effects : Effects) (input : Lis
         leaks_same : leaks_then ≡ state.leaks ++ flat_map (λ (leaks : List Leak). leaks) checks_there
         leaks_same = ap (λ z. state.leaks ++ z) (sym (found_there s ready.accepted.settled depth views view_now main_turn.point.pos state.memory formals actuals passed laid))
 
-        enters : Enter s ready.accepted.settled ready.owns in_formals (waiting_in easy.state) depth views far_views facts_called next_there cells cell_begins other_all state.leaks leaks_then formals passed ways_taken
+        at_first : AtFirst s ready.accepted.settled ready.owns in_formals (waiting_in easy.state) depth views far_views holds.only facts_called next_there cells cell_begins state.memory
+        at_first = record { typed = (viewed_easy plain_there.0).1; leaks = state.leaks; owned = well_all.owned; there = λ c has. (named_cell c has).reaches }
+
+        enters : Enter s ready.accepted.settled ready.owns in_formals (waiting_in easy.state) depth views far_views holds.only facts_called next_there cells cell_begins other_all state.leaks leaks_then formals passed ways_taken
             state.memory with_all
         enters =
-            all_declared s ready.accepted.settled ready.owns in_formals (waiting_in easy.state) depth views far_views facts_called next_there cells cell_begins other_all state.leaks formals passed ways_taken outs
-            state.memory state.memory all_passed_ways.1 open_there (viewed_easy plain_there.0).1 (viewed_easy plain_there.0).1
-            (λ c has. ((named_cell c has).reaches, cell_aside c has)) well_all blank_formals (λ o has f y q some is k. refl) (same_cells state.memory state.memory refl)
+            all_declared s ready.accepted.settled ready.owns in_formals (waiting_in easy.state) depth views far_views holds.only facts_called next_there cells cell_begins other_all state.leaks formals passed ways_taken outs
+            state.memory state.memory all_passed_ways.1 open_there at_first (viewed_easy plain_there.0).1
+            (λ c has. ((named_cell c has).reaches, cell_aside c has)) well_all blank_formals (λ o has. ((λ f y q some is k. refl), (λ c q k there is. refl))) (same_cells state.memory state.memory refl)
 
-        abbrev declared_there : AreDeclared s ready.accepted.settled ready.owns in_formals (waiting_in easy.state) depth views far_views facts_called next_there cells cell_begins formals passed ways_taken state.leaks leaks_then
+        abbrev declared_there : AreDeclared s ready.accepted.settled ready.owns in_formals (waiting_in easy.state) depth views far_views holds.only facts_called next_there cells cell_begins formals passed ways_taken state.leaks leaks_then
             state.memory with_all
         declared_there = enters.0
 
@@ -406,7 +410,7 @@ module _ (table : Table) (typed : TypedProgram) (effects : Effects) (input : Lis
         held_called f x q k off held = elim (declared_there.held f x q k held) [ inl before ↦ before | inr mine ↦ absurd (off mine.0) ]
 
         not_up : (x : ℕ) → home s depth x ≡ suc depth → ⊥
-        not_up = not_above s ready.accepted.settled ready.owns in_formals (waiting_in easy.state) state.leaks depth views far_views facts_called next_there
+        not_up = not_above s ready.accepted.settled ready.owns in_formals (waiting_in easy.state) state.leaks depth views far_views holds.only facts_called next_there cells
 
         -- the variables of its views stay
         word_still : (x : ℕ) → is_view s x ≡ true
@@ -434,14 +438,15 @@ module _ (table : Table) (typed : TypedProgram) (effects : Effects) (input : Lis
         -- no number stands in what is taken
         bare_there : (w : Way) (l : ways.Loc) (q : List Step) → IsBareOf s waits_there w l q → (r : List Step) (k : ℕ)
             → word_in s.table (content s with_all [] l) (r ++ q) ≡ ways.Held k → ⊥
-        bare_there w l q (taken, inl (c, has, way, is)) r k held =
-            let inside = ((passed_one s state.memory cells depth facts_called next_there formals passed ways_taken outs all_passed_ways.1 (ways.along w q) taken).2).inside in
-            part_apart (view_here s easy.state) w c.cell (subst (λ z. ways.Reaches (view_here s easy.state) z (ways.OfCell c.cell)) way (named_cell c has).reaches)
-            (ways.OfVariable inside.frame inside.object) q inside.steps inside.way
-        bare_there w l q (taken, inr (y, also, way, is)) r k held =
-            taken_bare s cells with_all depth facts_called next_there (returns_of formals passed) ways_taken taken_then 0 y q
-            (subst (λ z. Has ways_taken (ways.along z q)) (sym way) taken) r k
-            (subst (λ z. word_in s.table (content s with_all [] z) (r ++ q) ≡ ways.Held k) (sym is) held)
+        bare_there w l q (taken, top) r k held =
+            taken_bare s cells with_all depth facts_called next_there (view_here s easy.state) (λ c has. (named_cell c has).reaches) (returns_of formals passed) ways_taken taken_then w l
+            (elim top [
+              | inl (c, has, way, is) ↦ (
+                  subst (λ z. ways.Reaches (view_here s easy.state) w z) is (subst (λ z. ways.Reaches (view_here s easy.state) z (ways.OfCell c.cell)) way (named_cell c has).reaches),
+                  ap steps_in (sym is),
+                )
+              | inr (y, also, way, is) ↦ (subst (λ z. ways.Reaches (view_here s easy.state) z l) way (sym is), ap steps_in (sym is))
+            ]) q taken r k held
 
         is_waiting : IsWaiting table typed effects after_call n (returns_of formals passed) waits_there
         is_waiting = record {
@@ -510,7 +515,8 @@ module _ (table : Table) (typed : TypedProgram) (effects : Effects) (input : Lis
                   (λ to taken past. kept_clear table typed effects unmoved_stage local state depth older between to (homed to taken) (spared_to to taken) w k keeps_it
                   (base_under to w (past_under to w past))) k
                   (((viewed_easy plain_there.0).0).far w k keeps_it)));
-              bare = bare_still table typed effects unmoved_stage local older easy.state after_call (λ c q k held. sym (declared_there.carried.cells c q) ∙ held)
+              bare = bare_still table typed effects unmoved_stage local older easy.state after_call
+                  (λ w c q r k there held. declared_there.carried.in_cells c (r ++ q) k (λ taken. (taken.3).1) held)
                   (λ y q r k there shared held. held_called 0 y (r ++ q) k (λ above_it. omega (arith, above_it)) held) ((viewed_easy plain_there.0).0).bare;
             }) running.2
 
@@ -534,7 +540,7 @@ module _ (table : Table) (typed : TypedProgram) (effects : Effects) (input : Lis
           λ x has. all_returned s ready.accepted.settled depth views view_now state.memory formals actuals passed laid called.actuals_stay kinds x
               (subst (λ z. Has z x) (ap (λ (z : Signature). z.formals) (signature_is program n)) has),
           λ r has. called.formals r.formal
-              (formals_of_returns s ready.accepted.settled ready.owns in_formals (waiting_in easy.state) depth views far_views facts_called next_there cells cell_begins formals passed r has),
+              (formals_of_returns s ready.accepted.settled ready.owns in_formals (waiting_in easy.state) depth views far_views holds.only facts_called next_there cells cell_begins formals passed r has),
         )
 
         -- nothing that is gone meets what its views see of others
@@ -584,7 +590,7 @@ module _ (table : Table) (typed : TypedProgram) (effects : Effects) (input : Lis
                   by.0 by.1 by.2 to by.3 (inside_named s ready.accepted.settled depth one.1 to inside)
                   (ap (sees_only s) (inside_number s ready.accepted.settled depth one.1 to inside)
                   ∙ owner_sees s inside.object (inside_plain s ready.accepted.settled depth one.1 to inside) inside.owner)
-                  (one.2).unlent (subst (Meet w) (sym (inside_itself s ready.accepted.settled depth one.1 to inside views)) meets))
+                  (one.2).unlent (subst (Meet w) (sym (inside_itself s ready.accepted.settled depth one.1 to inside views holds.only)) meets))
             ]
 
         -- nor one that another one of them sees, if it changes that
@@ -751,7 +757,7 @@ module _ (table : Table) (typed : TypedProgram) (effects : Effects) (input : Lis
               ),
             );
           },
-          calls_one waits_stage cells refl (refl, refl, refl) refl none_new (subst (λ d. AreCarried s (λ f. f ≡ suc d → ⊥) [] state.memory with_all) (sym deep) declared_there.carried),
+          calls_one waits_stage cells refl (refl, refl, refl) refl none_new (subst (λ d. AreCarried s (λ f. f ≡ suc d → ⊥) cells [] state.memory with_all) (sym deep) declared_there.carried),
         )
           where
             formal_lasts : (k : ObjectKind) → is_formal_kind k ≡ true → is_temporary k ≡ false

@@ -50,7 +50,7 @@ use Rattle.viewed_steps.specs.Awaited.{AreFor, AreValues, temporaries_of, lastin
 use Rattle.viewed_steps.proofs.Waited.{others_only, lasting_within}
 use Rattle.viewed_steps.specs.Sound.{loan_by, ArePast, HoldsAt, ArePlaced, NoneAbove, ViewStage, stages_of, GoneElsewhere, IsWaiting, AreWaiting, ends_one, LeadsAlong, IsResting, HasTraversals, NoneGiven, AreTraversals}
 use Rattle.viewed_steps.specs.Ready.{IsReady}
-use Rattle.viewed_steps.proofs.Waiting.{StandsBetween, all_between, handed, gone_low, kept_low, far, theirs, bare_still, some_frames, unused_there}
+use Rattle.viewed_steps.proofs.Waiting.{StandsBetween, all_between, handed, gone_low, kept_low, far, theirs, bare_still, some_frames, unused_there, BareElsewhere, bare_reached}
 use Rattle.viewed_steps.proofs.Onward.{all_on}
 use Rattle.viewed_steps.proofs.Left.{owned_left, covered_left, reach_left, reach_before, gone_before, other_word, no_word, whole_there}
 use Rattle.viewed_steps.proofs.Standing.{or_right}
@@ -60,7 +60,8 @@ use Rattle.viewed_steps.proofs.Innermost as innermost
 use Rattle.soundness.proofs.Passing.{signature_is}
 use Rattle.owned_ways.proofs.Dropped.{named_base}
 use Rattle.viewed_soundness.specs.Holds.{sees_only, is_view}
-use Rattle.viewed_steps.specs.Taken.{TakenBy, Lodge, AreCarried}
+use Rattle.owned_ways.proofs.Unique.{one_way}
+use Rattle.viewed_steps.specs.Taken.{TakenBy, Lodge, IsTakenIn, AreCarried}
 use Rattle.viewed_steps.proofs.Between.{home_low, homed_apart, base_under, same_variable, taken_from as words_taken, taken_base, IsHomed, number_based, base_along}
 use Rattle.viewed_steps.proofs.Outside.{IsSpared, kept_clear, bare_clear}
 use Rattle.viewed_steps.proofs.Apart.{kept_there, written_disturbs}
@@ -310,12 +311,12 @@ module _ (table : Table) (typed : TypedProgram) (effects : Effects) (input : Lis
       -- the state as the frame below sees it
       abbrev ViewedLow : List Return → List Way → Memory → Type 0
       ViewedLow returns ways_left m =
-          ViewedAway main_turn ready.accepted.settled ready.owns in_formals (waiting_in state) state.leaks below.stage.depth deep_low below.views far_low their_facts
+          ViewedAway main_turn ready.accepted.settled ready.owns in_formals (waiting_in state) state.leaks below.stage.depth deep_low below.views far_low waits.holds.only their_facts
           (lasting_of s waits.point.scope) around_low free_low whole_low none_kept below.cells begins_low returns ways_left m
 
       abbrev Away : Way → Type 0
       Away w =
-          AwayBy main_turn ready.accepted.settled ready.owns in_formals (waiting_in state) state.leaks below.stage.depth deep_low below.views far_low their_facts
+          AwayBy main_turn ready.accepted.settled ready.owns in_formals (waiting_in state) state.leaks below.stage.depth deep_low below.views far_low waits.holds.only their_facts
           (lasting_of s waits.point.scope) around_low free_low whole_low none_kept below.cells begins_low top.frame.returns below.stage.returns w
 
       known_low : (w : Way) (l : ways.Loc) → ways.IsRooted w → ways.Reaches (view_here s state) w l → (view_here s state).word l ≡ ways.Gone
@@ -384,12 +385,12 @@ module _ (table : Table) (typed : TypedProgram) (effects : Effects) (input : Lis
 
       abbrev Backed : Memory → Type 0
       Backed m =
-          IsBack main_turn ready.accepted.settled ready.owns in_formals (waiting_in state) state.leaks below.stage.depth deep_low below.views far_low their_facts
+          IsBack main_turn ready.accepted.settled ready.owns in_formals (waiting_in state) state.leaks below.stage.depth deep_low below.views far_low waits.holds.only their_facts
           (lasting_of s waits.point.scope) around_low free_low whole_low none_kept below.cells begins_low top.frame.returns below.stage.returns state.memory m
 
       given_back : Backs Backed (steps.copied_back main_turn top.frame.returns (steps.start main_turn))
       given_back =
-          all_given_back main_turn ready.accepted.settled ready.owns in_formals (waiting_in state) state.leaks below.stage.depth deep_low below.views far_low their_facts
+          all_given_back main_turn ready.accepted.settled ready.owns in_formals (waiting_in state) state.leaks below.stage.depth deep_low below.views far_low waits.holds.only their_facts
           (lasting_of s waits.point.scope) around_low free_low whole_low none_kept below.cells begins_low top.frame.returns below.stage.returns (steps.start main_turn) waits.taken
           (λ c has. ((waits.kept c has).reaches, (waits.kept c has).aside)) kept viewed_low
 
@@ -524,7 +525,7 @@ module _ (table : Table) (typed : TypedProgram) (effects : Effects) (input : Lis
         ]
 
         -- what was gone stays so in the frames that are left, but in the places that were taken
-        left_carried : AreCarried s (λ f. f ≡ top.depth → ⊥) below.stage.returns state.memory left_memory
+        left_carried : AreCarried s (λ f. f ≡ top.depth → ⊥) below.cells below.stage.returns state.memory left_memory
         left_carried =
             let left_there = left_same s mid depth (waiting_in state) state.leaks nothing_mid in
             let others_off : (f : ℕ) → (f ≡ top.depth → ⊥) → f ≡ depth → ⊥ = (λ f off e. off (e ∙ sym deep)) in
@@ -532,7 +533,8 @@ module _ (table : Table) (typed : TypedProgram) (effects : Effects) (input : Lis
             record {
               held = λ f x q c off out held. on.carried.held f x q c (above_off f off) out (sym (left_there.0 f x q (others_off f off)) ∙ held);
               gone = λ f x q off out gone. left_there.0 f x q (others_off f off) ∙ on.carried.gone f x q (above_off f off) out gone;
-              cells = λ c q. left_there.1 c q ∙ on.carried.cells c q;
+              in_cells = λ n q c out held. on.carried.in_cells n q c out (sym (left_there.1 n q) ∙ held);
+              gone_cells = λ n q out gone. left_there.1 n q ∙ on.carried.gone_cells n q out gone;
             }
 
         -- what was taken begins at variables of the frame, or at package objects of which the others keep nothing
@@ -552,6 +554,16 @@ module _ (table : Table) (typed : TypedProgram) (effects : Effects) (input : Lis
             (h ∷ others) waiting.1 g there some f keeps (ap (λ (z : PlaceName). is_package_object s z.root) name_is ∙ shared)
             (written_disturbs table typed effects ready.accepted.effects_are (loan_by f) below.stage.frame.sub (place f).root
             (subst (Has (written_by effects below.stage.frame.sub)) (number ∙ sym root ∙ ap (λ (z : PlaceName). z.root) (sym name_is)) written))
+
+        -- what is bare elsewhere in a cell isn't given back to
+        bare_aside : (w : ways.Way) (n : ℕ) (q r : List Step) → BareElsewhere table typed effects unmoved_stage local (h ∷ others) w (ways.OfCell n) q
+            → IsTakenIn below.cells below.stage.returns n (r ++ q) → ⊥
+        bare_aside w n q r there (c, has, is, (to, has_to, steps_on, goes)) =
+            let view = view_here s state in
+            let reach : ways.Reaches view w (ways.OfCell n) = bare_reached table typed effects unmoved_stage local state below.stage.depth (h ∷ others) between_low w n q there in
+            let same : c.way ≡ w = one_way view well.owned c.way w (ways.OfCell n) (subst (λ z. ways.Reaches view c.way (ways.OfCell z)) is (waits.kept c has).reaches) reach in
+            bare_clear table typed effects unmoved_stage local state below.stage.depth (h ∷ others) between_low to (homed to has_to) (spared_to to has_to) w (ways.OfCell n) q there
+            (sym (base_along w (r ++ q)) ∙ ap (λ z. ways.base_of (ways.along z (r ++ q))) (sym same) ∙ ap ways.base_of goes ∙ base_along to steps_on)
 
         -- nothing given waits in others
         none_in : more_frames ≡ h ∷ others → NoneGiven s h × AllByRecursion (NoneGiven s) others
@@ -575,7 +587,8 @@ module _ (table : Table) (typed : TypedProgram) (effects : Effects) (input : Lis
                   (λ to has past. kept_clear table typed effects unmoved_stage local state below.stage.depth (h ∷ others) between_low to (homed to has) (spared_to to has) w n keeps
                   (base_under to w (past_under to w past))) n
                   (far table typed effects unmoved_stage local state below.stage.depth (h ∷ others) between_low w n keeps)));
-              bare = bare_still table typed effects unmoved_stage local (h ∷ others) state left_state (λ c q k held. sym (left_carried.cells c q) ∙ held)
+              bare = bare_still table typed effects unmoved_stage local (h ∷ others) state left_state
+                  (λ w n q r k there held. left_carried.in_cells n (r ++ q) k (bare_aside w n q r there) held)
                   (λ y q r k there shared held. left_carried.held 0 y (r ++ q) k (λ same_depth. (let at = deep in omega (arith, same_depth, at)))
                   (λ (to, has, steps_on, goes). bare_clear table typed effects unmoved_stage local state below.stage.depth (h ∷ others) between_low to (homed to has) (spared_to to has)
                   (ways.Object (OfVariable 0 y)) (OfRoot (OfVariable 0 y)) q there

@@ -28,9 +28,12 @@ use Rattle.machine.specs.Evaluate as run
 use Rattle.machine.specs.Calls.{Passed, Value, From, To, type_of, value_passed, passed, all_passed}
 use Rattle.machine.specs.States.{Waiting, Leak, sub_of}
 use Rattle.machine.specs.Owners.{is_in}
-use Rattle.owned_ways.specs.Ways.{Step, Root, Component, OfVariable, Loc, OfRoot, Way, Object, Into, Empty, Named, Past, Under, IsRooted, Reaches, IsSame, AllowsAll, after, part, along, Allows}
+use Rattle.owned_ways.specs.Ways.{Step, Root, Component, OfVariable, Loc, OfRoot, OfCell, Way, Object, Lost, Into, All, Empty, Named, Past, Under, IsRooted, Reaches, IsSame, AllowsAll, after, part, along, Allows}
 use Rattle.owned_ways.specs.Ways as ways
-use Rattle.owned_ways.proofs.Locations.{under_along, under_itself}
+use Rattle.owned_ways.proofs.Locations.{under_along, under_itself, reaches_along}
+use Rattle.owned_ways.proofs.Unique.{one_location}
+use Rattle.owned_ways.proofs.Dropped.{named_base}
+use Rattle.owned_loans.proofs.Ways.{lifts, lifted_root}
 use Rattle.part_offsets.specs.Parts.{type_in, offset_in, has_part, IsSettled}
 use Rattle.soundness.specs.Seen.{IsNear, content, trunk, steps_in, seen, home, is_view_formal, in_hand}
 use Rattle.soundness.specs.Typed.{Matches, OwnsByShape, Kept, Spot, IsFixed, loc_of, Points}
@@ -49,27 +52,28 @@ use Rattle.soundness.proofs.Passing.{IsRead, AreReads, AddNone, IsValue, TakesAl
 use Rattle.owned_loans.specs.Views.{Around, Views, expand, ExcusedBy, Viewed, IsForeign}
 use Rattle.owned_loans.proofs.Moves.{IsPlace, expand_along, reached}
 use Rattle.owned_loans.proofs.Meeting.{stands_base}
-use Rattle.viewed_soundness.specs.Holds.{IsNamed, PartsAreNamed, Holds, sees_only, IsOwners}
-use Rattle.viewed_soundness.proofs.Names.{Starts, true_false, no_parts_in, plain_named, is_place}
+use Rattle.viewed_soundness.specs.Holds.{IsNamed, PartsAreNamed, Holds, sees_only, IsOwners, is_view}
+use Rattle.viewed_soundness.proofs.Names.{Starts, true_false, no_parts_in, plain_named, is_place, both_no}
 use Rattle.viewed_soundness.proofs.Stays.{Goes as GoesAlong, taking, steps_taking, name_quiet}
 use Rattle.viewed_soundness.proofs.Evaluated.{matches_named}
 use Rattle.viewed_steps.specs.Taken.{Lodge}
-use Rattle.viewed_steps.specs.Sound.{IsScalarObject, IsShown, IsKindOfFormal}
+use Rattle.viewed_steps.specs.Sound.{IsScalarObject, IsShown, IsKindOfFormal, AreOwners, IsReachedBack}
 use Rattle.viewed_steps.specs.Ready.{IsOwnPlace, IsSeen, IsActualTo, AreActualsTo, IsCopyOf}
 use Rattle.viewed_steps.proofs.Views.{AreAccess, formal_view, scalar_no_view}
-use Rattle.viewed_steps.proofs.Seeing.{IsSeenAs, IsClear, AreClear, seen_given}
+use Rattle.viewed_steps.proofs.Seeing.{IsSeenAs, IsOpenTo, AreOpenTo, seen_given}
 use Rattle.viewed_steps.proofs.Read.{scalar_named}
-use Rattle.viewed_steps.proofs.Between.{base_along}
+use Rattle.viewed_steps.proofs.Between.{base_along, same_variable}
 use Rattle.viewed_steps.proofs.Lodged.{spot_lodged}
 use Rattle.viewed_steps.proofs.Aside.{cell_name}
 use Rattle.viewed_steps.proofs.Direct.{IsDirect, steps_direct, past_none, direct_leads, direct_itself, IsIn, walked_in, both_quiet, direct_part, part_reached}
-use Rattle.viewed_steps.proofs.LaidOut.{IsOwnPut, IsPlainAt, IsOpenActual, AreOpenActuals}
+use Rattle.viewed_steps.proofs.LaidOut.{IsOwnPut, IsPlainAt, IsOpenActual, AreOpenActuals, IsHousedPut}
 use Rattle.viewed_steps.proofs.Entered.{IsFit}
 use Rattle.viewed_steps.proofs.Lent.{ends, Spare, spare_both, spare_naming}
 use Rattle.soundness.proofs.Keeping.{top_points, retyped_points, scalar}
 use Rattle.soundness.proofs.Lasting.{keeps}
 use Rattle.owned_loans.proofs.Allowed.{read_open}
 use Rattle.std.proofs.lemmas.List.{length-map}
+use Rattle.soundness.proofs.Moments.{number_part}
 
 -- ---- acts that read
 
@@ -449,8 +453,8 @@ module _ (h : Here) (settled : IsSettled h.typing.table) (hands : List Waiting) 
           inr (
             cell,
             record {
-              lodged = spot_lodged h.typing settled m hands leaks kept k l cell home_base.0 home_base.1 spot base
-                  (sym (base_along (expand v found.name) found.rest) ∙ ap ways.base_of (sym stands) ∙ home_base.2) found.reaches;
+              lodged = (spot_lodged h.typing settled m hands leaks kept k l cell home_base.0 home_base.1 spot base
+                  (sym (base_along (expand v found.name) found.rest) ∙ ap ways.base_of (sym stands) ∙ home_base.2) found.reaches).0;
               whole = w;
               named = named;
               called = called;
@@ -563,8 +567,11 @@ module _ (h : Here) (settled : IsSettled h.typing.table) (hands : List Waiting) 
             steps = steps_in l;
             frame = home h.typing h.frame y;
             at_home = refl;
+            trunk = Object (OfVariable (home h.typing h.frame y) y);
+            start = OfRoot (OfVariable (home h.typing h.frame y) y);
+            stands = inl (refl, refl, base);
+            root = refl;
             way = is ∙ ap (along (Object (OfVariable (home h.typing h.frame y) y))) (sym steps_are);
-            base = base;
             owner = owner;
             there = ap (λ z. has_part h.typing.table (content h.typing m hands z).of (steps_in l)) (sym b) ∙ spot.there;
             at = spot.at ∙ ap (λ z. offset_in h.typing.table (content h.typing m hands z).of (steps_in l)) b;
@@ -574,6 +581,7 @@ module _ (h : Here) (settled : IsSettled h.typing.table) (hands : List Waiting) 
           called,
           refl,
           subst (λ z. Matches h.typing.table z (object_at h.typing x).of) (sym of) fits,
+          (refl, refl, base),
         ),
       )
   own_walked on p x y u path q w own fits owner is called (Raises e n) there base = there
@@ -607,6 +615,139 @@ module _ (h : Here) (settled : IsSettled h.typing.table) (hands : List Waiting) 
       (owner y (inl refl)) both.0 both.1)
   own_place_given before on x e t place own fits owner takes direct allowed = absurd place
 
+  quiet_on : (on : List (List machine.Word)) (P Q : Place → Type 0) → ((k : Place) → P k → Q k) → (y : Evaluated Place) → Quiet (at on) P y → Quiet (at on) Q y
+  quiet_on on P Q each (Done k n) is = (is.0, each k is.1)
+  quiet_on on P Q each (Raises e n) is = is
+  quiet_on on P Q each (Traps e n) is = is
+
+  -- A place in a variable, or in a cell that an owner leads to.
+  abbrev IsKeptPut : ℕ → TypedTree → Place → Type 0
+  IsKeptPut x e k = IsOwnPut h.typing h.frame x e k ⊎ IsHousedPut h.typing h.frame v (seen h.typing m hands leaks) x e k
+
+  -- a way to a part of a variable
+  root_part : (w : Way) (l : Loc) (r : Root) → Reaches (seen h.typing m hands leaks) w l → trunk l ≡ OfRoot r → w ≡ along (Object r) (steps_in l)
+  root_part (Object b) l r reach is =
+      (let same : OfRoot b ≡ OfRoot r = ap trunk (sym reach) ∙ is in let one : b ≡ r = cc in ap Object one ∙ ap (along (Object r)) (ap steps_in (sym reach)))
+  root_part (Lost n) l r reach is = (let never : OfCell n ≡ OfRoot r = ap trunk (sym reach.1) ∙ is in cc)
+  root_part (Into w i) l r (k, reach, at) is =
+      ap (λ z. Into z i) (root_part w k r reach (ap trunk (sym at) ∙ is)) ∙ ap (along (Object r)) (ap steps_in (sym at))
+  root_part (All w) l r (k, n, reach, held, at) is = (let never : OfCell n ≡ OfRoot r = ap trunk (sym at) ∙ is in cc)
+
+  -- a name that may go through access values, of an owner
+  housed_walked : (on : List (List machine.Word)) (p : Pos) (x y u : ℕ) (path : TypedTree) (w : Way) → IsNamed h.typing.table u → Matches h.typing.table u (object_at h.typing x).of
+      → is_view_formal h.typing y ≡ false → is_anonymous (view_of h.typing y) ≡ false → Named (home h.typing h.frame) w → ways.number_of w ≡ y → ways.name_of w ≡ name_of y path
+      → is_package_object h.typing y ≡ false → sees_only h.typing y ≡ false
+      → (z : Evaluated Place) → Walked h.typing settled hands leaks m on (expand v w) u z → Quiet (at on) (λ k. IsKeptPut x (Name p y path u) k) z
+  housed_walked on p x y u path w own fits owner plain named root called local sees (Raises e n) is = is
+  housed_walked on p x y u path w own fits owner plain named root called local sees (Traps t n) never = absurd never
+  housed_walked on p x y u path w own fits owner plain named root called local sees (Done k n) (l, same, spot, reaches, of) = (same, by_base k.base refl)
+    where
+      owned_one : (u : Way) → ways.number_of u ≡ y → expand v u ≡ u
+      owned_one u number = elim (lifts v u) [
+        | inl itself ↦ itself
+        | inr lift ↦ absurd (true_false (is_view h.typing lift.object) (holds.only lift.object lift.way lift.has)
+            (ap (is_view h.typing) (sym (lifted_root v u lift) ∙ number)
+            ∙ both_no (is_anonymous (view_of h.typing y)) (is_view_formal h.typing y) plain owner))
+      ]
+
+      reach : Reaches (seen h.typing m hands leaks) w l
+      reach = subst (λ z. Reaches (seen h.typing m hands leaks) z l) (owned_one w root) reaches
+
+      base_there : ways.base_of w ≡ OfRoot (OfVariable (home h.typing h.frame y) y)
+      base_there = named_base (home h.typing h.frame) w named ∙ ap (λ z. OfRoot (OfVariable (home h.typing h.frame z) z)) root
+
+      by_base : (b : Base) → k.base ≡ b → IsKeptPut x (Name p y path u) k
+      by_base (memory.OfVariable f z) base =
+          let b : trunk l ≡ OfRoot (OfVariable f z) = spot.base ∙ ap loc_of base in
+          let is : w ≡ along (Object (OfVariable f z)) (steps_in l) = root_part w l (OfVariable f z) reach b in
+          let both = same_variable f z (home h.typing h.frame y) y (sym (base_along (Object (OfVariable f z)) (steps_in l)) ∙ ap ways.base_of (sym is) ∙ base_there) in
+          inl (
+            w,
+            record {
+              object = z;
+              steps = steps_in l;
+              frame = f;
+              at_home = both.0 ∙ ap (home h.typing h.frame) (sym both.1);
+              trunk = Object (OfVariable f z);
+              start = OfRoot (OfVariable f z);
+              stands = inl (refl, refl, base);
+              root = refl;
+              way = is;
+              owner = ap (is_view_formal h.typing) both.1 ∙ owner;
+              there = ap (λ c. has_part h.typing.table (content h.typing m hands c).of (steps_in l)) (sym b) ∙ spot.there;
+              at = spot.at ∙ ap (λ c. offset_in h.typing.table (content h.typing m hands c).of (steps_in l)) b;
+              of = subst (λ c. Matches h.typing.table k.of (type_in h.typing.table (content h.typing m hands c).of (steps_in l))) b spot.of;
+              named = subst (IsNamed h.typing.table) (sym of) own;
+            },
+            called,
+            both.1,
+            subst (λ c. Matches h.typing.table c (object_at h.typing x).of) (sym of) fits,
+            (refl, refl, base),
+          )
+      by_base (memory.OfCell c) base =
+          let view = seen h.typing m hands leaks in
+          let found = cell_name v view
+          (λ b z has. reached (home h.typing h.frame) (sees_only h.typing) other v view facts b z (well.views b z has)) w l c reaches (spot.base ∙ ap loc_of base) in
+          let number : ways.number_of found.name ≡ y = sym (ap ways.number_of found.is ∙ number_part found.name found.rest) ∙ root in
+          let itself : expand v found.name ≡ found.name = owned_one found.name number in
+          let reach_cell : Reaches view found.name (OfCell c) = subst (λ z. Reaches view z (OfCell c)) itself found.reaches in
+          let base_name : ways.base_of found.name ≡ OfRoot (OfVariable (home h.typing h.frame y) y) = sym (ap ways.base_of found.is ∙ base_along found.name found.rest) ∙ base_there in
+          let cell : Lodge = record { name = found.name; way = found.name; cell = c } in
+          let in_cell = spot_lodged h.typing settled m hands leaks kept k l cell (home h.typing h.frame y) y spot base base_name reach_cell in
+          let lodged = in_cell.0 in
+          let stands : l ≡ part (OfCell c) found.rest =
+          one_location view w l (part (OfCell c) found.rest) reach (subst (λ z. Reaches view z (part (OfCell c) found.rest)) (sym found.is) (reaches_along view found.name (OfCell c) found.rest reach_cell)) in
+          let steps_are : found.rest ≡ lodged.steps = sym (in_cell.1 ∙ ap steps_in stands ∙ steps_part (OfCell c) found.rest ∙ append-nil found.rest) in
+          inr (record {
+            to = w;
+            inside = record {
+              object = y;
+              steps = lodged.steps;
+              frame = home h.typing h.frame y;
+              at_home = refl;
+              trunk = found.name;
+              start = OfCell c;
+              stands = inr ((c, refl, base), plain);
+              root = base_name;
+              way = found.is ∙ ap (along found.name) steps_are;
+              owner = owner;
+              there = lodged.there;
+              at = lodged.at;
+              of = lodged.of;
+              named = subst (IsNamed h.typing.table) (sym of) own;
+            };
+            called = called;
+            object = refl;
+            fits = subst (λ z. Matches h.typing.table z (object_at h.typing x).of) (sym of) fits;
+            cell = c;
+            start = refl;
+            own = local;
+            plain = sees;
+            deep = found.deep;
+            leads = itself;
+            reaches = reach_cell;
+          })
+
+  housed_given : (before on : List (List machine.Word)) (x : ℕ) (e : TypedTree) (t : ℕ) → IsPlaceOf h.typing e t → IsNamed h.typing.table t → Matches h.typing.table t (object_at h.typing x).of
+      → AreOwners h.typing e → Takes (waits_in e) before on → IsOpenActual h.typing h.frame facts e
+      → AllowsAll facts (acts (index_acts h.typing e)) → Quiet (at on) (λ k. IsKeptPut x e k) (place_of h e (at before))
+  unfolding waits_in goes_through_none
+  housed_given before on x (Name p y path u) t (leads, type) own fits owner takes (inl direct) allowed =
+      quiet_on on (λ k. IsOwnPut h.typing h.frame x (Name p y path u) k) (λ k. IsKeptPut x (Name p y path u) k) (λ k put. inl put) (place_of h (Name p y path u) (at before))
+      (own_place_given before on x (Name p y path u) t (leads, type) own fits (λ z has. (owner z has).1) takes direct allowed)
+  housed_given before on x (Name p y path u) t (leads, type) own fits owner takes (inr (local, sees, opens)) allowed =
+      let inner = steps_taking h settled hands leaks m waits other facts v kept well holds alone live index_law own_law parts_named (object_at h.typing y).of u path leads before on takes allowed in
+      quiet_then (at on) (λ way. GoesAlong h.typing.table (object_at h.typing y).of u path way) (λ k. IsKeptPut x (Name p y path u) k) (steps_of h path (at before))
+      (λ way now. walked h.typing way (variable_place h y) now) inner.0
+      (λ way goes.
+      let root : Way = Object (OfVariable (home h.typing h.frame y) y) in
+      housed_walked on p x y u path (way_along way root) (subst (IsNamed h.typing.table) (sym type) own) (subst (λ z. Matches h.typing.table z (object_at h.typing x).of) (sym type) fits)
+      (owner y (inl refl)).1 (owner y (inl refl)).0 (named_along (home h.typing h.frame) way root refl) (number_along way root)
+      (λ j. record { root = number_along way root j; sels = goes.sels root j }) local sees
+      (walked h.typing way (variable_place h y) (at on))
+      (name_quiet h settled hands leaks m on other facts v kept well holds alone live index_law own_law parts_named y path u way goes opens))
+  housed_given before on x e t place own fits owner takes opens allowed = absurd place
+
   -- ---- all of them
 
   -- What is passed for an actual, by the mode: a scalar value, a scalar place in a variable, or another
@@ -614,6 +755,10 @@ module _ (h : Here) (settled : IsSettled h.typing.table) (hands : List Waiting) 
   abbrev pub IsPlaceGiven : ℕ → TypedTree → Place → Type 0
   IsPlaceGiven x e k =
       (IsScalarObject h.typing x × IsPut e k) ⊎ ((is_scalar (full h.typing.table (object_at h.typing x).of) ≡ false) × IsOwnPut h.typing h.frame x e k)
+
+  abbrev pub IsBackGiven : ℕ → TypedTree → Place → Type 0
+  IsBackGiven x e k =
+      IsPlaceGiven x e k ⊎ ((is_scalar (full h.typing.table (object_at h.typing x).of) ≡ false) × IsHousedPut h.typing h.frame v (seen h.typing m hands leaks) x e k)
 
   -- A scalar value; or null, or the number of a cell that a way leads to.
   abbrev pub IsValueGiven : ℕ → TypedTree → List machine.Word → Type 0
@@ -625,7 +770,7 @@ module _ (h : Here) (settled : IsSettled h.typing.table) (hands : List Waiting) 
   abbrev pub IsGiven : ℕ → Mode → TypedTree → Passed → Type 0
   IsGiven x mode.In e (Value ws) = IsValueGiven x e ws
   IsGiven x mode.Out e (To k) = IsPlaceGiven x e k
-  IsGiven x mode.InOut e (From k) = IsPlaceGiven x e k
+  IsGiven x mode.InOut e (From k) = IsBackGiven x e k
   IsGiven x m' e a = ⊥
 
   abbrev pub AreGiven : List ℕ → TypedTree → List Passed → Type 0
@@ -652,7 +797,7 @@ module _ (h : Here) (settled : IsSettled h.typing.table) (hands : List Waiting) 
 
   shown_given : (before on : List (List machine.Word)) (x : ℕ) (e : TypedTree) → IsShown h.typing x → is_owning h.typing.table (object_at h.typing x).of ≡ true → IsSeen h.typing x e
       → Takes (waits_in e) before on → AllowsAll facts (acts (index_acts h.typing e))
-      → IsClear h.typing facts e
+      → IsOpenTo h.typing h.frame v facts e
       → Quiet (at on) (λ a. IsGiven x mode.In e a) (followed_by (viewed h e (at before)) value_passed)
   shown_given before on x e shown owning seen takes allowed clears =
       quiet_then (at on) (λ ws. IsSeenAs h settled hands leaks m waits other facts v kept well holds alone live index_law own_law parts_named formals_low x e ws)
@@ -661,73 +806,93 @@ module _ (h : Here) (settled : IsSettled h.typing.table) (hands : List Waiting) 
       (λ ws is. (refl, ((λ plain. absurd (true_false (is_owning h.typing.table (object_at h.typing x).of) owning plain)), λ own. is)))
 
   abbrev IsCopiedName : ℕ → Mode → TypedTree → Type 0
-  IsCopiedName x m' e = is_in m' ≡ false → (goes_through_none e ≡ true) ⊎ (IsScalarObject h.typing x × IsOpenActual h.typing h.frame facts e)
+  IsCopiedName x m' e = is_in m' ≡ false → (goes_through_none e ≡ true) ⊎ (IsReachedBack h.typing x e × IsOpenActual h.typing h.frame facts e)
 
   abbrev from_place : ℕ → Place → Now → Evaluated Passed
   from_place x k now = followed_by (checked h (type_of h x) (words_of h.typing now.memory k) now) (λ ws now. Done (From k) now)
 
-  from_given : (before on : List (List machine.Word)) (x : ℕ) (e : TypedTree) → Quiet (at on) (λ k. IsPlaceGiven x e k) (place_of h e (at before))
+  from_given : (before on : List (List machine.Word)) (x : ℕ) (e : TypedTree) → Quiet (at on) (λ k. IsBackGiven x e k) (place_of h e (at before))
       → Quiet (at on) (λ a. IsGiven x mode.InOut e a) (followed_by (place_of h e (at before)) (from_place x))
   from_given before on x e there =
-      quiet_then (at on) (λ k. IsPlaceGiven x e k) (λ a. IsGiven x mode.InOut e a) (place_of h e (at before)) (from_place x) there
+      quiet_then (at on) (λ k. IsBackGiven x e k) (λ a. IsGiven x mode.InOut e a) (place_of h e (at before)) (from_place x) there
       (λ k put. quiet_then (at on) (λ (ws : List machine.Word). Unit {0}) (λ a. IsGiven x mode.InOut e a) (checked h (type_of h x) (words_of h.typing m k) (at on))
       (λ ws now. Done (From k) now) (checked_quiet on (λ ws. Unit {0}) (type_of h x) (words_of h.typing m k) tt) (λ ws any. (refl, put)))
-
-  quiet_on : (on : List (List machine.Word)) (P Q : Place → Type 0) → ((k : Place) → P k → Q k) → (y : Evaluated Place) → Quiet (at on) P y → Quiet (at on) Q y
-  quiet_on on P Q each (Done k n) is = (is.0, each k is.1)
-  quiet_on on P Q each (Raises e n) is = is
-  quiet_on on P Q each (Traps e n) is = is
 
   scalar_type : (t u : ℕ) → Matches h.typing.table t u → is_scalar (full h.typing.table u) ≡ true → is_scalar (full h.typing.table t) ≡ true
   scalar_type t u (inl e) plain = matches_scalar h.typing u t (inl (sym e)) plain
   scalar_type t u (inr both) plain = both.0
 
+  abbrev AreDirect : ℕ → TypedTree → Type 0
+  AreDirect x e = (goes_through_none e ≡ true) ⊎ (IsScalarObject h.typing x × IsOpenActual h.typing h.frame facts e)
+
+  placed_back : (before on : List (List machine.Word)) (x : ℕ) (e : TypedTree) → Quiet (at on) (λ k. IsPlaceGiven x e k) (place_of h e (at before)) → Quiet (at on) (λ k. IsBackGiven x e k) (place_of h e (at before))
+  placed_back before on x e there = quiet_on on (λ k. IsPlaceGiven x e k) (λ k. IsBackGiven x e k) (λ k put. inl put) (place_of h e (at before)) there
+
   scalar_given : (before on : List (List machine.Word)) (x : ℕ) (e : TypedTree) (t : ℕ) → IsPlaceOf h.typing e t → is_scalar (full h.typing.table t) ≡ true → Takes (waits_in e) before on
-      → (goes_through_none e ≡ true) ⊎ (IsScalarObject h.typing x × IsOpenActual h.typing h.frame facts e)
-      → AllowsAll facts (acts (index_acts h.typing e)) → Quiet (at on) (λ k. IsPut e k) (place_of h e (at before))
+      → AreDirect x e → AllowsAll facts (acts (index_acts h.typing e)) → Quiet (at on) (λ k. IsPut e k) (place_of h e (at before))
   scalar_given before on x e t place plain takes (inl direct) allowed = place_given before on e t place plain takes direct allowed
   scalar_given before on x e t place plain takes (inr (scalar, opens)) allowed = through_given before on e t place plain takes opens allowed
 
-  copied_given : (before on : List (List machine.Word)) (x : ℕ) (e : TypedTree) → IsKind x → IsActualTo h.typing x mode.InOut e
-      → (goes_through_none e ≡ true) ⊎ (IsScalarObject h.typing x × IsOpenActual h.typing h.frame facts e)
-      → Takes (waits_in e) before on
+  flipped : (t u : ℕ) → Matches h.typing.table t u → Matches h.typing.table u t
+  flipped t u (inl e) = inl (sym e)
+  flipped t u (inr (a, b)) = inr (b, a)
+
+  named_there : (x : ℕ) → IsKind x → is_scalar (full h.typing.table (object_at h.typing x).of) ≡ false → IsNamed h.typing.table (object_at h.typing x).of
+  named_there x (inl plain) other_type = absurd (true_false (is_scalar (full h.typing.table (object_at h.typing x).of)) plain other_type)
+  named_there x (inr (inl (back, own))) other_type = own
+  named_there x (inr (inr (inr plain))) other_type = plain.2
+  named_there x (inr (inr (inl shown))) other_type =
+      plain_named h.typing.table (object_at h.typing x).of (not_anonymous (is_anonymous (view_of h.typing x)) refl)
+    where
+      not_anonymous : (b : Bool) → is_anonymous (view_of h.typing x) ≡ b → is_anonymous (view_of h.typing x) ≡ false
+      not_anonymous false e = e
+      not_anonymous true e = absurd ((in_formals x shown.0).1 e)
+
+  copied_given : (before on : List (List machine.Word)) (x : ℕ) (e : TypedTree) → IsKind x → IsActualTo h.typing x mode.InOut e → AreDirect x e → Takes (waits_in e) before on
       → AllowsAll facts (acts (index_acts h.typing e)) → Quiet (at on) (λ k. IsPlaceGiven x e k) (place_of h e (at before))
   copied_given before on x e kind (t, place, fits, which) direct takes allowed = elim (bool_cases (is_scalar (full h.typing.table (object_at h.typing x).of))) [
     | inl plain ↦ quiet_on on (λ k. IsPut e k) (λ k. IsPlaceGiven x e k) (λ k put. inl (plain, put)) (place_of h e (at before))
         (scalar_given before on x e t place (scalar_type t (object_at h.typing x).of fits plain) takes direct allowed)
     | inr other_type ↦ quiet_on on (λ k. IsOwnPut h.typing h.frame x e k) (λ k. IsPlaceGiven x e k) (λ k put. inr (other_type, put)) (place_of h e (at before))
         (own_place_given before on x e t place
-        (matches_named h.typing.table (object_at h.typing x).of t (matches_flip t (object_at h.typing x).of fits) (named_there kind other_type)) fits (own_there which other_type) takes (direct_there direct other_type) allowed)
+        (matches_named h.typing.table (object_at h.typing x).of t (flipped t (object_at h.typing x).of fits) (named_there x kind other_type)) fits (own_there which other_type) takes (direct_there direct other_type) allowed)
   ]
     where
-      matches_flip : (t u : ℕ) → Matches h.typing.table t u → Matches h.typing.table u t
-      matches_flip t u (inl e) = inl (sym e)
-      matches_flip t u (inr (a, b)) = inr (b, a)
-
-      direct_there : (goes_through_none e ≡ true) ⊎ (IsScalarObject h.typing x × IsOpenActual h.typing h.frame facts e)
-          → is_scalar (full h.typing.table (object_at h.typing x).of) ≡ false → goes_through_none e ≡ true
+      direct_there : AreDirect x e → is_scalar (full h.typing.table (object_at h.typing x).of) ≡ false → goes_through_none e ≡ true
       direct_there (inl none) other_type = none
       direct_there (inr (scalar, opens)) other_type = absurd (true_false (is_scalar (full h.typing.table (object_at h.typing x).of)) scalar other_type)
-
-      named_there : IsKind x → is_scalar (full h.typing.table (object_at h.typing x).of) ≡ false → IsNamed h.typing.table (object_at h.typing x).of
-      named_there (inl plain) other_type = absurd (true_false (is_scalar (full h.typing.table (object_at h.typing x).of)) plain other_type)
-      named_there (inr (inl (back, own))) other_type = own
-      named_there (inr (inr (inr plain))) other_type = plain.2
-      named_there (inr (inr (inl shown))) other_type =
-          plain_named h.typing.table (object_at h.typing x).of (not_anonymous (is_anonymous (view_of h.typing x)) refl)
-        where
-          not_anonymous : (b : Bool) → is_anonymous (view_of h.typing x) ≡ b → is_anonymous (view_of h.typing x) ≡ false
-          not_anonymous false e = e
-          not_anonymous true e = absurd ((in_formals x shown.0).1 e)
 
       own_there : (is_scalar (full h.typing.table t) ≡ true) ⊎ IsOwnPlace h.typing e → is_scalar (full h.typing.table (object_at h.typing x).of) ≡ false → IsOwnPlace h.typing e
       own_there (inl plain) other_type = absurd (true_false (is_scalar (full h.typing.table (object_at h.typing x).of))
           (matches_scalar h.typing t (object_at h.typing x).of fits plain) other_type)
       own_there (inr own) other_type = own
 
+  out_given : (before on : List (List machine.Word)) (x : ℕ) (e : TypedTree) → (object_at h.typing x).mode ≡ mode.Out → IsKind x → IsActualTo h.typing x mode.InOut e
+      → (goes_through_none e ≡ true) ⊎ (IsReachedBack h.typing x e × IsOpenActual h.typing h.frame facts e) → Takes (waits_in e) before on
+      → AllowsAll facts (acts (index_acts h.typing e)) → Quiet (at on) (λ k. IsPlaceGiven x e k) (place_of h e (at before))
+  out_given before on x e is kind actual copied takes allowed = copied_given before on x e kind actual (direct_there copied) takes allowed
+    where
+      direct_there : (goes_through_none e ≡ true) ⊎ (IsReachedBack h.typing x e × IsOpenActual h.typing h.frame facts e) → AreDirect x e
+      direct_there (inl none) = inl none
+      direct_there (inr (inl scalar, opens)) = inr (scalar, opens)
+      direct_there (inr (inr (back, owners), opens)) = (let never : mode.Out ≡ mode.InOut = sym is ∙ back in cc)
+
+  back_given : (before on : List (List machine.Word)) (x : ℕ) (e : TypedTree) → IsKind x → IsActualTo h.typing x mode.InOut e
+      → (goes_through_none e ≡ true) ⊎ (IsReachedBack h.typing x e × IsOpenActual h.typing h.frame facts e) → Takes (waits_in e) before on
+      → AllowsAll facts (acts (index_acts h.typing e)) → Quiet (at on) (λ k. IsBackGiven x e k) (place_of h e (at before))
+  back_given before on x e kind actual (inl none) takes allowed = placed_back before on x e (copied_given before on x e kind actual (inl none) takes allowed)
+  back_given before on x e kind actual (inr (inl scalar, opens)) takes allowed = placed_back before on x e (copied_given before on x e kind actual (inr (scalar, opens)) takes allowed)
+  back_given before on x e kind (t, place, fits, which) (inr (inr (back, owners), opens)) takes allowed = elim (bool_cases (is_scalar (full h.typing.table (object_at h.typing x).of))) [
+    | inl plain ↦ placed_back before on x e (copied_given before on x e kind (t, place, fits, which) (inr (plain, opens)) takes allowed)
+    | inr other_type ↦ quiet_on on (λ k. IsKeptPut x e k) (λ k. IsBackGiven x e k)
+        (λ k put. elim put [ inl own ↦ inl (inr (other_type, own)) | inr housed ↦ inr (other_type, housed) ]) (place_of h e (at before))
+        (housed_given before on x e t place
+        (matches_named h.typing.table (object_at h.typing x).of t (flipped t (object_at h.typing x).of fits) (named_there x kind other_type)) fits owners takes opens allowed)
+  ]
+
   pub one_given : (before on : List (List machine.Word)) (mode_of : Mode) (owning access : Bool) (x : ℕ) (e : TypedTree) → (object_at h.typing x).mode ≡ mode_of
       → is_owning h.typing.table (object_at h.typing x).of ≡ owning → IsKind x → IsActualTo h.typing x mode_of e
-      → (is_view_formal h.typing x ≡ true → IsClear h.typing facts e)
+      → (is_view_formal h.typing x ≡ true → IsOpenTo h.typing h.frame v facts e)
       → IsCopiedName x mode_of e → Takes (waits_in e) before on
       → AllowsAll facts (acts (head_of h.typing own_law procedure mode_of owning e)) → Quiet (at on) (λ a. IsGiven x mode_of e a) (passed h (passing_by mode_of owning access) x e (at before))
   one_given before on mode.In false access x e is fits kind actual clears copied takes allowed =
@@ -745,12 +910,12 @@ module _ (h : Here) (settled : IsSettled h.typing.table) (hands : List Waiting) 
   ]
   one_given before on mode.Out owning access x e is fits kind actual clears copied takes allowed =
       quiet_then (at on) (λ k. IsPlaceGiven x e k) (λ a. IsGiven x mode.Out e a) (place_of h e (at before)) (λ k now. Done (To k) now)
-      (copied_given before on x e kind actual (copied refl) takes allowed) (λ k put. (refl, put))
+      (out_given before on x e is kind actual (copied refl) takes allowed) (λ k put. (refl, put))
   one_given before on mode.InOut owning access x e is fits kind actual clears copied takes allowed =
-      from_given before on x e (copied_given before on x e kind actual (copied refl) takes allowed)
+      from_given before on x e (back_given before on x e kind actual (copied refl) takes allowed)
 
   pub all_given : (before on : List (List machine.Word)) (formals : List ℕ) (actuals : TypedTree) → ((x : ℕ) → Has formals x → IsKind x) → AreActualsTo h.typing formals actuals
-      → AreClear h.typing facts formals actuals → AreOpenActuals h.typing h.frame facts formals actuals → TakesAll formals actuals before on
+      → AreOpenTo h.typing h.frame v facts formals actuals → AreOpenActuals h.typing h.frame facts formals actuals → TakesAll formals actuals before on
       → AllowsAll facts (acts (actual_values h.typing (ways_of formals) actuals))
       → Quiet (at on) (λ passed. AreGiven formals actuals passed) (all_passed h (ways_of formals) formals actuals (at before))
   all_given before on [] actuals kinds stay clears copied takes allowed = ((ap at takes), refl)

@@ -31,7 +31,8 @@ use Rattle.flow_paths.specs.Paths.{is_some_point, ControlPath, facts_before}
 use Rattle.flow_paths.specs.Effects.{flow_sub_at, path_points, globals_of, called_acts}
 use Rattle.flow_paths.specs.Scopes.{taken, brought, scope_behind, is_within, Leads}
 use Rattle.machine.specs.Words as machine
-use Rattle.machine.specs.Memory.{Memory}
+use Rattle.machine.specs.Memory as memory
+use Rattle.machine.specs.Memory.{Memory, Place}
 use Rattle.machine.specs.Evaluate.{Now, Exception}
 use Rattle.machine.specs.States.{Frame, State, sub_of, Outcome}
 use Rattle.machine.specs.Step.{Turn, turn, start, led, successor}
@@ -42,7 +43,7 @@ use Rattle.machine.specs.Owners.{is_in_formal, waiting_in, is_in}
 use Rattle.place_names.specs.declared.act.Mode.TheVariants as mode
 use Rattle.owned_ways.specs.Ways.{Step, Way, after, AllowsAll, Past}
 use Rattle.owned_ways.specs.Ways as ways
-use Rattle.owned_ways.proofs.Locations.{reaches_along, named_along as rooted_along, past_under}
+use Rattle.owned_ways.proofs.Locations.{reaches_along, named_along as rooted_along, past_under, under_along, under_itself}
 use Rattle.soundness.specs.Seen.{is_view_formal, IsNear, content, seen, home, trunk, word_in}
 use Rattle.owned_ways.proofs.Named.{longer}
 use Rattle.owned_ways.proofs.Dropped.{named_base}
@@ -56,7 +57,7 @@ use Rattle.soundness.proofs.Passing.{AreReads, reads_keep, TakesAll, takes_each,
 use Rattle.soundness.proofs.Scalars.{acts, acts_append, after_append, allows_both}
 use Rattle.soundness.proofs.Points.{sub_in_range, one_named, one_point}
 use Rattle.soundness.proofs.Inherited.{AreGlobal, global_after, global_allowed, global_apart}
-use Rattle.soundness.proofs.Used.{used_global, called_are, globals_are, added_after}
+use Rattle.soundness.proofs.Used.{used_global, called_are, globals_are, added_after, fact_added}
 use Rattle.soundness.proofs.Around.{IsFar}
 use Rattle.soundness.proofs.Taking.{Takes}
 use Rattle.soundness.proofs.Eased.{eased}
@@ -69,13 +70,14 @@ use Rattle.owned_loans.proofs.Moves.{expand_under}
 use Rattle.owned_loans.proofs.Meeting.{stands}
 use Rattle.viewed_soundness.proofs.Names.{true_false, owner_sees}
 use Rattle.viewed_soundness.specs.Holds.{Holds, is_view, sees_only, IsOwners, is_exclusive, AllKeep, is_fixed}
+use Rattle.viewed_soundness.proofs.Given.{IsLow}
 use Rattle.viewed_soundness.proofs.Evaluated.{live_trunk, keep_both}
 use Rattle.soundness.specs.Ready.{IsSupplied, Fills}
 use Rattle.viewed_steps.specs.Awaited.{AreValuesBut, temporaries_of, lasting_of, awaited, WaitsAt, AreAwaited, AreScalar, FillsTyped, TakesScalars, IsTakenBy}
 use Rattle.viewed_steps.proofs.Waited.{late_scope, within_lasting, lasting_more, Shares}
-use Rattle.viewed_steps.specs.Sound.{IsCopiedBack, ArePast, HoldsAt, ArePlaced, NoneAbove, ViewStage, stages_of, GoneElsewhere, Disturbs, AreWaiting, LeadsAlong, IsResting, IsKindOfFormal, IsScalarObject, HasTraversals}
+use Rattle.viewed_steps.specs.Sound.{IsCopiedBack, ArePast, HoldsAt, ArePlaced, NoneAbove, ViewStage, stages_of, GoneElsewhere, Disturbs, AreWaiting, LeadsAlong, IsResting, IsKindOfFormal, IsScalarObject, HasTraversals, LendsShared, AreShownOwn}
 use Rattle.viewed_steps.specs.Ready.{IsReady, roots_passed, IsCalled}
-use Rattle.viewed_steps.specs.Taken.{Lodge}
+use Rattle.viewed_steps.specs.Taken.{Lodge, IsPassedOn}
 use Rattle.viewed_steps.proofs.Lent.{Spare, spare_both, loans_stay}
 use Rattle.viewed_steps.proofs.Placed.{within_on, lasts_more, scope_on, placed_on}
 use Rattle.viewed_steps.proofs.Waiting.{StandsBetween, gone_low, beside_them, handed}
@@ -89,7 +91,7 @@ use Rattle.flow_paths.specs.Effects.{written_by}
 use Rattle.viewed_steps.proofs.Aside.{names_off}
 use Rattle.viewed_steps.proofs.LaidOut.{AreLaidOut, outs_of, cells_of, AreOpenActuals}
 use Rattle.viewed_steps.proofs.Outs.{Out, IsUnderOne}
-use Rattle.viewed_steps.proofs.Entered.{ArePassedOn, IsOpen, AreBlank, not_above, passed_base, outs_taken, inside_plain, inside_named, inside_number, inside_itself, passed_one}
+use Rattle.viewed_steps.proofs.Entered.{ArePassedOn, IsOpen, AreBlank, not_above, passed_base, outs_taken, inside_plain, inside_named, inside_number, inside_itself, passed_one, from_taken, passed_pair}
 use Rattle.viewed_steps.proofs.Passed.{IsNamedBy, all_passed_on, apart_or, apart_there}
 use Rattle.viewed_steps.proofs.Cells.{passed_apart, passed_formal, are_kept, all_in, all_open, IsCellNamed, named_before, cells_named}
 use Rattle.viewed_steps.proofs.Standing.{or_right}
@@ -98,9 +100,13 @@ use Rattle.viewed_steps.proofs.Standing as standing
 use Rattle.viewed_steps.proofs.Packages as packages
 use Rattle.viewed_steps.proofs.Innermost as innermost
 use Rattle.viewed_steps.proofs.Views.{AreAccess, AreFar, all_held, lies_far, not_elsewhere, base_named}
-use Rattle.viewed_steps.proofs.Seeing.{AreClear}
+use Rattle.viewed_steps.proofs.Seeing.{AreClear, IsLowRoot, AreLowRoots, open_to}
+use Rattle.viewed_steps.proofs.Roots.{view_goes}
+use Rattle.soundness.specs.Ready.{root_of}
 use Rattle.viewed_steps.proofs.Clear.{all_clear}
 use Rattle.viewed_steps.proofs.Exclusive.{first_true, second_true, mode_in, sees_shown, AreLent, are_lent, lent_clears}
+use Rattle.owned_ways.proofs.Unique.{one_way}
+use Rattle.viewed_steps.proofs.Bared.{not_before}
 
 module _ (table : Table) (typed : TypedProgram) (effects : Effects) (input : List ℕ) (ready : IsReady table typed effects) where
   abbrev program : FlowProgram
@@ -434,6 +440,53 @@ module _ (table : Table) (typed : TypedProgram) (effects : Effects) (input : Lis
         | inr lent ↦ lent_clears s facts_now formals actuals (λ y has formal m of. (lent y has formal m of).clear)
       ]
 
+      -- borrowers and observers that are shown see nothing of package objects
+      lows_there : AreLowRoots s depth views formals actuals
+      lows_there =
+          all_low formals actuals
+          (ready.class.shown (flow_sub own named) (standing.in_program table typed effects input ready state top older outer named p frames of_sub at_point) main_turn.point
+          (standing.in_sub table typed effects input ready state top older outer named p frames of_sub at_point) n actuals result e)
+        where
+          Shared : Type 0
+          Shared = LendsShared s (flow_sub own named)
+
+          shared_way : (x : ℕ) (k : Way) → views.way x ≡ Some k → ways.Named (home s depth) k → is_package_object s (ways.number_of k) ≡ true → Shared
+          shared_way x k has at_home is_shared =
+              let goes = view_goes (home s depth) (sees_only s) views (view_here s state) (facts_of program effects top) viewed_before.views x k has at_home in
+              let lent = (goes.1).2 in
+              let from = fact_added program effects ready.accepted.effects_are (flow_sub own named) top.before (Lent goes.0 (goes.1).0 (ways.name_of (goes.1).1))
+              (subst (λ fs. Has fs (Lent goes.0 (goes.1).0 (ways.name_of (goes.1).1)))
+              (standing.facts_are table typed effects input ready state top older outer named p frames of_sub at_point path) lent) in (
+                from.0,
+                from.2,
+                from.1,
+                from.3,
+                goes.0,
+                (goes.1).0,
+                ways.name_of (goes.1).1,
+                from.4,
+                ap (is_package_object s) (sym (longer (goes.1).1 k (goes.1).4).root) ∙ is_shared,
+              )
+
+          low_way : (x : ℕ) (k : Way) → views.way x ≡ Some k → (Shared → ⊥) → IsLow s depth k
+          low_way x k has own_alone = elim (holds.lies x k has) [
+            | inr far ↦ inr (far.0, (let less = far.1 in omega (arith, less)), far.2)
+            | inl at_home ↦ inl (at_home, by_kind (is_package_object s (ways.number_of k)) refl at_home)
+          ]
+            where
+              by_kind : (b : Bool) → is_package_object s (ways.number_of k) ≡ b → ways.Named (home s depth) k → is_package_object s (ways.number_of k) ≡ false
+              by_kind false is at_home = is
+              by_kind true is at_home = absurd (own_alone (shared_way x k has at_home is))
+
+          one_low : (a : TypedTree) → ((y : ℕ) → Has (root_of a) y → is_anonymous (view_of s y) ≡ true → Shared → ⊥) → IsLowRoot s depth views a
+          one_low (Name q y path u) own_alone = λ k has anonymous. low_way y k has (own_alone y (inl refl) anonymous)
+          one_low a own_alone = tt
+
+          all_low : (xs : List ℕ) (es : TypedTree) → AreShownOwn s Shared xs es → AreLowRoots s depth views xs es
+          all_low [] es shown = tt
+          all_low (x ∷ xs) (More a rest) shown = ((λ formal. one_low a (shown.0 formal)), all_low xs rest shown.1)
+          all_low (x ∷ xs) es shown = tt
+
       abbrev pub Given : List Passed → Type 0
       Given passed =
           AreGiven (steps.here main_turn) ready.accepted.settled (waiting_in easy.state) state.leaks state.memory [] other facts_now views (viewed_easy plain_there.0).1 (viewed_easy plain_there.0).0 holds_now alone live_now in_formals
@@ -449,7 +502,7 @@ module _ (table : Table) (typed : TypedProgram) (effects : Effects) (input : Lis
       pub passed_quiet : Quiet then_now Given (all_passed (steps.here main_turn) ways_there formals actuals (start main_turn))
       passed_quiet =
           all_given (steps.here main_turn) ready.accepted.settled (waiting_in easy.state) state.leaks state.memory [] other facts_now views (viewed_easy plain_there.0).1 (viewed_easy plain_there.0).0 holds_now alone live_now in_formals
-          index_law ready.owns ready.class.parts_named formals_low procedure given_words taken_there.0 formals actuals kinds called.actuals_stay clear_there copied_there taken_there.1 values_allowed
+          index_law ready.owns ready.class.parts_named formals_low procedure given_words taken_there.0 formals actuals kinds called.actuals_stay (open_to s depth views facts_now formals actuals clear_there lows_there) copied_there taken_there.1 values_allowed
 
       abbrev pub view_now : ways.View
       view_now = seen s state.memory (waiting_in easy.state) state.leaks
@@ -654,8 +707,8 @@ module _ (table : Table) (typed : TypedProgram) (effects : Effects) (input : Lis
             (more_gone (home s depth) (sees_only s) views other_all outs_gone outs_apart (view_here s easy.state) own_facts (λ w gone. inl gone) well_before))
 
         -- the names of those cells
-        pub named_cell : (c : Lodge) → Has cells c → IsCellNamed s depth facts_called views view_now formals actuals c
-        named_cell c has = cells_named s ready.owns state.memory depth facts_called procedure views view_now formals actuals passed own_facts laid copies_leave copies_own c has
+        pub named_cell : (c : Lodge) → Has cells c → IsCellNamed s depth facts_called views view_now formals actuals passed c
+        named_cell c has = cells_named s ready.accepted.settled ready.owns state.memory depth facts_called procedure views view_now formals actuals passed own_facts laid copies_leave copies_own c has
 
         pub cell_root : (c : Lodge) (has : Has cells c) → ways.number_of c.name ≡ ways.number_of (named_cell c has).whole
         cell_root c has = sym (longer c.name (named_cell c has).whole (named_cell c has).begins).root
@@ -675,7 +728,7 @@ module _ (table : Table) (typed : TypedProgram) (effects : Effects) (input : Lis
                     home s depth (ways.number_of c.way),
                     ways.number_of c.way,
                     named_base (home s depth) c.way named_there,
-                    not_above s ready.accepted.settled ready.owns in_formals (waiting_in easy.state) state.leaks depth views far_views facts_called next_there (ways.number_of c.way),
+                    not_above s ready.accepted.settled ready.owns in_formals (waiting_in easy.state) state.leaks depth views far_views holds.only facts_called next_there cells (ways.number_of c.way),
                   ))
               | inr held_there ↦ (
                   let foreign = held_there.passed.foreign in (
@@ -686,12 +739,35 @@ module _ (table : Table) (typed : TypedProgram) (effects : Effects) (input : Lis
                   ))
             ]
 
-        -- no place that is taken goes before one
-        pub cell_aside : (c : Lodge) → Has cells c → (to : Way) → Has ways_taken to → ways.Past to c.way → ⊥
-        cell_aside c has to taken past =
+        -- one of another place
+        housed_aside : (c : Lodge) (has : Has cells c) (k : Place) → k.base ≡ memory.OfCell c.cell
+            → (u : Way) × Has ways_taken u × IsPassedOn s cells depth facts_called next_there (named_cell c has).by.formal k u → (to : Way) → Has ways_taken to → ways.Past to c.way → ⊥
+        housed_aside c has k base (u, has_u, one) to taken past = elim (one.inside).stands [
+          | inl variable ↦ (let never : memory.OfVariable (one.inside).frame (one.inside).object ≡ memory.OfCell c.cell = sym variable.2 ∙ base in cc)
+          | inr cell ↦ (
+              let view = view_here s easy.state in
+              let number : (cell.0).0 ≡ c.cell = same_cell (sym (cell.0).2 ∙ base) in
+              let found = one.among (cell.0).0 (cell.0).1 in
+              let reach : ways.Reaches view (one.inside).trunk (ways.OfCell c.cell) =
+              subst (λ z. ways.Reaches view z (ways.OfCell c.cell)) found.2 (subst (λ z. ways.Reaches view found.0.way (ways.OfCell z)) (found.3 ∙ number) (named_cell found.0 found.1).reaches) in
+              let trunk_is : c.way ≡ (one.inside).trunk = one_way view well_all.owned c.way (one.inside).trunk (ways.OfCell c.cell) (named_cell c has).reaches reach in
+              let goes_on : u ≡ ways.along c.way (one.inside).steps = (one.inside).way ∙ ap (λ z. ways.along z (one.inside).steps) (sym trunk_is) in
+              let below : ways.Under c.way u = subst (ways.Under c.way) (sym goes_on) (under_along c.way c.way (one.inside).steps (under_itself c.way)) in
+              elim (passed_pair s state.memory cells depth facts_called next_there formals passed ways_taken outs all_passed_ways.1 to u taken has_u) [
+                | inl same ↦ not_before c.way (one.inside).steps (subst (λ z. ways.Past z c.way) (same ∙ goes_on) past)
+                | inr apart ↦ apart.0 (under_on to c.way u (past_under to c.way past) below)
+              ])
+        ]
+          where
+            same_cell : {a b : ℕ} → memory.OfCell a ≡ memory.OfCell b → a ≡ b
+            same_cell e = cc
+
+        -- one of a scalar place
+        scalar_aside : (c : Lodge) (has : Has cells c) → IsScalarObject s (named_cell c has).by.formal → (to : Way) → Has ways_taken to → ways.Past to c.way → ⊥
+        scalar_aside c has scalar to taken past =
             let one = passed_one s state.memory cells depth facts_called next_there formals passed ways_taken outs all_passed_ways.1 to taken in
             let inside = (one.2).inside in
-            let itself : expand views to ≡ to = inside_itself s ready.accepted.settled depth one.1 to inside views in
+            let itself : expand views to ≡ to = inside_itself s ready.accepted.settled depth one.1 to inside views holds.only in
             let plain_to : sees_only s (ways.number_of to) ≡ false =
             ap (sees_only s) (inside_number s ready.accepted.settled depth one.1 to inside)
             ∙ owner_sees s inside.object (inside_plain s ready.accepted.settled depth one.1 to inside) inside.owner in
@@ -700,19 +776,27 @@ module _ (table : Table) (typed : TypedProgram) (effects : Effects) (input : Lis
             subst (λ z. ways.Under z (expand views cell.whole)) cell.leads (expand_under views c.name cell.whole (λ r is. absurd (cell.deep r is)) cell.begins) in
             names_off (home s depth) (sees_only s) views (view_here s easy.state) facts_called well_all.views well_all.clear to cell.whole
             (inside_named s ready.accepted.settled depth one.1 to inside, plain_to) (cell.named, cell.plain) (one.2).unlent cell.unlent
-            (λ over. taken_apart to taken c has over)
+            (λ over. taken_apart to taken c has scalar over)
             (under_on (expand views to) c.way (expand views cell.whole) (subst (λ z. ways.Under z c.way) (sym itself) (past_under to c.way past)) below)
           where
-            taken_apart : (to : Way) → Has ways_taken to → (c : Lodge) (has : Has cells c) → overlaps (ways.name_of to) (ways.name_of (named_cell c has).whole) ≡ true → ⊥
-            taken_apart to taken c has over =
+            taken_apart : (to : Way) → Has ways_taken to → (c : Lodge) (has : Has cells c) → IsScalarObject s (named_cell c has).by.formal → overlaps (ways.name_of to) (ways.name_of (named_cell c has).whole) ≡ true → ⊥
+            taken_apart to taken c has scalar over =
                 let by = all_passed_ways.2 to taken in
                 let cell = named_cell c has in
                 elim no_overlap [
                   | inr plain ↦ true_false (is_scalar (full s.table (object_at s (by.0).formal).of)) (plain (by.0).formal (passed_formal formals actuals by.0 by.1) by.2) by.4
                   | inl none ↦ passed_apart s formals actuals none by.0 cell.by by.1 cell.among by.2 cell.back
-                      (λ same. true_false (is_scalar (full s.table (object_at s (by.0).formal).of)) (subst (IsScalarObject s) (sym same) cell.scalar) by.4)
+                      (λ same. true_false (is_scalar (full s.table (object_at s (by.0).formal).of)) (subst (IsScalarObject s) (sym same) scalar) by.4)
                       (subst (λ z. overlaps z cell.by.actual.name ≡ true) (sym by.3) (subst (λ z. overlaps (ways.name_of to) z ≡ true) (sym cell.called) over))
                 ]
+
+        -- no place that is taken goes before one
+        pub cell_aside : (c : Lodge) → Has cells c → (to : Way) → Has ways_taken to → ways.Past to c.way → ⊥
+        cell_aside c has to taken past = elim (named_cell c has).sort [
+          | inl scalar ↦ scalar_aside c has scalar to taken past
+          | inr (k, base, from, many) ↦ housed_aside c has k base (from_taken s state.memory cells depth facts_called next_there formals passed ways_taken outs all_passed_ways.1
+              (named_cell c has).by.formal k from many) to taken past
+        ]
 
         -- a package object that is passed to be copied back to is written
         act_of_passed : (b : alias.Passed) → Has (alias.passed formals actuals) b → IsCopiedBack s b.formal → is_package_object s b.actual.name.root ≡ true
@@ -787,7 +871,7 @@ module _ (table : Table) (typed : TypedProgram) (effects : Effects) (input : Lis
                   | inl (inl (u, moved, leads)) ↦ elim (stands (home s depth) (sees_only s) views (view_here s easy.state) own_facts well_before.views u
                       (moved.0, well_before.clear.owned (ways.name_of u) moved.1)) [
                         | inl own ↦ not_named (home s depth) (suc depth) x
-                            (not_above s ready.accepted.settled ready.owns in_formals (waiting_in easy.state) state.leaks depth views far_views facts_called next_there) w
+                            (not_above s ready.accepted.settled ready.owns in_formals (waiting_in easy.state) state.leaks depth views far_views holds.only facts_called next_there cells) w
                             (subst (ways.Named (home s depth)) leads own.0) (base_along (ways.Object root) q)
                         | inr held_there ↦ (
                             let foreign = held_there.passed.foreign in

@@ -6,9 +6,10 @@ use Rattle.type_definitions.specs.Types.{words}
 use Rattle.flow_paths.specs.Objects.{Typing, object_at, is_package_object}
 use Rattle.machine.specs.Words.{access_offsets}
 use Rattle.machine.specs.Words as machine
+use Rattle.machine.specs.Memory as memory
 use Rattle.machine.specs.Memory.{Slot, Memory, Place, fresh, cell, no_slot, slots_of, slots_at, words_of, gone_at, stored, moved_out}
 use Rattle.machine.specs.States.{Waiting, Leak}
-use Rattle.owned_ways.specs.Ways.{Step, OfVariable, OfHand, Loc, OfRoot, OfCell, Way, Object, Gone, Held, View, Reaches, IsMove, IsRooted, Root, Below, Under, Past, part, along, base_of}
+use Rattle.owned_ways.specs.Ways.{Step, OfVariable, OfHand, Loc, OfRoot, OfCell, Way, Object, Lost, Into, All, Gone, Held, View, Reaches, Owned, IsMove, IsRooted, Root, Below, Under, Past, part, along, base_of}
 use Rattle.owned_ways.proofs.Locations.{below, past_under, reaches_along, under_along, under_itself, named_along}
 use Rattle.owned_ways.proofs.Assigned.{given_apart}
 use Rattle.owned_ways.proofs.Moving.{Given, keeps, owner_before}
@@ -21,40 +22,79 @@ use Rattle.soundness.proofs.Contents.{bool_cases, word_yes, word_part, word_root
 use Rattle.soundness.proofs.Steps.{put_count, put_freed, stores, takes}
 use Rattle.owned_loans.specs.Views.{Around, Views, ExcusedBy, Viewed, IsForeign}
 use Rattle.owned_loans.proofs.Moves.{no_hand, view_rooted}
-use Rattle.viewed_steps.specs.Taken.{IsInside}
+use Rattle.viewed_steps.specs.Taken.{Lodge, IsVariableAt, IsCellAt, IsInside, trunk_type}
+use Rattle.viewed_steps.proofs.Lodged.{lodged_spot, cell_live}
 use Rattle.viewed_steps.proofs.Between.{IsHomed, gone_also, IsClearOf, moved_between, base_under, base_along, same_variable, not_named}
 use Rattle.viewed_steps.proofs.Views.{AreFar}
 
 -- ---- places in variables
 
+rooted_base : (w : Way) (f x : ℕ) → base_of w ≡ OfRoot (OfVariable f x) → IsRooted w
+rooted_base (Object r) f x is = tt
+rooted_base (Lost n) f x is = cc
+rooted_base (Into w i) f x is = rooted_base w f x is
+rooted_base (All w) f x is = rooted_base w f x is
+
 module _ (s : Typing) (depth : ℕ) (k : Place) (to : Way) (inside : IsInside s depth k to) where
   -- where it is
   abbrev pub inside_at : Loc
-  inside_at = part (OfRoot (OfVariable inside.frame inside.object)) inside.steps
+  inside_at = part inside.start inside.steps
 
-  pub trunk_is : trunk (part (OfRoot (OfVariable inside.frame inside.object)) inside.steps) ≡ OfRoot (OfVariable inside.frame inside.object)
-  trunk_is = trunk_part (OfRoot (OfVariable inside.frame inside.object)) inside.steps
+  start_trunk : trunk inside.start ≡ inside.start
+  start_trunk = elim inside.stands [
+    | inl variable ↦ ap trunk variable.1 ∙ sym variable.1
+    | inr there ↦ ap trunk (there.0).1 ∙ sym (there.0).1
+  ]
 
-  pub inside_steps : steps_in (part (OfRoot (OfVariable inside.frame inside.object)) inside.steps) ≡ inside.steps
-  inside_steps = steps_part (OfRoot (OfVariable inside.frame inside.object)) inside.steps ∙ append-nil inside.steps
+  pub start_steps : steps_in inside.start ≡ []
+  start_steps = elim inside.stands [ inl variable ↦ ap steps_in variable.1 | inr there ↦ ap steps_in (there.0).1 ]
 
-  pub inside_spot : (m : Memory) (hands : List Waiting) → Spot s m hands k (part (OfRoot (OfVariable inside.frame inside.object)) inside.steps)
-  inside_spot m hands = record {
-    base = trunk_is ∙ ap loc_of (sym inside.base);
-    made = subst (λ b. IsMade m b) (sym inside.base) tt;
-    at = inside.at ∙ (λ j. offset_in s.table (content s m hands (sym trunk_is j)).of (sym inside_steps j));
-    there = (λ j. has_part s.table (content s m hands (trunk_is j)).of (inside_steps j)) ∙ inside.there;
-    of = subst (λ z. Matches s.table k.of (type_in s.table (content s m hands z).of (steps_in (part (OfRoot (OfVariable inside.frame inside.object)) inside.steps)))) (sym trunk_is)
-        (subst (λ z. Matches s.table k.of (type_in s.table (object_at s inside.object).of z)) (sym inside_steps) inside.of);
-  }
+  pub trunk_is : trunk (part inside.start inside.steps) ≡ inside.start
+  trunk_is = trunk_part inside.start inside.steps ∙ start_trunk
 
-  pub inside_reached : (view : View) → Reaches view to (part (OfRoot (OfVariable inside.frame inside.object)) inside.steps)
-  inside_reached view =
-      subst (λ w. Reaches view w (part (OfRoot (OfVariable inside.frame inside.object)) inside.steps)) (sym inside.way)
-      (reaches_along view (Object (OfVariable inside.frame inside.object)) (OfRoot (OfVariable inside.frame inside.object)) inside.steps refl)
+  pub inside_steps : steps_in (part inside.start inside.steps) ≡ inside.steps
+  inside_steps = steps_part inside.start inside.steps ∙ ap (λ z. inside.steps ++ z) start_steps ∙ append-nil inside.steps
+
+  -- where its cell is reached, if it is in one
+  pub start_reached : (view : View) → ((n : ℕ) → inside.start ≡ OfCell n → Reaches view inside.trunk (OfCell n)) → Reaches view inside.trunk inside.start
+  start_reached view there = elim inside.stands [
+    | inl variable ↦ subst (λ w. Reaches view w inside.start) (sym variable.0) variable.1
+    | inr cell ↦ subst (Reaches view inside.trunk) (sym (cell.0).1) (there (cell.0).0 (cell.0).1)
+  ]
+
+  pub inside_spot : IsSettled s.table → (m : Memory) (hands : List Waiting) (leaks : List Leak) → Kept s m hands → Reaches (seen s m hands leaks) inside.trunk inside.start
+      → Spot s m hands k (part inside.start inside.steps)
+  inside_spot settled m hands leaks typed reach = elim inside.stands [
+    | inl variable ↦ in_variable variable
+    | inr there ↦ in_cell there.0
+  ]
+    where
+      in_variable : IsVariableAt inside.frame inside.object k inside.trunk inside.start → Spot s m hands k (part inside.start inside.steps)
+      in_variable (trunk_there, start_there, base) = record {
+        base = trunk_is ∙ start_there ∙ ap loc_of (sym base);
+        made = subst (λ b. IsMade m b) (sym base) tt;
+        at = inside.at ∙ ap (λ z. offset_in s.table (trunk_type s z) inside.steps) trunk_there
+            ∙ (λ j. offset_in s.table (content s m hands (sym (trunk_is ∙ start_there) j)).of (sym inside_steps j));
+        there = (λ j. has_part s.table (content s m hands ((trunk_is ∙ start_there) j)).of (inside_steps j))
+            ∙ ap (λ z. has_part s.table (trunk_type s z) inside.steps) (sym trunk_there) ∙ inside.there;
+        of = subst (λ z. Matches s.table k.of (type_in s.table (content s m hands z).of (steps_in (part inside.start inside.steps)))) (sym (trunk_is ∙ start_there))
+            (subst (λ z. Matches s.table k.of (type_in s.table (object_at s inside.object).of z)) (sym inside_steps)
+            (subst (λ z. Matches s.table k.of (type_in s.table (trunk_type s z) inside.steps)) trunk_there inside.of));
+      }
+
+      in_cell : IsCellAt k inside.start → Spot s m hands k (part inside.start inside.steps)
+      in_cell (n, start_there, base) =
+          subst (λ z. Spot s m hands k (part z inside.steps)) (sym start_there)
+          (lodged_spot s settled m hands leaks typed k (record { name = inside.trunk; way = inside.trunk; cell = n })
+          (record { base = base; steps = inside.steps; there = inside.there; at = inside.at; of = inside.of })
+          inside.frame inside.object inside.root (subst (Reaches (seen s m hands leaks) inside.trunk) start_there reach))
+
+  pub inside_reached : (view : View) → Reaches view inside.trunk inside.start → Reaches view to (part inside.start inside.steps)
+  inside_reached view reach =
+      subst (λ w. Reaches view w (part inside.start inside.steps)) (sym inside.way) (reaches_along view inside.trunk inside.start inside.steps reach)
 
   pub inside_base : base_of to ≡ OfRoot (OfVariable inside.frame inside.object)
-  inside_base = ap base_of inside.way ∙ base_along (Object (OfVariable inside.frame inside.object)) inside.steps
+  inside_base = ap base_of inside.way ∙ base_along inside.trunk inside.steps ∙ inside.root
 
   -- no frame above
   pub inside_low : inside.frame < suc depth
@@ -68,18 +108,43 @@ module _ (s : Typing) (depth : ℕ) (k : Place) (to : Way) (inside : IsInside s 
   inside_homed = (inside.frame, inside.object, inside_base, inside.at_home)
 
   pub inside_rooted : IsRooted to
-  inside_rooted = subst IsRooted (sym inside.way) (named_along (Object (OfVariable inside.frame inside.object)) inside.steps tt)
+  inside_rooted = subst IsRooted (sym inside.way) (named_along inside.trunk inside.steps (rooted_base inside.trunk inside.frame inside.object inside.root))
 
-  pub inside_owns : (m : Memory) (hands : List Waiting) → is_view_formal s inside.object ≡ false
-      → (content s m hands (trunk (part (OfRoot (OfVariable inside.frame inside.object)) inside.steps))).owns ≡ true
-  inside_owns m hands plain = ap (λ z. (content s m hands z).owns) trunk_is ∙ ap not plain
+  pub inside_owns : IsSettled s.table → (m : Memory) (hands : List Waiting) (leaks : List Leak) → Kept s m hands → Owned (seen s m hands leaks)
+      → Reaches (seen s m hands leaks) inside.trunk inside.start → (content s m hands (trunk (part inside.start inside.steps))).owns ≡ true
+  inside_owns settled m hands leaks typed owned reach = ap (λ z. (content s m hands z).owns) trunk_is ∙ elim inside.stands [
+    | inl variable ↦ subst (λ z. (content s m hands z).owns ≡ true) (sym variable.1) (ap not inside.owner)
+    | inr there ↦
+        subst (λ z. (content s m hands z).owns ≡ true) (sym (there.0).1)
+        (ap not (cell_live s settled m hands leaks typed inside.trunk inside.frame inside.object (there.0).0 inside.root owned
+        (subst (Reaches (seen s m hands leaks) inside.trunk) (there.0).1 reach)))
+  ]
+
+  -- it isn't in another variable
+  pub inside_other : (g y : ℕ) → (OfVariable inside.frame inside.object ≡ OfVariable g y → ⊥) → k.base ≡ memory.OfVariable g y → ⊥
+  inside_other g y ne is = elim inside.stands [
+    | inl variable ↦ ne (same_names (sym variable.2 ∙ is))
+    | inr there ↦ no_names (sym (there.0).2 ∙ is)
+  ]
+    where
+      same_names : {f x g y : ℕ} → memory.OfVariable f x ≡ memory.OfVariable g y → OfVariable f x ≡ OfVariable g y
+      same_names e = cc
+
+      no_names : {n g y : ℕ} → memory.OfCell n ≡ memory.OfVariable g y → ⊥
+      no_names e = cc
+
+  hands_same : (m : Memory) (hands : List Waiting) → content s m hands inside.start ≡ content s m [] inside.start
+  hands_same m hands = elim inside.stands [
+    | inl variable ↦ subst (λ z. content s m hands z ≡ content s m [] z) (sym variable.1) refl
+    | inr there ↦ subst (λ z. content s m hands z ≡ content s m [] z) (sym (there.0).1) refl
+  ]
 
   -- the words there
   pub inside_word : (m : Memory) (hands : List Waiting) (p : List Step)
-      → word_in s.table (content s m hands (trunk (part (OfRoot (OfVariable inside.frame inside.object)) inside.steps))) (p ++ steps_in (part (OfRoot (OfVariable inside.frame inside.object)) inside.steps))
-      ≡ word_in s.table (content s m [] (OfRoot (OfVariable inside.frame inside.object))) (p ++ inside.steps)
+      → word_in s.table (content s m hands (trunk (part inside.start inside.steps))) (p ++ steps_in (part inside.start inside.steps))
+      ≡ word_in s.table (content s m [] inside.start) (p ++ inside.steps)
   inside_word m hands p =
-      (λ j. word_in s.table (content s m hands (trunk_is j)) (p ++ inside_steps j))
+      (λ j. word_in s.table (content s m hands (trunk_is j)) (p ++ inside_steps j)) ∙ ap (λ z. word_in s.table z (p ++ inside.steps)) (hands_same m hands)
 
 -- ---- hands and variables
 
@@ -137,6 +202,10 @@ module _ (s : Typing) (settled : IsSettled s.table) (home : ℕ → ℕ) (observ
     (met_apart : (x : ℕ) (w z : Way) → v.way x ≡ Some w → IsForeign home w → gone z → Under z w ⊎ Under w z → ⊥) where
   abbrev whole_slots : Memory → Place → List Slot → List Slot
   whole_slots m k slots = take k.at (slots_at s m k.base) ++ slots ++ drop (k.at + length slots) (slots_at s m k.base)
+
+  word_cell : (a : Loc → Content) (n : ℕ) (p : List Step)
+      → word_in s.table (a (trunk (part (OfCell n) p))) (steps_in (part (OfCell n) p)) ≡ word_in s.table (a (OfCell n)) p
+  word_cell a n p = word_part s.table a (OfCell n) p ∙ ap (word_in s.table (a (OfCell n))) (append-nil p)
 
   -- What a place has goes to a hand.
   module _ (m : Memory) (rest : List Waiting) (leaks : List Leak) (facts : List Fact) (k : Place) (l : Loc) (u : Way)
@@ -199,7 +268,7 @@ module _ (s : Typing) (settled : IsSettled s.table) (home : ℕ → ℕ) (observ
         ∙ move.off (part (OfRoot (OfVariable g y)) p) (λ there. variable_off g y p (length rest) there) off
         ∙ word_root s.table a (OfVariable g y) p
 
-    -- what is gone in a variable stays so, and cells are as they were
+    -- what is gone in a variable stays so
     pub carried_gone : (g y : ℕ) (p : List Step) → word_in s.table (content s m [] (OfRoot (OfVariable g y))) p ≡ Gone
         → word_in s.table (content s (moved_out s k m) [] (OfRoot (OfVariable g y))) p ≡ Gone
     carried_gone g y p gone = elim (below l (part (OfRoot (OfVariable g y)) p)) [
@@ -209,13 +278,30 @@ module _ (s : Typing) (settled : IsSettled s.table) (home : ℕ → ℕ) (observ
       | inr off ↦ carried_beside g y p off ∙ gone
     ]
 
-    pub carried_cells : (f x : ℕ) → trunk l ≡ OfRoot (OfVariable f x) → (c : ℕ) (p : List Step)
-        → word_in s.table (content s (moved_out s k m) [] (OfCell c)) p ≡ word_in s.table (content s m [] (OfCell c)) p
-    carried_cells f x base c p =
-        subst (λ q. word_in s.table (content s (moved_out s k m) [] (OfCell c)) q ≡ word_in s.table (content s m [] (OfCell c)) q) (append-nil p)
-        (sym (word_part s.table b (OfCell c) p)
-        ∙ move.off (part (OfCell c) p) (λ there. cell_off c p (hand (length rest)) (OfHand (length rest)) refl there) (λ there. cell_off c p l (OfVariable f x) base there)
-        ∙ word_part s.table a (OfCell c) p)
+    -- the same for cells
+    pub carried_held_cell : (n : ℕ) (p : List Step) (c : ℕ) → word_in s.table (content s (moved_out s k m) [] (OfCell n)) p ≡ Held c
+        → word_in s.table (content s m [] (OfCell n)) p ≡ Held c
+    carried_held_cell n p c held =
+        elim (owner_before (seen s m rest leaks) after l (hand (length rest)) move (part (OfCell n) p) c (word_cell b n p ∙ held)) [
+          | inr stays ↦ sym (word_cell a n p) ∙ stays.word
+          | inl (q, is, word) ↦ absurd (cell_off n p (hand (length rest)) (OfHand (length rest)) refl (q, is))
+        ]
+
+    pub carried_beside_cell : (n : ℕ) (p : List Step) → (Below l (part (OfCell n) p) → ⊥)
+        → word_in s.table (content s (moved_out s k m) [] (OfCell n)) p ≡ word_in s.table (content s m [] (OfCell n)) p
+    carried_beside_cell n p off =
+        sym (word_cell b n p)
+        ∙ move.off (part (OfCell n) p) (λ there. cell_off n p (hand (length rest)) (OfHand (length rest)) refl there) off
+        ∙ word_cell a n p
+
+    pub carried_gone_cell : (n : ℕ) (p : List Step) → word_in s.table (content s m [] (OfCell n)) p ≡ Gone
+        → word_in s.table (content s (moved_out s k m) [] (OfCell n)) p ≡ Gone
+    carried_gone_cell n p gone = elim (below l (part (OfCell n) p)) [
+      | inl (q, is) ↦ absurd (clean (along u q) (under_along u u q (under_itself u))
+          (viewed.known (along u q) (part l q) (named_along u q rooted) (reaches_along (seen s m rest leaks) u l q reaches)
+          (subst (λ z. (seen s m rest leaks).word z ≡ Gone) is (word_cell a n p ∙ gone))))
+      | inr off ↦ carried_beside_cell n p off ∙ gone
+    ]
 
     after_is : after ≡ seen s (moved_out s k m) (got ∷ rest) leaks
     after_is =
@@ -284,7 +370,7 @@ module _ (s : Typing) (settled : IsSettled s.table) (home : ℕ → ℕ) (observ
           | inr stays ↦ inl (sym (word_root s.table full (OfVariable g y) p) ∙ stays.word)
         ]
 
-    -- beside the place, what is gone in a variable stays so; and cells are as they were
+    -- beside the place, what is gone in a variable stays so
     pub carried_gone_to : (g y : ℕ) (p : List Step) → (Below l (part (OfRoot (OfVariable g y)) p) → ⊥)
         → word_in s.table (content s m [] (OfRoot (OfVariable g y))) p ≡ Gone → word_in s.table (content s (stored s k got.words m) [] (OfRoot (OfVariable g y))) p ≡ Gone
     carried_gone_to g y p off gone =
@@ -292,13 +378,21 @@ module _ (s : Typing) (settled : IsSettled s.table) (home : ℕ → ℕ) (observ
         ∙ goes_there.off (part (OfRoot (OfVariable g y)) p) off (λ there. variable_off g y p (length rest) there)
         ∙ word_root s.table full (OfVariable g y) p ∙ gone
 
-    pub carried_cells_to : (f x : ℕ) → trunk l ≡ OfRoot (OfVariable f x) → (c : ℕ) (p : List Step)
-        → word_in s.table (content s (stored s k got.words m) [] (OfCell c)) p ≡ word_in s.table (content s m [] (OfCell c)) p
-    carried_cells_to f x base c p =
-        subst (λ q. word_in s.table (content s (stored s k got.words m) [] (OfCell c)) q ≡ word_in s.table (content s m [] (OfCell c)) q) (append-nil p)
-        (sym (word_part s.table given (OfCell c) p)
-        ∙ goes_there.off (part (OfCell c) p) (λ there. cell_off c p l (OfVariable f x) base there) (λ there. cell_off c p (hand (length rest)) (OfHand (length rest)) refl there)
-        ∙ word_part s.table full (OfCell c) p)
+    -- what has a number in a cell then had it before, or is in the place
+    pub carried_holds_cell : (n : ℕ) (p : List Step) (c : ℕ) → word_in s.table (content s (stored s k got.words m) [] (OfCell n)) p ≡ Held c
+        → (word_in s.table (content s m [] (OfCell n)) p ≡ Held c) ⊎ ((q : List Step) × (part (OfCell n) p ≡ part l q))
+    carried_holds_cell n p c held =
+        elim (owner_before (seen s m (got ∷ rest) leaks) then_seen (hand (length rest)) l goes_there (part (OfCell n) p) c (word_cell given n p ∙ held)) [
+          | inl (q, is, word) ↦ inr (q, is)
+          | inr stays ↦ inl (sym (word_cell full n p) ∙ stays.word)
+        ]
+
+    pub carried_gone_cell_to : (n : ℕ) (p : List Step) → (Below l (part (OfCell n) p) → ⊥)
+        → word_in s.table (content s m [] (OfCell n)) p ≡ Gone → word_in s.table (content s (stored s k got.words m) [] (OfCell n)) p ≡ Gone
+    carried_gone_cell_to n p off gone =
+        sym (word_cell given n p)
+        ∙ goes_there.off (part (OfCell n) p) off (λ there. cell_off n p (hand (length rest)) (OfHand (length rest)) refl there)
+        ∙ word_cell full n p ∙ gone
 
     then_is : then_seen ≡ seen s (stored s k got.words m) rest leaks
     then_is =

@@ -2,6 +2,7 @@
 -- the call takes lies above them, and each cell has a name.
 use Rattle.std.proofs.Common.{◌≡◌, refl, sym, ap, ◌∙◌, subst, ◌⊎◌, inl, inr, ℕ, Bool, true, false, ◌&&◌, ◌==◌, eqb-true, eq-eqb, List, [], ◌∷◌, ◌++◌, map, flat_map, Option, Some, None}
 use Rattle.spark_base.specs.Lists.{Has}
+use Rattle.spark_base.specs.declared.position.Pos.{Pos}
 use Rattle.spark_base.proofs.Lists.{Has-append_left, Has-append_right, Has-append_cases, Has-map_from}
 use Rattle.place_names.specs.declared.selector.Sel.{Sel}
 use Rattle.place_names.specs.declared.selector.Sel.TheVariants.{Field, Elem, Deref}
@@ -16,7 +17,7 @@ use Rattle.place_names.specs.Names.{Name as PlaceName, is_equal, agree_along, ov
 use Rattle.place_names.specs.Facts.{adds, is_moved_under}
 use Rattle.place_names.specs.Reports.{Report}
 use Rattle.place_names.proofs.Names.{both_parts, both_true}
-use Rattle.type_definitions.specs.Types.{is_owning}
+use Rattle.type_definitions.specs.Types.{full, is_scalar, is_owning}
 use Rattle.typed_tree.specs.Trees.{TypedTree, Name, More}
 use Rattle.flow_paths.specs.Objects.{Typing, object_at, is_package_object, is_named_access, view_of, Passing, passing, passing_by}
 use Rattle.flow_paths.specs.Names.{Written, written, name_of}
@@ -24,11 +25,14 @@ use Rattle.flow_paths.specs.Acts.{naming, actual_act, actual_acts}
 use Rattle.flow_paths.specs.Aliases as alias
 use Rattle.flow_paths.specs.Aliases.{pair_reports, overlap_reports}
 use Rattle.machine.specs.Memory.{Memory, Place}
+use Rattle.machine.specs.Memory as memory
 use Rattle.machine.specs.Calls.{Passed, Value, From, To}
 use Rattle.machine.specs.Owners.{is_in}
-use Rattle.owned_ways.specs.Ways.{OfCell, Way, Under, Past, Named, Reaches, Allows, AllowsAll, after, number_of}
+use Rattle.owned_ways.specs.Ways.{OfRoot, OfCell, Way, Under, Past, Named, Reaches, Allows, AllowsAll, after, number_of}
 use Rattle.owned_ways.specs.Ways as ways
 use Rattle.owned_ways.proofs.Assigned.{kept_fact}
+use Rattle.owned_ways.proofs.Locations.{under_along, under_itself}
+use Rattle.part_offsets.specs.Parts.{IsSettled}
 use Rattle.soundness.specs.Seen.{home}
 use Rattle.soundness.specs.Typed.{OwnsByShape}
 use Rattle.soundness.specs.Sound.{goes_through_none}
@@ -39,11 +43,12 @@ use Rattle.owned_loans.specs.Views.{Views, expand}
 use Rattle.owned_loans.proofs.Safe.{Unlent}
 use Rattle.viewed_soundness.specs.Holds.{sees_only}
 use Rattle.viewed_steps.specs.Taken.{Lodge}
-use Rattle.viewed_steps.specs.Sound.{IsScalarObject, IsCopiedBack, AreKeptPlaces}
+use Rattle.viewed_steps.specs.Sound.{IsScalarObject, IsReachedBack, IsCopiedBack, AreKeptPlaces}
 use Rattle.viewed_steps.specs.Ready.{AreUnobserved}
-use Rattle.viewed_steps.proofs.LaidOut.{IsPlaceLaid, IsLaidOne, AreLaidOut, place_cell, cell_of, cells_of, IsOpenActual, AreOpenActuals}
+use Rattle.viewed_steps.proofs.LaidOut.{IsHoused, house_of, IsPlaceLaid, IsLaidOne, AreLaidOut, place_cell, cell_of, cells_of, IsOpenActual, AreOpenActuals}
 use Rattle.viewed_steps.proofs.Opened.{actual_open, IsLess, open_before}
 use Rattle.viewed_steps.proofs.Called.{copies_add}
+use Rattle.viewed_steps.proofs.Entered.{inside_named, IsFrom}
 use Rattle.viewed_steps.proofs.Passed.{apart_pair, flat_has, later_none, after_less}
 
 -- ---- names that don't overlap
@@ -120,12 +125,12 @@ passed_formal (x ∷ formals) actuals b has = absurd has
 
 -- ---- before the acts of the call
 
--- Those that are copied back to go through no access value; or they are for formals of scalar types, and rooted
--- in objects that belong to no package and aren't observers.
+-- Those that are copied back to go through no access value; or they are rooted in objects that belong to no
+-- package and aren't observers, and are for formals of scalar types, or for other ones and rooted in owners.
 abbrev pub AreKept : Typing → List ℕ → TypedTree → Type 0
 AreKept s (x ∷ formals) (More e rest) =
     (is_in (object_at s x).mode ≡ false → (goes_through_none e ≡ true)
-    ⊎ (IsScalarObject s x × ((y : ℕ) → Has (root_of e) y → (is_package_object s y ≡ false) × (sees_only s y ≡ false)))) × AreKept s formals rest
+    ⊎ (IsReachedBack s x e × ((y : ℕ) → Has (root_of e) y → (is_package_object s y ≡ false) × (sees_only s y ≡ false)))) × AreKept s formals rest
 AreKept s formals actuals = Unit {0}
 
 pub are_kept : (s : Typing) (formals : List ℕ) (actuals : TypedTree) → AreKeptPlaces s formals actuals
@@ -301,8 +306,9 @@ module _ (s : Typing) (own_law : OwnsByShape s.table) (depth : ℕ) (facts : Lis
 
 -- ---- the cells
 
--- A cell of a place: its name begins that of an actual for a formal of a scalar type, which isn't lent.
-pub record IsCellNamed (s : Typing) (depth : ℕ) (facts : List Fact) (v : Views) (view : ways.View) (formals : List ℕ) (actuals : TypedTree) (c : Lodge) : Type 0 where
+-- A cell of a place: its name begins that of an actual that is copied back to, which isn't lent.
+pub record IsCellNamed (s : Typing) (depth : ℕ) (facts : List Fact) (v : Views) (view : ways.View) (formals : List ℕ) (actuals : TypedTree) (passed : List Passed)
+    (c : Lodge) : Type 0 where
   pub whole : Way
   pub named : Named (home s depth) whole
   pub plain : sees_only s (number_of whole) ≡ false
@@ -315,8 +321,9 @@ pub record IsCellNamed (s : Typing) (depth : ℕ) (facts : List Fact) (v : Views
   pub by : alias.Passed
   pub among : Has (alias.passed formals actuals) by
   pub back : IsCopiedBack s by.formal
-  pub scalar : IsScalarObject s by.formal
   pub called : by.actual.name ≡ ways.name_of whole
+  pub sort : IsScalarObject s by.formal
+      ⊎ ((k : Place) × (k.base ≡ memory.OfCell c.cell) × IsFrom formals passed by.formal k × (is_scalar (full s.table (object_at s by.formal).of) ≡ false))
 
 -- what begins a name of a frame is one
 pub named_before : (home : ℕ → ℕ) (t w : Way) → Under t w → Named home w → Named home t
@@ -325,12 +332,13 @@ named_before home t (ways.Lost n) under named = absurd named
 named_before home t (ways.Into w i) under named = elim under [ inl e ↦ subst (Named home) (sym e) named | inr u ↦ named_before home t w u named ]
 named_before home t (ways.All w) under named = elim under [ inl e ↦ subst (Named home) (sym e) named | inr u ↦ named_before home t w u named ]
 
-module _ (s : Typing) (own_law : OwnsByShape s.table) (mem : Memory) (depth : ℕ) (facts : List Fact) (procedure : Bool) (v : Views) (view : ways.View) where
-  abbrev Called : List ℕ → TypedTree → Lodge → Type 0
-  Called formals actuals c = IsCellNamed s depth facts v view formals actuals c
+module _ (s : Typing) (settled : IsSettled s.table) (own_law : OwnsByShape s.table) (mem : Memory) (depth : ℕ) (facts : List Fact) (procedure : Bool) (v : Views) (view : ways.View) where
+  abbrev Called : List ℕ → TypedTree → List Passed → Lodge → Type 0
+  Called formals actuals passed c = IsCellNamed s depth facts v view formals actuals passed c
 
-  cell_later : (x : ℕ) (e : TypedTree) (formals : List ℕ) (actuals : TypedTree) (c : Lodge) → Called formals actuals c → Called (x ∷ formals) (More e actuals) c
-  cell_later x e formals actuals c there = record {
+  cell_later : (x : ℕ) (e : TypedTree) (a : Passed) (formals : List ℕ) (actuals : TypedTree) (passed : List Passed) (c : Lodge) → Called formals actuals passed c
+      → Called (x ∷ formals) (More e actuals) (a ∷ passed) c
+  cell_later x e a formals actuals passed c there = record {
     whole = there.whole;
     named = there.named;
     plain = there.plain;
@@ -343,62 +351,99 @@ module _ (s : Typing) (own_law : OwnsByShape s.table) (mem : Memory) (depth : �
     by = there.by;
     among = Has-append_right (alias.passed_as x (written e)) (alias.passed formals actuals) there.by there.among;
     back = there.back;
-    scalar = there.scalar;
     called = there.called;
+    sort = elim there.sort [ inl scalar ↦ inl scalar | inr (k, base, from, many) ↦ inr (k, base, inr from, many) ];
   }
 
-  one_cell : (x : ℕ) (m : Mode) (e : TypedTree) (k : Place) (known : List Fact) (formals : List ℕ) (rest : TypedTree) → (object_at s x).mode ≡ m → (m ≡ mode.In → ⊥)
-      → (laid : IsPlaceLaid s depth v view x e k) → AllowsAll known (acts (actual_act (passing s procedure x) e)) → ((f : Fact) → Has facts f → Has known f)
-      → (c : Lodge) → Has (place_cell s depth v view x e k laid) c → Called (x ∷ formals) (More e rest) c
-  one_cell x m (Name p y path u) k known formals rest is other (inl (plain, inr (c, there, sort))) allowed less d (inl same) =
-      subst (Called (x ∷ formals) (More (Name p y path u) rest)) same (record {
-        whole = there.whole;
-        named = there.named;
-        plain = ap (sees_only s) root ∙ there.plain;
-        own = ap (is_package_object s) root ∙ there.own;
-        begins = there.begins;
-        deep = there.deep;
-        leads = there.leads;
-        reaches = there.reaches;
-        unlent = λ l h n has over.
-            (actual_open known m (is_owning s.table (object_at s x).of) (procedure && is_named_access (view_of s x)) there.whole other
-            (subst (λ z. Allows known (act.Actual z m (is_owning s.table (object_at s x).of) (procedure && is_named_access (view_of s x)))) (sym there.called)
-            (by_mode m other
-            (subst (λ z. AllowsAll known (acts (actual_act (passing_by z (is_owning s.table (object_at s x).of) (procedure && is_named_access (view_of s x))) (Name p y path u))))
-            is allowed)))).1 l h n (less (Lent l h n) has) over;
-        by = record { formal = x; actual = record { pos = p; name = name_of y path; of = u } };
-        among = inl refl;
-        back = λ in_mode. other (sym is ∙ in_mode);
-        scalar = plain;
-        called = sym there.called;
-      })
+  -- such an actual isn't lent
+  unlent_there : (x : ℕ) (m : Mode) (p : Pos) (y u : ℕ) (path : TypedTree) (known : List Fact) (w : Way) → (object_at s x).mode ≡ m → (m ≡ mode.In → ⊥)
+      → ways.name_of w ≡ name_of y path → AllowsAll known (acts (actual_act (passing s procedure x) (Name p y path u))) → ((f : Fact) → Has facts f → Has known f) → Unlent facts w
+  unlent_there x m p y u path known w is other called allowed less l h n has over =
+      (actual_open known m (is_owning s.table (object_at s x).of) (procedure && is_named_access (view_of s x)) w other
+      (subst (λ z. Allows known (act.Actual z m (is_owning s.table (object_at s x).of) (procedure && is_named_access (view_of s x)))) (sym called)
+      (by_mode m other
+      (subst (λ z. AllowsAll known (acts (actual_act (passing_by z (is_owning s.table (object_at s x).of) (procedure && is_named_access (view_of s x))) (Name p y path u))))
+      is allowed)))).1 l h n (less (Lent l h n) has) over
     where
-      root : number_of there.whole ≡ y
-      root = ap (λ (z : PlaceName). z.root) there.called
-
       by_mode : (m : Mode) → (m ≡ mode.In → ⊥)
           → AllowsAll known (acts (actual_act (passing_by m (is_owning s.table (object_at s x).of) (procedure && is_named_access (view_of s x))) (Name p y path u)))
           → Allows known (act.Actual (name_of y path) m (is_owning s.table (object_at s x).of) (procedure && is_named_access (view_of s x)))
       by_mode mode.In other allowed = absurd (other refl)
       by_mode mode.Out other allowed = allowed.0
       by_mode mode.InOut other allowed = allowed.0
-  one_cell x m (Name p y path u) k known formals rest is other (inl (plain, inr lodged)) allowed less d (inr never) = absurd never
-  one_cell x m (Name p y path u) k known formals rest is other (inl (plain, inl fixed)) allowed less d has = absurd has
-  one_cell x m e k known formals rest is other (inr own) allowed less d has = absurd has
-  one_cell x m e k known formals rest is other (inl (plain, never)) allowed less d has = absurd never
 
-  first_cell : (x : ℕ) (m : Mode) (e : TypedTree) (a : Passed) (known : List Fact) (formals : List ℕ) (rest : TypedTree) → (object_at s x).mode ≡ m
+  house_base : (s : Typing) (depth : ℕ) (v : Views) (view : ways.View) (x y : ℕ) (path : TypedTree) (k : Place) → (h : IsHoused s depth v view x y path k)
+      → k.base ≡ memory.OfCell h.cell
+  house_base s depth v view x y path k h = elim (h.inside).stands [
+    | inl variable ↦ (let never : OfRoot (ways.OfVariable (h.inside).frame (h.inside).object) ≡ OfCell h.cell = sym variable.1 ∙ h.start in cc)
+    | inr cell ↦ (cell.0).2 ∙ ap memory.OfCell (same_cell (sym (cell.0).1 ∙ h.start))
+  ]
+    where
+      same_cell : {a b : ℕ} → OfCell a ≡ OfCell b → a ≡ b
+      same_cell e = cc
+
+  -- the cell of one that isn't scalar
+  housed_cell : (x : ℕ) (m : Mode) (p : Pos) (y u : ℕ) (path : TypedTree) (k : Place) (known : List Fact) (formals : List ℕ) (rest : TypedTree) (passed : List Passed) → (object_at s x).mode ≡ m → (m ≡ mode.In → ⊥)
+      → (h : IsHoused s depth v view x y path k) → AllowsAll known (acts (actual_act (passing s procedure x) (Name p y path u))) → ((f : Fact) → Has facts f → Has known f)
+      → is_scalar (full s.table (object_at s x).of) ≡ false → Called (x ∷ formals) (More (Name p y path u) rest) (From k ∷ passed) (house_of s depth v view x y path k h)
+  housed_cell x m p y u path k known formals rest passed is other h allowed less many = record {
+    whole = h.to;
+    named = inside_named s settled depth k h.to h.inside;
+    plain = ap (sees_only s) (ap (λ (z : PlaceName). z.root) h.called) ∙ h.plain;
+    own = ap (is_package_object s) (ap (λ (z : PlaceName). z.root) h.called) ∙ h.own;
+    begins = subst (Under (h.inside).trunk) (sym (h.inside).way) (under_along (h.inside).trunk (h.inside).trunk (h.inside).steps (under_itself (h.inside).trunk));
+    deep = h.deep;
+    leads = h.leads;
+    reaches = h.reaches;
+    unlent = unlent_there x m p y u path known h.to is other h.called allowed less;
+    by = record { formal = x; actual = record { pos = p; name = name_of y path; of = u } };
+    among = inl refl;
+    back = λ in_mode. other (sym is ∙ in_mode);
+    called = sym h.called;
+    sort = inr (k, house_base s depth v view x y path k h, inl (refl, refl), many);
+  }
+
+  one_cell : (x : ℕ) (m : Mode) (e : TypedTree) (k : Place) (known : List Fact) (formals : List ℕ) (rest : TypedTree) (passed : List Passed) → (object_at s x).mode ≡ m → (m ≡ mode.In → ⊥)
+      → (laid : IsPlaceLaid s depth v view x e k) → AllowsAll known (acts (actual_act (passing s procedure x) e)) → ((f : Fact) → Has facts f → Has known f)
+      → (c : Lodge) → Has (place_cell s depth v view x e k laid) c → (a : Passed) → Called (x ∷ formals) (More e rest) (a ∷ passed) c
+  one_cell x m (Name p y path u) k known formals rest passed is other (inl (plain, inr (c, there, sort))) allowed less d (inl same) a =
+      subst (Called (x ∷ formals) (More (Name p y path u) rest) (a ∷ passed)) same (record {
+        whole = there.whole;
+        named = there.named;
+        plain = ap (sees_only s) (ap (λ (z : PlaceName). z.root) there.called) ∙ there.plain;
+        own = ap (is_package_object s) (ap (λ (z : PlaceName). z.root) there.called) ∙ there.own;
+        begins = there.begins;
+        deep = there.deep;
+        leads = there.leads;
+        reaches = there.reaches;
+        unlent = unlent_there x m p y u path known there.whole is other there.called allowed less;
+        by = record { formal = x; actual = record { pos = p; name = name_of y path; of = u } };
+        among = inl refl;
+        back = λ in_mode. other (sym is ∙ in_mode);
+        called = sym there.called;
+        sort = inl plain;
+      })
+  one_cell x m (Name p y path u) k known formals rest passed is other (inl (plain, inr lodged)) allowed less d (inr never) a = absurd never
+  one_cell x m (Name p y path u) k known formals rest passed is other (inl (plain, inl fixed)) allowed less d has a = absurd has
+  one_cell x m e k known formals rest passed is other (inr own) allowed less d has a = absurd has
+  one_cell x m e k known formals rest passed is other (inl (plain, never)) allowed less d has a = absurd never
+
+  first_cell : (x : ℕ) (m : Mode) (e : TypedTree) (a : Passed) (known : List Fact) (formals : List ℕ) (rest : TypedTree) (passed : List Passed) → (object_at s x).mode ≡ m
       → (laid : IsLaidOne s mem depth v view x m e a) → AllowsAll known (acts (actual_act (passing s procedure x) e)) → ((f : Fact) → Has facts f → Has known f)
-      → (c : Lodge) → Has (cell_of s mem depth v view x m e a laid) c → Called (x ∷ formals) (More e rest) c
-  first_cell x mode.In e (Value ws) known formals rest is laid allowed less c has = absurd has
-  first_cell x mode.Out e (To k) known formals rest is laid allowed less c has = one_cell x mode.Out e k known formals rest is (λ e. cc) laid allowed less c has
-  first_cell x mode.InOut e (From k) known formals rest is laid allowed less c has = one_cell x mode.InOut e k known formals rest is (λ e. cc) laid allowed less c has
-  first_cell x m e a known formals rest is laid allowed less c has = absurd laid
+      → (c : Lodge) → Has (cell_of s mem depth v view x m e a laid) c → Called (x ∷ formals) (More e rest) (a ∷ passed) c
+  first_cell x mode.In e (Value ws) known formals rest passed is laid allowed less c has = absurd has
+  first_cell x mode.Out e (To k) known formals rest passed is laid allowed less c has = one_cell x mode.Out e k known formals rest passed is (λ e. cc) laid allowed less c has (To k)
+  first_cell x mode.InOut e (From k) known formals rest passed is (inl laid) allowed less c has = one_cell x mode.InOut e k known formals rest passed is (λ e. cc) laid allowed less c has (From k)
+  first_cell x mode.InOut (Name p y path u) (From k) known formals rest passed is (inr housed) allowed less c (inl same) =
+      subst (Called (x ∷ formals) (More (Name p y path u) rest) (From k ∷ passed)) same (housed_cell x mode.InOut p y u path k known formals rest passed is (λ e. cc) housed.1 allowed less housed.0)
+  first_cell x mode.InOut (Name p y path u) (From k) known formals rest passed is (inr housed) allowed less c (inr never) = absurd never
+  first_cell x mode.InOut e (From k) known formals rest passed is (inr never) allowed less c has = absurd never.1
+  first_cell x m e a known formals rest passed is laid allowed less c has = absurd laid
 
   pub cells_named : (formals : List ℕ) (actuals : TypedTree) (passed : List Passed) (known : List Fact) → (laid : AreLaidOut s mem depth v view formals actuals passed)
       → facts ≡ after (acts (actual_acts (map (passing s procedure) formals) actuals)) known
       → AllowsAll known (acts (actual_acts (map (passing s procedure) formals) actuals)) → (c : Lodge) → Has (cells_of s mem depth v view formals actuals passed laid) c
-      → Called formals actuals c
+      → Called formals actuals passed c
   cells_named [] actuals passed known laid same allowed c has = absurd has
   cells_named (x ∷ formals) (More e rest) (a ∷ passed) known laid same allowed c has =
       let first : List Act = acts (actual_act (passing s procedure x) e) in
@@ -407,12 +452,12 @@ module _ (s : Typing) (own_law : OwnsByShape s.table) (mem : Memory) (depth : �
       acts_append (actual_act (passing s procedure x) e) (actual_acts (map (passing s procedure) formals) rest) in
       let each = allows_both known first others (subst (AllowsAll known) both allowed) in
       elim (Has-append_cases (cell_of s mem depth v view x (object_at s x).mode e a laid.0) (cells_of s mem depth v view formals rest passed laid.1) c has) [
-        | inl mine ↦ first_cell x (object_at s x).mode e a known formals rest refl laid.0 each.0
+        | inl mine ↦ first_cell x (object_at s x).mode e a known formals rest passed refl laid.0 each.0
             (λ f there. after_less (acts (actual_acts (map (passing s procedure) (x ∷ formals)) (More e rest)))
             (λ b among. (let from = Has-map_from (λ (z : Placed). z.act) (actual_acts (map (passing s procedure) (x ∷ formals)) (More e rest)) b among in
             λ g new. copies_add s own_law procedure (x ∷ formals) (More e rest) from.0 from.1 g (subst (λ z. Has (adds z) g) (sym from.2) new))) known f (subst (λ z. Has z f) same there))
             c mine
-        | inr later ↦ cell_later x e formals rest c
+        | inr later ↦ cell_later x e a formals rest passed c
             (cells_named formals rest passed (after first known) laid.1 (same ∙ ap (λ z. after z known) both ∙ after_append first others known) each.1 c later)
       ]
   cells_named (x ∷ formals) (More e rest) [] known laid same allowed c has = absurd laid

@@ -1,6 +1,7 @@
 -- A formal of mode `out` that isn't scalar: what the place of its actual has is leaked, and is gone; the formal
 -- has what an object has without a value.
 use Rattle.std.proofs.Common.{◌≡◌, refl, sym, ap, ◌∙◌, subst, ◌⊎◌, inl, inr, ℕ, suc, ◌+◌, true, false, not, List, [], ◌++◌, take, drop, length, get_or, arith, append-nil, Some}
+use Rattle.spark_base.specs.Lists.{Has}
 use Rattle.place_names.specs.declared.fact.Fact.{Fact}
 use Rattle.flow_paths.specs.Objects.{Typing, object_at, is_anonymous, view_of}
 use Rattle.machine.specs.Words.{access_offsets, default}
@@ -23,24 +24,25 @@ use Rattle.owned_loans.proofs.Moves.{same_viewed}
 use Rattle.viewed_soundness.specs.Holds.{is_view, sees_only}
 use Rattle.viewed_soundness.proofs.Names.{owner_sees, both_no, true_false, not_view}
 use Rattle.viewed_soundness.proofs.Evaluated.{matches_named}
-use Rattle.viewed_steps.specs.Taken.{AreCarried, IsPassedOn, IsBare}
+use Rattle.viewed_steps.specs.Taken.{Lodge, AreCarried, IsPassedOn, IsBare}
 use Rattle.viewed_steps.proofs.Between.{gone_also, same_reaches, IsClearOf, same_variable}
-use Rattle.viewed_steps.proofs.Carried.{inside_low, trunk_is, cell_off, inside_at, inside_spot, inside_reached, inside_rooted, inside_owns, inside_word}
+use Rattle.viewed_steps.proofs.Carried.{inside_low, inside_other, inside_at, inside_spot, inside_reached, inside_rooted, inside_owns, inside_word}
 use Rattle.viewed_steps.proofs.Beside.{put_beside}
 use Rattle.viewed_steps.proofs.Emptied.{IsEmptied, none_left, owner_before, keeps_off, emptied}
 use Rattle.viewed_steps.proofs.Vacated.{vacated, vacated_gone, default_same}
-use Rattle.viewed_steps.proofs.Outs.{HasStill, places_apart}
+use Rattle.viewed_steps.proofs.Outs.{HasStill, places_apart, ways_apart}
 use Rattle.viewed_steps.proofs.Views.{AreAccess, view_cases}
 use Rattle.viewed_steps.proofs.Entered.{inside_plain, inside_named, inside_number, inside_itself}
 
 module _ (s : Typing) (settled : IsSettled s.table) (own_law : OwnsByShape s.table) (in_formals : AreAccess s)
-    (hands : List Waiting) (leaks : List Leak) (depth : ℕ) (v : Views) (facts : List Fact) (scope : List ℕ)
+    (hands : List Waiting) (leaks : List Leak) (depth : ℕ) (v : Views) (only : (x : ℕ) (w : Way) → v.way x ≡ Some w → is_view s x ≡ true) (facts : List Fact)
+    (scope : List ℕ) (cells : List Lodge)
     (other : Around (home s depth)) (gone : Way → Type 0)
     (gone_apart : (y : ℕ) (w z : Way) → v.way y ≡ Some w → IsForeign (home s depth) w → gone z → Under z w ⊎ Under w z → ⊥)
-    (x : ℕ) (k : Place) (to : Way) (passed : IsPassedOn s depth facts scope x k to) (none_kept : (w : Way) (n : ℕ) → other.kept w n → ⊥)
+    (x : ℕ) (k : Place) (to : Way) (passed : IsPassedOn s cells depth facts scope x k to) (none_kept : (w : Way) (n : ℕ) → other.kept w n → ⊥)
     (m : Memory) (typed : Kept s m hands) (viewed : Viewed (home s depth) (sees_only s) other v (seen s m hands leaks) facts)
     (blank : (p : List Step) → word_in s.table (content s m [] (OfRoot (OfVariable (suc depth) x))) p ≡ Empty)
-    (found : List Leak) where
+    (there : Reaches (seen s m hands leaks) (passed.inside).trunk (passed.inside).start) (found : List Leak) where
   abbrev at : Loc
   at = inside_at s depth k to passed.inside
 
@@ -51,10 +53,10 @@ module _ (s : Typing) (settled : IsSettled s.table) (own_law : OwnsByShape s.tab
   next = declared (suc depth) x (default s.table (object_at s x).of) mid
 
   spot : Spot s m hands k at
-  spot = inside_spot s depth k to passed.inside m hands
+  spot = inside_spot s depth k to passed.inside settled m hands leaks typed there
 
   reached : Reaches (seen s m hands leaks) to at
-  reached = inside_reached s depth k to passed.inside (seen s m hands leaks)
+  reached = inside_reached s depth k to passed.inside (seen s m hands leaks) there
 
   plain_name : sees_only s (number_of to) ≡ false
   plain_name =
@@ -62,7 +64,7 @@ module _ (s : Typing) (settled : IsSettled s.table) (own_law : OwnsByShape s.tab
       ∙ owner_sees s (passed.inside).object (inside_plain s settled depth k to passed.inside) (passed.inside).owner
 
   itself : expand v to ≡ to
-  itself = inside_itself s settled depth k to passed.inside v
+  itself = inside_itself s settled depth k to passed.inside v only
 
   clear_to : IsClearOf (home s depth) (sees_only s) v other gone gone_apart to
   clear_to = record {
@@ -79,13 +81,10 @@ module _ (s : Typing) (settled : IsSettled s.table) (own_law : OwnsByShape s.tab
   other_base : (g y : ℕ) → (OfVariable (passed.inside).frame (passed.inside).object ≡ OfVariable g y → ⊥) → variable_slots s g y mid.variables ≡ variable_slots s g y m.variables
   other_base g y ne =
       put_beside s 0 k.base (take k.at (slots_at s m k.base) ++ marks ++ drop (k.at + length marks) (slots_at s m k.base)) m g y
-      (λ e. ne (same_names (sym (passed.inside).base ∙ e)))
+      (inside_other s depth k to passed.inside g y ne)
     where
       marks : List Slot
       marks = gone_at (access_offsets s.table k.of) (slots_of s m k)
-
-      same_names : {f x g y : ℕ} → memory.OfVariable f x ≡ memory.OfVariable g y → OfVariable f x ≡ OfVariable g y
-      same_names e = cc
 
   new_other : (g y : ℕ) → (OfVariable (suc depth) x ≡ OfVariable g y → ⊥) → variable_slots s g y next.variables ≡ variable_slots s g y mid.variables
   new_other g y ne = put_other s (suc depth) x g y ne (fresh (default s.table (object_at s x).of)) mid.variables
@@ -135,7 +134,7 @@ module _ (s : Typing) (settled : IsSettled s.table) (own_law : OwnsByShape s.tab
   module _ (checks : Checks s.table (content s m hands (trunk at)) (steps_in at) leaks found) where
     change : IsEmptied (seen s m hands leaks) (seen s mid hands found) at
     change =
-        vacated s settled m hands leaks k at typed spot (inside_owns s depth k to passed.inside m hands (passed.inside).owner) found checks
+        vacated s settled m hands leaks k at typed spot (inside_owns s depth k to passed.inside settled m hands leaks typed viewed.owned there) found checks
 
     pub out_viewed : ((w : Way) → other.gone w → (Under to w → ⊥) → gone w) → ((p : List Step) → gone (along to p))
         → Viewed (home s depth) (sees_only s) (gone_also (home s depth) other gone) v (seen s next hands found) facts
@@ -154,6 +153,15 @@ module _ (s : Typing) (settled : IsSettled s.table) (own_law : OwnsByShape s.tab
         → (seen s m hands leaks).word (part (OfRoot (OfVariable g y)) p) ≡ word_in s.table (content s m [] (OfRoot (OfVariable g y))) p
     seen_before g y p = word_root s.table (content s m hands) (OfVariable g y) p
 
+    -- and of a part of a cell
+    cell_next : (n : ℕ) (p : List Step) → word_in s.table (content s next [] (OfCell n)) p ≡ (seen s mid hands found).word (part (OfCell n) p)
+    cell_next n p =
+        ap (word_in s.table (content s next [] (OfCell n))) (sym (append-nil p))
+        ∙ sym (word_part s.table (content s next hands) (OfCell n) p) ∙ declared_same.word (part (OfCell n) p)
+
+    cell_before : (n : ℕ) (p : List Step) → (seen s m hands leaks).word (part (OfCell n) p) ≡ word_in s.table (content s m [] (OfCell n)) p
+    cell_before n p = word_part s.table (content s m hands) (OfCell n) p ∙ ap (word_in s.table (content s m [] (OfCell n))) (append-nil p)
+
     pub out_held : (g y : ℕ) (p : List Step) (c : ℕ) → word_in s.table (content s next [] (OfRoot (OfVariable g y))) p ≡ Held c
         → word_in s.table (content s m [] (OfRoot (OfVariable g y))) p ≡ Held c
     out_held g y p c held =
@@ -165,21 +173,25 @@ module _ (s : Typing) (settled : IsSettled s.table) (own_law : OwnsByShape s.tab
     gone_then g y p gone_there = elim (below at (part (OfRoot (OfVariable g y)) p)) [
       | inl (q, is) ↦
           seen_next g y p ∙ ap (seen s mid hands found).word is
-          ∙ vacated_gone s settled m hands leaks k at typed spot (inside_owns s depth k to passed.inside m hands (passed.inside).owner) found q
+          ∙ vacated_gone s settled m hands leaks k at typed spot (inside_owns s depth k to passed.inside settled m hands leaks typed viewed.owned there) found q
           (ap (seen s m hands leaks).word (sym is) ∙ seen_before g y p ∙ gone_there)
       | inr off ↦ seen_next g y p ∙ change.off (part (OfRoot (OfVariable g y)) p) off ∙ seen_before g y p ∙ gone_there
     ]
 
-    pub out_carried : AreCarried s (λ g. g ≡ suc depth → ⊥) [] m next
+    pub out_carried : AreCarried s (λ g. g ≡ suc depth → ⊥) cells [] m next
     out_carried = record {
       held = λ g y p c other_frame off held. out_held g y p c held;
       gone = λ g y p other_frame off gone_there. gone_then g y p gone_there;
-      cells = λ c p.
-          subst (λ q. word_in s.table (content s next [] (OfCell c)) q ≡ word_in s.table (content s m [] (OfCell c)) q) (append-nil p)
-          (sym (word_part s.table (content s next hands) (OfCell c) p)
-          ∙ declared_same.word (part (OfCell c) p)
-          ∙ change.off (part (OfCell c) p) (λ there. cell_off c p at (OfVariable (passed.inside).frame (passed.inside).object) (trunk_is s depth k to passed.inside) there)
-          ∙ word_part s.table (content s m hands) (OfCell c) p);
+      in_cells = λ n p c off held.
+          sym (cell_before n p)
+          ∙ (owner_before (seen s m hands leaks) (seen s mid hands found) at change (part (OfCell n) p) c (sym (cell_next n p) ∙ held)).0;
+      gone_cells = λ n p off gone_there. elim (below at (part (OfCell n) p)) [
+        | inl (q, is) ↦
+            cell_next n p ∙ ap (seen s mid hands found).word is
+            ∙ vacated_gone s settled m hands leaks k at typed spot (inside_owns s depth k to passed.inside settled m hands leaks typed viewed.owned there) found q
+            (ap (seen s m hands leaks).word (sym is) ∙ cell_before n p ∙ gone_there)
+        | inr off ↦ cell_next n p ∙ change.off (part (OfCell n) p) off ∙ cell_before n p ∙ gone_there
+      ];
     }
 
     pub out_bare : IsBare s depth k to next passed.inside
@@ -187,8 +199,16 @@ module _ (s : Typing) (settled : IsSettled s.table) (own_law : OwnsByShape s.tab
         change.goes p c
         (word_part s.table (content s mid hands) at p
         ∙ inside_word s depth k to passed.inside mid hands p
-        ∙ sym (word_root s.table (content s mid hands) (OfVariable (passed.inside).frame (passed.inside).object) (p ++ (passed.inside).steps))
-        ∙ sym (seen_next (passed.inside).frame (passed.inside).object (p ++ (passed.inside).steps)) ∙ held)
+        ∙ sym (start_word (p ++ (passed.inside).steps)) ∙ held)
+      where
+        start_word : (q : List Step) → word_in s.table (content s next [] (passed.inside).start) q ≡ word_in s.table (content s mid [] (passed.inside).start) q
+        start_word q = elim (passed.inside).stands [
+          | inl variable ↦
+              subst (λ z. word_in s.table (content s next [] z) q ≡ word_in s.table (content s mid [] z) q) (sym variable.1)
+              (seen_next (passed.inside).frame (passed.inside).object q
+              ∙ word_root s.table (content s mid hands) (OfVariable (passed.inside).frame (passed.inside).object) q)
+          | inr cell ↦ subst (λ z. word_in s.table (content s next [] z) q ≡ word_in s.table (content s mid [] z) q) (sym (cell.0).1) refl
+        ]
 
     pub out_stays : (w : Way) → (Past to w → ⊥) → (c : ℕ) → Reaches (seen s m hands leaks) w (OfCell c) → Reaches (seen s next hands found) w (OfCell c)
     out_stays w aside c reach =
@@ -196,9 +216,17 @@ module _ (s : Typing) (settled : IsSettled s.table) (own_law : OwnsByShape s.tab
         (keeps_off (seen s m hands leaks) (seen s mid hands found) at change viewed.owned to (inside_rooted s depth k to passed.inside) reached w (OfCell c) reach aside)
 
     -- a place that is apart from it has what it had
-    pub out_still : (z : Way) → (Under to z → ⊥) × (Under z to → ⊥) → HasStill s depth m next z
-    out_still z apart g y q p low is =
-        seen_next g y (p ++ q)
-        ∙ change.off (part (OfRoot (OfVariable g y)) (p ++ q))
-        (places_apart (seen s m hands leaks) viewed.owned to at reached g y q p (subst (λ w. (Under to w → ⊥) × (Under w to → ⊥)) is apart))
-        ∙ seen_before g y (p ++ q)
+    pub out_still : ((c : Lodge) → Has cells c → Reaches (seen s m hands leaks) c.way (OfCell c.cell)) → (z : Way) → (Under to z → ⊥) × (Under z to → ⊥)
+        → HasStill s cells depth m next z
+    out_still reached_cells z apart = (
+      (λ g y q p low is.
+      seen_next g y (p ++ q)
+      ∙ change.off (part (OfRoot (OfVariable g y)) (p ++ q))
+      (places_apart (seen s m hands leaks) viewed.owned to at reached g y q p (subst (λ w. (Under to w → ⊥) × (Under w to → ⊥)) is apart))
+      ∙ seen_before g y (p ++ q)),
+      (λ c q p has is.
+      cell_next c.cell (p ++ q)
+      ∙ change.off (part (OfCell c.cell) (p ++ q))
+      (ways_apart (seen s m hands leaks) viewed.owned to at reached c.way (OfCell c.cell) (reached_cells c has) q p (subst (λ w. (Under to w → ⊥) × (Under w to → ⊥)) is apart))
+      ∙ cell_before c.cell (p ++ q)),
+    )

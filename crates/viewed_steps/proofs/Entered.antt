@@ -18,9 +18,9 @@ use Rattle.machine.specs.Memory as memory
 use Rattle.machine.specs.Words as machine
 use Rattle.machine.specs.Calls.{Passed, Value, From, To}
 use Rattle.machine.specs.States.{Waiting, Leak}
-use Rattle.owned_ways.specs.Ways.{Step, OfVariable, OfHand, Loc, OfRoot, OfCell, Reaches, Way, Object, Empty, Held, Under, Past, Named, along, base_of, number_of, name_of}
+use Rattle.owned_ways.specs.Ways.{Step, OfVariable, OfHand, Loc, OfRoot, OfCell, Reaches, Way, Object, Empty, Lost, Into, All, Held, Under, Past, Named, along, base_of, number_of, name_of}
 use Rattle.owned_ways.proofs.Locations.{same_loc, under_along, under_itself}
-use Rattle.part_offsets.specs.Parts.{type_in, IsSettled}
+use Rattle.part_offsets.specs.Parts.{type_in, has_part, IsSettled}
 use Rattle.soundness.specs.Seen.{content, word_in, seen, home, is_view_formal, in_hand}
 use Rattle.type_definitions.specs.declared.table.Shape.TheVariants as shape
 use Rattle.soundness.specs.Typed.{Matches, IsCell, OwnsByShape, Kept, Spot, Points}
@@ -32,16 +32,16 @@ use Rattle.soundness.proofs.Stays.{One}
 use Rattle.owned_loans.specs.Views.{Around, Views, expand, ExcusedBy, Viewed, IsForeign}
 use Rattle.owned_loans.proofs.Safe.{off_view}
 use Rattle.owned_loans.proofs.Others.{clean_away}
-use Rattle.owned_loans.proofs.Moves.{expand_along}
+use Rattle.owned_loans.proofs.Ways.{lifts, lifted_root}
 use Rattle.viewed_soundness.proofs.Names.{both_no, true_false, view_access, not_view, owner_sees}
 use Rattle.viewed_soundness.proofs.Evaluated.{matches_named}
-use Rattle.viewed_steps.specs.Taken.{Lodge, IsPlainPlace, AreCarried, IsInside, IsPassedOn, IsBare, IsApartFrom}
+use Rattle.viewed_steps.specs.Taken.{Lodge, trunk_type, IsPlainPlace, AreCarried, IsInside, IsPassedOn, IsBare, IsApartFrom}
 use Rattle.viewed_steps.proofs.Between.{IsHomed, homed_apart, gone_also, IsClearOf, base_along, base_under, same_variable}
-use Rattle.viewed_steps.proofs.Carried.{inside_homed, inside_low, trunk_is, carried_gone, carried_cells, inside_at, inside_spot, inside_reached, inside_base, inside_rooted, inside_owns, inside_word, carried_bare, carried_held, carried_beside, carried_off_stays, carried_off}
-use Rattle.viewed_steps.proofs.Outs.{Out, HasStill, places_apart}
+use Rattle.viewed_steps.proofs.Carried.{inside_homed, inside_low, trunk_is, carried_gone, carried_held_cell, carried_gone_cell, carried_beside_cell, inside_other, inside_at, inside_spot, inside_reached, inside_base, inside_rooted, inside_owns, inside_word, carried_bare, carried_held, carried_beside, carried_off_stays, carried_off}
+use Rattle.viewed_steps.proofs.Outs.{Out, HasStill, places_apart, ways_apart}
 use Rattle.viewed_steps.proofs.Beside.{put_beside}
 use Rattle.viewed_steps.proofs.Declared.{declared_viewed, declared_low}
-use Rattle.viewed_steps.proofs.Views.{AreAccess, AreFar, view_cases}
+use Rattle.viewed_steps.proofs.Views.{AreAccess, AreFar, base_named, view_cases}
 
 named_part : (home : ℕ → ℕ) (w : Way) (p : List Step) → Named home w → Named home (along w p)
 named_part home w [] n = n
@@ -63,30 +63,45 @@ not_observing s x plain = neither (is_variable (object_at s x).kind) (is_borrowi
     neither true a false e = refl
     neither false a b e = refl
 
+number_based : (w : Way) (f x : ℕ) → base_of w ≡ OfRoot (OfVariable f x) → number_of w ≡ x
+number_based (Object (OfVariable g y)) f x is = cc
+number_based (Object (OfHand h)) f x is = cc
+number_based (Lost n) f x is = cc
+number_based (Into w i) f x is = number_based w f x is
+number_based (All w) f x is = number_based w f x is
+
 module _ (s : Typing) (settled : IsSettled s.table) (depth : ℕ) (k : Place) (to : Way) (inside : IsInside s depth k to) where
   -- the variable is no view
   pub inside_plain : is_anonymous (view_of s inside.object) ≡ false
-  inside_plain = by_kind (is_anonymous (view_of s inside.object)) refl
+  inside_plain = elim inside.stands [ inr there ↦ there.1 | inl variable ↦ by_kind variable.0 (is_anonymous (view_of s inside.object)) refl ]
     where
-      by_kind : (b : Bool) → is_anonymous (view_of s inside.object) ≡ b → b ≡ false
-      by_kind false e = refl
-      by_kind true view =
+      by_kind : inside.trunk ≡ Object (OfVariable inside.frame inside.object) → (b : Bool) → is_anonymous (view_of s inside.object) ≡ b → b ≡ false
+      by_kind is false e = refl
+      by_kind is true view =
           let access = view_access (shape_of s.table (object_at s inside.object).of) view in
-          let none = plain_end s.table settled (object_at s inside.object).of access.0 access.1 inside.steps inside.there in
+          let none = plain_end s.table settled (object_at s inside.object).of access.0 access.1 inside.steps
+          (ap (λ z. has_part s.table (trunk_type s z) inside.steps) (sym is) ∙ inside.there) in
           let fits : Matches s.table k.of (object_at s inside.object).of =
-          subst (λ p. Matches s.table k.of (type_in s.table (object_at s inside.object).of p)) none inside.of in
+          subst (λ p. Matches s.table k.of (type_in s.table (object_at s inside.object).of p)) none
+          (subst (λ z. Matches s.table k.of (type_in s.table (trunk_type s z) inside.steps)) is inside.of) in
           absurd (not_view s.table (object_at s inside.object).of view (matches_named s.table k.of (object_at s inside.object).of fits inside.named))
 
   pub inside_named : Named (home s depth) to
   inside_named =
       subst (Named (home s depth)) (sym inside.way)
-      (named_part (home s depth) (Object (OfVariable inside.frame inside.object)) inside.steps inside.at_home)
+      (named_part (home s depth) inside.trunk inside.steps
+      (base_named (home s depth) inside.trunk inside.object (inside.root ∙ ap (λ z. OfRoot (OfVariable z inside.object)) inside.at_home)))
 
   pub inside_number : number_of to ≡ inside.object
-  inside_number = ap number_of inside.way ∙ number_part (Object (OfVariable inside.frame inside.object)) inside.steps
+  inside_number = ap number_of inside.way ∙ number_part inside.trunk inside.steps ∙ number_based inside.trunk inside.frame inside.object inside.root
 
-  pub inside_itself : (v : Views) → expand v to ≡ to
-  inside_itself v = ap (expand v) inside.way ∙ expand_along v (Object (OfVariable inside.frame inside.object)) inside.steps ∙ sym inside.way
+  pub inside_itself : (v : Views) → ((x : ℕ) (w : Way) → v.way x ≡ Some w → is_view s x ≡ true) → expand v to ≡ to
+  inside_itself v only = elim (lifts v to) [
+    | inl itself ↦ itself
+    | inr l ↦ absurd (true_false (is_view s l.object) (only l.object l.way l.has)
+        (ap (is_view s) (sym (lifted_root v to l) ∙ inside_number)
+        ∙ both_no (is_anonymous (view_of s inside.object)) (is_view_formal s inside.object) inside_plain inside.owner))
+  ]
 
 -- ---- what is passed
 
@@ -142,7 +157,7 @@ ArePassedOn s m cells depth facts scope (x ∷ formals) [] ways outs = (ways ≡
 ArePassedOn s m cells depth facts scope (x ∷ formals) (a ∷ passed) [] outs = IsPlainOne s m cells x a × ArePassedOn s m cells depth facts scope formals passed [] outs
 ArePassedOn s m cells depth facts scope (x ∷ formals) (a ∷ passed) (to ∷ ways) outs =
     (IsPlainOne s m cells x a × ArePassedOn s m cells depth facts scope formals passed (to ∷ ways) outs)
-    ⊎ ((k : Place) × (later : List Out) × IsTakenAs facts k to a outs later × IsPassedOn s depth facts scope x k to × IsApartFrom to ways × DiffersFrom x formals
+    ⊎ ((k : Place) × (later : List Out) × IsTakenAs facts k to a outs later × IsPassedOn s cells depth facts scope x k to × IsApartFrom to ways × DiffersFrom x formals
     × ArePassedOn s m cells depth facts scope formals passed ways later)
 
 -- the ways of such places begin at variables of the frame, or at package objects
@@ -159,15 +174,68 @@ passed_base s m cells depth facts scope (x ∷ formals) (a ∷ passed) (to ∷ w
 
 -- each is the way of a place that is passed on
 pub passed_one : (s : Typing) (m : Memory) (cells : List Lodge) (depth : ℕ) (facts : List Fact) (scope : List ℕ) (formals : List ℕ) (passed : List Passed) (ways : List Way) (outs : List Out)
-    → ArePassedOn s m cells depth facts scope formals passed ways outs → (to : Way) → Has ways to → (x : ℕ) × (k : Place) × IsPassedOn s depth facts scope x k to
+    → ArePassedOn s m cells depth facts scope formals passed ways outs → (to : Way) → Has ways to → (x : ℕ) × (k : Place) × IsPassedOn s cells depth facts scope x k to
 passed_one s m cells depth facts scope [] passed ways outs none to has = absurd (subst (λ z. Has z to) none.0 has)
 passed_one s m cells depth facts scope (x ∷ formals) [] ways outs none to has = absurd (subst (λ z. Has z to) none.0 has)
 passed_one s m cells depth facts scope (x ∷ formals) (a ∷ passed) [] outs are to has = absurd has
 passed_one s m cells depth facts scope (x ∷ formals) (a ∷ passed) (k ∷ ways) outs (inl are) to has = passed_one s m cells depth facts scope formals passed (k ∷ ways) outs are.1 to has
 passed_one s m cells depth facts scope (x ∷ formals) (a ∷ passed) (k ∷ ways) outs (inr (place, later, how, one, apart, differ, more)) to (inl same) =
-    (x, place, subst (IsPassedOn s depth facts scope x place) same one)
+    (x, place, subst (IsPassedOn s cells depth facts scope x place) same one)
 passed_one s m cells depth facts scope (x ∷ formals) (a ∷ passed) (k ∷ ways) outs (inr (place, later, how, one, apart, differ, more)) to (inr has) =
     passed_one s m cells depth facts scope formals passed ways later more to has
+
+plain_from : (s : Typing) (m : Memory) (cells : List Lodge) (x : ℕ) (a : Passed) → IsPlainOne s m cells x a → (y : ℕ) (k : Place) → x ≡ y → a ≡ From k
+    → is_scalar (full s.table (object_at s y).of) ≡ false → ⊥
+plain_from s m cells x a (inl (plain, at)) y k same is many =
+    true_false (is_scalar (full s.table (object_at s y).of)) (subst (λ z. is_scalar (full s.table (object_at s z).of) ≡ true) same plain) many
+plain_from s m cells x a (inr (inl (shown, z, at, typed))) y k same is many = (let never : Value (z ∷ []) ≡ From k = sym at ∙ is in cc)
+plain_from s m cells x a (inr (inr (plain, named, ws, at, fits))) y k same is many = (let never : Value ws ≡ From k = sym at ∙ is in cc)
+
+-- A place is passed for a formal.
+abbrev pub IsFrom : List ℕ → List Passed → ℕ → Place → Type 0
+IsFrom [] passed y k = ⊥
+IsFrom (x ∷ formals) [] y k = ⊥
+IsFrom (x ∷ formals) (a ∷ passed) y k = ((x ≡ y) × (a ≡ From k)) ⊎ IsFrom formals passed y k
+
+-- it is taken, if it isn't scalar
+pub from_taken : (s : Typing) (m : Memory) (cells : List Lodge) (depth : ℕ) (facts : List Fact) (scope : List ℕ) (formals : List ℕ) (passed : List Passed) (ways : List Way) (outs : List Out)
+    → ArePassedOn s m cells depth facts scope formals passed ways outs → (y : ℕ) (k : Place) → IsFrom formals passed y k → is_scalar (full s.table (object_at s y).of) ≡ false
+    → (to : Way) × Has ways to × IsPassedOn s cells depth facts scope y k to
+from_taken s m cells depth facts scope [] passed ways outs are y k from many = absurd from
+from_taken s m cells depth facts scope (x ∷ formals) [] ways outs are y k from many = absurd from
+from_taken s m cells depth facts scope (x ∷ formals) (a ∷ passed) [] outs are y k (inl (same, is)) many = absurd (plain_from s m cells x a are.0 y k same is many)
+from_taken s m cells depth facts scope (x ∷ formals) (a ∷ passed) [] outs are y k (inr later) many = from_taken s m cells depth facts scope formals passed [] outs are.1 y k later many
+from_taken s m cells depth facts scope (x ∷ formals) (a ∷ passed) (to ∷ ways) outs (inl are) y k (inl (same, is)) many = absurd (plain_from s m cells x a are.0 y k same is many)
+from_taken s m cells depth facts scope (x ∷ formals) (a ∷ passed) (to ∷ ways) outs (inl are) y k (inr later) many =
+    from_taken s m cells depth facts scope formals passed (to ∷ ways) outs are.1 y k later many
+from_taken s m cells depth facts scope (x ∷ formals) (a ∷ passed) (to ∷ ways) outs (inr (place, later_outs, how, one, apart, differ, more)) y k (inl (same, is)) many =
+    (to, inl refl, subst (λ z. IsPassedOn s cells depth facts scope z k to) same (subst (λ z. IsPassedOn s cells depth facts scope x z to) (same_place how) one))
+  where
+    same_place : IsTakenAs facts place to a outs later_outs → place ≡ k
+    same_place (inl (from, whole, rest)) = from_same (sym from ∙ is)
+      where
+        from_same : {a b : Place} → From a ≡ From b → a ≡ b
+        from_same e = cc
+    same_place (inr (pos, goes, rest)) = (let never : To place ≡ From k = sym goes ∙ is in cc)
+from_taken s m cells depth facts scope (x ∷ formals) (a ∷ passed) (to ∷ ways) outs (inr (place, later_outs, how, one, apart, differ, more)) y k (inr later) many =
+    let found = from_taken s m cells depth facts scope formals passed ways later_outs more y k later many in
+    (found.0, inr found.1, found.2)
+
+-- two that are taken are one, or are apart
+pub passed_pair : (s : Typing) (m : Memory) (cells : List Lodge) (depth : ℕ) (facts : List Fact) (scope : List ℕ) (formals : List ℕ) (passed : List Passed) (ways : List Way) (outs : List Out)
+    → ArePassedOn s m cells depth facts scope formals passed ways outs → (u w : Way) → Has ways u → Has ways w → (u ≡ w) ⊎ ((Under u w → ⊥) × (Under w u → ⊥))
+passed_pair s m cells depth facts scope [] passed ways outs are u w has_u has_w = absurd (subst (λ z. Has z u) are.0 has_u)
+passed_pair s m cells depth facts scope (x ∷ formals) [] ways outs are u w has_u has_w = absurd (subst (λ z. Has z u) are.0 has_u)
+passed_pair s m cells depth facts scope (x ∷ formals) (a ∷ passed) [] outs are u w has_u has_w = absurd has_u
+passed_pair s m cells depth facts scope (x ∷ formals) (a ∷ passed) (to ∷ ways) outs (inl are) u w has_u has_w =
+    passed_pair s m cells depth facts scope formals passed (to ∷ ways) outs are.1 u w has_u has_w
+passed_pair s m cells depth facts scope (x ∷ formals) (a ∷ passed) (to ∷ ways) outs (inr (place, later, how, one, apart, differ, more)) u w (inl first) (inl second) = inl (sym first ∙ second)
+passed_pair s m cells depth facts scope (x ∷ formals) (a ∷ passed) (to ∷ ways) outs (inr (place, later, how, one, apart, differ, more)) u w (inl first) (inr has_w) =
+    inr (subst (λ z. (Under z w → ⊥) × (Under w z → ⊥)) first (apart w has_w))
+passed_pair s m cells depth facts scope (x ∷ formals) (a ∷ passed) (to ∷ ways) outs (inr (place, later, how, one, apart, differ, more)) u w (inr has_u) (inl second) =
+    inr (subst (λ z. (Under u z → ⊥) × (Under z u → ⊥)) second ((apart u has_u).1, (apart u has_u).0))
+passed_pair s m cells depth facts scope (x ∷ formals) (a ∷ passed) (to ∷ ways) outs (inr (place, later, how, one, apart, differ, more)) u w (inr has_u) (inr has_w) =
+    passed_pair s m cells depth facts scope formals passed ways later more u w has_u has_w
 
 -- what is emptied is among them
 pub outs_taken : (s : Typing) (m : Memory) (cells : List Lodge) (depth : ℕ) (facts : List Fact) (scope : List ℕ) (formals : List ℕ) (passed : List Passed) (ways : List Way) (outs : List Out)
@@ -198,7 +266,8 @@ AreBlank s depth m formals =
 -- ---- what the formals have then
 
 module _ (s : Typing) (settled : IsSettled s.table) (own_law : OwnsByShape s.table) (in_formals : AreAccess s)
-    (hands : List Waiting) (leaks : List Leak) (depth : ℕ) (v : Views) (far : AreFar (home s depth) v depth) (facts : List Fact) (scope : List ℕ) where
+    (hands : List Waiting) (leaks : List Leak) (depth : ℕ) (v : Views) (far : AreFar (home s depth) v depth)
+    (only : (x : ℕ) (w : Way) → v.way x ≡ Some w → is_view s x ≡ true) (facts : List Fact) (scope : List ℕ) (cells : List Lodge) where
   abbrev Home : ℕ → ℕ
   Home = home s depth
 
@@ -217,9 +286,10 @@ module _ (s : Typing) (settled : IsSettled s.table) (own_law : OwnsByShape s.tab
 
   -- ---- one that is taken
 
-  module _ (other : Around (home s depth)) (x : ℕ) (k : Place) (to : Way) (passed : IsPassedOn s depth facts scope x k to) (whole : IsWhole facts to)
+  module _ (other : Around (home s depth)) (x : ℕ) (k : Place) (to : Way) (passed : IsPassedOn s cells depth facts scope x k to) (whole : IsWhole facts to)
       (open_there : IsOpen (home s depth) other (to ∷ [])) (m : Memory) (typed : Kept s m hands) (viewed : ViewedIn other m)
-      (blank : (p : List Step) → word_in s.table (content s m [] (OfRoot (OfVariable (suc depth) x))) p ≡ Empty) where
+      (blank : (p : List Step) → word_in s.table (content s m [] (OfRoot (OfVariable (suc depth) x))) p ≡ Empty)
+      (there : Reaches (seen s m hands leaks) (passed.inside).trunk (passed.inside).start) where
     abbrev inside : IsInside s depth k to
     inside = passed.inside
 
@@ -245,13 +315,13 @@ module _ (s : Typing) (settled : IsSettled s.table) (own_law : OwnsByShape s.tab
         homed_apart s depth to (inside_homed s depth k to passed.inside) w z foreign (subst (Under to) (sym is) (under_along to to p (under_itself to))) meets
 
     spot : Spot s m hands k at
-    spot = inside_spot s depth k to passed.inside m hands
+    spot = inside_spot s depth k to passed.inside settled m hands leaks typed there
 
     plain_name : sees_only s (number_of to) ≡ false
     plain_name = ap (sees_only s) (inside_number s settled depth k to passed.inside) ∙ owner_sees s (passed.inside).object (inside_plain s settled depth k to passed.inside) (passed.inside).owner
 
     itself : expand v to ≡ to
-    itself = inside_itself s settled depth k to passed.inside v
+    itself = inside_itself s settled depth k to passed.inside v only
 
     named_to : Named (home s depth) to
     named_to = inside_named s settled depth k to passed.inside
@@ -273,8 +343,8 @@ module _ (s : Typing) (settled : IsSettled s.table) (own_law : OwnsByShape s.tab
     viewed_mid : Viewed (home s depth) (sees_only s) with_it v (seen s mid (got ∷ hands) leaks) facts
     viewed_mid =
         carried_off s settled (home s depth) (sees_only s) v other with_it.gone with_apart m hands leaks facts k at to viewed typed spot
-        (inside_rooted s depth k to passed.inside) (inside_reached s depth k to passed.inside (seen s m hands leaks))
-        (inside_owns s depth k to passed.inside m hands (passed.inside).owner) clean
+        (inside_rooted s depth k to passed.inside) (inside_reached s depth k to passed.inside (seen s m hands leaks) there)
+        (inside_owns s depth k to passed.inside settled m hands leaks typed viewed.owned there) clean
         (passed.inside).frame (passed.inside).object (inside_base s depth k to passed.inside) clear_to (λ w o. inl o) (λ p. inr (p, refl))
 
     kept_mid : Kept s mid (got ∷ hands)
@@ -287,10 +357,7 @@ module _ (s : Typing) (settled : IsSettled s.table) (own_law : OwnsByShape s.tab
     other_base : (g y : ℕ) → (OfVariable (passed.inside).frame (passed.inside).object ≡ OfVariable g y → ⊥) → variable_slots s g y mid.variables ≡ variable_slots s g y m.variables
     other_base g y ne =
         put_beside s 0 k.base (take k.at (slots_at s m k.base) ++ marks ++ drop (k.at + length marks) (slots_at s m k.base)) m g y
-        (λ e. ne (same_names (sym (passed.inside).base ∙ e)))
-      where
-        same_names : {f x g y : ℕ} → memory.OfVariable f x ≡ memory.OfVariable g y → OfVariable f x ≡ OfVariable g y
-        same_names e = cc
+        (inside_other s depth k to passed.inside g y ne)
 
     long : length got.words ≡ words s.table (object_at s x).of
     long =
@@ -320,11 +387,11 @@ module _ (s : Typing) (settled : IsSettled s.table) (own_law : OwnsByShape s.tab
     pub kept_next : Kept s next hands
     kept_next = declared_kept s settled mid (suc depth) x got hands kept_mid long passed.fits
 
-    bare_mid : (p : List Step) (c : ℕ) → word_in s.table (content s mid [] (OfRoot (OfVariable (passed.inside).frame (passed.inside).object))) (p ++ (passed.inside).steps) ≡ Held c → ⊥
+    bare_mid : (p : List Step) (c : ℕ) → word_in s.table (content s mid [] (passed.inside).start) (p ++ (passed.inside).steps) ≡ Held c → ⊥
     bare_mid p c held =
         carried_bare s settled (home s depth) (sees_only s) v other with_it.gone with_apart m hands leaks facts k at to viewed typed spot
-        (inside_rooted s depth k to passed.inside) (inside_reached s depth k to passed.inside (seen s m hands leaks))
-        (inside_owns s depth k to passed.inside m hands (passed.inside).owner) clean p c
+        (inside_rooted s depth k to passed.inside) (inside_reached s depth k to passed.inside (seen s m hands leaks) there)
+        (inside_owns s depth k to passed.inside settled m hands leaks typed viewed.owned there) clean p c
         (inside_word s depth k to passed.inside mid (got ∷ hands) p ∙ held)
 
     -- ---- what changed
@@ -340,8 +407,8 @@ module _ (s : Typing) (settled : IsSettled s.table) (own_law : OwnsByShape s.tab
         → word_in s.table (content s m [] (OfRoot (OfVariable g y))) p ≡ Held c
     held_before g y p c held =
         carried_held s settled (home s depth) (sees_only s) v other with_it.gone with_apart m hands leaks facts k at to viewed typed spot
-        (inside_rooted s depth k to passed.inside) (inside_reached s depth k to passed.inside (seen s m hands leaks))
-        (inside_owns s depth k to passed.inside m hands (passed.inside).owner) clean g y p c held
+        (inside_rooted s depth k to passed.inside) (inside_reached s depth k to passed.inside (seen s m hands leaks) there)
+        (inside_owns s depth k to passed.inside settled m hands leaks typed viewed.owned there) clean g y p c held
 
     pub one_held : (g y : ℕ) (p : List Step) (c : ℕ) → word_in s.table (content s next [] (OfRoot (OfVariable g y))) p ≡ Held c
         → (word_in s.table (content s m [] (OfRoot (OfVariable g y))) p ≡ Held c) ⊎ ((g ≡ suc depth) × (y ≡ x))
@@ -357,19 +424,22 @@ module _ (s : Typing) (settled : IsSettled s.table) (own_law : OwnsByShape s.tab
     ]
 
     -- what was gone stays so, but in the formal
-    pub one_carried : AreCarried s (λ g. g ≡ suc depth → ⊥) [] m next
+    pub one_carried : AreCarried s (λ g. g ≡ suc depth → ⊥) cells [] m next
     one_carried = record {
       held = λ g y p c other_frame off held. elim (one_held g y p c held) [ inl before ↦ before | inr mine ↦ absurd (other_frame mine.0) ];
       gone = λ g y p other_frame off gone.
           new_word g y (frames_differ (suc depth) x g y (λ e. other_frame (sym e))) p
           ∙ carried_gone s settled (home s depth) (sees_only s) v other with_it.gone with_apart m hands leaks facts k at to viewed typed spot
-          (inside_rooted s depth k to passed.inside) (inside_reached s depth k to passed.inside (seen s m hands leaks))
-          (inside_owns s depth k to passed.inside m hands (passed.inside).owner) clean g y p gone;
-      cells = λ c p.
-          carried_cells s settled (home s depth) (sees_only s) v other with_it.gone with_apart m hands leaks facts k at to viewed typed spot
-          (inside_rooted s depth k to passed.inside) (inside_reached s depth k to passed.inside (seen s m hands leaks))
-          (inside_owns s depth k to passed.inside m hands (passed.inside).owner) clean
-          (passed.inside).frame (passed.inside).object (trunk_is s depth k to passed.inside) c p;
+          (inside_rooted s depth k to passed.inside) (inside_reached s depth k to passed.inside (seen s m hands leaks) there)
+          (inside_owns s depth k to passed.inside settled m hands leaks typed viewed.owned there) clean g y p gone;
+      in_cells = λ n p c off held.
+          carried_held_cell s settled (home s depth) (sees_only s) v other with_it.gone with_apart m hands leaks facts k at to viewed typed spot
+          (inside_rooted s depth k to passed.inside) (inside_reached s depth k to passed.inside (seen s m hands leaks) there)
+          (inside_owns s depth k to passed.inside settled m hands leaks typed viewed.owned there) clean n p c held;
+      gone_cells = λ n p off gone.
+          carried_gone_cell s settled (home s depth) (sees_only s) v other with_it.gone with_apart m hands leaks facts k at to viewed typed spot
+          (inside_rooted s depth k to passed.inside) (inside_reached s depth k to passed.inside (seen s m hands leaks) there)
+          (inside_owns s depth k to passed.inside settled m hands leaks typed viewed.owned there) clean n p gone;
     }
 
     pub one_views : (g y : ℕ) → is_view s y ≡ true
@@ -382,9 +452,16 @@ module _ (s : Typing) (settled : IsSettled s.table) (own_law : OwnsByShape s.tab
         ∙ both_no (is_anonymous (view_of s (passed.inside).object)) (is_view_formal s (passed.inside).object) (inside_plain s settled depth k to passed.inside) (passed.inside).owner)))
 
     pub one_bare : IsBare s depth k to next passed.inside
-    one_bare p c held =
-        bare_mid p c
-        (sym (new_word (passed.inside).frame (passed.inside).object (frames_differ (suc depth) x (passed.inside).frame (passed.inside).object (λ e. (let low = inside_low s depth k to passed.inside in omega (arith, e, low)))) (p ++ (passed.inside).steps)) ∙ held)
+    one_bare p c held = bare_mid p c (sym (start_word (p ++ (passed.inside).steps)) ∙ held)
+      where
+        start_word : (q : List Step) → word_in s.table (content s next [] (passed.inside).start) q ≡ word_in s.table (content s mid [] (passed.inside).start) q
+        start_word q = elim (passed.inside).stands [
+          | inl variable ↦
+              subst (λ z. word_in s.table (content s next [] z) q ≡ word_in s.table (content s mid [] z) q) (sym variable.1)
+              (new_word (passed.inside).frame (passed.inside).object
+              (frames_differ (suc depth) x (passed.inside).frame (passed.inside).object (λ e. (let low = inside_low s depth k to passed.inside in omega (arith, e, low)))) q)
+          | inr cell ↦ subst (λ z. word_in s.table (content s next [] z) q ≡ word_in s.table (content s mid [] z) q) (sym (cell.0).1) refl
+        ]
 
     -- a way from another frame that doesn't go on after the place reaches what it reached
     pub one_stays : (w : Way) (g y : ℕ) → base_of w ≡ OfRoot (OfVariable g y) → (g ≡ suc depth → ⊥) → (Past to w → ⊥) → (c : ℕ)
@@ -392,8 +469,8 @@ module _ (s : Typing) (settled : IsSettled s.table) (own_law : OwnsByShape s.tab
     one_stays w g y base other_frame aside c reach =
         declared_low s mid got hands leaks (suc depth) x w g y base (frames_differ (suc depth) x g y (λ e. other_frame (sym e))) c
         (carried_off_stays s settled (home s depth) (sees_only s) v other with_it.gone with_apart m hands leaks facts k at to viewed typed spot
-        (inside_rooted s depth k to passed.inside) (inside_reached s depth k to passed.inside (seen s m hands leaks))
-        (inside_owns s depth k to passed.inside m hands (passed.inside).owner) clean
+        (inside_rooted s depth k to passed.inside) (inside_reached s depth k to passed.inside (seen s m hands leaks) there)
+        (inside_owns s depth k to passed.inside settled m hands leaks typed viewed.owned there) clean
         (passed.inside).frame (passed.inside).object (inside_base s depth k to passed.inside) w g y base aside c reach)
 
     -- what is left to be declared has nothing still
@@ -405,11 +482,20 @@ module _ (s : Typing) (settled : IsSettled s.table) (own_law : OwnsByShape s.tab
         (other_base (suc depth) y (frames_differ (passed.inside).frame (passed.inside).object (suc depth) y (λ e. (let low = inside_low s depth k to passed.inside in omega (arith, e, low))))) ∙ none
 
     -- a place that is apart from it has what it had
-    pub one_still : (z : Way) → (Under to z → ⊥) × (Under z to → ⊥) → HasStill s depth m next z
-    one_still z apart g y q p low is =
-        new_word g y (frames_differ (suc depth) x g y (λ e. omega (arith, e, low))) (p ++ q)
-        ∙ carried_beside s settled (home s depth) (sees_only s) v other with_it.gone with_apart m hands leaks facts k at to viewed typed spot
-        (inside_rooted s depth k to passed.inside) (inside_reached s depth k to passed.inside (seen s m hands leaks))
-        (inside_owns s depth k to passed.inside m hands (passed.inside).owner) clean g y (p ++ q)
-        (places_apart (seen s m hands leaks) viewed.owned to at (inside_reached s depth k to passed.inside (seen s m hands leaks)) g y q p
-        (subst (λ w. (Under to w → ⊥) × (Under w to → ⊥)) is apart))
+    pub one_still : ((c : Lodge) → Has cells c → Reaches (seen s m hands leaks) c.way (OfCell c.cell)) → (z : Way) → (Under to z → ⊥) × (Under z to → ⊥)
+        → HasStill s cells depth m next z
+    one_still reached_cells z apart = (
+      (λ g y q p low is.
+      new_word g y (frames_differ (suc depth) x g y (λ e. omega (arith, e, low))) (p ++ q)
+      ∙ carried_beside s settled (home s depth) (sees_only s) v other with_it.gone with_apart m hands leaks facts k at to viewed typed spot
+      (inside_rooted s depth k to passed.inside) (inside_reached s depth k to passed.inside (seen s m hands leaks) there)
+      (inside_owns s depth k to passed.inside settled m hands leaks typed viewed.owned there) clean g y (p ++ q)
+      (places_apart (seen s m hands leaks) viewed.owned to at (inside_reached s depth k to passed.inside (seen s m hands leaks) there) g y q p
+      (subst (λ w. (Under to w → ⊥) × (Under w to → ⊥)) is apart))),
+      (λ c q p has is.
+      carried_beside_cell s settled (home s depth) (sees_only s) v other with_it.gone with_apart m hands leaks facts k at to viewed typed spot
+      (inside_rooted s depth k to passed.inside) (inside_reached s depth k to passed.inside (seen s m hands leaks) there)
+      (inside_owns s depth k to passed.inside settled m hands leaks typed viewed.owned there) clean c.cell (p ++ q)
+      (ways_apart (seen s m hands leaks) viewed.owned to at (inside_reached s depth k to passed.inside (seen s m hands leaks) there) c.way (OfCell c.cell) (reached_cells c has) q p
+      (subst (λ w. (Under to w → ⊥) × (Under w to → ⊥)) is apart))),
+    )

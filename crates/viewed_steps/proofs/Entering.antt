@@ -9,7 +9,7 @@ use Rattle.machine.specs.Words.{default}
 use Rattle.machine.specs.Memory.{Memory, Place, no_slot, variable_slots, words_of, moved_out, declared}
 use Rattle.machine.specs.Calls.{Passed, Value, From, To, with_formal, with_formals, returns_of}
 use Rattle.machine.specs.States.{Waiting, Leak, Return}
-use Rattle.owned_ways.specs.Ways.{IsSame, Step, OfVariable, OfHand, Loc, OfRoot, OfCell, Reaches, Way, Object, Empty, Held, Under, Past, along, base_of}
+use Rattle.owned_ways.specs.Ways.{IsSame, Step, OfVariable, OfHand, Loc, OfRoot, OfCell, Reaches, Owned, Way, Object, Empty, Held, Under, Past, along, base_of}
 use Rattle.owned_ways.proofs.Locations.{under_along, under_itself}
 use Rattle.type_definitions.specs.Types.{is_owning}
 use Rattle.part_offsets.specs.Parts.{IsSettled}
@@ -25,7 +25,7 @@ use Rattle.viewed_soundness.specs.Holds.{sees_only, is_view}
 use Rattle.viewed_steps.specs.Taken.{Lodge, AreCarried, TakenBy, IsPassedOn, IsBare, IsApartFrom, AreTaken}
 use Rattle.viewed_steps.proofs.Left.{cells_same}
 use Rattle.viewed_steps.proofs.Between.{IsHomed, homed_apart, carried_same, carried_then, same_reaches, gone_also, more_gone, base_along, base_under, taken_more}
-use Rattle.viewed_steps.proofs.Carried.{inside_homed, inside_low, inside_at, inside_spot, inside_owns, inside_word}
+use Rattle.viewed_steps.proofs.Carried.{inside_homed, inside_low, start_reached, inside_at, inside_spot, inside_owns, inside_word}
 use Rattle.viewed_steps.proofs.Alike.{IsLaidIn, plain_place}
 use Rattle.viewed_steps.proofs.Views.{AreFar, AreAccess}
 use Rattle.viewed_steps.proofs.Shown.{HasCells, then_cells, taken_cells, Stands, one_stands}
@@ -48,7 +48,8 @@ owns_there s settled own_law m f x q k held = by_type (is_owning s.table (object
         absurd (no_number (sym (word_no s.table (content s m [] (OfRoot (OfVariable f x))) q ((keeps s settled own_law).ownerless (object_at s x).of is q)) ∙ held))
 
 module _ (s : Typing) (settled : IsSettled s.table) (own_law : OwnsByShape s.table) (in_formals : AreAccess s)
-    (hands : List Waiting) (depth : ℕ) (v : Views) (far : AreFar (home s depth) v depth) (facts : List Fact) (scope : List ℕ)
+    (hands : List Waiting) (depth : ℕ) (v : Views) (far : AreFar (home s depth) v depth)
+    (only : (x : ℕ) (w : Way) → v.way x ≡ Some w → is_view s x ≡ true) (facts : List Fact) (scope : List ℕ)
     (cells : List Lodge) (begins : (c : Lodge) → Has cells c → (g : ℕ) × (y : ℕ) × (base_of c.way ≡ OfRoot (OfVariable g y)) × (g ≡ suc depth → ⊥)) where
   abbrev ViewedIn : Around (home s depth) → List Leak → Memory → Type 0
   ViewedIn other leaks m = Viewed (home s depth) (sees_only s) other v (seen s m hands leaks) facts
@@ -78,7 +79,7 @@ module _ (s : Typing) (settled : IsSettled s.table) (own_law : OwnsByShape s.tab
     pub views : (g y : ℕ) → is_view s y ≡ true
         → ((get_or (variable_slots s g y n.variables) 0 no_slot).word ≡ (get_or (variable_slots s g y m.variables) 0 no_slot).word)
         ⊎ ((g ≡ suc depth) × IsShownTo formals passed y (get_or (variable_slots s g y n.variables) 0 no_slot).word)
-    pub carried : AreCarried s (λ g. g ≡ suc depth → ⊥) [] m n
+    pub carried : AreCarried s (λ g. g ≡ suc depth → ⊥) cells [] m n
     -- ways from the variables of other frames that don't go on after a place reach what they reached
     pub stays : (w : Way) (g y : ℕ) → base_of w ≡ OfRoot (OfVariable g y) → (g ≡ suc depth → ⊥) → ((to : Way) → Has ways to → Past to w → ⊥) → (c : ℕ)
         → Reaches (seen s m hands leaks) w (OfCell c) → Reaches (seen s n hands found) w (OfCell c)
@@ -113,7 +114,7 @@ module _ (s : Typing) (settled : IsSettled s.table) (own_law : OwnsByShape s.tab
     typed = typed;
     held = λ g y p c held. inl held;
     views = λ g y view. inl refl;
-    carried = carried_same s (λ g. g ≡ suc depth → ⊥) [] m m (λ g y p. refl) (λ c p. refl);
+    carried = carried_same s (λ g. g ≡ suc depth → ⊥) cells [] m m (λ g y p. refl) (λ c p. refl);
     stays = λ w g y base other_frame aside c reach. reach;
   }
 
@@ -152,8 +153,8 @@ module _ (s : Typing) (settled : IsSettled s.table) (own_law : OwnsByShape s.tab
           | inr mine ↦ inr (mine.0, inl (mine.1, mine.2 ∙ ap (λ w. Value (w ∷ [])) (sym same)))
         ]
       ];
-      carried = carried_then s (λ g. g ≡ suc depth → ⊥) [] [] [] m then_m n (λ w taken. taken) (λ w taken. taken)
-          (carried_same s (λ g. g ≡ suc depth → ⊥) [] m then_m on.hold (λ c p. cells_same s m then_m hands leaks on.same c p)) later.0.carried;
+      carried = carried_then s (λ g. g ≡ suc depth → ⊥) cells [] [] [] m then_m n (λ w taken. taken) (λ w taken. taken)
+          (carried_same s (λ g. g ≡ suc depth → ⊥) cells [] m then_m on.hold (λ c p. cells_same s m then_m hands leaks on.same c p)) later.0.carried;
       stays = λ w g y base other_frame aside c reach. later.0.stays w g y base other_frame aside c (same_reaches (seen s m hands leaks) (seen s then_m hands leaks) on.same w (OfCell c) reach);
     },
     later.1,
@@ -162,12 +163,12 @@ module _ (s : Typing) (settled : IsSettled s.table) (own_law : OwnsByShape s.tab
 
   taken_then : (other : Around (home s depth)) (leaks mid found : List Leak) (x : ℕ) (k : Place) (a : Passed) (to : Way) (formals : List ℕ) (passed : List Passed) (ways : List Way)
       (m next n : Memory) → returns_of (x ∷ formals) (a ∷ passed) ≡ record { formal = x; to = k } ∷ returns_of formals passed
-      → (one : IsPassedOn s depth facts scope x k to) → IsApartFrom to ways → DiffersFrom x formals
+      → (one : IsPassedOn s cells depth facts scope x k to) → IsApartFrom to ways → DiffersFrom x formals
       → ((g y : ℕ) (p : List Step) (c : ℕ) → word_in s.table (content s next [] (OfRoot (OfVariable g y))) p ≡ Held c
       → (word_in s.table (content s m [] (OfRoot (OfVariable g y))) p ≡ Held c) ⊎ ((g ≡ suc depth) × (y ≡ x)))
       → ((g y : ℕ) → is_view s y ≡ true
       → (get_or (variable_slots s g y next.variables) 0 no_slot).word ≡ (get_or (variable_slots s g y m.variables) 0 no_slot).word)
-      → IsBare s depth k to next one.inside → AreCarried s (λ g. g ≡ suc depth → ⊥) [] m next
+      → IsBare s depth k to next one.inside → AreCarried s (λ g. g ≡ suc depth → ⊥) cells [] m next
       → ((w : Way) (g y : ℕ) → base_of w ≡ OfRoot (OfVariable g y) → (g ≡ suc depth → ⊥) → (Past to w → ⊥) → (c : ℕ)
       → Reaches (seen s m hands leaks) w (OfCell c) → Reaches (seen s next hands mid) w (OfCell c))
       → Enter (away other to) mid found formals passed ways next n → Enter other leaks found (x ∷ formals) (a ∷ passed) (to ∷ ways) m n
@@ -182,7 +183,7 @@ module _ (s : Typing) (settled : IsSettled s.table) (own_law : OwnsByShape s.tab
         | inr shown ↦ inr (shown.0, inr shown.1)
         | inl same ↦ inl (same ∙ views g y view)
       ];
-      carried = carried_then s (λ g. g ≡ suc depth → ⊥) [] [] [] m next n (λ w taken. taken) (λ w taken. taken) carried later.0.carried;
+      carried = carried_then s (λ g. g ≡ suc depth → ⊥) cells [] [] [] m next n (λ w taken. taken) (λ w taken. taken) carried later.0.carried;
       stays = λ w g y base other_frame aside c reach. later.0.stays w g y base other_frame (λ z has. aside z (inr has)) c (one_stays w g y base other_frame (aside to (inl refl)) c reach);
     },
     more_gone (home s depth) (sees_only s) v
@@ -199,16 +200,27 @@ module _ (s : Typing) (settled : IsSettled s.table) (own_law : OwnsByShape s.tab
     subst (λ z. AreTaken s cells n depth facts scope z (to ∷ ways)) (sym return_is) (inr (
       (
         one,
-        (λ p c is. elim (later.0.held (one.inside).frame (one.inside).object (p ++ (one.inside).steps) c is) [
-          | inl h ↦ bare p c h
-          | inr h ↦ (let same = h.0 in let low = inside_low s depth k to one.inside in omega (arith, same, low))
-        ]),
+        (λ p c is. bare p c (start_before (p ++ (one.inside).steps) c is)),
       ),
       apart,
       (λ r has. differ r.formal (formals_of_returns formals passed r has)),
       later.2,
     )),
   )
+
+    where
+      start_before : (q : List Step) (c : ℕ) → word_in s.table (content s n [] (one.inside).start) q ≡ Held c → word_in s.table (content s next [] (one.inside).start) q ≡ Held c
+      start_before q c is = elim (one.inside).stands [
+        | inl variable ↦
+            subst (λ z. word_in s.table (content s next [] z) q ≡ Held c) (sym variable.1)
+            (elim (later.0.held (one.inside).frame (one.inside).object q c (subst (λ z. word_in s.table (content s n [] z) q ≡ Held c) variable.1 is)) [
+              | inl h ↦ h
+              | inr h ↦ (let same = h.0 in let low = inside_low s depth k to one.inside in absurd (omega (arith, same, low)))
+            ])
+        | inr cell ↦
+            subst (λ z. word_in s.table (content s next [] z) q ≡ Held c) (sym (cell.0).1)
+            ((later.0.carried).in_cells (cell.0).0 q c (λ taken. (taken.3).1) (subst (λ z. word_in s.table (content s n [] z) q ≡ Held c) (cell.0).1 is))
+      ]
 
   -- ---- what is known elsewhere after one is taken
 
@@ -273,19 +285,34 @@ module _ (s : Typing) (settled : IsSettled s.table) (own_law : OwnsByShape s.tab
         | inl before ↦ elim before [ inl gone ↦ inl (inl gone) | inr under ↦ inr under ]
       ]) viewed
 
+  -- What there is where the actuals are evaluated.
+  pub record AtFirst (before : Memory) : Type 0 where
+    pub typed : Kept s before hands
+    pub leaks : List Leak
+    pub owned : Owned (seen s before hands leaks)
+    pub there : (c : Lodge) → Has cells c → Reaches (seen s before hands leaks) c.way (OfCell c.cell)
+
+  -- a place that is passed on is reached where the cells are
+  pub one_reached : (x : ℕ) (k : Place) (to : Way) (one : IsPassedOn s cells depth facts scope x k to) (leaks : List Leak) (m : Memory)
+      → ((c : Lodge) → Has cells c → Reaches (seen s m hands leaks) c.way (OfCell c.cell)) → Reaches (seen s m hands leaks) (one.inside).trunk (one.inside).start
+  one_reached x k to one leaks m there =
+      start_reached s depth k to one.inside (seen s m hands leaks) (λ n is. (
+      let found = one.among n is in
+      subst (λ z. Reaches (seen s m hands leaks) z (OfCell n)) found.2 (subst (λ z. Reaches (seen s m hands leaks) found.0.way (OfCell z)) found.3 (there found.0 found.1))))
+
   -- ---- what a place has still is leaked
 
-  pub still_checks : (x : ℕ) (k : Place) (to : Way) (one : IsPassedOn s depth facts scope x k to) (pos : Pos) (leaks : List Leak) (before m : Memory)
-      → Kept s before hands → HasStill s depth before m to
+  pub still_checks : (x : ℕ) (k : Place) (to : Way) (one : IsPassedOn s cells depth facts scope x k to) (pos : Pos) (leaks : List Leak) (before m : Memory)
+      → AtFirst before → HasStill s cells depth before m to
       → Checks s.table (content s m hands (trunk (inside_at s depth k to one.inside))) (steps_in (inside_at s depth k to one.inside)) leaks (leaks ++ leaks_at s pos before k)
-  still_checks x k to one pos leaks before m typed still =
+  still_checks x k to one pos leaks before m first_one still =
       let at : Loc = inside_at s depth k to one.inside in
       let first =
-      place_checks s settled before hands leaks k at typed (inside_spot s depth k to one.inside before hands)
-      (inside_owns s depth k to one.inside before hands (one.inside).owner) pos in
+      place_checks s settled before hands leaks k at first_one.typed
+      (inside_spot s depth k to one.inside settled before hands first_one.leaks first_one.typed (one_reached x k to one first_one.leaks before first_one.there))
+      (inside_owns s depth k to one.inside settled before hands first_one.leaks first_one.typed first_one.owned (one_reached x k to one first_one.leaks before first_one.there)) pos in
       let same : (p : List Step) → word_in s.table (content s m hands (trunk at)) (p ++ steps_in at) ≡ word_in s.table (content s before hands (trunk at)) (p ++ steps_in at) =
-      λ p. inside_word s depth k to one.inside m hands p ∙ still (one.inside).frame (one.inside).object (one.inside).steps p (inside_low s depth k to one.inside) (one.inside).way
-      ∙ sym (inside_word s depth k to one.inside before hands p) in
+      λ p. inside_word s depth k to one.inside m hands p ∙ start_still p ∙ sym (inside_word s depth k to one.inside before hands p) in
       record {
         keeps = first.keeps;
         checks = λ p n held. first.checks p n (sym (same p) ∙ held);
@@ -294,6 +321,19 @@ module _ (s : Typing) (settled : IsSettled s.table) (own_law : OwnsByShape s.tab
           | inr (p, held) ↦ inr (p, same p ∙ held)
         ];
       }
+    where
+      start_still : (p : List Step) → word_in s.table (content s m [] (one.inside).start) (p ++ (one.inside).steps) ≡ word_in s.table (content s before [] (one.inside).start) (p ++ (one.inside).steps)
+      start_still p = elim (one.inside).stands [
+        | inl variable ↦
+            subst (λ z. word_in s.table (content s m [] z) (p ++ (one.inside).steps) ≡ word_in s.table (content s before [] z) (p ++ (one.inside).steps)) (sym variable.1)
+            (still.0 (one.inside).frame (one.inside).object (one.inside).steps p (inside_low s depth k to one.inside)
+            ((one.inside).way ∙ ap (λ z. along z (one.inside).steps) variable.0))
+        | inr cell ↦ (
+            let found = one.among (cell.0).0 (cell.0).1 in
+            subst (λ z. word_in s.table (content s m [] z) (p ++ (one.inside).steps) ≡ word_in s.table (content s before [] z) (p ++ (one.inside).steps))
+            (ap OfCell found.3 ∙ sym (cell.0).1)
+            (still.1 found.0 (one.inside).steps p found.1 ((one.inside).way ∙ ap (λ z. along z (one.inside).steps) (sym found.2))))
+      ]
 
   -- ---- all of them
 
@@ -305,8 +345,8 @@ module _ (s : Typing) (settled : IsSettled s.table) (own_law : OwnsByShape s.tab
   laid_in leaks m (To k) plain typed there = plain_place s settled own_law in_formals hands leaks (suc depth) cells begins m k plain typed there
 
   pub all_declared : (other : Around (home s depth)) (leaks : List Leak) (formals : List ℕ) (passed : List Passed) (ways : List Way) (outs : List Out) (before m : Memory)
-      → ArePassedOn s before cells depth facts scope formals passed ways outs → IsOpen (home s depth) other ways → Kept s before hands → Kept s m hands
-      → AreThere ways leaks m → ViewedIn (outs_also other outs) leaks m → AreBlank s depth m formals → HaveStill s depth before m outs → HasCells before m
+      → ArePassedOn s before cells depth facts scope formals passed ways outs → IsOpen (home s depth) other ways → AtFirst before → Kept s m hands
+      → AreThere ways leaks m → ViewedIn (outs_also other outs) leaks m → AreBlank s depth m formals → HaveStill s cells depth before m outs → HasCells before m
       → Enter other leaks (leaks ++ found_in s before outs) formals passed ways m (with_formals s (suc depth) formals passed m)
   all_declared other leaks [] passed ways outs before m are open_there at_first typed cells_there viewed blank still had =
       nothing_entered other leaks [] passed ways outs before m refl are typed viewed
@@ -320,7 +360,7 @@ module _ (s : Typing) (settled : IsSettled s.table) (own_law : OwnsByShape s.tab
       (λ c has. (same_reaches (seen s m hands leaks) (seen s mid hands leaks) on.same c.way (OfCell c.cell) (cells_there c has).0, (cells_there c has).1))
       (same_viewed (home s depth) (sees_only s) (outs_also other outs) v (seen s m hands leaks) (seen s mid hands leaks) facts on.same viewed)
       (λ y has p. on.hold (suc depth) y p ∙ blank y (inr has) p)
-      (λ o has. still_then s depth before m mid o.way (still o has) (λ f y q p low is. on.hold f y (p ++ q))) (then_cells before m mid had on.cells))
+      (λ o has. still_then s cells depth before m mid o.way (still o has) ((λ f y q p low is. on.hold f y (p ++ q)), (λ c q p has is. cells_same s m mid hands leaks on.same c.cell (p ++ q)))) (then_cells before m mid had on.cells))
   all_declared other leaks (x ∷ formals) (a ∷ passed) (to ∷ ways) outs before m (inl are) open_there at_first typed cells_there viewed blank still had =
       let on = one_stands s settled own_law in_formals hands leaks (suc depth) x a before m cells are.0 (λ plain. laid_in leaks m a plain typed (λ c has. (cells_there c has).0)) had typed in
       let mid : Memory = with_formal s (suc depth) x a m in
@@ -329,9 +369,10 @@ module _ (s : Typing) (settled : IsSettled s.table) (own_law : OwnsByShape s.tab
       (λ c has. (same_reaches (seen s m hands leaks) (seen s mid hands leaks) on.same c.way (OfCell c.cell) (cells_there c has).0, (cells_there c has).1))
       (same_viewed (home s depth) (sees_only s) (outs_also other outs) v (seen s m hands leaks) (seen s mid hands leaks) facts on.same viewed)
       (λ y has p. on.hold (suc depth) y p ∙ blank y (inr has) p)
-      (λ o has. still_then s depth before m mid o.way (still o has) (λ f y q p low is. on.hold f y (p ++ q))) (then_cells before m mid had on.cells))
+      (λ o has. still_then s cells depth before m mid o.way (still o has) ((λ f y q p low is. on.hold f y (p ++ q)), (λ c q p has is. cells_same s m mid hands leaks on.same c.cell (p ++ q)))) (then_cells before m mid had on.cells))
   all_declared other leaks (x ∷ formals) (a ∷ passed) (to ∷ ways) outs before m (inr (k, later, inl (is, whole, same), one, apart, differ, more)) open_there at_first typed cells_there viewed blank still had =
       let new = blank x (inl refl) in
+      let there_now = one_reached x k to one leaks m (λ c has. (cells_there c has).0) in
       let next : Memory = declared (suc depth) x (words_of s m k) (moved_out s k m) in
       let among = outs_taken s before cells depth facts scope formals passed ways later more in
       let from = passed_base s before cells depth facts scope formals passed ways later more in
@@ -341,26 +382,27 @@ module _ (s : Typing) (settled : IsSettled s.table) (own_law : OwnsByShape s.tab
       subst (λ z. Enter other leaks (leaks ++ found_in s before outs) (x ∷ formals) (z ∷ passed) (to ∷ ways) m (with_formals s (suc depth) (x ∷ formals) (z ∷ passed) m)) (sym is)
       (subst (λ z. Enter other leaks (leaks ++ found_in s before z) (x ∷ formals) (From k ∷ passed) (to ∷ ways) m (with_formals s (suc depth) (x ∷ formals) (From k ∷ passed) m)) (sym same)
       (taken_then other leaks leaks (leaks ++ found_in s before later) x k (From k) to formals passed ways m next (with_formals s (suc depth) formals passed next) refl one apart differ
-      (one_held s settled own_law in_formals hands leaks depth v far facts scope (outs_also other later) x k to one whole mine m typed here new)
-      (one_views s settled own_law in_formals hands leaks depth v far facts scope (outs_also other later) x k to one whole mine m typed here new)
-      (one_bare s settled own_law in_formals hands leaks depth v far facts scope (outs_also other later) x k to one whole mine m typed here new)
-      (one_carried s settled own_law in_formals hands leaks depth v far facts scope (outs_also other later) x k to one whole mine m typed here new)
-      (one_stays s settled own_law in_formals hands leaks depth v far facts scope (outs_also other later) x k to one whole mine m typed here new)
+      (one_held s settled own_law in_formals hands leaks depth v far only facts scope cells (outs_also other later) x k to one whole mine m typed here new there_now)
+      (one_views s settled own_law in_formals hands leaks depth v far only facts scope cells (outs_also other later) x k to one whole mine m typed here new there_now)
+      (one_bare s settled own_law in_formals hands leaks depth v far only facts scope cells (outs_also other later) x k to one whole mine m typed here new there_now)
+      (one_carried s settled own_law in_formals hands leaks depth v far only facts scope cells (outs_also other later) x k to one whole mine m typed here new there_now)
+      (one_stays s settled own_law in_formals hands leaks depth v far only facts scope cells (outs_also other later) x k to one whole mine m typed here new there_now)
       (all_declared (away other to) leaks formals passed ways later before next more (others_open other to ways root apart open_there) at_first
-      (kept_next s settled own_law in_formals hands leaks depth v far facts scope (outs_also other later) x k to one whole mine m typed here new)
+      (kept_next s settled own_law in_formals hands leaks depth v far only facts scope cells (outs_also other later) x k to one whole mine m typed here new there_now)
       (λ c has. (
         (let begin = begins c has in
-            one_stays s settled own_law in_formals hands leaks depth v far facts scope (outs_also other later) x k to one whole mine m typed here new
+            one_stays s settled own_law in_formals hands leaks depth v far only facts scope cells (outs_also other later) x k to one whole mine m typed here new there_now
             c.way begin.0 begin.1 begin.2 begin.3 ((cells_there c has).1 to (inl refl)) c.cell (cells_there c has).0),
         (λ z there. (cells_there c has).1 z (inr there)),
       ))
-      (beside_outs other to later leaks next (viewed_next s settled own_law in_formals hands leaks depth v far facts scope (outs_also other later) x k to one whole mine m typed here new))
-      (λ y has p. one_blank s settled own_law in_formals hands leaks depth v far facts scope (outs_also other later) x k to one whole mine m typed here new y (differ y has) p (blank y (inr has) p))
-      (λ o has. still_then s depth before m next o.way (still o (subst (λ z. Has z o) (sym same) has))
-      (one_still s settled own_law in_formals hands leaks depth v far facts scope (outs_also other later) x k to one whole mine m typed here new o.way (apart o.way (among o has))))
+      (beside_outs other to later leaks next (viewed_next s settled own_law in_formals hands leaks depth v far only facts scope cells (outs_also other later) x k to one whole mine m typed here new there_now))
+      (λ y has p. one_blank s settled own_law in_formals hands leaks depth v far only facts scope cells (outs_also other later) x k to one whole mine m typed here new there_now y (differ y has) p (blank y (inr has) p))
+      (λ o has. still_then s cells depth before m next o.way (still o (subst (λ z. Has z o) (sym same) has))
+      (one_still s settled own_law in_formals hands leaks depth v far only facts scope cells (outs_also other later) x k to one whole mine m typed here new there_now (λ c has_c. (cells_there c has_c).0) o.way (apart o.way (among o has))))
       (then_cells before m next had (taken_cells s k (suc depth) x (words_of s m k) m)))))
   all_declared other leaks (x ∷ formals) (a ∷ passed) (to ∷ ways) outs before m (inr (k, later, inr (pos, is, same), one, apart, differ, more)) open_there at_first typed cells_there viewed blank still had =
       let new = blank x (inl refl) in
+      let there_now = one_reached x k to one leaks m (λ c has. (cells_there c has).0) in
       let next : Memory = declared (suc depth) x (default s.table (object_at s x).of) (moved_out s k m) in
       let among = outs_taken s before cells depth facts scope formals passed ways later more in
       let from = passed_base s before cells depth facts scope formals passed ways later more in
@@ -381,27 +423,27 @@ module _ (s : Typing) (settled : IsSettled s.table) (own_law : OwnsByShape s.tab
       (subst (λ z. Enter other leaks (leaks ++ found_in s before z) (x ∷ formals) (To k ∷ passed) (to ∷ ways) m (with_formals s (suc depth) (x ∷ formals) (To k ∷ passed) m)) (sym same)
       (subst (λ z. Enter other leaks z (x ∷ formals) (To k ∷ passed) (to ∷ ways) m (with_formals s (suc depth) (x ∷ formals) (To k ∷ passed) m)) (append_assoc leaks (leaks_at s pos before k) (found_in s before later))
       (taken_then other leaks found (found ++ found_in s before later) x k (To k) to formals passed ways m next (with_formals s (suc depth) formals passed next) refl one apart differ
-      (λ g y p c held. inl (out_held s settled own_law in_formals hands leaks depth v facts scope (outs_also other (out ∷ later)) ((outs_also (away other to) later).gone) gone_apart x k to one
-      open_there.none m typed here new found mine g y p c held))
-      (out_views s settled own_law in_formals hands leaks depth v facts scope (outs_also other (out ∷ later)) ((outs_also (away other to) later).gone) gone_apart x k to one
-      open_there.none m typed here new found)
-      (out_bare s settled own_law in_formals hands leaks depth v facts scope (outs_also other (out ∷ later)) ((outs_also (away other to) later).gone) gone_apart x k to one
-      open_there.none m typed here new found mine)
-      (out_carried s settled own_law in_formals hands leaks depth v facts scope (outs_also other (out ∷ later)) ((outs_also (away other to) later).gone) gone_apart x k to one
-      open_there.none m typed here new found mine)
+      (λ g y p c held. inl (out_held s settled own_law in_formals hands leaks depth v only facts scope cells (outs_also other (out ∷ later)) ((outs_also (away other to) later).gone) gone_apart x k to one
+      open_there.none m typed here new there_now found mine g y p c held))
+      (out_views s settled own_law in_formals hands leaks depth v only facts scope cells (outs_also other (out ∷ later)) ((outs_also (away other to) later).gone) gone_apart x k to one
+      open_there.none m typed here new there_now found)
+      (out_bare s settled own_law in_formals hands leaks depth v only facts scope cells (outs_also other (out ∷ later)) ((outs_also (away other to) later).gone) gone_apart x k to one
+      open_there.none m typed here new there_now found mine)
+      (out_carried s settled own_law in_formals hands leaks depth v only facts scope cells (outs_also other (out ∷ later)) ((outs_also (away other to) later).gone) gone_apart x k to one
+      open_there.none m typed here new there_now found mine)
       (λ w g y base other_frame aside c reach.
-      out_stays s settled own_law in_formals hands leaks depth v facts scope (outs_also other (out ∷ later)) ((outs_also (away other to) later).gone) gone_apart x k to one
-      open_there.none m typed here new found mine w aside c reach)
+      out_stays s settled own_law in_formals hands leaks depth v only facts scope cells (outs_also other (out ∷ later)) ((outs_also (away other to) later).gone) gone_apart x k to one
+      open_there.none m typed here new there_now found mine w aside c reach)
       (all_declared (away other to) found formals passed ways later before next more (others_open other to ways root apart open_there) at_first
-      (out_kept s settled own_law in_formals hands leaks depth v facts scope (outs_also other (out ∷ later)) ((outs_also (away other to) later).gone) gone_apart x k to one
-      open_there.none m typed here new found)
+      (out_kept s settled own_law in_formals hands leaks depth v only facts scope cells (outs_also other (out ∷ later)) ((outs_also (away other to) later).gone) gone_apart x k to one
+      open_there.none m typed here new there_now found)
       (λ c has. (
-        out_stays s settled own_law in_formals hands leaks depth v facts scope (outs_also other (out ∷ later)) ((outs_also (away other to) later).gone) gone_apart x k to one
-            open_there.none m typed here new found mine c.way ((cells_there c has).1 to (inl refl)) c.cell (cells_there c has).0,
+        out_stays s settled own_law in_formals hands leaks depth v only facts scope cells (outs_also other (out ∷ later)) ((outs_also (away other to) later).gone) gone_apart x k to one
+            open_there.none m typed here new there_now found mine c.way ((cells_there c has).1 to (inl refl)) c.cell (cells_there c has).0,
         (λ z there. (cells_there c has).1 z (inr there)),
       ))
-      (out_viewed s settled own_law in_formals hands leaks depth v facts scope (outs_also other (out ∷ later)) ((outs_also (away other to) later).gone) gone_apart x k to one
-      open_there.none m typed here new found mine
+      (out_viewed s settled own_law in_formals hands leaks depth v only facts scope cells (outs_also other (out ∷ later)) ((outs_also (away other to) later).gone) gone_apart x k to one
+      open_there.none m typed here new there_now found mine
       (λ w o off. elim o [
         | inl gone ↦ inl (inl gone)
         | inr (other_one, has_one, under) ↦ elim has_one [
@@ -409,11 +451,11 @@ module _ (s : Typing) (settled : IsSettled s.table) (own_law : OwnsByShape s.tab
           | inr rest ↦ inr (other_one, rest, under)
         ]
       ]) (λ p. inl (inr (p, refl))))
-      (λ y has p. out_blank s settled own_law in_formals hands leaks depth v facts scope (outs_also other (out ∷ later)) ((outs_also (away other to) later).gone) gone_apart x k to one
-      open_there.none m typed here new found y (differ y has) p (blank y (inr has) p))
-      (λ o has. still_then s depth before m next o.way (still o (subst (λ z. Has z o) (sym same) (inr has)))
-      (out_still s settled own_law in_formals hands leaks depth v facts scope (outs_also other (out ∷ later)) ((outs_also (away other to) later).gone) gone_apart x k to one
-      open_there.none m typed here new found mine o.way (apart o.way (among o has))))
+      (λ y has p. out_blank s settled own_law in_formals hands leaks depth v only facts scope cells (outs_also other (out ∷ later)) ((outs_also (away other to) later).gone) gone_apart x k to one
+      open_there.none m typed here new there_now found y (differ y has) p (blank y (inr has) p))
+      (λ o has. still_then s cells depth before m next o.way (still o (subst (λ z. Has z o) (sym same) (inr has)))
+      (out_still s settled own_law in_formals hands leaks depth v only facts scope cells (outs_also other (out ∷ later)) ((outs_also (away other to) later).gone) gone_apart x k to one
+      open_there.none m typed here new there_now found mine (λ c has_c. (cells_there c has_c).0) o.way (apart o.way (among o has))))
       (then_cells before m next had (taken_cells s k (suc depth) x (default s.table (object_at s x).of) m))))))
 
   -- ---- where no place is taken

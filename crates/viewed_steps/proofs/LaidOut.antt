@@ -19,8 +19,8 @@ use Rattle.soundness.specs.Sound.{goes_through_none}
 use Rattle.owned_loans.specs.Views.{Views, expand}
 use Rattle.owned_loans.proofs.Safe.{Open}
 use Rattle.viewed_soundness.specs.Holds.{sees_only}
-use Rattle.viewed_steps.specs.Taken.{Lodge, IsLodged, IsInside}
-use Rattle.viewed_steps.specs.Sound.{IsScalarObject}
+use Rattle.viewed_steps.specs.Taken.{Lodge, IsLodged, IsVariableAt, IsInside}
+use Rattle.viewed_steps.specs.Sound.{IsScalarObject, IsReachedBack}
 use Rattle.viewed_steps.proofs.Outs.{Out}
 use Rattle.viewed_steps.proofs.Entered.{IsTyped, IsFit}
 
@@ -30,6 +30,7 @@ use Rattle.viewed_steps.proofs.Entered.{IsTyped, IsFit}
 abbrev pub IsOwnPut : Typing → ℕ → ℕ → TypedTree → Place → Type 0
 IsOwnPut s depth x (Name p y path u) k =
     (to : Way) × (inside : IsInside s depth k to) × (ways.name_of to ≡ name_of y path) × (inside.object ≡ y) × Matches s.table k.of (object_at s x).of
+    × IsVariableAt inside.frame inside.object k inside.trunk inside.start
 IsOwnPut s depth x e k = ⊥
 
 -- A place in a cell: a name of the cell begins that of the actual, which is rooted in an object that belongs
@@ -52,6 +53,29 @@ IsPlainAt s depth v view (Name p y path u) k =
     IsFixed s k ⊎ ((c : Lodge) × IsInCell s depth v view y path k c × (is_scalar (full s.table k.of) ≡ true))
 IsPlainAt s depth v view e k = ⊥
 
+-- Another place in a cell that an owner leads to.
+pub record IsHoused (s : Typing) (depth : ℕ) (v : Views) (view : ways.View) (x y : ℕ) (path : TypedTree) (k : Place) : Type 0 where
+  pub to : Way
+  pub inside : IsInside s depth k to
+  pub called : ways.name_of to ≡ name_of y path
+  pub object : inside.object ≡ y
+  pub fits : Matches s.table k.of (object_at s x).of
+  pub cell : ℕ
+  pub start : inside.start ≡ ways.OfCell cell
+  pub own : is_package_object s y ≡ false
+  pub plain : sees_only s y ≡ false
+  pub deep : (r : ways.Root) → inside.trunk ≡ ways.Object r → ⊥
+  pub leads : expand v inside.trunk ≡ inside.trunk
+  pub reaches : Reaches view inside.trunk (ways.OfCell cell)
+
+abbrev pub IsHousedPut : Typing → ℕ → Views → ways.View → ℕ → TypedTree → Place → Type 0
+IsHousedPut s depth v view x (Name p y path u) k = IsHoused s depth v view x y path k
+IsHousedPut s depth v view x e k = ⊥
+
+-- Its cell.
+abbrev pub house_of : (s : Typing) (depth : ℕ) (v : Views) (view : ways.View) (x y : ℕ) (path : TypedTree) (k : Place) → IsHoused s depth v view x y path k → Lodge
+house_of s depth v view x y path k h = record { name = (h.inside).trunk; way = (h.inside).trunk; cell = h.cell }
+
 -- A scalar place, or another place in a variable of the frame.
 abbrev pub IsPlaceLaid : Typing → ℕ → Views → ways.View → ℕ → TypedTree → Place → Type 0
 IsPlaceLaid s depth v view x e k =
@@ -67,7 +91,8 @@ IsValueLaid s m x ws =
 abbrev pub IsLaidOne : Typing → Memory → ℕ → Views → ways.View → ℕ → Mode → TypedTree → Passed → Type 0
 IsLaidOne s m depth v view x mode.In e (Value ws) = IsValueLaid s m x ws
 IsLaidOne s m depth v view x mode.Out e (To k) = IsPlaceLaid s depth v view x e k
-IsLaidOne s m depth v view x mode.InOut e (From k) = IsPlaceLaid s depth v view x e k
+IsLaidOne s m depth v view x mode.InOut e (From k) =
+    IsPlaceLaid s depth v view x e k ⊎ ((is_scalar (full s.table (object_at s x).of) ≡ false) × IsHousedPut s depth v view x e k)
 IsLaidOne s m depth v view x how e a = ⊥
 
 abbrev pub AreLaidOut : Typing → Memory → ℕ → Views → ways.View → List ℕ → TypedTree → List Passed → Type 0
@@ -107,7 +132,8 @@ place_cell s depth v view x e k (inr own) = []
 
 abbrev pub cell_of : (s : Typing) (m : Memory) (depth : ℕ) (v : Views) (view : ways.View) (x : ℕ) (how : Mode) (e : TypedTree) (a : Passed) → IsLaidOne s m depth v view x how e a → List Lodge
 cell_of s m depth v view x mode.Out e (To k) laid = place_cell s depth v view x e k laid
-cell_of s m depth v view x mode.InOut e (From k) laid = place_cell s depth v view x e k laid
+cell_of s m depth v view x mode.InOut e (From k) (inl laid) = place_cell s depth v view x e k laid
+cell_of s m depth v view x mode.InOut (Name p y path u) (From k) (inr housed) = house_of s depth v view x y path k housed.1 ∷ []
 cell_of s m depth v view x how e a laid = []
 
 abbrev pub cells_of : (s : Typing) (m : Memory) (depth : ℕ) (v : Views) (view : ways.View) (formals : List ℕ) (actuals : TypedTree) (passed : List Passed)
@@ -127,9 +153,9 @@ IsOpenActual s depth facts (Name p y path u) =
     × ((q : Way) → Named (home s depth) q → ways.name_of q ≡ name_of y path → Open facts q))
 IsOpenActual s depth facts e = Unit {0}
 
--- So is each for a formal of a scalar type; the others go through none.
+-- So is each for a formal of a scalar type, or rooted in an owner; the others go through none.
 abbrev pub AreOpenActuals : Typing → ℕ → List Fact → List ℕ → TypedTree → Type 0
 AreOpenActuals s depth facts (x ∷ formals) (More e rest) =
-    (is_in (object_at s x).mode ≡ false → (goes_through_none e ≡ true) ⊎ (IsScalarObject s x × IsOpenActual s depth facts e))
+    (is_in (object_at s x).mode ≡ false → (goes_through_none e ≡ true) ⊎ (IsReachedBack s x e × IsOpenActual s depth facts e))
     × AreOpenActuals s depth facts formals rest
 AreOpenActuals s depth facts formals actuals = Unit {0}

@@ -28,6 +28,7 @@ pub mod Opened
 pub mod Emptied
 pub mod Vacated
 pub mod Carried
+pub mod Bared
 pub mod Outs
 pub mod Waited
 pub mod Alike

@@ -48,7 +48,7 @@ use Rattle.owned_ways.specs.Ways.{Way, Under, Allows, AllowsAll, after}
 use Rattle.owned_ways.specs.Ways as ways
 use Rattle.owned_ways.proofs.Named.{under_overlaps, under_front}
 use Rattle.part_offsets.specs.Parts.{IsSettled}
-use Rattle.soundness.specs.Typed.{OwnsByShape}
+use Rattle.soundness.specs.Typed.{Matches, OwnsByShape}
 use Rattle.soundness.specs.Changes.{leaks_at}
 use Rattle.soundness.specs.Ready.{root_of}
 use Rattle.soundness.proofs.Contents.{bool_cases, all_checks}
@@ -63,9 +63,9 @@ use Rattle.owned_loans.proofs.Safe.{Unlent, Unmoved}
 use Rattle.viewed_steps.specs.Sound.{IsScalarObject, IsCopiedBack, IsKindOfFormal}
 use Rattle.viewed_steps.specs.Ready.{roots_passed, AreDifferent, AreActualsTo}
 use Rattle.viewed_soundness.proofs.Names.{true_false}
-use Rattle.viewed_steps.specs.Taken.{Lodge, IsPlainPlace, IsApartFrom}
+use Rattle.viewed_steps.specs.Taken.{Lodge, IsInside, IsAmong, IsPlainPlace, IsApartFrom}
 use Rattle.viewed_steps.proofs.Outs.{Out, found_in}
-use Rattle.viewed_steps.proofs.LaidOut.{IsValueLaid, IsOwnPut, IsPlainAt, IsPlaceLaid, IsLaidOne, AreLaidOut, own_out, place_out, out_of, outs_of, plain_cell, cell_of, cells_of}
+use Rattle.viewed_steps.proofs.LaidOut.{IsHoused, house_of, IsValueLaid, IsOwnPut, IsPlainAt, IsPlaceLaid, IsLaidOne, AreLaidOut, own_out, place_out, out_of, outs_of, plain_cell, cell_of, cells_of}
 use Rattle.viewed_steps.proofs.Called.{copies_add}
 use Rattle.viewed_steps.proofs.Entered.{IsPlainOne, DiffersFrom, IsTakenAs, ArePassedOn}
 use Rattle.soundness.proofs.Fixed.{plain_word}
@@ -318,10 +318,29 @@ module _ (s : Typing) (own_law : OwnsByShape s.table) (settled : IsSettled s.tab
   abbrev AllowsOne : List Fact → ℕ → TypedTree → Type 0
   AllowsOne known x e = AllowsAll known (acts (actual_act (passing s procedure x) e))
 
+  -- A place that is passed on, of this name.
+  abbrev OwnPlace : ℕ → ℕ → TypedTree → Place → Type 0
+  OwnPlace x y path k =
+      (to : Way) × (inside : IsInside s depth k to) × (ways.name_of to ≡ name_of y path) × (inside.object ≡ y) × Matches s.table k.of (object_at s x).of
+      × IsAmong cells inside.start inside.trunk
+
+  in_variable : (x : ℕ) (p : Pos) (y u : ℕ) (path : TypedTree) (k : Place) → (own : IsOwnPut s depth x (Name p y path u) k) → OwnPlace x y path k
+  in_variable x p y u path k own = (own.0, own.1, own.2, own.3, own.4, λ n is. absurd (no_cell n (sym (own.5).1 ∙ is)))
+    where
+      no_cell : (n : ℕ) → {f z : ℕ} → ways.OfRoot (ways.OfVariable f z) ≡ ways.OfCell n → ⊥
+      no_cell n e = cc
+
+  in_cell : (x y : ℕ) (path : TypedTree) (k : Place) → (h : IsHoused s depth v view x y path k) → Has cells (house_of s depth v view x y path k h) → OwnPlace x y path k
+  in_cell x y path k h has =
+      (h.to, h.inside, h.called, h.object, h.fits, λ n is. (house_of s depth v view x y path k h, has, refl, same_cell (sym h.start ∙ is)))
+    where
+      same_cell : {a b : ℕ} → ways.OfCell a ≡ ways.OfCell b → a ≡ b
+      same_cell e = cc
+
   -- another place, by the mode
   own_first : (x : ℕ) (how : Mode) (p : Pos) (y u : ℕ) (path : TypedTree) (k : Place) (a : Passed) (formals : List ℕ) (actuals : TypedTree) (passed : List Passed) (known : List Fact)
       (outs later : List Out)
-      → IsCopiedBack s x → is_scalar (full s.table (object_at s x).of) ≡ false → (own : IsOwnPut s depth x (Name p y path u) k) → is_package_object s x ≡ false
+      → IsCopiedBack s x → is_scalar (full s.table (object_at s x).of) ≡ false → (own : OwnPlace x y path k) → is_package_object s x ≡ false
       → DiffersFrom x formals → IsWithin (Name p y path u) → NoOverlap (x ∷ formals) (More (Name p y path u) actuals)
       → ((f : Fact) → Has facts f → Has known f)
       → Allows known (act.Actual (name_of y path) how (is_owning s.table (object_at s x).of) (procedure && is_named_access (view_of s x)))
@@ -329,7 +348,7 @@ module _ (s : Typing) (own_law : OwnsByShape s.table) (settled : IsSettled s.tab
       → (Allows known (act.Actual (ways.name_of own.0) how (is_owning s.table (object_at s x).of) (procedure && is_named_access (view_of s x)))
       → IsTakenAs facts k own.0 a outs later × ((n : PlaceName) → Has facts (Moved n) → covers (ways.name_of own.0) n ≡ true → ⊥))
       → Passes formals actuals passed later → Passes (x ∷ formals) (More (Name p y path u) actuals) (a ∷ passed) outs
-  own_first x how p y u path k a formals actuals passed known outs later back many (to, inside, called, object_is, fits) local differ within none less allowed unlent taken (ways_left, are, names) =
+  own_first x how p y u path k a formals actuals passed known outs later back many (to, inside, called, object_is, fits, among) local differ within none less allowed unlent taken (ways_left, are, names) =
       let actual : Written = record { pos = p; name = name_of y path; of = u } in
       let by_way : Allows known (act.Actual (ways.name_of to) how (is_owning s.table (object_at s x).of) (procedure && is_named_access (view_of s x))) =
       subst (λ z. Allows known (act.Actual z how (is_owning s.table (object_at s x).of) (procedure && is_named_access (view_of s x)))) (sym called) allowed in (
@@ -340,6 +359,7 @@ module _ (s : Typing) (own_law : OwnsByShape s.table) (settled : IsSettled s.tab
           (taken by_way).0,
           record {
             inside = inside;
+            among = among;
             fits = fits;
             formal = local;
             owner = copied_owner x back;
@@ -381,11 +401,12 @@ module _ (s : Typing) (own_law : OwnsByShape s.table) (settled : IsSettled s.tab
       by_mode mode.Out other allowed = allowed.0
       by_mode mode.InOut other allowed = allowed.0
 
-  in_out_first : (x : ℕ) (e : TypedTree) (k : Place) (formals : List ℕ) (actuals : TypedTree) (passed : List Passed) (known : List Fact) (later : List Out)
-      → (object_at s x).mode ≡ mode.InOut → is_scalar (full s.table (object_at s x).of) ≡ false → IsOwnPut s depth x e k → is_package_object s x ≡ false
-      → DiffersFrom x formals → IsWithin e → NoOverlap (x ∷ formals) (More e actuals) → ((f : Fact) → Has facts f → Has known f) → AllowsOne known x e
-      → Passes formals actuals passed later → Passes (x ∷ formals) (More e actuals) (From k ∷ passed) later
-  in_out_first x (Name p y path u) k formals actuals passed known later is many own local differ within none less allowed rest =
+  in_out_first : (x : ℕ) (p : Pos) (y u : ℕ) (path : TypedTree) (k : Place) (formals : List ℕ) (actuals : TypedTree) (passed : List Passed) (known : List Fact) (later : List Out)
+      → (object_at s x).mode ≡ mode.InOut → is_scalar (full s.table (object_at s x).of) ≡ false → OwnPlace x y path k → is_package_object s x ≡ false
+      → DiffersFrom x formals → IsWithin (Name p y path u) → NoOverlap (x ∷ formals) (More (Name p y path u) actuals) → ((f : Fact) → Has facts f → Has known f)
+      → AllowsOne known x (Name p y path u)
+      → Passes formals actuals passed later → Passes (x ∷ formals) (More (Name p y path u) actuals) (From k ∷ passed) later
+  in_out_first x p y u path k formals actuals passed known later is many own local differ within none less allowed rest =
       let owning : Bool = is_owning s.table (object_at s x).of in
       let access : Bool = procedure && is_named_access (view_of s x) in
       own_first x mode.InOut p y u path k (From k) formals actuals passed known later later (back_of x mode.InOut is no_in_out) many own local differ within none less
@@ -394,7 +415,14 @@ module _ (s : Typing) (own_law : OwnsByShape s.table) (settled : IsSettled s.tab
         inl (refl, (λ n has over. passed_unmoved known own.0 owning access by_way n (less (Moved n) has) over), refl),
         λ n has covered. passed_unmoved known own.0 owning access by_way n (less (Moved n) has) (covers_overlaps (ways.name_of own.0) n covered),
       )) rest
-  in_out_first x e k formals actuals passed known later is many never local differ within none less allowed rest = absurd never
+
+  in_out_own : (x : ℕ) (e : TypedTree) (k : Place) (formals : List ℕ) (actuals : TypedTree) (passed : List Passed) (known : List Fact) (later : List Out)
+      → (object_at s x).mode ≡ mode.InOut → is_scalar (full s.table (object_at s x).of) ≡ false → IsOwnPut s depth x e k → is_package_object s x ≡ false
+      → DiffersFrom x formals → IsWithin e → NoOverlap (x ∷ formals) (More e actuals) → ((f : Fact) → Has facts f → Has known f) → AllowsOne known x e
+      → Passes formals actuals passed later → Passes (x ∷ formals) (More e actuals) (From k ∷ passed) later
+  in_out_own x (Name p y path u) k formals actuals passed known later is many own local differ within none less allowed rest =
+      in_out_first x p y u path k formals actuals passed known later is many (in_variable x p y u path k own) local differ within none less allowed rest
+  in_out_own x e k formals actuals passed known later is many never local differ within none less allowed rest = absurd never
 
   -- what is left after the act of an actual
   abbrev LessAfter : List Fact → ℕ → TypedTree → Type 0
@@ -404,10 +432,11 @@ module _ (s : Typing) (own_law : OwnsByShape s.table) (settled : IsSettled s.tab
       → (object_at s x).mode ≡ mode.Out → is_scalar (full s.table (object_at s x).of) ≡ false → (own : IsOwnPut s depth x e k) → is_package_object s x ≡ false
       → DiffersFrom x formals → IsWithin e → NoOverlap (x ∷ formals) (More e actuals) → ((f : Fact) → Has facts f → Has known f) → LessAfter known x e → AllowsOne known x e
       → Passes formals actuals passed later → Passes (x ∷ formals) (More e actuals) (To k ∷ passed) (own_out s depth x e k own ++ later)
+  unfolding in_variable
   out_first x (Name p y path u) k formals actuals passed known later is many own local differ within none less less_after allowed rest =
       let owning : Bool = is_owning s.table (object_at s x).of in
       let access : Bool = procedure && is_named_access (view_of s x) in
-      own_first x mode.Out p y u path k (To k) formals actuals passed known (record { way = own.0; place = k; pos = p } ∷ later) later (back_of x mode.Out is no_out) many own local differ
+      own_first x mode.Out p y u path k (To k) formals actuals passed known (record { way = own.0; place = k; pos = p } ∷ later) later (back_of x mode.Out is no_out) many (in_variable x p y u path k own) local differ
       within none less (act_allowed x mode.Out p y u path known is no_out allowed) (λ w by_way. out_unlent known w owning access by_way) (λ by_way. (
         inr (p, refl, refl),
         λ n has covered. out_cleared (name_of y path) owning access known n
@@ -447,14 +476,20 @@ module _ (s : Typing) (own_law : OwnsByShape s.table) (settled : IsSettled s.tab
       plain_first x e (To k) formals actuals passed later (inl (plain, plain_place_of e k there lodged)) rest
   first_passed x mode.Out e (To k) formals actuals passed known later is (inr (many, own)) kind local differ within (inl none) less less_after allowed lodged rest =
       out_first x e k formals actuals passed known later is many own local differ within none less less_after allowed rest
-  first_passed x mode.InOut e (From k) formals actuals passed known later is (inl (plain, there)) kind local differ within none less less_after allowed lodged rest =
+  first_passed x mode.InOut e (From k) formals actuals passed known later is (inl (inl (plain, there))) kind local differ within none less less_after allowed lodged rest =
       plain_first x e (From k) formals actuals passed later (inl (plain, plain_place_of e k there lodged)) rest
-  first_passed x mode.InOut e (From k) formals actuals passed known later is (inr (many, own)) kind local differ within (inl none) less less_after allowed lodged rest =
-      in_out_first x e k formals actuals passed known later is many own local differ within none less allowed rest
+  first_passed x mode.InOut e (From k) formals actuals passed known later is (inl (inr (many, own))) kind local differ within (inl none) less less_after allowed lodged rest =
+      in_out_own x e k formals actuals passed known later is many own local differ within none less allowed rest
+  first_passed x mode.InOut (Name p y path u) (From k) formals actuals passed known later is (inr (many, h)) kind local differ within (inl none) less less_after allowed lodged rest =
+      in_out_first x p y u path k formals actuals passed known later is many (in_cell x y path k h (lodged (house_of s depth v view x y path k h) (inl refl))) local differ within none less
+      allowed rest
   first_passed x mode.Out e (To k) formals actuals passed known later is (inr (many, own)) kind local differ within (inr plain) less less_after allowed lodged rest =
       absurd (true_false (is_scalar (full s.table (object_at s x).of)) (plain x (inl refl) (back_of x mode.Out is no_out)) many)
-  first_passed x mode.InOut e (From k) formals actuals passed known later is (inr (many, own)) kind local differ within (inr plain) less less_after allowed lodged rest =
+  first_passed x mode.InOut e (From k) formals actuals passed known later is (inl (inr (many, own))) kind local differ within (inr plain) less less_after allowed lodged rest =
       absurd (true_false (is_scalar (full s.table (object_at s x).of)) (plain x (inl refl) (back_of x mode.InOut is no_in_out)) many)
+  first_passed x mode.InOut (Name p y path u) (From k) formals actuals passed known later is (inr (many, h)) kind local differ within (inr plain) less less_after allowed lodged rest =
+      absurd (true_false (is_scalar (full s.table (object_at s x).of)) (plain x (inl refl) (back_of x mode.InOut is no_in_out)) many)
+  first_passed x mode.InOut e (From k) formals actuals passed known later is (inr (many, never)) kind local differ within none less less_after allowed lodged rest = absurd never
   first_passed x how e a formals actuals passed known later is laid kind local differ within none less less_after allowed lodged rest = absurd laid
 
   pub all_passed_on : (formals : List ℕ) (actuals : TypedTree) (passed : List Passed) (known : List Fact) → (laid : AreLaidOut s m depth v view formals actuals passed)

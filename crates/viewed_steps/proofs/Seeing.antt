@@ -27,13 +27,16 @@ use Rattle.soundness.proofs.Taking.{Takes, takes_zero}
 use Rattle.owned_loans.specs.Views.{Around, Views, expand, ExcusedBy, IsForeign, Viewed}
 use Rattle.owned_loans.proofs.Allowed.{Cleared}
 use Rattle.owned_loans.proofs.Ended.{stands_itself}
-use Rattle.owned_loans.proofs.Ways.{Lifted, lifted_way, base_on}
+use Rattle.owned_loans.specs.Views.{on}
+use Rattle.owned_ways.proofs.Named.{longer}
+use Rattle.owned_loans.proofs.Ways.{on_under, Lifted, lifted_way, base_on, named_on}
 use Rattle.viewed_soundness.specs.Holds.{PartsAreNamed, is_view, sees_only, IsOwners, Holds, IsAccess}
 use Rattle.viewed_soundness.proofs.Given.{IsLow, lent_whole, seen_whole}
-use Rattle.viewed_soundness.proofs.Names.{true_false, both_no, either_true, plain_sees, stands_owners}
+use Rattle.viewed_soundness.proofs.Names.{true_false, neither, plain_sees, stands_owners}
 use Rattle.viewed_soundness.proofs.Sources.{Shows, source_on}
 use Rattle.viewed_steps.specs.Ready.{IsSeen, IsShowable}
 use Rattle.viewed_steps.proofs.Entered.{IsTyped}
+use Rattle.viewed_steps.proofs.Views.{view_cases}
 
 -- Nothing of a name was moved or is borrowed, unless it is looked at through an observer or a formal.
 abbrev pub IsClear : Typing → List Fact → TypedTree → Type 0
@@ -44,6 +47,30 @@ IsClear s facts e = Unit {0}
 abbrev pub AreClear : Typing → List Fact → List ℕ → TypedTree → Type 0
 AreClear s facts (x ∷ formals) (More e rest) = (is_view_formal s x ≡ true → IsClear s facts e) × AreClear s facts formals rest
 AreClear s facts formals actuals = Unit {0}
+
+-- What an actual is rooted in, if it is a borrower or observer, sees nothing of a package object.
+abbrev pub IsLowRoot : Typing → ℕ → Views → TypedTree → Type 0
+IsLowRoot s frame v (Name p y path u) = (k : Way) → v.way y ≡ Some k → is_anonymous (view_of s y) ≡ true → IsLow s frame k
+IsLowRoot s frame v e = Unit {0}
+
+abbrev pub AreLowRoots : Typing → ℕ → Views → List ℕ → TypedTree → Type 0
+AreLowRoots s frame v (x ∷ formals) (More e rest) = (is_view_formal s x ≡ true → IsLowRoot s frame v e) × AreLowRoots s frame v formals rest
+AreLowRoots s frame v formals actuals = Unit {0}
+
+-- Both of them.
+abbrev pub IsOpenTo : Typing → ℕ → Views → List Fact → TypedTree → Type 0
+IsOpenTo s frame v facts e = IsClear s facts e × IsLowRoot s frame v e
+
+abbrev pub AreOpenTo : Typing → ℕ → Views → List Fact → List ℕ → TypedTree → Type 0
+AreOpenTo s frame v facts (x ∷ formals) (More e rest) = (is_view_formal s x ≡ true → IsOpenTo s frame v facts e) × AreOpenTo s frame v facts formals rest
+AreOpenTo s frame v facts formals actuals = Unit {0}
+
+pub open_to : (s : Typing) (frame : ℕ) (v : Views) (facts : List Fact) (formals : List ℕ) (actuals : TypedTree) → AreClear s facts formals actuals
+    → AreLowRoots s frame v formals actuals → AreOpenTo s frame v facts formals actuals
+open_to s frame v facts [] actuals clear low = tt
+open_to s frame v facts (x ∷ formals) (More e rest) clear low =
+    ((λ formal. (clear.0 formal, low.0 formal)), open_to s frame v facts formals rest clear.1 low.1)
+open_to s frame v facts (x ∷ formals) actuals clear low = tt
 
 module _ (h : Here) (settled : IsSettled h.typing.table) (hands : List Waiting) (leaks : List Leak) (m : Memory) (waits : List (List machine.Word))
     (other : Around (home h.typing h.frame)) (facts : List Fact) (v : Views)
@@ -96,18 +123,18 @@ module _ (h : Here) (settled : IsSettled h.typing.table) (hands : List Waiting) 
   -- the rest is about a name that shows a cell
   module _ (e : TypedTree) (y : ℕ) (showable : IsShowable h.typing y) (w : Way) (called : IsCalledBy e w) (named : Named (home h.typing h.frame) w) (root : number_of w ≡ y)
       (clears : sees_only h.typing y ≡ false → Cleared facts w) (n : ℕ) (reaches : Reaches (seen h.typing m hands leaks) (expand v (All w)) (OfCell n))
-      (lifted : is_view h.typing y ≡ true → (l : Lifted v (All w)) × (l.object ≡ y)) where
-    no_way : is_view_formal h.typing y ≡ false → v.way y ≡ None
+      (lifted : is_view h.typing y ≡ true → (l : Lifted v (All w)) × (l.object ≡ y))
+      (lows : (k : Way) → v.way y ≡ Some k → is_anonymous (view_of h.typing y) ≡ true → IsLow h.typing h.frame k) where
+    no_way : is_view h.typing y ≡ false → v.way y ≡ None
     no_way owner = by_way (v.way y) refl
       where
         by_way : (o : Option Way) → v.way y ≡ o → v.way y ≡ None
         by_way None e = e
-        by_way (Some k) e = absurd (true_false (is_view s y) (holds.only y k e) (both_no (is_anonymous (view_of s y)) (is_view_formal s y) showable.1 owner))
+        by_way (Some k) e = absurd (true_false (is_view s y) (holds.only y k e) owner)
 
-    by_owner : is_view_formal h.typing y ≡ false → Sees e n
+    by_owner : is_view h.typing y ≡ false → Sees e n
     by_owner owner =
-        let plain : sees_only s (number_of w) ≡ false =
-        ap (sees_only s) root ∙ plain_sees s y (both_no (is_anonymous (view_of s y)) (is_view_formal s y) showable.1 owner) in
+        let plain : sees_only s (number_of w) ≡ false = ap (sees_only s) root ∙ plain_sees s y owner in
         let itself : expand v (All w) ≡ All w = stands_itself Home (sees_only s) other v (All w) named (ap v.way root ∙ no_way owner) in
         record {
           from = w;
@@ -115,42 +142,52 @@ module _ (h : Here) (settled : IsSettled h.typing.table) (hands : List Waiting) 
           called = called;
           way = expand v (All w);
           leads = refl;
-          owners = stands_owners s h.frame v m (All w) holds named (inl (ap (is_view_formal s) root ∙ owner));
+          owners = stands_owners s h.frame v m (All w) holds named (inl (ap (is_view_formal s) root ∙ (neither (is_anonymous (view_of s y)) (is_view_formal s y) owner).1));
           reaches = reaches;
-          low = inl (subst (Named Home) (sym itself) named, ap (λ z. is_package_object s (number_of z)) itself ∙ ap (is_package_object s) root ∙ showable.0);
+          low = inl (subst (Named Home) (sym itself) named, ap (λ z. is_package_object s (number_of z)) itself ∙ ap (is_package_object s) root ∙ showable);
           whole = lent_whole s h.frame other v (seen s m hands leaks) facts well alone w named plain (clears (sym (ap (sees_only s) root) ∙ plain));
         }
 
-    by_formal : is_view_formal h.typing y ≡ true → Sees e n
-    by_formal formal =
-        let l = lifted (either_true (is_anonymous (view_of s y)) (is_view_formal s y) formal) in
-        let has : v.way y ≡ Some l.0.way = subst (λ z. v.way z ≡ Some l.0.way) l.1 l.0.has in
-        let far = formals_low y l.0.way has formal in
-        let base : base_of (expand v (All w)) ≡ base_of l.0.way = ap base_of (lifted_way v (All w) l.0) ∙ base_on l.0.way l.0.rest in
-        record {
-          from = w;
-          from_named = named;
-          called = called;
-          way = expand v (All w);
-          leads = refl;
-          owners = stands_owners s h.frame v m (All w) holds named (inr l.0);
-          reaches = reaches;
-          low = inr (((far.0).0, (far.0).1, base ∙ (far.0).2, (far.0).3), (let less = far.1 in omega (arith, less)), far.2);
-          whole = by_sees (sees_only s y) refl;
-        }
+    by_view : is_view h.typing y ≡ true → Sees e n
+    by_view view = record {
+      from = w;
+      from_named = named;
+      called = called;
+      way = expand v (All w);
+      leads = refl;
+      owners = stands_owners s h.frame v m (All w) holds named (inr (lifted view).0);
+      reaches = reaches;
+      low = low_on (elim (view_cases s y view) [
+        | inl anonymous ↦ lows (lifted view).0.way has anonymous
+        | inr formal ↦ (let far = formals_low y (lifted view).0.way has formal in inr (far.0, (let less = far.1 in omega (arith, less)), far.2))
+      ]);
+      whole = by_sees (sees_only s y) refl;
+    }
       where
+        has : v.way y ≡ Some (lifted view).0.way
+        has = subst (λ z. v.way z ≡ Some (lifted view).0.way) (lifted view).1 (lifted view).0.has
+
+        low_on : IsLow s h.frame (lifted view).0.way → IsLow s h.frame (expand v (All w))
+        low_on (inl (at_home, own)) = inl (
+          subst (Named Home) (sym (lifted_way v (All w) (lifted view).0)) (named_on Home (lifted view).0.way (lifted view).0.rest at_home),
+          ap (λ z. is_package_object s (number_of z)) (lifted_way v (All w) (lifted view).0) ∙ ap (is_package_object s) ((longer (lifted view).0.way (on (lifted view).0.way (lifted view).0.rest) (on_under (lifted view).0.way (lifted view).0.rest)).root) ∙ own,
+        )
+        low_on (inr (foreign, less, some)) = inr (
+          (foreign.0, foreign.1, ap base_of (lifted_way v (All w) (lifted view).0) ∙ base_on (lifted view).0.way (lifted view).0.rest ∙ foreign.2, foreign.3),
+          less,
+          some,
+        )
+
         by_sees : (b : Bool) → sees_only s y ≡ b → (z : Way) → ExcusedBy (home h.typing h.frame) v other facts z → Meets z (expand v (All w)) → ⊥
-        by_sees true sees =
-            let l = lifted (either_true (is_anonymous (view_of s y)) (is_view_formal s y) formal) in
-            seen_whole s h.frame other v (seen s m hands leaks) facts well alone w named l.0 (ap (sees_only s) l.1 ∙ sees)
+        by_sees true sees = seen_whole s h.frame other v (seen s m hands leaks) facts well alone w named (lifted view).0 (ap (sees_only s) (lifted view).1 ∙ sees)
         by_sees false plain = lent_whole s h.frame other v (seen s m hands leaks) facts well alone w named (ap (sees_only s) root ∙ plain) (clears plain)
 
     pub sees_it : Sees e n
-    sees_it = by_kind (is_view_formal s y) refl
+    sees_it = by_kind (is_view s y) refl
       where
-        by_kind : (b : Bool) → is_view_formal s y ≡ b → Sees e n
+        by_kind : (b : Bool) → is_view s y ≡ b → Sees e n
         by_kind false e = by_owner e
-        by_kind true e = by_formal e
+        by_kind true e = by_view e
 
   same_designated : (k d : ℕ) (e o c n : Bool) → shape.Access k e o ≡ shape.Access d c n → k ≡ d
   same_designated k d e o c n is = cc
@@ -160,37 +197,38 @@ module _ (h : Here) (settled : IsSettled h.typing.table) (hands : List Waiting) 
 
   -- what the source has
   from_source : (on : List (List machine.Word)) (p : Pos) (x y d u : ℕ) (c n : Bool) (path : TypedTree) → IsShowable s y → shape_of s.table (object_at s x).of ≡ shape.Access d c n
-      → ((w : Way) → ways.name_of w ≡ name_of y path → sees_only s y ≡ false → Cleared facts w) → (e : Evaluated (List machine.Word))
+      → ((w : Way) → ways.name_of w ≡ name_of y path → sees_only s y ≡ false → Cleared facts w)
+      → ((k : Way) → v.way y ≡ Some k → is_anonymous (view_of s y) ≡ true → IsLow s h.frame k) → (e : Evaluated (List machine.Word))
       → Quiet (at on) (λ ws. (w : Way) × Named Home w × (ways.name_of w ≡ name_of y path)
       × Shows h settled hands leaks m waits other facts v kept well holds alone live index_law own_law parts_named y d w ws) e
       → Quiet (at on) (IsSeenAs x (Name p y path u)) e
-  from_source on p x y d u c n path showable is clears (Done ws now) (same, (w, named, called, shows)) = (
+  from_source on p x y d u c n path showable is clears lows (Done ws now) (same, (w, named, called, shows)) = (
     same,
     (
       shows.word,
       shows.is,
       (λ d' c' n' k shape_is e. subst (λ z. IsCell s m z k) (same_designated d d' c n c' n' (sym is ∙ shape_is)) (shows.typed k e)),
-      λ k e. sees_it (Name p y path u) y showable w called named (ap (λ (z : PlaceName). z.root) called) (λ plain. clears w called plain) k (shows.designated k e) (λ view. shows.lifted view k e),
+      λ k e. sees_it (Name p y path u) y showable w called named (ap (λ (z : PlaceName). z.root) called) (λ plain. clears w called plain) k (shows.designated k e) (λ view. shows.lifted view k e) lows,
     ),
   )
-  from_source on p x y d u c n path showable is clears (Raises e now) same = same
-  from_source on p x y d u c n path showable is clears (Traps e now) none = none
+  from_source on p x y d u c n path showable is clears lows (Raises e now) same = same
+  from_source on p x y d u c n path showable is clears lows (Traps e now) none = none
 
   at_same : {before on : List (List machine.Word)} → Takes 0 before on → at before ≡ at on
   at_same {before} {on} takes = ap at (takes_zero before on takes)
 
   -- what is passed for such a formal
   pub seen_given : (before on : List (List machine.Word)) (x : ℕ) (e : TypedTree) → IsAccess h.typing x → IsSeen h.typing x e → Takes (waits_in e) before on
-      → AllowsAll facts (acts (index_acts h.typing e)) → IsClear h.typing facts e → Quiet (at on) (IsSeenAs x e) (viewed h e (at before))
+      → AllowsAll facts (acts (index_acts h.typing e)) → IsOpenTo h.typing h.frame v facts e → Quiet (at on) (IsSeenAs x e) (viewed h e (at before))
   unfolding evaluate waits_in
   seen_given before on x typed.Null access seen_there takes allowed clears =
       (at_same takes, (machine.Null, refl, (λ d c n k is e. cc), λ n e. cc))
-  seen_given before on x (Name p y path u) access (leads, fits, showable) takes allowed clears =
+  seen_given before on x (Name p y path u) access (leads, fits, showable) takes allowed (clear, low) =
       let of_access : shape_of s.table u ≡ shape.Access access.0 access.1 access.2 = elim fits [
         | inl same ↦ same ∙ access.3
         | inr scalar ↦ absurd (not_scalar access.0 access.1 access.2 (sym (ap (λ z. is_scalar (view_of_shape z)) access.3) ∙ scalar.1))
       ] in
-      from_source on p x y access.0 u access.1 access.2 path showable access.3 clears (evaluate h AsView (Name p y path u) (at before))
+      from_source on p x y access.0 u access.1 access.2 path showable access.3 clear low (evaluate h AsView (Name p y path u) (at before))
       (source_on h settled hands leaks m waits other facts v kept well holds alone live index_law own_law parts_named before on p y u access.0 access.1 access.2 path
-      leads of_access takes allowed clears)
+      leads of_access takes allowed clear)
   seen_given before on x e access never takes allowed clears = absurd never

@@ -173,7 +173,8 @@ module _ (table : Table) (typed : TypedProgram) (effects : Effects)
 
   -- where cells keep their words, and no number comes to what was taken of package objects
   pub bare_still : (older : List ViewStage) (before after : State)
-      → ((c : ℕ) (q : List Step) (k : ℕ) → word_in s.table (content s after.memory [] (OfCell c)) q ≡ Held k → word_in s.table (content s before.memory [] (OfCell c)) q ≡ Held k)
+      → ((w : Way) (c : ℕ) (p q : List Step) (k : ℕ) → BareElsewhere older w (OfCell c) p
+      → word_in s.table (content s after.memory [] (OfCell c)) (q ++ p) ≡ Held k → word_in s.table (content s before.memory [] (OfCell c)) (q ++ p) ≡ Held k)
       → ((y : ℕ) (p q : List Step) (k : ℕ) → BareElsewhere older (Object (OfVariable 0 y)) (OfRoot (OfVariable 0 y)) p → is_package_object s y ≡ true
       → word_in s.table (content s after.memory [] (OfRoot (OfVariable 0 y))) (q ++ p) ≡ Held k
       → word_in s.table (content s before.memory [] (OfRoot (OfVariable 0 y))) (q ++ p) ≡ Held k)
@@ -185,7 +186,7 @@ module _ (table : Table) (typed : TypedProgram) (effects : Effects)
       one : IsBareOf s g w l p → word_in s.table (content s after.memory [] l) (q ++ p) ≡ Held k → word_in s.table (content s before.memory [] l) (q ++ p) ≡ Held k
       one (taken, inl (c, there, way, is)) held =
           subst (λ z. word_in s.table (content s before.memory [] z) (q ++ p) ≡ Held k) is
-          (cells c.cell (q ++ p) k (subst (λ z. word_in s.table (content s after.memory [] z) (q ++ p) ≡ Held k) (sym is) held))
+          (cells w c.cell p q k (g, has, (taken, inl (c, there, way, refl))) (subst (λ z. word_in s.table (content s after.memory [] z) (q ++ p) ≡ Held k) (sym is) held))
       one (taken, inr (y, shared, way, is)) held =
           subst (λ z. word_in s.table (content s before.memory [] z) (q ++ p) ≡ Held k) is
           (roots y p q k (g, has, (subst (λ z. Has g.stage.returns (along z p)) (sym way) taken, inr (y, shared, refl, refl))) shared
@@ -522,6 +523,14 @@ module _ (table : Table) (typed : TypedProgram) (effects : Effects)
         | inr (some, less, callee, backs, waits) ↦ waits.bare w l p bare q k (sym (bare_word s state g w l p (q ++ p) bare) ∙ held)
       ]);
     }
+
+    -- its cell is reached
+    pub bare_reached : (w : Way) (n : ℕ) (p : List Step) → BareElsewhere older w (OfCell n) p → Reaches (view_here s state) w (OfCell n)
+    bare_reached w n p (g, has, (taken, inl (c, there, is, cell))) = far w n (g, has, inr (c, there, is, same_cell cell))
+      where
+        same_cell : OfCell c.cell ≡ OfCell n → c.cell ≡ n
+        same_cell e = cc
+    bare_reached w n p (g, has, (taken, inr (y, shared, is, root))) = (let never : OfRoot (OfVariable 0 y) ≡ OfCell n = root in cc)
 
     pub bare_rests : (w : Way) (l : Loc) (p : List Step) → BareElsewhere older w l p
         → ((n : ℕ) × KeptElsewhere older w n × (l ≡ OfCell n)) ⊎ ((r : Root) × (w ≡ Object r) × (l ≡ OfRoot r))

@@ -79,9 +79,9 @@ abbrev pub IsOwnPlace : Typing → TypedTree → Type 0
 IsOwnPlace s e = (y : ℕ) → Has (root_of e) y → is_view_formal s y ≡ false
 
 -- What a formal is shown that owns nothing: null, or what a name of its type designates that is rooted in an
--- own variable of the frame, or in such a formal.
+-- object that belongs to no package.
 abbrev pub IsShowable : Typing → ℕ → Type 0
-IsShowable s y = (is_package_object s y ≡ false) × (is_anonymous (view_of s y) ≡ false)
+IsShowable s y = is_package_object s y ≡ false
 
 abbrev pub IsSeen : Typing → ℕ → TypedTree → Type 0
 IsSeen s x typed.Null = Unit {0}

@@ -9,6 +9,8 @@ use Rattle.spark_base.specs.Lists.{Has}
 use Rattle.spark_base.specs.declared.position.Pos.{Pos}
 use Rattle.place_names.specs.declared.act.Mode.TheVariants as mode
 use Rattle.place_names.specs.declared.fact.Fact.{Fact}
+use Rattle.place_names.specs.declared.act.Placed.{Placed}
+use Rattle.place_names.specs.Facts.{adds}
 use Rattle.place_names.specs.declared.fact.Fact.TheVariants.{Moved, Lent}
 use Rattle.place_names.specs.declared.rule.Loan.{Loan}
 use Rattle.place_names.specs.declared.rule.Loan.TheVariants.{Borrowed, Observed}
@@ -60,13 +62,32 @@ IsOwnless s x = ((object_at s x).mode ≡ mode.In) × (is_owning s.table (object
 abbrev pub IsKindOfFormal : Typing → ℕ → Type 0
 IsKindOfFormal s x = IsScalarObject s x ⊎ ((IsCopiedBack s x × IsNamed s.table (object_at s x).of) ⊎ (IsShown s x ⊎ IsOwnless s x))
 
--- Actuals that are copied back to go through no access value; or they are for formals of scalar types, and are
--- rooted in objects that belong to no package.
+-- Actuals that are copied back to go through no access value; or they are rooted in objects that belong to no
+-- package, and are for formals of scalar types, or of mode `in out` and rooted in owners.
+abbrev pub AreOwners : Typing → TypedTree → Type 0
+AreOwners s e = (y : ℕ) → Has (root_of e) y → (is_anonymous (view_of s y) ≡ false) × (is_view_formal s y ≡ false)
+
+abbrev pub IsReachedBack : Typing → ℕ → TypedTree → Type 0
+IsReachedBack s x e = IsScalarObject s x ⊎ (((object_at s x).mode ≡ mode.InOut) × AreOwners s e)
+
 abbrev pub AreKeptPlaces : Typing → List ℕ → TypedTree → Type 0
 AreKeptPlaces s (x ∷ formals) (More e rest) =
     (is_in (object_at s x).mode ≡ false → (goes_through_none e ≡ true)
-    ⊎ (IsScalarObject s x × ((y : ℕ) → Has (root_of e) y → is_package_object s y ≡ false))) × AreKeptPlaces s formals rest
+    ⊎ (IsReachedBack s x e × ((y : ℕ) → Has (root_of e) y → is_package_object s y ≡ false))) × AreKeptPlaces s formals rest
 AreKeptPlaces s formals actuals = Unit {0}
+
+-- A subprogram lends a part of a package object.
+abbrev pub LendsShared : Typing → FlowSub → Type 0
+LendsShared s sub =
+    (q : FlowPoint) × Has sub.points q × (a : Placed) × Has q.acts a × (l : Loan) × (h : ℕ) × (m : PlaceName) × Has (adds a.act) (Lent l h m)
+    × (is_package_object s m.root ≡ true)
+
+-- What is shown to formals that own nothing is rooted in borrowers and observers only if they see no part of a
+-- package object.
+abbrev pub AreShownOwn : Typing → Type 0 → List ℕ → TypedTree → Type 0
+AreShownOwn s shared (x ∷ formals) (More e rest) =
+    (is_view_formal s x ≡ true → (y : ℕ) → Has (root_of e) y → is_anonymous (view_of s y) ≡ true → shared → ⊥) × AreShownOwn s shared formals rest
+AreShownOwn s shared formals actuals = Unit {0}
 
 -- Anonymous access types are those of objects alone, and functions that are called have no results of
 -- such types; formals are such, those of functions of mode `in`, and what they are shown isn't changed through
@@ -85,6 +106,8 @@ pub record IsViewClass (program : FlowProgram) : Type 0 where
   pub copied : (sub : FlowSub) → Has program.subs sub → (p : FlowPoint) → Has sub.points p → (n : ℕ) (actuals : TypedTree) (result : Option ℕ)
       → p.instr ≡ Call n actuals result → ((x : ℕ) → Has (sub_of program n).formals x → is_formal (flow_typing program) x ≡ true)
       → AreKeptPlaces (flow_typing program) (sub_of program n).formals actuals
+  pub shown : (sub : FlowSub) → Has program.subs sub → (p : FlowPoint) → Has sub.points p → (n : ℕ) (actuals : TypedTree) (result : Option ℕ)
+      → p.instr ≡ Call n actuals result → AreShownOwn (flow_typing program) (LendsShared (flow_typing program) sub) (sub_of program n).formals actuals
 
 -- ---- where objects last
 
@@ -386,9 +409,9 @@ pub data Follows (program : FlowProgram) (effects : Effects) (i : Instruction) (
       → Follows program effects i m top older n next around
   calls_one : (waits : Stage) (cells : List Lodge) → around ≡ record { stage = waits; views = top.views; cells = cells } ∷ older → owners.IsOnward top.stage waits → next.stage.before ≡ []
       → ((f : Fact) → Has (facts_of program effects waits) f → Has (facts_of program effects top.stage) f)
-      → AreCarried (flow_typing program) (λ f. f ≡ suc top.stage.depth → ⊥) [] m n → Follows program effects i m top older n next around
+      → AreCarried (flow_typing program) (λ f. f ≡ suc top.stage.depth → ⊥) cells [] m n → Follows program effects i m top older n next around
   ends_one : (cells : List Lodge) → older ≡ record { stage = next.stage; views = next.views; cells = cells } ∷ around
-      → AreCarried (flow_typing program) (λ f. f ≡ top.stage.depth → ⊥) next.stage.returns m n
+      → AreCarried (flow_typing program) (λ f. f ≡ top.stage.depth → ⊥) cells next.stage.returns m n
       → Follows program effects i m top older n next around
 
 -- What a step leads to, with where its frames come from.

@@ -8,12 +8,12 @@ use Rattle.place_names.specs.declared.fact.Fact.TheVariants.{Moved, Lent}
 use Rattle.place_names.specs.declared.rule.Loan.{Loan}
 use Rattle.place_names.specs.Names.{Name as PlaceName, overlaps, covers}
 use Rattle.type_definitions.specs.Types.{full, is_scalar, is_owning}
-use Rattle.flow_paths.specs.Objects.{Typing, object_at, designated, is_package_object}
+use Rattle.flow_paths.specs.Objects.{Typing, object_at, designated, is_package_object, is_anonymous, view_of}
 use Rattle.flow_paths.specs.Scopes.{is_within}
 use Rattle.machine.specs.Memory.{Memory, Place}
 use Rattle.machine.specs.Memory as memory
 use Rattle.machine.specs.States.{Return}
-use Rattle.owned_ways.specs.Ways.{Step, OfVariable, OfRoot, OfCell, Way, Object, Lost, Into, All, Held, Gone, Under, along, name_of, object_of}
+use Rattle.owned_ways.specs.Ways.{Step, Loc, OfVariable, OfRoot, OfCell, Way, Object, Lost, Into, All, Held, Gone, Under, along, base_of, name_of, object_of}
 use Rattle.part_offsets.specs.Parts.{type_in, offset_in, has_part}
 use Rattle.soundness.specs.Seen.{content, word_in, home, is_view_formal}
 use Rattle.soundness.specs.Typed.{Matches, IsFixed}
@@ -22,29 +22,6 @@ use Rattle.viewed_soundness.specs.Holds.{IsNamed}
 -- A way is one of these, or goes on from it to a part.
 abbrev pub TakenBy : List Way → Way → Type 0
 TakenBy ways w = (to : Way) × Has ways to × (p : List Step) × (w ≡ along to p)
-
--- In the variables of these frames, but in these places: what has a number then had it before, and what is gone
--- stays gone. Cells are as they were.
-pub record AreCarried (s : Typing) (these : ℕ → Type 0) (ways : List Way) (m n : Memory) : Type 0 where
-  pub held : (f x : ℕ) (p : List Step) (c : ℕ) → these f → (TakenBy ways (along (Object (OfVariable f x)) p) → ⊥)
-      → word_in s.table (content s n [] (OfRoot (OfVariable f x))) p ≡ Held c → word_in s.table (content s m [] (OfRoot (OfVariable f x))) p ≡ Held c
-  pub gone : (f x : ℕ) (p : List Step) → these f → (TakenBy ways (along (Object (OfVariable f x)) p) → ⊥)
-      → word_in s.table (content s m [] (OfRoot (OfVariable f x))) p ≡ Gone → word_in s.table (content s n [] (OfRoot (OfVariable f x))) p ≡ Gone
-  pub cells : (c : ℕ) (p : List Step) → word_in s.table (content s n [] (OfCell c)) p ≡ word_in s.table (content s m [] (OfCell c)) p
-
--- A place in a variable of a frame, or in a package object: its way. Where it stands doesn't go by what is in memory.
-pub record IsInside (s : Typing) (depth : ℕ) (k : Place) (to : Way) : Type 0 where
-  pub object : ℕ
-  pub steps : List Step
-  pub frame : ℕ
-  pub at_home : frame ≡ home s depth object
-  pub way : to ≡ along (Object (OfVariable frame object)) steps
-  pub base : k.base ≡ memory.OfVariable frame object
-  pub owner : is_view_formal s object ≡ false
-  pub there : has_part s.table (object_at s object).of steps ≡ true
-  pub at : k.at ≡ offset_in s.table (object_at s object).of steps
-  pub of : Matches s.table k.of (type_in s.table (object_at s object).of steps)
-  pub named : IsNamed s.table k.of
 
 -- ---- places in cells
 
@@ -66,6 +43,46 @@ trunk_type s (Lost n) = 0
 trunk_type s (Into w i) = trunk_type s w
 trunk_type s (All w) = designated s.table (type_in s.table (trunk_type s w) (last_steps w))
 
+-- A part of one of these cells is in one of these places.
+abbrev pub IsTakenIn : List Lodge → List Way → ℕ → List Step → Type 0
+IsTakenIn cells ways n p = (c : Lodge) × Has cells c × (c.cell ≡ n) × TakenBy ways (along c.way p)
+
+-- In the variables of these frames, but in these places: what has a number then had it before, and what is gone
+-- stays gone. So it is in cells.
+pub record AreCarried (s : Typing) (these : ℕ → Type 0) (cells : List Lodge) (ways : List Way) (m n : Memory) : Type 0 where
+  pub held : (f x : ℕ) (p : List Step) (c : ℕ) → these f → (TakenBy ways (along (Object (OfVariable f x)) p) → ⊥)
+      → word_in s.table (content s n [] (OfRoot (OfVariable f x))) p ≡ Held c → word_in s.table (content s m [] (OfRoot (OfVariable f x))) p ≡ Held c
+  pub gone : (f x : ℕ) (p : List Step) → these f → (TakenBy ways (along (Object (OfVariable f x)) p) → ⊥)
+      → word_in s.table (content s m [] (OfRoot (OfVariable f x))) p ≡ Gone → word_in s.table (content s n [] (OfRoot (OfVariable f x))) p ≡ Gone
+  pub in_cells : (k : ℕ) (p : List Step) (c : ℕ) → (IsTakenIn cells ways k p → ⊥)
+      → word_in s.table (content s n [] (OfCell k)) p ≡ Held c → word_in s.table (content s m [] (OfCell k)) p ≡ Held c
+  pub gone_cells : (k : ℕ) (p : List Step) → (IsTakenIn cells ways k p → ⊥)
+      → word_in s.table (content s m [] (OfCell k)) p ≡ Gone → word_in s.table (content s n [] (OfCell k)) p ≡ Gone
+
+-- A place in a variable of a frame, or in a package object, or in a cell that such a one owns: its way. Where it
+-- stands there doesn't go by what is in memory.
+abbrev pub IsVariableAt : ℕ → ℕ → Place → Way → Loc → Type 0
+IsVariableAt f x k trunk start = (trunk ≡ Object (OfVariable f x)) × (start ≡ OfRoot (OfVariable f x)) × (k.base ≡ memory.OfVariable f x)
+
+abbrev pub IsCellAt : Place → Loc → Type 0
+IsCellAt k start = (n : ℕ) × (start ≡ OfCell n) × (k.base ≡ memory.OfCell n)
+
+pub record IsInside (s : Typing) (depth : ℕ) (k : Place) (to : Way) : Type 0 where
+  pub object : ℕ
+  pub steps : List Step
+  pub frame : ℕ
+  pub at_home : frame ≡ home s depth object
+  pub trunk : Way
+  pub start : Loc
+  pub stands : IsVariableAt frame object k trunk start ⊎ (IsCellAt k start × (is_anonymous (view_of s object) ≡ false))
+  pub root : base_of trunk ≡ OfRoot (OfVariable frame object)
+  pub way : to ≡ along trunk steps
+  pub owner : is_view_formal s object ≡ false
+  pub there : has_part s.table (trunk_type s trunk) steps ≡ true
+  pub at : k.at ≡ offset_in s.table (trunk_type s trunk) steps
+  pub of : Matches s.table k.of (type_in s.table (trunk_type s trunk) steps)
+  pub named : IsNamed s.table k.of
+
 -- A place in such a cell. Where it stands there doesn't go by what is in memory.
 pub record IsLodged (s : Typing) (k : Place) (c : Lodge) : Type 0 where
   pub base : k.base ≡ memory.OfCell c.cell
@@ -83,11 +100,15 @@ IsCopiedTo s cells r = (is_scalar (full s.table (object_at s r.formal).of) ≡ t
 
 -- ---- what is taken
 
--- What is passed for a formal that isn't scalar and is copied back: a place in a variable, which is in
--- scope if it may own and isn't lent, of which no part is known to be moved, and whose value the formal may
--- have.
-pub record IsPassedOn (s : Typing) (depth : ℕ) (facts : List Fact) (scope : List ℕ) (x : ℕ) (k : Place) (to : Way) : Type 0 where
+-- If it is a cell, it is one of these.
+abbrev pub IsAmong : List Lodge → Loc → Way → Type 0
+IsAmong cells start trunk = (n : ℕ) → start ≡ OfCell n → (c : Lodge) × Has cells c × (c.way ≡ trunk) × (c.cell ≡ n)
+
+-- What is passed for a formal that isn't scalar and is copied back: such a place, whose variable is in
+-- scope if it may own, which isn't lent, of which no part is known to be moved, and whose value the formal may have.
+pub record IsPassedOn (s : Typing) (cells : List Lodge) (depth : ℕ) (facts : List Fact) (scope : List ℕ) (x : ℕ) (k : Place) (to : Way) : Type 0 where
   pub inside : IsInside s depth k to
+  pub among : IsAmong cells inside.start inside.trunk
   pub fits : Matches s.table k.of (object_at s x).of
   pub formal : is_package_object s x ≡ false
   pub owner : is_view_formal s x ≡ false
@@ -99,11 +120,11 @@ pub record IsPassedOn (s : Typing) (depth : ℕ) (facts : List Fact) (scope : Li
 -- No number stands in the place.
 abbrev pub IsBare : (s : Typing) (depth : ℕ) (k : Place) (to : Way) → Memory → IsInside s depth k to → Type 0
 IsBare s depth k to m inside =
-    (p : List Step) (c : ℕ) → word_in s.table (content s m [] (OfRoot (OfVariable inside.frame inside.object))) (p ++ inside.steps) ≡ Held c → ⊥
+    (p : List Step) (c : ℕ) → word_in s.table (content s m [] inside.start) (p ++ inside.steps) ≡ Held c → ⊥
 
-abbrev pub IsTaken : Typing → Memory → ℕ → List Fact → List ℕ → Return → Way → Type 0
-IsTaken s m depth facts scope r to =
-    (passed : IsPassedOn s depth facts scope r.formal r.to to) × IsBare s depth r.to to m passed.inside
+abbrev pub IsTaken : Typing → List Lodge → Memory → ℕ → List Fact → List ℕ → Return → Way → Type 0
+IsTaken s cells m depth facts scope r to =
+    (passed : IsPassedOn s cells depth facts scope r.formal r.to to) × IsBare s depth r.to to m passed.inside
 
 -- None of these ways begins another one, or is begun by it.
 abbrev pub IsApartFrom : Way → List Way → Type 0
@@ -120,4 +141,4 @@ AreTaken s cells m depth facts scope [] ways = ways ≡ []
 AreTaken s cells m depth facts scope (r ∷ rest) [] = IsCopiedTo s cells r × AreTaken s cells m depth facts scope rest []
 AreTaken s cells m depth facts scope (r ∷ rest) (to ∷ ways) =
     (IsCopiedTo s cells r × AreTaken s cells m depth facts scope rest (to ∷ ways))
-    ⊎ (IsTaken s m depth facts scope r to × IsApartFrom to ways × IsAnother r.formal rest × AreTaken s cells m depth facts scope rest ways)
+    ⊎ (IsTaken s cells m depth facts scope r to × IsApartFrom to ways × IsAnother r.formal rest × AreTaken s cells m depth facts scope rest ways)
