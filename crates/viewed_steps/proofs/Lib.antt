@@ -64,6 +64,7 @@ pub mod Turned
 pub mod Operands
 pub mod Alone
 pub mod Taking
+pub mod Taker
 pub mod Results
 pub mod Giving
 pub mod ScopeEnds
