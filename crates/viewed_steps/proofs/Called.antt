@@ -84,7 +84,7 @@ one_read : (p : Placed) → IsRead p → AreReads (p ∷ [])
 one_read p read q (inl e) = subst IsRead e read
 one_read p read q (inr never) = absurd never
 
-both_reads : (ps qs : List Placed) → AreReads ps → AreReads qs → AreReads (ps ++ qs)
+pub both_reads : (ps qs : List Placed) → AreReads ps → AreReads qs → AreReads (ps ++ qs)
 both_reads ps qs h g p has = elim (Has-append_cases ps qs p has) [ inl l ↦ h p l | inr r ↦ g p r ]
 
 if_reads : (b : Bool) (ps : List Placed) → AreReads ps → AreReads (if b then [] else ps)
@@ -149,7 +149,7 @@ module _ (s : Typing) (own_law : OwnsByShape s.table) where
     steps_read t u NoMore leads = no_reads
     steps_read t u steps leads = absurd leads
 
-  index_reads : (e : TypedTree) (t : ℕ) → IsPlaceOf s e t → AreReads (index_acts s e)
+  pub index_reads : (e : TypedTree) (t : ℕ) → IsPlaceOf s e t → AreReads (index_acts s e)
   index_reads (Name p x path u) t place = steps_read (object_at s x).of u path place.0
   index_reads e t place = absurd place
 

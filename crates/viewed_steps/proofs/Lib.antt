@@ -65,6 +65,7 @@ pub mod Operands
 pub mod Alone
 pub mod Taking
 pub mod Taker
+pub mod Traversing
 pub mod Results
 pub mod Giving
 pub mod ScopeEnds
