@@ -22,12 +22,23 @@ use Rattle.viewed_soundness.specs.Holds.{PartsAreNamed, is_view, sees_only, IsOw
 use Rattle.viewed_soundness.proofs.Sources.{Shows, source_on}
 use Rattle.viewed_steps.specs.Awaited.{IsTakenBy}
 use Rattle.viewed_steps.specs.Traversals.{call_in, traversed_name, SeesFirst}
-use Rattle.viewed_steps.proofs.Called.{values_are_read, index_reads, both_reads}
+use Rattle.viewed_steps.proofs.Called.{values_are_read, index_reads, both_reads, AreGiven, all_given}
+use Rattle.viewed_steps.proofs.LaidOut.{AreOpenActuals}
+use Rattle.viewed_steps.proofs.Seeing.{AreOpenTo}
+use Rattle.viewed_steps.proofs.Views.{AreAccess}
+use Rattle.viewed_steps.specs.Sound.{IsKindOfFormal}
+use Rattle.machine.specs.Calls.{Passed, Value, value_passed, passed, all_passed}
+use Rattle.soundness.specs.Seen.{is_view_formal}
+use Rattle.owned_loans.specs.Views.{IsForeign}
+use Rattle.flow_paths.specs.Objects.{Traversed}
+use Rattle.machine.specs.Evaluate.{followed_by}
+use Rattle.soundness.proofs.Scalars.{allows_both}
+use Rattle.soundness.proofs.Stays.{quiet_then, quiet_from}
 use Rattle.viewed_steps.proofs.Clear.{head_keeps}
 use Rattle.soundness.proofs.Scalars.{acts, acts_append}
-use Rattle.soundness.proofs.Passing.{AreReads, reads_keep}
+use Rattle.soundness.proofs.Passing.{AreReads, reads_keep, TakesAll}
 use Rattle.soundness.proofs.Scalars.{after_append}
-use Rattle.std.proofs.Common.{◌≡◌, refl, sym, ap, ◌∙◌, subst, inl, inr, ℕ, Bool, true, false, List, [], ◌∷◌, ◌++◌, map, Option, Some, None, ◌&&◌}
+use Rattle.std.proofs.Common.{◌≡◌, refl, sym, ap, ◌∙◌, subst, inl, inr, ℕ, ◌<◌, Bool, true, false, List, [], ◌∷◌, ◌++◌, map, Option, Some, None, ◌&&◌}
 use Rattle.spark_base.specs.Lists.{Has}
 use Rattle.place_names.specs.declared.act.Mode.{Mode}
 use Rattle.place_names.specs.declared.act.Mode.TheVariants as mode
@@ -155,3 +166,50 @@ module _ (h : Here) (settled : IsSettled h.typing.table) (hands : List Waiting) 
       then_seen (Done ws now) (same, (u, named, called, shows)) = (same, seen_by u named called ws shows)
       then_seen (Raises x now) same = same
       then_seen (Traps x now) none = none
+
+  -- ---- all actuals
+
+  module _ (in_formals : AreAccess h.typing)
+      (formals_low : (x : ℕ) (w : Way) → v.way x ≡ Some w → is_view_formal h.typing x ≡ true → (foreign : IsForeign (home h.typing h.frame) w) × (foreign.0 < h.frame) × (0 < foreign.0))
+      (f : ℕ) (formals : List ℕ) where
+    abbrev IsRest : List Passed → Type 0
+    IsRest passed = AreGiven h settled hands leaks m waits other facts v kept well holds alone live in_formals index_law own_law parts_named formals_low false formals c.others passed
+
+    -- the first one's value, and the others as any function gets them
+    pub record AreTraversed (passed : List Passed) : Type 0 where
+      pub words : List machine.Word
+      pub others : List Passed
+      pub is : passed ≡ Value words ∷ others
+      pub first : IsSeenFirst words
+      pub given : IsRest others
+
+    abbrev ways_there : List Passing
+    ways_there = ways_to h.typing own_law (f ∷ formals)
+
+    abbrev all_actuals : TypedTree
+    all_actuals = More (first_actual h.typing own_law c) c.others
+
+    pub all_traversed : (before on : List (List machine.Word)) → TakesAll (f ∷ formals) all_actuals before on → ((x : ℕ) → Has formals x → IsKindOfFormal h.typing x)
+        → AreActualsTo h.typing formals c.others → AreOpenTo h.typing h.frame v facts formals c.others → AreOpenActuals h.typing h.frame facts formals c.others
+        → AllowsAll facts (acts (actual_values h.typing ways_there all_actuals))
+        → ((u : Way) → ways.name_of u ≡ traversed_name c → sees_only h.typing c.root ≡ false → Cleared facts u)
+        → Quiet (record { memory = m; waits = on }) AreTraversed (all_passed h ways_there (f ∷ formals) all_actuals (record { memory = m; waits = before }))
+    unfolding waits_in
+    all_traversed before on (mid, takes, more) kinds stay opens back allowed clears =
+        let first_acts : List Placed = acts_in h.typing c.path in
+        let each = allows_both facts (acts first_acts) (acts (actual_values h.typing (map (passing h.typing false) formals) c.others))
+        (subst (AllowsAll facts) (acts_append first_acts (actual_values h.typing (map (passing h.typing false) formals) c.others)) allowed) in
+        let same : after (acts first_acts) facts ≡ facts = reads_keep first_acts (index_reads h.typing own_law (first_actual h.typing own_law c) c.of (leads, refl)) facts in
+        quiet_from (record { memory = m; waits = mid }) (record { memory = m; waits = on }) IsFirstPassed AreTraversed refl
+        (passed h Traversed f (first_actual h.typing own_law c) (record { memory = m; waits = before }))
+        (λ a now. followed_by (all_passed h (map (passing h.typing false) formals) formals c.others now) (λ more now. Done (a ∷ more) now))
+        (quiet_then (record { memory = m; waits = mid }) IsSeenFirst IsFirstPassed (evaluate h AsView (first_actual h.typing own_law c) (record { memory = m; waits = before })) value_passed
+        (first_given before mid takes each.0 clears) (λ ws seen_so. (refl, (ws, refl, seen_so))))
+        (λ a is. quiet_then (record { memory = m; waits = on }) IsRest AreTraversed
+        (all_passed h (map (passing h.typing false) formals) formals c.others (record { memory = m; waits = mid })) (λ more now. Done (a ∷ more) now)
+        (all_given h settled hands leaks m waits other facts v kept well holds alone live in_formals index_law own_law parts_named formals_low false mid on formals c.others kinds stay opens back more
+        (subst (λ z. AllowsAll z (acts (actual_values h.typing (map (passing h.typing false) formals) c.others))) same each.1))
+        (λ others are. (refl, record { words = is.0; others = others; is = ap (λ z. z ∷ others) is.1; first = is.2; given = are })))
+      where
+        IsFirstPassed : Passed → Type 0
+        IsFirstPassed a = (ws : List machine.Word) × (a ≡ Value ws) × IsSeenFirst ws
