@@ -66,6 +66,7 @@ pub mod Alone
 pub mod Taking
 pub mod Taker
 pub mod Traversing
+pub mod Successor
 pub mod Results
 pub mod Giving
 pub mod ScopeEnds
