@@ -67,6 +67,7 @@ pub mod Taking
 pub mod Taker
 pub mod Traversing
 pub mod Successor
+pub mod Begun
 pub mod Results
 pub mod Giving
 pub mod ScopeEnds
