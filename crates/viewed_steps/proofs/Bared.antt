@@ -5,7 +5,7 @@ use Rattle.place_names.specs.declared.fact.Fact.{Fact}
 use Rattle.flow_paths.specs.Objects.{Typing}
 use Rattle.machine.specs.Memory.{Memory, Place}
 use Rattle.machine.specs.States.{Return}
-use Rattle.owned_ways.specs.Ways.{Step, Loc, Inside, OfRoot, OfCell, Way, Object, Lost, Into, All, Held, View, Reaches, Past, along}
+use Rattle.owned_ways.specs.Ways.{Step, Loc, OfCell, Way, Object, Lost, Into, All, Held, View, Reaches, Past, along}
 use Rattle.owned_ways.proofs.Unique.{one_location}
 use Rattle.owned_ways.proofs.Locations.{depth, past_depth}
 use Rattle.soundness.specs.Seen.{content, steps_in, word_in}
@@ -39,8 +39,8 @@ inside_top : (s : Typing) (cells : List Lodge) (depth : ℕ) (view : View) → (
     → (k : Place) (to : Way) (inside : IsInside s depth k to) → IsAmong cells inside.start inside.trunk → IsTop view inside.trunk inside.start
 inside_top s cells depth view at k to inside among = (
   start_reached s depth k to inside view (λ n is. (
-  let found = among n is in
-  subst (λ z. Reaches view z (OfCell n)) found.2 (subst (λ z. Reaches view found.0.way (OfCell z)) found.3 (at found.0 found.1)))),
+      let found = among n is in
+      subst (λ z. Reaches view z (OfCell n)) found.2 (subst (λ z. Reaches view found.0.way (OfCell z)) found.3 (at found.0 found.1)))),
   start_steps s depth k to inside,
 )
 

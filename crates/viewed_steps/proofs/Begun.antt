@@ -5,12 +5,11 @@ use Rattle.viewed_steps.specs.Sound.{ViewStage, IsTraversal}
 use Rattle.viewed_steps.specs.Traversals.{IsRootedIn, AreRooted, SeesFirst}
 use Rattle.soundness.proofs.Points.{one_named, one_point}
 use Rattle.soundness.specs.Sound.{IsNamedSub, IsAtPoint}
-use Rattle.std.proofs.Common.{◌≡◌, refl, sym, ap, ◌∙◌, subst, ℕ, ◌==◌, Bool, true, false, List, [], Option, Some, None, if◌then◌else◌, eqb-true, eq-eqb}
+use Rattle.std.proofs.Common.{◌≡◌, refl, sym, ap, ◌∙◌, subst, ℕ, ◌==◌, Bool, true, false, List, [], Option, Some, if◌then◌else◌, eqb-true, eq-eqb}
 use Rattle.place_names.specs.declared.act.Act.{Act}
 use Rattle.typed_tree.specs.Programs.{TypedProgram}
 use Rattle.type_definitions.specs.Types.{Table}
-use Rattle.flow_paths.specs.Instructions.{Instruction}
-use Rattle.flow_paths.specs.Laid.{NamedSub, FlowProgram, FlowSub, flow_program, flow_named, flow_typing}
+use Rattle.flow_paths.specs.Laid.{NamedSub, flow_program, flow_named, flow_typing}
 use Rattle.flow_paths.specs.Objects.{Typing, object_at, is_variable}
 use Rattle.flow_paths.specs.Points.{NamedPoint}
 use Rattle.flow_paths.specs.Views.{traversed_formal, sub_acts}
@@ -41,16 +40,15 @@ pub begins_traversal : (table : Table) (typed : TypedProgram) (inner g : ViewSta
     → inner.stage.frame.returns ≡ [] → (named : NamedSub) → IsNamedSub (flow_named table typed) g.stage.frame.sub named → (q : NamedPoint)
     → IsAtPoint named.points g.stage.frame.next q
     → SeesFirst (flow_typing (flow_program table typed)) g.stage.depth q.instr inner.stage.frame.sub g.views first → IsTraversal table typed inner g
-begins_traversal table typed inner g f first traversed rooted none named of_sub q at_q sees f' also =
-    (
-      first,
-      subst (λ z. AreRooted (flow_typing (flow_program table typed)) (sub_acts (sub_of (flow_program table typed) inner.stage.frame.sub)) z first inner.views) same_formal rooted,
-      λ other other_of p at_p. (
-          let same_sub : other ≡ named = one_named (flow_named table typed) g.stage.frame.sub other named other_of of_sub in
-          let same_point : q ≡ p = one_point named.points g.stage.frame.next q p at_q (subst (λ (z : NamedSub). IsAtPoint z.points g.stage.frame.next p) same_sub at_p) in
-          subst (λ (z : NamedPoint). SeesFirst (flow_typing (flow_program table typed)) g.stage.depth z.instr inner.stage.frame.sub g.views first) same_point sees),
-      none,
-    )
+begins_traversal table typed inner g f first traversed rooted none named of_sub q at_q sees f' also = (
+  first,
+  subst (λ z. AreRooted (flow_typing (flow_program table typed)) (sub_acts (sub_of (flow_program table typed) inner.stage.frame.sub)) z first inner.views) same_formal rooted,
+  λ other other_of p at_p. (
+      let same_sub : other ≡ named = one_named (flow_named table typed) g.stage.frame.sub other named other_of of_sub in
+      let same_point : q ≡ p = one_point named.points g.stage.frame.next q p at_q (subst (λ (z : NamedSub). IsAtPoint z.points g.stage.frame.next p) same_sub at_p) in
+      subst (λ (z : NamedPoint). SeesFirst (flow_typing (flow_program table typed)) g.stage.depth z.instr inner.stage.frame.sub g.views first) same_point sees),
+  none,
+)
   where
     some_is : (a b : ℕ) → Some a ≡ Some b → a ≡ b
     some_is a b same = cc

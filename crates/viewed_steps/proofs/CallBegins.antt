@@ -26,8 +26,7 @@ use Rattle.flow_paths.specs.Paths.{PathPoint, is_some_point, ControlPath, begins
 use Rattle.flow_paths.specs.Effects.{flow_sub_at, path_points}
 use Rattle.flow_paths.specs.Scopes.{taken, scope_behind, Leads, is_temporary}
 use Rattle.machine.specs.Words as machine
-use Rattle.machine.specs.Memory as memory
-use Rattle.machine.specs.Memory.{Memory, no_slot, variable_slots, Place}
+use Rattle.machine.specs.Memory.{Memory, no_slot, variable_slots}
 use Rattle.machine.specs.Evaluate.{Now, Exception}
 use Rattle.machine.specs.States.{Frame, State, Leak, sub_of, frame_at_start, Outcome, Goes}
 use Rattle.machine.specs.Step.{Turn, turn, start, led, successor}
@@ -442,9 +441,9 @@ module _ (table : Table) (typed : TypedProgram) (effects : Effects) (input : Lis
             taken_bare s cells with_all depth facts_called next_there (view_here s easy.state) (λ c has. (named_cell c has).reaches) (returns_of formals passed) ways_taken taken_then w l
             (elim top [
               | inl (c, has, way, is) ↦ (
-                  subst (λ z. ways.Reaches (view_here s easy.state) w z) is (subst (λ z. ways.Reaches (view_here s easy.state) z (ways.OfCell c.cell)) way (named_cell c has).reaches),
-                  ap steps_in (sym is),
-                )
+                subst (λ z. ways.Reaches (view_here s easy.state) w z) is (subst (λ z. ways.Reaches (view_here s easy.state) z (ways.OfCell c.cell)) way (named_cell c has).reaches),
+                ap steps_in (sym is),
+              )
               | inr (y, also, way, is) ↦ (subst (λ z. ways.Reaches (view_here s easy.state) z l) way (sym is), ap steps_in (sym is))
             ]) q taken r k held
 

@@ -14,7 +14,7 @@ use Rattle.owned_ways.proofs.Locations.{below, past_under, reaches_along, under_
 use Rattle.owned_ways.proofs.Assigned.{given_apart}
 use Rattle.owned_ways.proofs.Moving.{Given, keeps, owner_before}
 use Rattle.part_offsets.specs.Parts.{type_in, offset_in, has_part, is_leaf, IsSettled}
-use Rattle.soundness.specs.Seen.{Content, content, trunk, steps_in, word_in, owner_at, seen_of, seen, is_view_formal}
+use Rattle.soundness.specs.Seen.{Content, content, trunk, steps_in, word_in, owner_at, seen_of, seen}
 use Rattle.soundness.specs.Changes.{hand, Checks, Stores}
 use Rattle.soundness.specs.Typed.{Matches, Kept, Spot, IsMade, loc_of}
 use Rattle.soundness.proofs.Joined.{trunk_part, steps_part}
@@ -22,7 +22,7 @@ use Rattle.soundness.proofs.Contents.{bool_cases, word_yes, word_part, word_root
 use Rattle.soundness.proofs.Steps.{put_count, put_freed, stores, takes}
 use Rattle.owned_loans.specs.Views.{Around, Views, ExcusedBy, Viewed, IsForeign}
 use Rattle.owned_loans.proofs.Moves.{no_hand, view_rooted}
-use Rattle.viewed_steps.specs.Taken.{Lodge, IsVariableAt, IsCellAt, IsInside, trunk_type}
+use Rattle.viewed_steps.specs.Taken.{IsVariableAt, IsCellAt, IsInside, trunk_type}
 use Rattle.viewed_steps.proofs.Lodged.{lodged_spot, cell_live}
 use Rattle.viewed_steps.proofs.Between.{IsHomed, gone_also, IsClearOf, moved_between, base_under, base_along, same_variable, not_named}
 use Rattle.viewed_steps.proofs.Views.{AreFar}

@@ -6,7 +6,6 @@ use Rattle.place_names.specs.declared.fact.Fact.{Fact}
 use Rattle.flow_paths.specs.Objects.{Typing, object_at, is_anonymous, view_of}
 use Rattle.machine.specs.Words.{access_offsets, default}
 use Rattle.machine.specs.Memory.{Slot, Memory, Place, fresh, no_slot, variable_slots, slots_at, slots_of, words_of, gone_at, moved_out, declared}
-use Rattle.machine.specs.Memory as memory
 use Rattle.machine.specs.States.{Waiting, Leak}
 use Rattle.owned_ways.specs.Ways.{Step, OfVariable, Loc, OfRoot, OfCell, IsSame, Reaches, Way, Empty, Gone, Held, Under, Past, part, along, number_of}
 use Rattle.owned_ways.proofs.Locations.{below}
@@ -220,13 +219,13 @@ module _ (s : Typing) (settled : IsSettled s.table) (own_law : OwnsByShape s.tab
         → HasStill s cells depth m next z
     out_still reached_cells z apart = (
       (λ g y q p low is.
-      seen_next g y (p ++ q)
-      ∙ change.off (part (OfRoot (OfVariable g y)) (p ++ q))
-      (places_apart (seen s m hands leaks) viewed.owned to at reached g y q p (subst (λ w. (Under to w → ⊥) × (Under w to → ⊥)) is apart))
-      ∙ seen_before g y (p ++ q)),
+          seen_next g y (p ++ q)
+          ∙ change.off (part (OfRoot (OfVariable g y)) (p ++ q))
+          (places_apart (seen s m hands leaks) viewed.owned to at reached g y q p (subst (λ w. (Under to w → ⊥) × (Under w to → ⊥)) is apart))
+          ∙ seen_before g y (p ++ q)),
       (λ c q p has is.
-      cell_next c.cell (p ++ q)
-      ∙ change.off (part (OfCell c.cell) (p ++ q))
-      (ways_apart (seen s m hands leaks) viewed.owned to at reached c.way (OfCell c.cell) (reached_cells c has) q p (subst (λ w. (Under to w → ⊥) × (Under w to → ⊥)) is apart))
-      ∙ cell_before c.cell (p ++ q)),
+          cell_next c.cell (p ++ q)
+          ∙ change.off (part (OfCell c.cell) (p ++ q))
+          (ways_apart (seen s m hands leaks) viewed.owned to at reached c.way (OfCell c.cell) (reached_cells c has) q p (subst (λ w. (Under to w → ⊥) × (Under w to → ⊥)) is apart))
+          ∙ cell_before c.cell (p ++ q)),
     )

@@ -13,8 +13,7 @@ use Rattle.place_names.specs.Names.{Name as PlaceName, overlaps}
 use Rattle.type_definitions.specs.Types.{shape_of, words, full, is_scalar, is_owning}
 use Rattle.flow_paths.specs.Objects.{Typing, object_at, is_variable, is_borrowing, is_observing, is_anonymous, is_observer, is_package_object, view_of}
 use Rattle.machine.specs.Words.{access_offsets}
-use Rattle.machine.specs.Memory.{Slot, Memory, Base, Place, fresh, no_slot, variable_slots, slots_at, slots_of, words_of, gone_at, moved_out, declared}
-use Rattle.machine.specs.Memory as memory
+use Rattle.machine.specs.Memory.{Slot, Memory, Place, fresh, no_slot, variable_slots, slots_at, slots_of, words_of, gone_at, moved_out, declared}
 use Rattle.machine.specs.Words as machine
 use Rattle.machine.specs.Calls.{Passed, Value, From, To}
 use Rattle.machine.specs.States.{Waiting, Leak}
@@ -37,7 +36,7 @@ use Rattle.viewed_soundness.proofs.Names.{both_no, true_false, view_access, not_
 use Rattle.viewed_soundness.proofs.Evaluated.{matches_named}
 use Rattle.viewed_steps.specs.Taken.{Lodge, trunk_type, IsPlainPlace, AreCarried, IsInside, IsPassedOn, IsBare, IsApartFrom}
 use Rattle.viewed_steps.proofs.Between.{IsHomed, homed_apart, gone_also, IsClearOf, base_along, base_under, same_variable}
-use Rattle.viewed_steps.proofs.Carried.{inside_homed, inside_low, trunk_is, carried_gone, carried_held_cell, carried_gone_cell, carried_beside_cell, inside_other, inside_at, inside_spot, inside_reached, inside_base, inside_rooted, inside_owns, inside_word, carried_bare, carried_held, carried_beside, carried_off_stays, carried_off}
+use Rattle.viewed_steps.proofs.Carried.{inside_homed, inside_low, carried_gone, carried_held_cell, carried_gone_cell, carried_beside_cell, inside_other, inside_at, inside_spot, inside_reached, inside_base, inside_rooted, inside_owns, inside_word, carried_bare, carried_held, carried_beside, carried_off_stays, carried_off}
 use Rattle.viewed_steps.proofs.Outs.{Out, HasStill, places_apart, ways_apart}
 use Rattle.viewed_steps.proofs.Beside.{put_beside}
 use Rattle.viewed_steps.proofs.Declared.{declared_viewed, declared_low}
@@ -486,16 +485,16 @@ module _ (s : Typing) (settled : IsSettled s.table) (own_law : OwnsByShape s.tab
         → HasStill s cells depth m next z
     one_still reached_cells z apart = (
       (λ g y q p low is.
-      new_word g y (frames_differ (suc depth) x g y (λ e. omega (arith, e, low))) (p ++ q)
-      ∙ carried_beside s settled (home s depth) (sees_only s) v other with_it.gone with_apart m hands leaks facts k at to viewed typed spot
-      (inside_rooted s depth k to passed.inside) (inside_reached s depth k to passed.inside (seen s m hands leaks) there)
-      (inside_owns s depth k to passed.inside settled m hands leaks typed viewed.owned there) clean g y (p ++ q)
-      (places_apart (seen s m hands leaks) viewed.owned to at (inside_reached s depth k to passed.inside (seen s m hands leaks) there) g y q p
-      (subst (λ w. (Under to w → ⊥) × (Under w to → ⊥)) is apart))),
+          new_word g y (frames_differ (suc depth) x g y (λ e. omega (arith, e, low))) (p ++ q)
+          ∙ carried_beside s settled (home s depth) (sees_only s) v other with_it.gone with_apart m hands leaks facts k at to viewed typed spot
+          (inside_rooted s depth k to passed.inside) (inside_reached s depth k to passed.inside (seen s m hands leaks) there)
+          (inside_owns s depth k to passed.inside settled m hands leaks typed viewed.owned there) clean g y (p ++ q)
+          (places_apart (seen s m hands leaks) viewed.owned to at (inside_reached s depth k to passed.inside (seen s m hands leaks) there) g y q p
+          (subst (λ w. (Under to w → ⊥) × (Under w to → ⊥)) is apart))),
       (λ c q p has is.
-      carried_beside_cell s settled (home s depth) (sees_only s) v other with_it.gone with_apart m hands leaks facts k at to viewed typed spot
-      (inside_rooted s depth k to passed.inside) (inside_reached s depth k to passed.inside (seen s m hands leaks) there)
-      (inside_owns s depth k to passed.inside settled m hands leaks typed viewed.owned there) clean c.cell (p ++ q)
-      (ways_apart (seen s m hands leaks) viewed.owned to at (inside_reached s depth k to passed.inside (seen s m hands leaks) there) c.way (OfCell c.cell) (reached_cells c has) q p
-      (subst (λ w. (Under to w → ⊥) × (Under w to → ⊥)) is apart))),
+          carried_beside_cell s settled (home s depth) (sees_only s) v other with_it.gone with_apart m hands leaks facts k at to viewed typed spot
+          (inside_rooted s depth k to passed.inside) (inside_reached s depth k to passed.inside (seen s m hands leaks) there)
+          (inside_owns s depth k to passed.inside settled m hands leaks typed viewed.owned there) clean c.cell (p ++ q)
+          (ways_apart (seen s m hands leaks) viewed.owned to at (inside_reached s depth k to passed.inside (seen s m hands leaks) there) c.way (OfCell c.cell) (reached_cells c has) q p
+          (subst (λ w. (Under to w → ⊥) × (Under w to → ⊥)) is apart))),
     )

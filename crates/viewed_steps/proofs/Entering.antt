@@ -207,7 +207,6 @@ module _ (s : Typing) (settled : IsSettled s.table) (own_law : OwnsByShape s.tab
       later.2,
     )),
   )
-
     where
       start_before : (q : List Step) (c : ℕ) → word_in s.table (content s n [] (one.inside).start) q ≡ Held c → word_in s.table (content s next [] (one.inside).start) q ≡ Held c
       start_before q c is = elim (one.inside).stands [

@@ -158,13 +158,13 @@ module _ (s : Typing) (settled : IsSettled s.table) (m : Memory) (hands : List W
       let trunk_is : trunk l ≡ OfCell c.cell = spot.base ∙ ap loc_of is in
       let has : has_part s.table (cell m c.cell).of (steps_in l) ≡ true = ap (λ z. has_part s.table (content s m hands z).of (steps_in l)) (sym trunk_is) ∙ spot.there in
       let moved = part_moved s.table settled (cell m c.cell).of (trunk_type s c.way) (steps_in l) (matches_flip s (trunk_type s c.way) (cell m c.cell).of there.1) has in (
-      record {
-        base = is;
-        steps = steps_in l;
-        there = sym moved.0 ∙ has;
-        at = spot.at ∙ ap (λ z. offset_in s.table (content s m hands z).of (steps_in l)) trunk_is ∙ moved.1;
-        of = matches_both s k.of (type_in s.table (cell m c.cell).of (steps_in l)) (type_in s.table (trunk_type s c.way) (steps_in l))
-            (subst (λ z. Matches s.table k.of (type_in s.table (content s m hands z).of (steps_in l))) trunk_is spot.of) moved.2;
-      },
-      refl,
+        record {
+          base = is;
+          steps = steps_in l;
+          there = sym moved.0 ∙ has;
+          at = spot.at ∙ ap (λ z. offset_in s.table (content s m hands z).of (steps_in l)) trunk_is ∙ moved.1;
+          of = matches_both s k.of (type_in s.table (cell m c.cell).of (steps_in l)) (type_in s.table (trunk_type s c.way) (steps_in l))
+              (subst (λ z. Matches s.table k.of (type_in s.table (content s m hands z).of (steps_in l))) trunk_is spot.of) moved.2;
+        },
+        refl,
       )

@@ -12,7 +12,7 @@ use Rattle.flow_paths.specs.Laid.{FlowProgram, flow_typing, flow_program}
 use Rattle.machine.specs.Words as machine
 use Rattle.machine.specs.Memory.{variable_slots, no_slot, Place}
 use Rattle.machine.specs.States.{Frame, Return, State}
-use Rattle.owned_ways.specs.Ways.{Loc, IsSame, Step, OfVariable, OfRoot, OfCell, Way, Object, Held, Reaches, part, along}
+use Rattle.owned_ways.specs.Ways.{Loc, IsSame, Step, OfVariable, OfRoot, OfCell, Way, Object, Held, Reaches, part}
 use Rattle.soundness.specs.Seen.{content, word_in, home}
 use Rattle.soundness.specs.Sound.{Stage, facts_of, AreStages, view_of as view_here}
 use Rattle.owned_loans.specs.Views.{known_gone}

@@ -5,11 +5,10 @@ use Rattle.soundness.proofs.Contents.{bool_cases}
 use Rattle.soundness.proofs.Scalars.{acts}
 use Rattle.place_names.specs.declared.act.Act.{Act}
 use Rattle.place_names.specs.declared.act.Act.TheVariants as act
-use Rattle.place_names.specs.declared.act.Placed.{Placed}
 use Rattle.place_names.specs.Names.{Name as PlaceName}
-use Rattle.std.proofs.Common.{◌≡◌, refl, sym, ap, ◌∙◌, subst, ◌⊎◌, inl, inr, ℕ, Bool, true, false, List, [], ◌∷◌, ◌++◌, Option, ◌||◌, ◌&&◌, if◌then◌else◌}
+use Rattle.std.proofs.Common.{◌≡◌, refl, sym, ap, ◌∙◌, subst, ◌⊎◌, inl, inr, ℕ, Bool, true, false, List, ◌++◌, Option, ◌||◌, ◌&&◌, if◌then◌else◌}
 use Rattle.spark_base.specs.declared.position.Pos.{Pos}
-use Rattle.typed_tree.specs.Trees.{TypedTree, NoMore, More, Name, Call as CallIn}
+use Rattle.typed_tree.specs.Trees.{NoMore, More, Name}
 use Rattle.flow_paths.specs.Instructions.{Instruction, Declare, Assign, Hold}
 use Rattle.flow_paths.specs.Acts.{Frame, acts_of, acts_in, source_acts, index_acts, reborrow, observe, stored_acts, gives_variable, target_pos, returned_acts}
 use Rattle.flow_paths.specs.Names.{written, source}
@@ -35,8 +34,11 @@ module _ (s : Typing) (n : ℕ) (c : TraversalCall) where
   kind_of : (x : ℕ) → Sees x → (is_borrower s x ≡ true) ⊎ ((is_borrower s x ≡ false) × (is_observer s x ≡ true))
   kind_of x (variable, view) = elim (bool_cases (is_borrower s x)) [
     | inl borrows ↦ inl borrows
-    | inr none ↦ inr (none, ap (λ b. b && is_observing (view_of s x)) variable ∙ sees (is_borrowing (view_of s x)) (is_observing (view_of s x)) view
-      (sym (ap (λ b. b && is_borrowing (view_of s x)) variable) ∙ none))
+    | inr none ↦ inr (
+      none,
+      ap (λ b. b && is_observing (view_of s x)) variable ∙ sees (is_borrowing (view_of s x)) (is_observing (view_of s x)) view
+          (sym (ap (λ b. b && is_borrowing (view_of s x)) variable) ∙ none),
+    )
   ]
     where
       sees : (a b : Bool) → a || b ≡ true → a ≡ false → b ≡ true

@@ -5,7 +5,7 @@ use Rattle.flow_paths.specs.Names.{waiting as waits_in}
 use Rattle.flow_paths.specs.Acts.{acts_in}
 use Rattle.machine.specs.Words as machine
 use Rattle.machine.specs.Memory.{Memory}
-use Rattle.machine.specs.Evaluate.{Here, Now, AsView, Evaluated, Done, Raises, Traps, evaluate}
+use Rattle.machine.specs.Evaluate.{Here, AsView, Evaluated, Done, Raises, Traps, evaluate}
 use Rattle.machine.specs.States.{Waiting, Leak}
 use Rattle.owned_ways.specs.Ways.{Loc, OfCell, Way, All, Reaches, Named, AllowsAll}
 use Rattle.owned_ways.specs.Ways as ways
@@ -36,16 +36,16 @@ use Rattle.soundness.proofs.Scalars.{allows_both}
 use Rattle.soundness.proofs.Stays.{quiet_then, quiet_from}
 use Rattle.viewed_steps.proofs.Clear.{head_keeps}
 use Rattle.soundness.proofs.Scalars.{acts, acts_append}
-use Rattle.soundness.proofs.Passing.{AreReads, reads_keep, TakesAll}
+use Rattle.soundness.proofs.Passing.{reads_keep, TakesAll}
 use Rattle.soundness.proofs.Scalars.{after_append}
-use Rattle.std.proofs.Common.{◌≡◌, refl, sym, ap, ◌∙◌, subst, inl, inr, ℕ, ◌<◌, Bool, true, false, List, [], ◌∷◌, ◌++◌, map, Option, Some, None, ◌&&◌}
+use Rattle.std.proofs.Common.{◌≡◌, refl, ap, ◌∙◌, subst, inl, inr, ℕ, ◌<◌, Bool, true, false, List, [], ◌∷◌, ◌++◌, map, Option, Some, None, ◌&&◌}
 use Rattle.spark_base.specs.Lists.{Has}
 use Rattle.place_names.specs.declared.act.Mode.{Mode}
 use Rattle.place_names.specs.declared.act.Mode.TheVariants as mode
 use Rattle.place_names.specs.declared.act.Placed.{Placed}
 use Rattle.place_names.specs.declared.fact.Fact.{Fact}
 use Rattle.type_definitions.specs.Types.{is_owning}
-use Rattle.typed_tree.specs.Trees.{TypedTree, NoMore, More, Name}
+use Rattle.typed_tree.specs.Trees.{TypedTree, More, Name}
 use Rattle.flow_paths.specs.Acts.{actual_values, actual_acts, actual_act, index_acts}
 use Rattle.flow_paths.specs.Instructions.{Instruction}
 use Rattle.flow_paths.specs.Objects.{Typing, Passing, passing, passing_by, first_traversed, object_at, is_package_object, is_named_access, view_of}
