@@ -4,7 +4,7 @@
     python3 tools/crate_lines.py                    ends with 1 where a line differs, and prints a line for each
     python3 tools/crate_lines.py --write            writes the lines; comments and the order of crates stay
 
-A crate's text is its src/, specs/ and proofs/. Code names a library as `NAME::`, definitions and proofs as
+A crate's text is its src/, specs/ and proofs/. Code names a library as `NAME::`, clauses, definitions and proofs as
 `Rattle.NAME.`. What the types of a library are made of needn't be named: the compiler finds it. So a crate is
 proved again only where a library changes that it uses, or that one of these uses.
 """
@@ -14,12 +14,6 @@ import sys
 
 TOP = pathlib.Path(__file__).resolve().parent.parent
 LINES = TOP / "crates.txt"
-
-# Libraries that a crate needs and no text of it names: (crate, library) with the reason.
-UNNAMED = {
-    ("run_ready", "run_codes"): "only clauses in its code name it",
-}
-
 
 def bare(path):
     """The text of a file without its comments."""
@@ -37,6 +31,7 @@ def names_of(crate):
         for path in sorted((TOP / "crates" / crate / part).glob("**/*")):
             if path.suffix == ".rt":
                 found.update(re.findall(r"\b(\w+)\s*::", bare(path)))
+                found.update(re.findall(r"\bRattle[.·](\w+)[.·]", bare(path)))
             elif path.suffix == ".antt":
                 found.update(re.findall(r"\bRattle[.·](\w+)[.·]", bare(path)))
     return found
@@ -62,7 +57,7 @@ def made(text):
         head, colon, rest = line.partition("#")[0].partition(":")
         if colon:
             crate = head.split()[0]
-            named = names_of(crate) | {library for at, library in UNNAMED if at == crate}
+            named = names_of(crate)
             before = [library for library in crates[crate][1] if library in named]
             more = [library for library in order if library in named - set(before) - {crate}]
             line = " ".join([head + ":"] + before + more)
@@ -80,9 +75,6 @@ def faults():
             yield "crates.txt: %s has %s, which its text doesn't name" % (crate, library)
         for library in [it for it in libraries if it not in listed]:
             yield "crates.txt: %s lacks %s, which its text names" % (crate, library)
-    for crate, library in UNNAMED:
-        if crate not in now or library in names_of(crate):
-            yield "tools/crate_lines.py: %s is no crate, or names %s" % (crate, library)
 
 
 def main():

@@ -1,7 +1,7 @@
 -- A text with a procedure that takes an access value in a formal of mode `in out` and gives it back, of the class of the
 -- law on runs with borrowers and observers, and that law of it.
 use Rattle.std.specs.Prelude.{codes}
-use Rattle.std.proofs.Common.{◌≡◌, ℕ, ◌+◌, ◌⊎◌, inl, inr, Bool, true, false, not, ◌&&◌, ◌||◌, List, [], ◌∷◌, refl, sym, subst, Some, None, Ok, Err, true≢false}
+use Rattle.std.proofs.Common.{◌≡◌, ℕ, ◌+◌, ◌⊎◌, inl, inr, Bool, true, false, not, ◌&&◌, ◌||◌, List, [], ◌∷◌, refl, sym, subst, Option, Some, None, is_some, Ok, Err, true≢false}
 use Rattle.spark_base.specs.Lists.{Has}
 use Rattle.ada_lexer.specs.Tokens.{Cut, CutResult, tokens}
 use Rattle.place_names.specs.declared.act.Mode.{Mode}
@@ -27,23 +27,24 @@ use Rattle.type_definitions.specs.Whole.{type_fault}
 use Rattle.typing_steps.specs.Programs.{program_of}
 use Rattle.typed_tree.specs.declared.object.Object.{Object}
 use Rattle.typed_tree.specs.Programs.{TypedSub, text_io}
-use Rattle.flow_paths.specs.Objects.{Typing, object_at, sub_at, is_formal_kind, is_formal, is_anonymous, is_package_object}
+use Rattle.flow_paths.specs.Objects.{Typing, Signature, object_at, sub_at, is_formal_kind, is_formal, is_anonymous}
 use Rattle.flow_paths.specs.Points.{FlowPoint}
 use Rattle.flow_paths.specs.Laid.{FlowSub}
 use Rattle.flow_paths.specs.Effects.{asks_for_end, path_points}
 use Rattle.flow_paths.specs.Aliases.{alias_reports}
 use Rattle.flow_paths.specs.Views.{encloses_within}
-use Rattle.soundness.specs.Sound.{calls_procedures, goes_through_none, AreCopied}
+use Rattle.soundness.specs.Seen.{is_view_formal}
+use Rattle.soundness.specs.Sound.{calls_procedures, goes_through_none}
 use Rattle.program_check.specs.Sources.{flow_of}
 use Rattle.file_positions.specs.Texts.{AreParsed}
 use Rattle.file_positions.proofs.Cuts.{cut_in_order}
 use Rattle.called_subs.specs.Called.{Calls, CodeCalls}
 use Rattle.order_laws.specs.Orderly.{typed_of, typing_in}
-use Rattle.sound_files.specs.Class.{CallsProcedures, IsScalarAt, FormalsAreKinds, AreOwnActuals, CopyToVariables, PassOwnObjects}
+use Rattle.sound_files.specs.Class.{CallsProcedures, IsScalarAt, IsShownAt, IsOwnlessAt, FormalsAreKinds, laid_in, FunctionsSee, AreFitActuals, PassFitActuals, AreOwnersShown, ShowOwners}
 use Rattle.sound_files.proofs.Results.{results_fit}
 use Rattle.viewed_files.proofs.Files.{parsed_called_sound}
 use Rattle.accepted_runs.proofs.Runs.{RunsAreSound}
-use Rattle.accepted_runs.proofs.Views.{AreInSecondViewClass}
+use Rattle.accepted_runs.specs.Classes.{AreInSecondViewClass}
 use Rattle.accepted_examples.proofs.Naming.{naming}
 use Rattle.accepted_examples.proofs.Typing.{typing}
 use Rattle.accepted_examples.proofs.Lowering.{lowering}
@@ -120,9 +121,10 @@ formals x is =
     no_in : mode.InOut ≡ mode.In → ⊥
     no_in e = cc
 
-    by : (f : Bool) (m : Mode) (a : Bool) → f ≡ true → not f || (is_back m && not a) ≡ true → IsScalarAt own x ⊎ ((m ≡ mode.In → ⊥) × (a ≡ false))
+    by : (f : Bool) (m : Mode) (a : Bool) → f ≡ true → not f || (is_back m && not a) ≡ true
+        → IsScalarAt own x ⊎ (((m ≡ mode.In → ⊥) × (a ≡ false)) ⊎ (IsShownAt own x ⊎ IsOwnlessAt own x))
     by false m a f e = absurd (true≢false (sym f))
-    by true mode.InOut false f e = inr (no_in, refl)
+    by true mode.InOut false f e = inr (inl (no_in, refl))
     by true mode.InOut true f e = absurd (true≢false (sym e))
     by true mode.In a f e = absurd (true≢false (sym e))
     by true mode.Out a f e = absurd (true≢false (sym e))
@@ -134,20 +136,35 @@ of_three P a b c x y z sub (inr (inl is)) = subst P is y
 of_three P a b c x y z sub (inr (inr (inl is))) = subst P is z
 of_three P a b c x y z sub (inr (inr (inr none))) = absurd none
 
-pub copied : CopyToVariables (program_of files)
-unfolding computes naming typing lowering Calls CodeCalls goes_through_none
-copied =
-    of_three (λ sub. CodeCalls (λ n actuals. AreCopied own (sub_at own n).formals actuals) sub.body) _ _ _ tt (tt, tt)
-    (tt, ((((λ back. refl), tt), (tt, tt)), tt))
+abbrev laid : Typing
+laid = laid_in (program_of files)
 
-pub passed : PassOwnObjects (program_of files)
-unfolding computes naming typing lowering Calls CodeCalls
+no_function : all_pass (λ (z : Signature). not (is_some z.result)) laid.subs ≡ true
+unfolding computes naming typing lowering
+no_function = refl
+
+pub seen : FunctionsSee (program_of files)
+seen n t x result has formal =
+    absurd (none (sub_at laid n).result (at_any (λ (z : Signature). not (is_some z.result) ≡ true) laid.subs _ refl (each (λ (z : Signature). not (is_some z.result)) laid.subs no_function) n) result)
+  where
+    none : (r : Option ℕ) → not (is_some r) ≡ true → r ≡ Some t → ⊥
+    none None e is = cc
+    none (Some k) e is = cc
+
+pub passed : PassFitActuals (program_of files)
+unfolding computes naming typing lowering Calls CodeCalls goes_through_none
 passed =
-    of_three (λ sub. CodeCalls (λ n actuals. AreOwnActuals own (sub_at own n).formals actuals) sub.body) _ _ _ tt (tt, tt)
-    (tt, ((((λ is owns y has. elim has [ inl same ↦ subst (λ z. is_package_object own z ≡ false) same refl | inr none ↦ absurd none ]), tt), (tt, tt)), tt))
+    of_three (λ sub. CodeCalls (λ n actuals. AreFitActuals laid (sub_at laid n).formals actuals) sub.body) _ _ _ tt (tt, tt)
+    (tt, ((((λ is. inr (inl (refl, λ y has. elim has [ inl same ↦ subst (λ z. is_view_formal laid z ≡ false) same refl | inr none ↦ absurd none ]))), tt), (tt, tt)), tt))
+
+pub shown : ShowOwners (program_of files)
+unfolding computes naming typing lowering Calls CodeCalls
+shown =
+    of_three (λ sub. CodeCalls (λ n actuals. AreOwnersShown laid (sub_at laid n).formals actuals) sub.body) _ _ _ tt (tt, tt)
+    (tt, ((((λ view y has. absurd (true≢false (sym view))), tt), (tt, tt)), tt))
 
 pub class : AreInSecondViewClass files
-class = record { main = 2; is_main = is_main; calls = record { results = results_fit (program_of files) (inl calls); formals = formals; copied = copied; passed = passed } }
+class = record { main = 2; is_main = is_main; calls = record { results = results_fit (program_of files) (inl calls); formals = formals; seen = seen; passed = passed; shown = inl shown } }
 
 -- ---- nothing is reported of it
 

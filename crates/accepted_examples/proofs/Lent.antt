@@ -43,7 +43,7 @@ use Rattle.sound_files.proofs.Classes.{called_alike}
 use Rattle.sound_files.proofs.Owners.{calls_functions}
 use Rattle.viewed_files.proofs.Files.{parsed_called_sound}
 use Rattle.accepted_runs.proofs.Runs.{RunsAreSound}
-use Rattle.accepted_runs.proofs.Views.{AreInSecondViewClass}
+use Rattle.accepted_runs.specs.Classes.{AreInSecondViewClass}
 use Rattle.accepted_examples.proofs.Naming.{naming}
 use Rattle.accepted_examples.proofs.Typing.{typing}
 use Rattle.accepted_examples.proofs.Lowering.{lowering}

@@ -8,3 +8,4 @@ pub mod Sound
 pub mod Observed
 pub mod Lent
 pub mod Handed
+pub mod Copied

@@ -22,7 +22,8 @@ use Rattle.file_positions.proofs.Cuts.{cut_in_order}
 use Rattle.meant_files.specs.Formless.{IsFormless}
 use Rattle.viewed_files.proofs.Files.{parsed_called_sound}
 use Rattle.accepted_runs.proofs.Runs.{RunsAreSound}
-use Rattle.accepted_runs.proofs.Views.{AreInViewClass, AreInSecondViewClass, first_second}
+use Rattle.accepted_runs.specs.Classes.{AreInSecondViewClass}
+use Rattle.accepted_runs.proofs.Views.{AreInViewClass, first_second}
 use Rattle.accepted_examples.proofs.Naming.{naming}
 use Rattle.accepted_examples.proofs.Typing.{typing}
 use Rattle.accepted_examples.proofs.Lowering.{lowering}

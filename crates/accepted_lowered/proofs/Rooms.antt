@@ -9,7 +9,7 @@ use Rattle.ada_lexer.specs.Characters.{Text}
 use Rattle.ada_lexer.specs.Pieces.{first_piece}
 use Rattle.ada_lexer.specs.Positions.{first_position, next_position}
 use Rattle.ada_lexer.specs.Tokens.{Cut, CutResult, then_cut, with_piece, cut_from, tokens}
-use Rattle.spark_tool.specs.Lexing.{AllTokens, with_tokens, then_files, all_tokens}
+use Rattle.source_trees.specs.Cuts.{AllTokens, with_tokens, then_files, all_tokens}
 use Rattle.lowered_sources.specs.Tokens.{token_count}
 
 end_short : (pos : Pos) (room : ℕ) (cuts : List Cut) → cut_from 0 pos 0 [] ≡ Ok cuts → length cuts ≤ suc room

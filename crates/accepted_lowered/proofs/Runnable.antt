@@ -2,9 +2,7 @@
 use Rattle.std.proofs.Common.{◌≡◌, ℕ, Bool, List, [], ◌∷◌, Option, Some, None, refl, sym, ap, ◌∙◌, subst}
 use Rattle.spark_base.specs.declared.limits.TheConstants.{TOKENS, SOURCE_BYTES}
 use Rattle.ada_tree.specs.declared.unit.SourceUnit.{SourceUnit}
-use Rattle.place_names.specs.Reports.{Report}
 use Rattle.flow_paths.specs.declared.report.Effects.{Effects}
-use Rattle.flow_paths.specs.Reports.{AreReports}
 use Rattle.flow_paths.specs.Laid.{FlowProgram}
 use Rattle.laid_program.specs.declared.laid.Laid.{Laid}
 use Rattle.laid_program.specs.Programs.{program_of}
@@ -14,49 +12,14 @@ use Rattle.run_ready.specs.Tests.{IsReady}
 use Rattle.tested_files.proofs.Main.{parsed_ready}
 use Rattle.command_words.specs.Words.{Command, Check, Run, Leaks, Make, Selftest}
 use Rattle.run_command.specs.Answers.{Answer}
-use Rattle.spark_tool.specs.Commands.{command_of}
-use Rattle.spark_tool.specs.Reading.{Sources, sources}
-use Rattle.spark_tool.specs.Product.{Finding, Passes as Found, judged, Checks, missing, too_large, lexical, syntactic, unresolved, mistyped, beyond, checked, Answers, Product, usage, check, run, leaks, make, selftest}
+use Rattle.tool_answers.specs.Commands.{command_of}
+use Rattle.tool_answers.specs.Reading.{Sources, sources}
+use Rattle.tool_answers.specs.Product.{Finding, Passes as Found, Checks, Answers, Product, usage, check, run, leaks, make, selftest}
 use Rattle.accepted_runs.specs.Passed.{Passes}
-use Rattle.accepted_runs.proofs.Passing.{Passed}
+use Rattle.accepted_runs.proofs.Passing.{IsOf, found_passed}
 use Rattle.accepted_runs.proofs.Parsed.{are_parsed}
 use Rattle.accepted_lowered.specs.Runs.{IsRunnable, RunsOn}
 use Rattle.accepted_lowered.proofs.Main.{passed_lowered}
-
--- ---- the program that is found is that of texts that pass
-
--- the texts, and that their program is this one
-abbrev pub IsOf : Sources → FlowProgram → Type 0
-IsOf found program = (is : Passed found) × (flow_of is.trees ≡ program)
-
-same_program : (one other : FlowProgram) → Found one ≡ Found other → one ≡ other
-same_program one other e = cc
-
-pub found_passed : (names : List (List ℕ)) (found : Sources) (finding : Finding) → Checks names found finding → (program : FlowProgram) → finding ≡ Found program
-    → IsOf found program
-found_passed names found finding missing program e = cc
-found_passed names found finding (too_large file) program e = cc
-found_passed names found finding (lexical texts fault pos code cut is) program e = cc
-found_passed names found finding (syntactic texts cuts code pos cut first) program e = cc
-found_passed names found finding (unresolved texts cuts trees broken pos cut parsed fault) program e = cc
-found_passed names found finding (mistyped texts cuts trees broken pos code cut parsed named fault is) program e = cc
-found_passed names found finding (beyond texts cuts trees fault cut parsed named typed over) program e = cc
-found_passed names found finding (checked texts cuts trees effects reports cut parsed named typed within effects_are are) program e = by reports are e
-  where
-    by : (reports : List Report) → AreReports (flow_of trees) effects reports → judged names (flow_of trees) reports ≡ Found program → IsOf found program
-    by [] are e =
-        let passes : Passes texts trees effects = record {
-          cuts = cuts;
-          cut = cut;
-          parsed = parsed;
-          named = named;
-          typed = typed;
-          within = within;
-          effects_are = effects_are;
-          none = are;
-        } in
-        (record { texts = texts; are = refl; trees = trees; effects = effects; passes = passes }, same_program (flow_of trees) program e)
-    by (report ∷ more) are e = cc
 
 -- ---- it can be run
 

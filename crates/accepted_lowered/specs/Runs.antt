@@ -6,8 +6,8 @@ use Rattle.laid_program.specs.Programs.{program_of}
 use Rattle.run_codes.specs.Programs.{lowered_program}
 use Rattle.run_ready.specs.Tests.{IsReady}
 use Rattle.run_command.specs.Answers.{Answer}
-use Rattle.spark_tool.specs.Reading.{sources}
-use Rattle.spark_tool.specs.Product.{Finding, Checks, run_answer_of}
+use Rattle.tool_answers.specs.Reading.{sources}
+use Rattle.tool_answers.specs.Product.{Finding, Checks, run_answer_of}
 
 -- The program that is laid out in rows is lowered, and passes the tests before a run.
 pub record IsRunnable (laid : Laid) : Type 0 where

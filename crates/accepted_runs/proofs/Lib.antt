@@ -9,3 +9,5 @@ pub mod ViewNulls
 -- parts of this class, the widest one first
 pub mod Functions
 pub mod Main
+-- what is said of `run`
+pub mod Headline

@@ -10,9 +10,9 @@ use Rattle.sound_files.specs.Class.{IsNamedText, IsPlainText, CallsNothing, HasN
 use Rattle.sound_files.proofs.Classes.{no_results, formless_formals, formless_copied}
 use Rattle.command_words.specs.Words.{Check}
 use Rattle.run_command.specs.Answers.{Answer}
-use Rattle.spark_tool.specs.Commands.{command_of}
-use Rattle.spark_tool.specs.Reading.{sources}
-use Rattle.spark_tool.specs.Product.{Product}
+use Rattle.tool_answers.specs.Commands.{command_of}
+use Rattle.tool_answers.specs.Reading.{sources}
+use Rattle.tool_answers.specs.Product.{Product}
 use Rattle.accepted_runs.proofs.Passing.{Passed}
 use Rattle.accepted_runs.proofs.Runs.{RunsAreSound, RunsHold, RunsAreWithNull}
 use Rattle.accepted_runs.specs.Classes.{AreInThirdClass}

@@ -2,8 +2,8 @@
 use Rattle.std.proofs.Common.{◌≡◌, ℕ, suc, ◌+◌, ◌-◌, List, [], ◌∷◌, length, Ok, Err, refl, subst, arith}
 use Rattle.ada_lexer.specs.Tokens.{Cut, CutResult, tokens}
 use Rattle.ada_tree.specs.declared.unit.SourceUnit.{SourceUnit}
-use Rattle.spark_tool.specs.Lexing.{AllTokens, with_tokens, then_files, all_tokens}
-use Rattle.spark_tool.specs.Parsing.{AreTreesOf}
+use Rattle.source_trees.specs.Cuts.{AllTokens, with_tokens, then_files, all_tokens}
+use Rattle.source_trees.specs.Trees.{AreTreesOf}
 use Rattle.file_positions.specs.Texts.{AreParsed}
 use Rattle.file_positions.proofs.Cuts.{cut_in_order}
 

@@ -4,13 +4,14 @@ use Rattle.spark_base.specs.declared.limits.TheConstants.{SOURCE_BYTES}
 use Rattle.place_names.specs.Reports.{Report}
 use Rattle.ada_tree.specs.declared.unit.SourceUnit.{SourceUnit}
 use Rattle.flow_paths.specs.declared.report.Effects.{Effects}
+use Rattle.flow_paths.specs.Laid.{FlowProgram}
 use Rattle.flow_paths.specs.Reports.{AreReports}
 use Rattle.program_check.specs.Sources.{flow_of}
 use Rattle.command_words.specs.Words.{Command, Check, Run, Leaks, Make, Selftest}
 use Rattle.run_command.specs.Answers.{Answer}
-use Rattle.spark_tool.specs.Commands.{command_of}
-use Rattle.spark_tool.specs.Reading.{Sources, Texts, sources}
-use Rattle.spark_tool.specs.Product.{Finding, check_answer, judged, Checks, missing, too_large, lexical, syntactic, unresolved, mistyped, beyond, checked, Answers, Product, usage, check, run, leaks, make, selftest}
+use Rattle.tool_answers.specs.Commands.{command_of}
+use Rattle.tool_answers.specs.Reading.{Sources, Texts, sources}
+use Rattle.tool_answers.specs.Product.{Finding, Passes as Found, check_answer, judged, Checks, missing, too_large, lexical, syntactic, unresolved, mistyped, beyond, checked, Answers, Product, usage, check, run, leaks, make, selftest}
 use Rattle.accepted_runs.specs.Passed.{Passes}
 
 -- Such texts, with what their program is.
@@ -54,6 +55,41 @@ passed names found answer (checked texts cuts trees effects reports cut parsed n
     none = none_left names trees effects reports is_zero are;
   };
 }
+
+-- ---- the program that is found is that of texts that pass
+
+-- the texts, and that their program is this one
+abbrev pub IsOf : Sources → FlowProgram → Type 0
+IsOf found program = (is : Passed found) × (flow_of is.trees ≡ program)
+
+same_program : (one other : FlowProgram) → Found one ≡ Found other → one ≡ other
+same_program one other e = cc
+
+pub found_passed : (names : List (List ℕ)) (found : Sources) (finding : Finding) → Checks names found finding → (program : FlowProgram) → finding ≡ Found program
+    → IsOf found program
+found_passed names found finding missing program e = cc
+found_passed names found finding (too_large file) program e = cc
+found_passed names found finding (lexical texts fault pos code cut is) program e = cc
+found_passed names found finding (syntactic texts cuts code pos cut first) program e = cc
+found_passed names found finding (unresolved texts cuts trees broken pos cut parsed fault) program e = cc
+found_passed names found finding (mistyped texts cuts trees broken pos code cut parsed named fault is) program e = cc
+found_passed names found finding (beyond texts cuts trees fault cut parsed named typed over) program e = cc
+found_passed names found finding (checked texts cuts trees effects reports cut parsed named typed within effects_are are) program e = by reports are e
+  where
+    by : (reports : List Report) → AreReports (flow_of trees) effects reports → judged names (flow_of trees) reports ≡ Found program → IsOf found program
+    by [] are e =
+        let passes : Passes texts trees effects = record {
+          cuts = cuts;
+          cut = cut;
+          parsed = parsed;
+          named = named;
+          typed = typed;
+          within = within;
+          effects_are = effects_are;
+          none = are;
+        } in
+        (record { texts = texts; are = refl; trees = trees; effects = effects; passes = passes }, same_program (flow_of trees) program e)
+    by (report ∷ more) are e = cc
 
 -- What a check gives where it is answered with status 0.
 abbrev PassesIf : List (List ℕ × List ℕ) → Option Command → Answer → Type 0

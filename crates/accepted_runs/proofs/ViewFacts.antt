@@ -11,13 +11,14 @@ use Rattle.order_laws.specs.Orderly.{typed_of}
 use Rattle.viewed_facts.proofs.Runs.{run_holds}
 use Rattle.command_words.specs.Words.{Check}
 use Rattle.run_command.specs.Answers.{Answer}
-use Rattle.spark_tool.specs.Commands.{command_of}
-use Rattle.spark_tool.specs.Reading.{sources}
-use Rattle.spark_tool.specs.Product.{Product}
+use Rattle.tool_answers.specs.Commands.{command_of}
+use Rattle.tool_answers.specs.Reading.{sources}
+use Rattle.tool_answers.specs.Product.{Product}
 use Rattle.accepted_runs.specs.Passed.{Passes}
 use Rattle.accepted_runs.proofs.Passing.{Passed, product_passed}
 use Rattle.accepted_runs.proofs.Runs.{RunsHold}
-use Rattle.accepted_runs.proofs.Views.{AreInViewClass, AreInSecondViewClass, passed_called_ready, first_second}
+use Rattle.accepted_runs.specs.Classes.{AreInSecondViewClass}
+use Rattle.accepted_runs.proofs.Views.{AreInViewClass, passed_called_ready, first_second}
 
 -- ---- with calls
 

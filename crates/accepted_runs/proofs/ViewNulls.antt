@@ -13,14 +13,15 @@ use Rattle.null_places.proofs.Typed.{typed_compared}
 use Rattle.viewed_nulls.proofs.Runs.{viewed_runs}
 use Rattle.command_words.specs.Words.{Check}
 use Rattle.run_command.specs.Answers.{Answer}
-use Rattle.spark_tool.specs.Commands.{command_of}
-use Rattle.spark_tool.specs.Reading.{sources}
-use Rattle.spark_tool.specs.Product.{Product}
+use Rattle.tool_answers.specs.Commands.{command_of}
+use Rattle.tool_answers.specs.Reading.{sources}
+use Rattle.tool_answers.specs.Product.{Product}
 use Rattle.accepted_runs.specs.Passed.{Passes}
 use Rattle.accepted_runs.proofs.Passing.{Passed, product_passed}
 use Rattle.accepted_runs.proofs.Parsed.{are_parsed}
 use Rattle.accepted_runs.proofs.Runs.{RunsAreWithNull}
-use Rattle.accepted_runs.proofs.Views.{AreInSecondViewClass, AreInViewClass, passed_called_ready, first_second}
+use Rattle.accepted_runs.specs.Classes.{AreInSecondViewClass}
+use Rattle.accepted_runs.proofs.Views.{AreInViewClass, passed_called_ready, first_second}
 
 pub passed_called_with_null : (texts : List (List ℕ)) (trees : List (List SourceUnit)) (effects : Effects) → Passes texts trees effects → AreInSecondViewClass trees
     → RunsAreWithNull trees

@@ -18,25 +18,16 @@ use Rattle.viewed_steps.proofs.Main.{ready_sound}
 use Rattle.viewed_files.proofs.Files.{parsed_called_ready}
 use Rattle.command_words.specs.Words.{Check}
 use Rattle.run_command.specs.Answers.{Answer}
-use Rattle.spark_tool.specs.Commands.{command_of}
-use Rattle.spark_tool.specs.Reading.{sources}
-use Rattle.spark_tool.specs.Product.{Product}
+use Rattle.tool_answers.specs.Commands.{command_of}
+use Rattle.tool_answers.specs.Reading.{sources}
+use Rattle.tool_answers.specs.Product.{Product}
 use Rattle.accepted_runs.specs.Passed.{Passes}
 use Rattle.accepted_runs.proofs.Passing.{Passed, product_passed}
 use Rattle.accepted_runs.proofs.Parsed.{are_parsed}
 use Rattle.accepted_runs.proofs.Runs.{RunsAreSound}
-use Rattle.accepted_runs.specs.Classes.{AreInThirdClass}
+use Rattle.accepted_runs.specs.Classes.{AreInThirdClass, AreInSecondViewClass}
 
 -- ---- with calls
-
--- What a function gives is of a scalar type, or stands alone and is of no anonymous access type. Formals are of scalar types,
--- or of mode `in out` and of no anonymous access type. Actuals of modes `out` and `in out` go through no access value, and
--- those for formals of other types than scalar ones belong to no package.
-pub record AreInSecondViewClass (trees : List (List SourceUnit)) : Type 0 where
-  -- there is a main procedure, so that there are runs
-  pub main : ℕ
-  pub is_main : (typed_of (program_of trees)).main ≡ Some main
-  pub calls : CallsWithOwners (program_of trees)
 
 -- Such a program is ready, as the laws on its steps ask.
 pub passed_called_ready : (texts : List (List ℕ)) (trees : List (List SourceUnit)) (effects : Effects) → Passes texts trees effects → AreInSecondViewClass trees

@@ -1,2 +1,3 @@
 pub mod Passed
 pub mod Classes
+pub mod Headline

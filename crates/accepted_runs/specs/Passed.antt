@@ -11,8 +11,8 @@ use Rattle.flow_paths.specs.Effects.{AreEffects}
 use Rattle.flow_paths.specs.Limits.{lay_fault}
 use Rattle.flow_paths.specs.Reports.{AreReports}
 use Rattle.program_check.specs.Sources.{flow_of}
-use Rattle.spark_tool.specs.Lexing.{all_tokens}
-use Rattle.spark_tool.specs.Parsing.{AreTreesOf}
+use Rattle.source_trees.specs.Cuts.{all_tokens}
+use Rattle.source_trees.specs.Trees.{AreTreesOf}
 
 -- The texts are of a program that breaks no rule and no limit, and nothing is reported of it.
 pub record Passes (texts : List (List ℕ)) (trees : List (List SourceUnit)) (effects : Effects) : Type 0 where

@@ -6,11 +6,11 @@ use Rattle.place_names.specs.Names.{has_elem}
 use Rattle.flow_paths.specs.Objects.{Typing}
 use Rattle.machine.specs.Memory.{Memory}
 use Rattle.machine.specs.States.{Waiting}
-use Rattle.owned_ways.specs.Ways.{Step, OfVariable, OfHand, Loc, OfRoot, OfCell, Inside, Way, View, along, Told, Named, sels_of, sel_of}
+use Rattle.owned_ways.specs.Ways.{Step, OfVariable, OfHand, Loc, OfRoot, OfCell, Inside, Way, View, along, Told, Named, sels_of, sel_of, Reaches}
 use Rattle.part_offsets.specs.Parts.{sels_along}
 use Rattle.soundness.specs.Seen.{content, trunk, steps_in, word_in}
 use Rattle.exact_facts.specs.Exact.{IsOfVariable}
-use Rattle.exact_facts.proofs.Steps.{IsPlaced, keeps_placed, variable_begins, told_on}
+use Rattle.exact_facts.proofs.Steps.{IsPlaced, keeps_placed, variable_begins, told_on, reached_before}
 
 -- ---- names of parts
 
@@ -40,6 +40,14 @@ module _ (s : Typing) where
   -- A view has the words of a memory.
   abbrev pub Shows : View → Memory → List Waiting → Type 0
   Shows v m hands = (l : Loc) → v.word l ≡ word_in s.table (content s m hands (trunk l)) (steps_in l)
+
+  -- ways lead where they lead with other values in hand
+  pub same_reach : (u v : View) (m : Memory) (a b : List Waiting) → Shows u m a → Shows v m b → (w : Way) (l : Loc) → IsOfVariable w → Reaches u w l → Reaches v w l
+  same_reach u v m a b from to w l is reach =
+      (reached_before v u IsPlaced (keeps_placed v u (λ l n p h. same l p ∙ h)) w l (variable_begins IsPlaced (λ f x. tt) w is) reach).1
+    where
+      same : (l : Loc) → IsPlaced l → v.word l ≡ u.word l
+      same l p = to l ∙ ap (λ c. word_in s.table c (steps_in l)) (sym (placed_content m a b l p)) ∙ sym (from l)
 
   pub same_told : (u v : View) (m : Memory) (a b : List Waiting) (moved : Way → Type 0) → ((w : Way) → moved w → IsOfVariable w) → Shows u m a → Shows v m b
       → Told u moved → Told v moved

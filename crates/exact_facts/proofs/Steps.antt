@@ -85,7 +85,7 @@ pub record Keeps (s t : View) (on : Loc → Type 0) : Type 0 where
 abbrev pub Begins : (Loc → Type 0) → Way → Type 0
 Begins on w = IsOfVariable w × on (base_of w)
 
-reached_before : (s t : View) (on : Loc → Type 0) → Keeps s t on → (w : Way) (l : Loc) → Begins on w → Reaches t w l
+pub reached_before : (s t : View) (on : Loc → Type 0) → Keeps s t on → (w : Way) (l : Loc) → Begins on w → Reaches t w l
     → on l × Reaches s w l
 reached_before s t on keeps (Object (OfVariable f x)) l begins r = (subst on (sym r) begins.1, r)
 reached_before s t on keeps (Object (OfHand h)) l begins r = absurd begins.0

@@ -26,15 +26,13 @@ use Rattle.run_codes.specs.Related.{IsTable}
 use Rattle.run_codes.proofs.Parts.{all_sorts, many}
 use Rattle.run_codes.proofs.Expressions.{and_then_some, map_some}
 use Rattle.run_codes.proofs.Places.{impossible, if_some, some_same}
-use Rattle.handled_runs.specs.Looks.{IsData, IsFront}
-use Rattle.handled_runs.specs.Alike.{LooksThere, LooksFill, kinds_repeated}
+use Rattle.handled_runs.specs.Looks.{IsData, Looks, IsFront}
+use Rattle.handled_runs.specs.Alike.{Wherever, LooksThere, LooksFill, kinds_repeated}
 use Rattle.handled_steps.proofs.Tables.{defaults_numbers}
-use Rattle.handled_kinds.specs.Kinds.{LooksKinds, PlaceKinds, HasKinds}
-use Rattle.handled_kinds.specs.Values.{PlaceKept, FillKept}
-use Rattle.handled_kinds.proofs.Looks.{looks}
+use Rattle.handled_kinds.specs.Kinds.{PlaceKinds, HasKinds}
 use Rattle.handled_kinds.proofs.Parts.{front_first}
 use Rattle.handled_kinds.proofs.Steps.{load_reads}
-use Rattle.handled_kinds.proofs.Places.{looks_there, filled_base}
+use Rattle.handled_kinds.proofs.Places.{looks_there}
 use Rattle.handled_kinds.proofs.Lowered.{lowered_reads, led_at, object_at_place}
 
 -- ---- kinds of types that are alike
@@ -62,7 +60,7 @@ sorts_same table (x ∷ a) (y ∷ b) e =
     let two = both_true (same_sort table x y) (same_sorts table a b) e in
     ap (λ k. k ∷ map kind_of a) (sort_same table x y two.0) ∙ ap (λ ks. kind_of y ∷ ks) (sorts_same table a b two.1)
 
-one_kinds : (table : Table) (t u : ℕ) → one_type table t u ≡ true → kinds table t ≡ kinds table u
+pub one_kinds : (table : Table) (t u : ℕ) → one_type table t u ≡ true → kinds table t ≡ kinds table u
 one_kinds table t u e = sorts_same table (sorts table t) (sorts table u) e
 
 pointer_kinds : (l : List Sort) → is_pointer l ≡ true → map kind_of l ≡ sort.Access ∷ []
@@ -138,39 +136,37 @@ module _ (c : Site) (laws : IsTable c.typing.table) (here taken : List Kind) (ba
   abbrev table : Table
   table = c.typing.table
 
-  -- in a memory whose frame begins there
   abbrev pub Fine : Fill → List Kind → Type 0
-  Fine v ks = (m : Flat) → m.base ≡ base → FillKept table m v → LooksFill table m here taken v ks
+  Fine v ks = LooksFill table base here taken v ks
 
   has_at : (m : Flat) → m.base ≡ base → HasKinds c m.base here taken
   has_at m e = subst (λ b. HasKinds c b here taken) (sym e) has
 
-  checked_fine : (code : Code) (low high : ℤ) (k : Kind) (ks : List Kind) → ks ≡ k ∷ [] → IsData k → ((m : Flat) → m.base ≡ base → LooksKinds m here taken code k) → Fine (Checked code low high) ks
-  unfolding LooksFill FillKept
-  checked_fine code low high k ks is data_kind reads m e kept = (k, is, data_kind, looks m here taken code k (reads m e) kept)
+  checked_fine : (code : Code) (low high : ℤ) (k : Kind) (ks : List Kind) → ks ≡ k ∷ [] → IsData k → ((m : Flat) → m.base ≡ base → Looks m here taken code k) → Fine (Checked code low high) ks
+  unfolding LooksFill
+  checked_fine code low high k ks is data_kind reads = (k, is, data_kind, reads)
 
-  looked_fine : (code : Code) (ks : List Kind) → ks ≡ sort.Access ∷ [] → ((m : Flat) → m.base ≡ base → LooksKinds m here taken code sort.Access) → Fine (LookedAt code) ks
-  unfolding LooksFill FillKept
-  looked_fine code ks is reads m e kept = (is, looks m here taken code sort.Access (reads m e) kept.0, kept.1)
+  looked_fine : (code : Code) (ks : List Kind) → ks ≡ sort.Access ∷ [] → ((m : Flat) → m.base ≡ base → Looks m here taken code sort.Access) → Fine (LookedAt code) ks
+  unfolding LooksFill
+  looked_fine code ks is reads = (is, reads)
 
   -- ---- what a place has
 
   abbrev pub AtPlace : Placed → Type 0
-  AtPlace p = (m : Flat) → m.base ≡ base → PlaceKinds table m here taken p.place p.of
+  AtPlace p = Wherever base (λ m. PlaceKinds table m here taken p.place p.of)
 
   moved_pointer_fine : (p : Placed) (want : ℕ) → kinds table p.of ≡ kinds table want → kinds table want ≡ sort.Access ∷ [] → AtPlace p → Fine (MovedPointer p.place) (kinds table want)
-  unfolding LooksFill FillKept
-  moved_pointer_fine p want same is at m e kept =
-      let one : kinds table p.of ≡ sort.Access ∷ [] = same ∙ is in
-      (is, subst (LooksThere m here taken p.place) one (looks_there table m here taken p.place p.of (at m e) (subst (PlaceKept m p.place) (sym one) kept)))
+  unfolding LooksFill
+  moved_pointer_fine p want same is at =
+      let one : kinds table p.of ≡ sort.Access ∷ [] = same ∙ is in (is, subst (LooksThere base here taken p.place) one (looks_there table base here taken p.place p.of at))
 
   copied_fine : (p : Placed) (want : ℕ) → kinds table p.of ≡ kinds table want → AtPlace p → Fine (Copied p.place p.of) (kinds table want)
-  unfolding LooksFill FillKept
-  copied_fine p want same at m e kept = (sym same, looks_there table m here taken p.place p.of (at m e) kept)
+  unfolding LooksFill
+  copied_fine p want same at = (sym same, looks_there table base here taken p.place p.of at)
 
   moved_fine : (p : Placed) (want : ℕ) → kinds table p.of ≡ kinds table want → AtPlace p → Fine (Moved p.place p.of) (kinds table want)
-  unfolding LooksFill FillKept
-  moved_fine p want same at m e kept = (sym same, looks_there table m here taken p.place p.of (at m e) kept)
+  unfolding LooksFill
+  moved_fine p want same at = (sym same, looks_there table base here taken p.place p.of at)
 
   abbrev pub by_shape : Placed → Shape → Bool → Option Fill
   by_shape p (shape.Whole low high) true = None
@@ -226,7 +222,7 @@ module _ (c : Site) (laws : IsTable c.typing.table) (here taken : List Kind) (ba
 
   -- ---- scalars
 
-  scalar_fine : (want : ℕ) (l : Lowered) (v : Fill) → ((m : Flat) → m.base ≡ base → LooksKinds m here taken l.code (kind_of l.sort)) → scalar table want l ≡ Some v → Fine v (kinds table want)
+  scalar_fine : (want : ℕ) (l : Lowered) (v : Fill) → ((m : Flat) → m.base ≡ base → Looks m here taken l.code (kind_of l.sort)) → scalar table want l ≡ Some v → Fine v (kinds table want)
   scalar_fine want l v reads e =
       let by : Scalar → Option Fill = λ s. if same_scalar s.sort l.sort then Some (Checked l.code s.low s.high) else None in
       let s = and_then_some by (scalar_of (shape_of table want)) v e in
@@ -266,13 +262,13 @@ module _ (c : Site) (laws : IsTable c.typing.table) (here taken : List Kind) (ba
   waits_by t (shape.Access designated constant named) at = LookedAt (Waiting at)
   waits_by t _ at = Waited at (words table t)
 
-  waiting_reads : (at : ℕ) (k : Kind) → IsFront (k ∷ []) (drop at taken) → (m : Flat) → LooksKinds m here taken (Waiting at) k
-  unfolding LooksKinds
+  waiting_reads : (at : ℕ) (k : Kind) → IsFront (k ∷ []) (drop at taken) → (m : Flat) → Looks m here taken (Waiting at) k
+  unfolding Looks
   waiting_reads at k front m = front_first taken at k front
 
   all_waits_fine : (at t want : ℕ) → kinds table t ≡ kinds table want → IsFront (kinds table t) (drop at taken) → Fine (Waited at (words table t)) (kinds table want)
-  unfolding LooksFill FillKept
-  all_waits_fine at t want same front m e kept =
+  unfolding LooksFill
+  all_waits_fine at t want same front =
       let long : length (kinds table t) ≡ words table t = length-map (sorts table t) kind_of ∙ many table t in
       (sym same ∙ (sym (front_take (kinds table t) (drop at taken) front) ∙ ap (λ n. take n (drop at taken)) long), ap length (sym same) ∙ long)
 
@@ -307,8 +303,8 @@ module _ (c : Site) (laws : IsTable c.typing.table) (here taken : List Kind) (ba
 
   -- ---- the law
 
-  null_reads : (m : Flat) → LooksKinds m here taken (Number (pos 0)) sort.Access
-  unfolding LooksKinds
+  null_reads : (m : Flat) → Looks m here taken (Number (pos 0)) sort.Access
+  unfolding Looks
   null_reads m = refl
 
   null_fine : (want : ℕ) (v : Fill) → (if is_pointer (sorts table want) then Some (LookedAt (Number (pos 0))) else None) ≡ Some v → Fine v (kinds table want)
@@ -317,25 +313,24 @@ module _ (c : Site) (laws : IsTable c.typing.table) (here taken : List Kind) (ba
       subst (λ x. Fine x (kinds table want)) (some_same (LookedAt (Number (pos 0))) v sure.1) (looked_fine (Number (pos 0)) (kinds table want) (pointer_kinds (sorts table want) sure.0) (λ m f. null_reads m))
 
   both_fine : (a b : Fill) (is js ks : List Kind) → ks ≡ is ++ js → Fine a is → Fine b js → Fine (Both a b) ks
-  unfolding LooksFill FillKept
-  both_fine a b is js ks same first second m e kept =
-      (is, js, same, first m e kept.0, λ zs n found. second n (filled_base table a m zs n found ∙ e) (kept.1 zs n found))
+  unfolding LooksFill
+  both_fine a b is js ks same first second = (is, js, same, first, second)
 
   empty_fine : Fine Empty []
   unfolding LooksFill
-  empty_fine m e kept = refl
+  empty_fine = refl
 
   new_fine : (a : Fill) (t want : ℕ) → kinds table want ≡ sort.Access ∷ [] → Fine a (kinds table t) → Fine (codes.New a t) (kinds table want)
-  unfolding LooksFill FillKept
-  new_fine a t want is fine m e kept = (is, fine m e kept)
+  unfolding LooksFill
+  new_fine a t want is fine = (is, fine)
 
   pub default_fine : (t : ℕ) → Fine (Default t) (kinds table t)
   unfolding LooksFill
-  default_fine t m e kept = defaults_numbers table t
+  default_fine t = defaults_numbers table t
 
   repeated_fine : (v : Fill) (n : ℕ) (js ks : List Kind) → ks ≡ kinds_repeated n js → Fine v js → Fine (Repeated v n) ks
-  unfolding LooksFill FillKept
-  repeated_fine v n js ks is fine m e kept = (js, is, fine m e kept)
+  unfolding LooksFill
+  repeated_fine v n js ks is fine = (js, is, fine)
 
   aggregate_kinds : (t : ℕ) (es : TypedTree) → is_composite (shape_of table t) ≡ true → (tree_count es == field_count (shape_of table t)) ≡ true → map kind_of (rest_sorts table (shape_of table t) 0 es) ≡ kinds table t
   aggregate_kinds t es composite count = by (shape_of table t) refl composite (same_number (tree_count es) (field_count (shape_of table t)) count)

@@ -1,4 +1,3 @@
-pub mod Looks
 pub mod Parts
 pub mod Steps
 pub mod Places
@@ -6,6 +5,7 @@ pub mod Lowered
 pub mod Filled
 pub mod Stacks
 pub mod Points
+pub mod Calls
 pub mod Stored
 pub mod Turns
 pub mod Runs

@@ -25,8 +25,8 @@ use Rattle.run_codes.specs.Lowered.{Site, offset_of, package_offset, words_befor
 use Rattle.run_codes.specs.Related.{IsTable}
 use Rattle.run_codes.proofs.Expressions.{and_then_some, map_some}
 use Rattle.run_codes.proofs.Places.{impossible, if_some, if_none, some_same, given_same}
-use Rattle.handled_runs.specs.Looks.{IsData, IsFront}
-use Rattle.handled_kinds.specs.Kinds.{LooksKinds, HasKinds}
+use Rattle.handled_runs.specs.Looks.{IsData, IsFront, Looks}
+use Rattle.handled_kinds.specs.Kinds.{HasKinds}
 use Rattle.handled_kinds.proofs.Parts.{front_first}
 use Rattle.handled_kinds.proofs.Steps.{At, no_reads, load_reads, component_at, element_at, designated_at}
 
@@ -39,7 +39,7 @@ module _ (c : Site) (laws : IsTable c.typing.table) (m : Flat) (here taken : Lis
 
   -- What is lowered reads words of its kind.
   abbrev pub IsRead : Lowered → Type 0
-  IsRead l = LooksKinds m here taken l.code (kind_of l.sort)
+  IsRead l = Looks m here taken l.code (kind_of l.sort)
 
   -- ---- objects
 
@@ -100,7 +100,7 @@ module _ (c : Site) (laws : IsTable c.typing.table) (m : Flat) (here taken : Lis
   is_that t (Some u) = u == t
 
   waited_reads : (k t : ℕ) (l : Lowered) → waited c k t ≡ Some l → IsRead l
-  unfolding LooksKinds
+  unfolding Looks
   waited_reads k t l is = by (slice_get c.takes k) refl is
     where
       one : (u : ℕ) → slice_get c.takes k ≡ Some u → (if u == t then option_map (λ s. record { code = Waiting (words_before_value c k); sort = s }) (sort_of (shape_of table t)) else None) ≡ Some l → IsRead l
@@ -120,10 +120,10 @@ module _ (c : Site) (laws : IsTable c.typing.table) (m : Flat) (here taken : Lis
   -- ---- operators
 
   unary_reads : (op : UnaryOperator) (a : Lowered) (l : Lowered) → unary op a ≡ Some l → IsRead a → IsRead l
-  unfolding LooksKinds
+  unfolding Looks
   unary_reads op a l is reads = by a.sort reads is
     where
-      by : (s : Sort) → LooksKinds m here taken a.code (kind_of s) → unary op (record { code = a.code; sort = s }) ≡ Some l → IsRead l
+      by : (s : Sort) → Looks m here taken a.code (kind_of s) → unary op (record { code = a.code; sort = s }) ≡ Some l → IsRead l
       by Whole reads e =
           let on = if_none (is_not op) (of_sort (Unary op a.code) Whole) l e in
           subst IsRead (some_same (record { code = Unary op a.code; sort = Whole }) l on.1) (tt, sort.Int, tt, reads)
@@ -134,8 +134,8 @@ module _ (c : Site) (laws : IsTable c.typing.table) (m : Flat) (here taken : Lis
 
   two : (op : Operator) (first second other : Bool) (a b : Code) (s w : Sort) (l : Lowered)
       → (if first then of_sort (Binary op a b) s else (if other then of_sort (Binary op a b) w else None)) ≡ Some l → IsData (kind_of s) → IsData (kind_of w)
-      → ((j : Kind) × IsData j × LooksKinds m here taken a j) → ((j : Kind) × IsData j × LooksKinds m here taken b j) → IsRead l
-  unfolding LooksKinds
+      → ((j : Kind) × IsData j × Looks m here taken a j) → ((j : Kind) × IsData j × Looks m here taken b j) → IsRead l
+  unfolding Looks
   two op true second other a b s w l e data_s data_w reads_a reads_b = subst IsRead (some_same (record { code = Binary op a b; sort = s }) l e) (data_s, reads_a, reads_b)
   two op false second true a b s w l e data_s data_w reads_a reads_b = subst IsRead (some_same (record { code = Binary op a b; sort = w }) l e) (data_w, reads_a, reads_b)
   two op false second false a b s w l e data_s data_w reads_a reads_b = impossible l e
@@ -143,7 +143,7 @@ module _ (c : Site) (laws : IsTable c.typing.table) (m : Flat) (here taken : Lis
   binary_reads : (op : Operator) (a b l : Lowered) → binary op a b ≡ Some l → IsRead a → IsRead b → IsRead l
   binary_reads op a b l is reads_a reads_b = by a.sort b.sort reads_a reads_b is
     where
-      by : (s w : Sort) → LooksKinds m here taken a.code (kind_of s) → LooksKinds m here taken b.code (kind_of w) → binary op (record { code = a.code; sort = s }) (record { code = b.code; sort = w }) ≡ Some l → IsRead l
+      by : (s w : Sort) → Looks m here taken a.code (kind_of s) → Looks m here taken b.code (kind_of w) → binary op (record { code = a.code; sort = s }) (record { code = b.code; sort = w }) ≡ Some l → IsRead l
       by Whole Whole reads_a reads_b e = two op (takes_whole op) true (compares_words op) a.code b.code Whole Position l e tt tt (sort.Int, tt, reads_a) (sort.Int, tt, reads_b)
       by Position Position reads_a reads_b e = two op (takes_truth op) true (compares_words op) a.code b.code Position Position l e tt tt (sort.Enum, tt, reads_a) (sort.Enum, tt, reads_b)
       by Whole Position reads_a reads_b e = impossible l e
@@ -155,10 +155,10 @@ module _ (c : Site) (laws : IsTable c.typing.table) (m : Flat) (here taken : Lis
       by (Pointer d) (Pointer f) reads_a reads_b e = impossible l e
 
   short_reads : (op : ShortCircuit) (a b l : Lowered) → short_circuit op a b ≡ Some l → IsRead a → IsRead b → IsRead l
-  unfolding LooksKinds
+  unfolding Looks
   short_reads op a b l is reads_a reads_b = by a.sort b.sort reads_a reads_b is
     where
-      by : (s w : Sort) → LooksKinds m here taken a.code (kind_of s) → LooksKinds m here taken b.code (kind_of w) → short_circuit op (record { code = a.code; sort = s }) (record { code = b.code; sort = w }) ≡ Some l → IsRead l
+      by : (s w : Sort) → Looks m here taken a.code (kind_of s) → Looks m here taken b.code (kind_of w) → short_circuit op (record { code = a.code; sort = s }) (record { code = b.code; sort = w }) ≡ Some l → IsRead l
       by Position Position reads_a reads_b e = subst IsRead (some_same (record { code = Short op a.code b.code; sort = Position }) l e) (tt, (sort.Enum, tt, reads_a), (sort.Enum, tt, reads_b))
       by Whole Whole reads_a reads_b e = impossible l e
       by Whole Position reads_a reads_b e = impossible l e
@@ -170,30 +170,30 @@ module _ (c : Site) (laws : IsTable c.typing.table) (m : Flat) (here taken : Lis
       by (Pointer d) (Pointer f) reads_a reads_b e = impossible l e
 
   null_reads : (equal : Bool) (a l : Lowered) → null_test equal a ≡ Some l → IsRead a → IsRead l
-  unfolding LooksKinds
+  unfolding Looks
   null_reads equal a l is reads = by a.sort reads is
     where
-      by : (s : Sort) → LooksKinds m here taken a.code (kind_of s) → null_test equal (record { code = a.code; sort = s }) ≡ Some l → IsRead l
+      by : (s : Sort) → Looks m here taken a.code (kind_of s) → null_test equal (record { code = a.code; sort = s }) ≡ Some l → IsRead l
       by (Pointer d) reads e = subst IsRead (some_same (record { code = IsNull equal a.code; sort = Position }) l e) (tt, reads)
       by Whole reads e = impossible l e
       by Position reads e = impossible l e
 
-  whole_reads : (l : Lowered) (i : Code) → whole_code l ≡ Some i → IsRead l → LooksKinds m here taken i sort.Int
+  whole_reads : (l : Lowered) (i : Code) → whole_code l ≡ Some i → IsRead l → Looks m here taken i sort.Int
   whole_reads l i is reads = by l.sort reads is
     where
-      by : (s : Sort) → LooksKinds m here taken l.code (kind_of s) → whole_code (record { code = l.code; sort = s }) ≡ Some i → LooksKinds m here taken i sort.Int
-      by Whole reads e = subst (λ x. LooksKinds m here taken x sort.Int) (some_same l.code i e) reads
+      by : (s : Sort) → Looks m here taken l.code (kind_of s) → whole_code (record { code = l.code; sort = s }) ≡ Some i → Looks m here taken i sort.Int
+      by Whole reads e = subst (λ x. Looks m here taken x sort.Int) (some_same l.code i e) reads
       by Position reads e = impossible i e
       by (Pointer d) reads e = impossible i e
 
   number_reads : (z : ℤ) (s : Sort) (l : Lowered) → IsData (kind_of s) → of_sort (Number z) s ≡ Some l → IsRead l
-  unfolding LooksKinds
+  unfolding Looks
   number_reads z Whole l is e = subst IsRead (some_same (record { code = Number z; sort = Whole }) l e) tt
   number_reads z Position l is e = subst IsRead (some_same (record { code = Number z; sort = Position }) l e) tt
   number_reads z (Pointer d) l is e = absurd is
 
   end_reads : (l : Lowered) → of_sort codes.EndOfFile Position ≡ Some l → IsRead l
-  unfolding LooksKinds
+  unfolding Looks
   end_reads l e = subst IsRead (some_same (record { code = codes.EndOfFile; sort = Position }) l e) tt
 
   -- ---- the law

@@ -17,17 +17,12 @@ use Rattle.run_codes.specs.Related.{IsTable}
 use Rattle.run_codes.proofs.Expressions.{and_then_some}
 use Rattle.run_codes.proofs.Places.{impossible, some_same}
 use Rattle.handled_runs.specs.Alike.{StandAt}
+use Rattle.handled_runs.specs.Looks.{Looks}
 use Rattle.handled_runs.specs.Released.{IsOwner, LooksFor}
-use Rattle.handled_steps.specs.Looks.{LooksData, LooksPieces, LooksPlace}
-use Rattle.handled_kinds.specs.Kinds.{LooksKinds, LooksKept, KeptOnWay, PlaceKinds, HasKinds}
-use Rattle.handled_kinds.specs.Turns.{PiecesKept}
-use Rattle.handled_kinds.proofs.Looks.{looks, looks_at}
-use Rattle.handled_kinds.proofs.Places.{place_stands}
+use Rattle.handled_steps.specs.Looks.{LooksData, LooksPieces}
+use Rattle.handled_kinds.specs.Kinds.{PlaceKinds, HasKinds}
+use Rattle.handled_kinds.proofs.Places.{place_stands, looks_at}
 use Rattle.handled_kinds.proofs.Lowered.{IsRead, lowered_reads}
-
-first_kept : (m : Flat) (all more : List Piece) → PiecesKept m (all ++ more) → PiecesKept m all × PiecesKept m more
-first_kept m [] more kept = (tt, kept)
-first_kept m (p ∷ all) more kept = let rest = first_kept m all more kept.1 in ((kept.0, rest.0), rest.1)
 
 both_look : (m : Flat) (here taken : List Kind) (all more : List Piece) → LooksPieces m here taken all → LooksPieces m here taken more → LooksPieces m here taken (all ++ more)
 both_look m here taken [] more first second = second
@@ -44,68 +39,54 @@ module _ (c : Site) (laws : IsTable c.typing.table) (m : Flat) (here taken : Lis
 
   -- ---- conditions and choices
 
-  truth_data : (l : Lowered) (code : Code) → truth_code l ≡ Some code → IsRead c laws m here taken has l → LooksKept m code → LooksData m here taken code
-  truth_data l code is reads kept = by l.sort reads is
+  truth_data : (l : Lowered) (code : Code) → truth_code l ≡ Some code → IsRead c laws m here taken has l → LooksData m here taken code
+  truth_data l code is reads = by l.sort reads is
     where
-      by : (s : Sort) → LooksKinds m here taken l.code (kind_of s) → truth_code (record { code = l.code; sort = s }) ≡ Some code → LooksData m here taken code
-      by Position reads e = (sort.Enum, tt, looks m here taken code sort.Enum (subst (λ x. LooksKinds m here taken x sort.Enum) (some_same l.code code e) reads) kept)
+      by : (s : Sort) → Looks m here taken l.code (kind_of s) → truth_code (record { code = l.code; sort = s }) ≡ Some code → LooksData m here taken code
+      by Position reads e = (sort.Enum, tt, subst (λ x. Looks m here taken x sort.Enum) (some_same l.code code e) reads)
       by Whole reads e = impossible code e
       by (Pointer d) reads e = impossible code e
 
-  pub condition_looks : (e : TypedTree) (code : Code) → option_and_then truth_code (lowered c 0 AsValue e) ≡ Some code → LooksKept m code → LooksData m here taken code
-  condition_looks e code is kept =
+  pub condition_looks : (e : TypedTree) (code : Code) → option_and_then truth_code (lowered c 0 AsValue e) ≡ Some code → LooksData m here taken code
+  condition_looks e code is =
       let l = and_then_some truth_code (lowered c 0 AsValue e) code is in
-      truth_data l.0 code l.2 (lowered_reads c laws m here taken has e 0 AsValue l.0 l.1) kept
+      truth_data l.0 code l.2 (lowered_reads c laws m here taken has e 0 AsValue l.0 l.1)
 
-  pub choice_looks : (e : TypedTree) (code : Code) → option_and_then chosen_code (lowered c 0 AsValue e) ≡ Some code → LooksKept m code → LooksData m here taken code
-  choice_looks e code is kept =
+  pub choice_looks : (e : TypedTree) (code : Code) → option_and_then chosen_code (lowered c 0 AsValue e) ≡ Some code → LooksData m here taken code
+  choice_looks e code is =
       let l = and_then_some chosen_code (lowered c 0 AsValue e) code is in
       by l.0 l.0.sort (lowered_reads c laws m here taken has e 0 AsValue l.0 l.1) l.2
     where
-      by : (l : Lowered) (s : Sort) → LooksKinds m here taken l.code (kind_of s) → chosen_code (record { code = l.code; sort = s }) ≡ Some code → LooksData m here taken code
-      by l Whole reads f = (sort.Int, tt, looks m here taken code sort.Int (subst (λ x. LooksKinds m here taken x sort.Int) (some_same l.code code f) reads) kept)
-      by l Position reads f = (sort.Enum, tt, looks m here taken code sort.Enum (subst (λ x. LooksKinds m here taken x sort.Enum) (some_same l.code code f) reads) kept)
+      by : (l : Lowered) (s : Sort) → Looks m here taken l.code (kind_of s) → chosen_code (record { code = l.code; sort = s }) ≡ Some code → LooksData m here taken code
+      by l Whole reads f = (sort.Int, tt, subst (λ x. Looks m here taken x sort.Int) (some_same l.code code f) reads)
+      by l Position reads f = (sort.Enum, tt, subst (λ x. Looks m here taken x sort.Enum) (some_same l.code code f) reads)
       by l (Pointer d) reads f = impossible code f
 
   -- ---- texts
 
-  image_looks : (t : ℕ) (l : Lowered) (all : List Piece) → image_piece table t l ≡ Some all → IsRead c laws m here taken has l → PiecesKept m all → LooksPieces m here taken all
-  image_looks t l all is reads kept = by l.sort reads is
+  image_looks : (t : ℕ) (l : Lowered) (all : List Piece) → image_piece table t l ≡ Some all → IsRead c laws m here taken has l → LooksPieces m here taken all
+  image_looks t l all is reads = by l.sort reads is
     where
-      number : LooksKinds m here taken l.code sort.Int → PiecesKept m (NumberImage l.code ∷ []) → LooksPieces m here taken (NumberImage l.code ∷ [])
-      number reads kept = ((sort.Int, tt, looks m here taken l.code sort.Int reads kept.0), tt)
-
-      literal : LooksKinds m here taken l.code sort.Enum → PiecesKept m (LiteralImage l.code (base_of table t) ∷ []) → LooksPieces m here taken (LiteralImage l.code (base_of table t) ∷ [])
-      literal reads kept = ((sort.Enum, tt, looks m here taken l.code sort.Enum reads kept.0), tt)
-
-      by : (s : Sort) → LooksKinds m here taken l.code (kind_of s) → image_piece table t (record { code = l.code; sort = s }) ≡ Some all → LooksPieces m here taken all
-      by Whole reads e =
-          let same = some_same (NumberImage l.code ∷ []) all e in subst (LooksPieces m here taken) same (number reads (subst (PiecesKept m) (sym same) kept))
-      by Position reads e =
-          let same = some_same (LiteralImage l.code (base_of table t) ∷ []) all e in subst (LooksPieces m here taken) same (literal reads (subst (PiecesKept m) (sym same) kept))
+      by : (s : Sort) → Looks m here taken l.code (kind_of s) → image_piece table t (record { code = l.code; sort = s }) ≡ Some all → LooksPieces m here taken all
+      by Whole reads e = subst (LooksPieces m here taken) (some_same (NumberImage l.code ∷ []) all e) ((sort.Int, tt, reads), tt)
+      by Position reads e = subst (LooksPieces m here taken) (some_same (LiteralImage l.code (base_of table t) ∷ []) all e) ((sort.Enum, tt, reads), tt)
       by (Pointer d) reads e = impossible all e
 
-  pub text_looks : (e : TypedTree) (k : ℕ) (all : List Piece) → pieces c k e ≡ Some all → PiecesKept m all → LooksPieces m here taken all
+  pub text_looks : (e : TypedTree) (k : ℕ) (all : List Piece) → pieces c k e ≡ Some all → LooksPieces m here taken all
   unfolding pieces
-  text_looks (Text bytes) k all is kept = subst (LooksPieces m here taken) (some_same (Bytes bytes ∷ []) all is) (tt, tt)
-  text_looks (Image t e) k all is kept =
-      let l = and_then_some (image_piece table t) (lowered c k AsValue e) all is in image_looks t l.0 all l.2 (lowered_reads c laws m here taken has e k AsValue l.0 l.1) kept
-  text_looks (Parens e) k all is kept = text_looks e k all is kept
-  text_looks (Binary op a b) k all is kept =
+  text_looks (Text bytes) k all is = subst (LooksPieces m here taken) (some_same (Bytes bytes ∷ []) all is) (tt, tt)
+  text_looks (Image t e) k all is =
+      let l = and_then_some (image_piece table t) (lowered c k AsValue e) all is in image_looks t l.0 all l.2 (lowered_reads c laws m here taken has e k AsValue l.0 l.1)
+  text_looks (Parens e) k all is = text_looks e k all is
+  text_looks (Binary op a b) k all is =
       let two = both_some (pieces c k a) (pieces c (k + waiting a) b) all is in
-      let parts = first_kept m two.0 two.1 (subst (PiecesKept m) (sym two.4) kept) in
-      subst (LooksPieces m here taken) two.4 (both_look m here taken two.0 two.1 (text_looks a k two.0 two.2 parts.0) (text_looks b (k + waiting a) two.1 two.3 parts.1))
-  text_looks _ k all is kept = impossible all is
+      subst (LooksPieces m here taken) two.4 (both_look m here taken two.0 two.1 (text_looks a k two.0 two.2) (text_looks b (k + waiting a) two.1 two.3))
+  text_looks _ k all is = impossible all is
 
-  -- ---- places of input, and of access values that are released
+  -- ---- places of access values that are released
 
-  pub number_place : (p : Place) (of : ℕ) (low high : ℤ) → shape_of table of ≡ shape.Whole low high → PlaceKinds table m here taken p of → KeptOnWay m p → LooksPlace m here taken p (sort.Int ∷ [])
-  number_place p of low high is at kept =
-      let one : kinds table of ≡ sort.Int ∷ [] = ap (map kind_of) (laws.whole of low high is) in
-      (looks_at m here taken table p of at kept, λ q e. subst (StandAt m here q) one (place_stands table m here taken p of q at e))
-
-  pub release_looks : (p : Place) (of d : ℕ) (constant named : Bool) → shape_of table of ≡ shape.Access d constant named → PlaceKinds table m here taken p of → KeptOnWay m p
+  pub release_looks : (p : Place) (of d : ℕ) (constant named : Bool) → shape_of table of ≡ shape.Access d constant named → PlaceKinds table m here taken p of
       → ((q : Spot) → spot m p ≡ Given q → (z : ℤ) → words_at m q (sort.Access ∷ []) ≡ Given (z ∷ []) → IsOwner table m d z) → LooksFor table m here taken p d
-  release_looks p of d constant named is at kept owner =
+  release_looks p of d constant named is at owner =
       let one : kinds table of ≡ sort.Access ∷ [] = ap (map kind_of) (laws.access of d constant named is) in
-      (looks_at m here taken table p of at kept, λ q e. (subst (StandAt m here q) one (place_stands table m here taken p of q at e), owner q e))
+      (looks_at table m here taken p of at, λ q e. (subst (StandAt m here q) one (place_stands table m here taken p of q at e), owner q e))

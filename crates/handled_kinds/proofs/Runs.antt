@@ -17,11 +17,14 @@ use Rattle.run_codes.specs.Points as points
 use Rattle.run_codes.specs.Related.{types, IsTable}
 use Rattle.run_points.specs.States.{site_of, StateStands, FramesStand, FirstRuns}
 use Rattle.run_points.specs.Turns.{IsLowered, around_sub}
-use Rattle.handled_steps.specs.Looks.{IsOneData, LooksPoint, LooksStep, taken_kinds, turn_of}
+use Rattle.handled_runs.specs.Looks.{IsClear}
+use Rattle.handled_steps.specs.Backs.{IsOneData}
+use Rattle.handled_steps.specs.Looks.{LooksPoint, LooksStep, taken_kinds, turn_of}
 use Rattle.handled_kinds.specs.Kinds.{HasKinds}
 use Rattle.handled_kinds.specs.Stacks.{stack_kinds, EndsWithPackages, StandsOn, subs_of, AreBased, IsStacked}
-use Rattle.handled_kinds.specs.Turns.{DoesKept}
+use Rattle.handled_kinds.specs.Turns.{LeaksThere}
 use Rattle.handled_kinds.proofs.Stacks.{stack_has, taken_has}
+use Rattle.handled_kinds.proofs.Calls.{have_formals}
 use Rattle.handled_kinds.proofs.Turns.{point_looks}
 
 module _ (program : FlowProgram) (p : Program) (lowered : IsLowered program p) (laws : IsTable (flow_typing program).table)
@@ -33,7 +36,7 @@ module _ (program : FlowProgram) (p : Program) (lowered : IsLowered program p) (
   truth_data = (sort.Enum, ap (map kind_of) truth, tt)
 
   pub step_looks : (input : List ℕ) (s : points.State) (f : Frame) (outer : List Frame) (here : List Kind) → StandsOn program p f here
-      → ((q : Point) → slice_get p.points f.next ≡ Some q → DoesKept (turn_of table p input s f outer q) here (taken_kinds (turn_of table p input s f outer q)) q.does)
+      → ((q : Point) → slice_get p.points f.next ≡ Some q → IsClear here (taken_kinds (turn_of table p input s f outer q)) (points.start (turn_of table p input s f outer q)) × LeaksThere (turn_of table p input s f outer q) q.does)
       → LooksPoint table p input s here f outer (slice_get p.points f.next)
   step_looks input s f outer here on kept =
       let there = lowered.points on.sub on.at on.within on.few in
@@ -44,7 +47,7 @@ module _ (program : FlowProgram) (p : Program) (lowered : IsLowered program p) (
       (subst (λ ks. HasKinds (site_of program on.sub q.takes) (length (stack_kinds table p on.rest)) ks (taken_kinds (turn q))) (sym on.kinds)
       (stack_has program p lowered.subs on.sub on.rest q.takes (taken_kinds (turn q)) on.ends (taken_has (turn q) (site_of program on.sub q.takes) refl refl taken))) in
       subst (LooksPoint table p input s here f outer) (sym next)
-      (point_looks (around_sub program on.sub) laws truth_data here p input s f outer q (get_or (sub_of program on.sub).points on.at no_point) there.2 has (kept q next))
+      ((kept q next).0, point_looks (around_sub program on.sub) laws truth_data here p input s f outer q (get_or (sub_of program on.sub).points on.at no_point) (have_formals program p lowered.subs) there.2 has (kept q next).1)
     where
       turn : Point → points.Turn
       turn q = turn_of table p input s f outer q
@@ -52,7 +55,7 @@ module _ (program : FlowProgram) (p : Program) (lowered : IsLowered program p) (
   -- Where a state stands for one of the machine, the frame that runs is at a point of its subprogram.
   pub state_looks : (input : List ℕ) (s : machine.State) (g : points.State) (here : List Kind) → StateStands program s g → IsStacked table p (subs_of s) g.frames here
       → ((f : Frame) (outer : List Frame) (q : Point) → g.frames ≡ f ∷ outer → slice_get p.points f.next ≡ Some q
-      → DoesKept (turn_of table p input g f outer q) here (taken_kinds (turn_of table p input g f outer q)) q.does)
+      → IsClear here (taken_kinds (turn_of table p input g f outer q)) (points.start (turn_of table p input g f outer q)) × LeaksThere (turn_of table p input g f outer q) q.does)
       → LooksStep table p input g here g.frames
   state_looks input s g here stands stacked kept = by s.frames g.frames stands.frames stands.runs stacked.ends stacked.kinds stacked.based (λ f outer q same next. kept f outer q same next)
     where
@@ -60,7 +63,7 @@ module _ (program : FlowProgram) (p : Program) (lowered : IsLowered program p) (
           → EndsWithPackages (map (λ (f : machine.Frame). f.sub) fs) → here ≡ stack_kinds table p (map (λ (f : machine.Frame). f.sub) fs)
           → AreBased table p (map (λ (f : machine.Frame). f.sub) fs) gs
           → ((f : Frame) (outer : List Frame) (q : Point) → gs ≡ f ∷ outer → slice_get p.points f.next ≡ Some q
-          → DoesKept (turn_of table p input g f outer q) here (taken_kinds (turn_of table p input g f outer q)) q.does)
+          → IsClear here (taken_kinds (turn_of table p input g f outer q)) (points.start (turn_of table p input g f outer q)) × LeaksThere (turn_of table p input g f outer q) q.does)
           → LooksStep table p input g here gs
       by [] [] stand runs ends all based kept = tt
       by [] (h ∷ gs) stand runs ends all based kept = absurd stand

@@ -18,8 +18,8 @@ use Rattle.run_codes.specs.Related.{IsTable, IsSplit}
 use Rattle.run_codes.proofs.Parts.{all_sorts, before, component_split, element_split, many}
 use Rattle.run_codes.proofs.Indexes.{element_within}
 use Rattle.run_codes.proofs.Places.{if_some, some_same, given_same, given_on}
-use Rattle.handled_runs.specs.Looks.{IsFront}
-use Rattle.handled_kinds.specs.Kinds.{LooksKinds, PlaceKinds}
+use Rattle.handled_runs.specs.Looks.{IsFront, Looks}
+use Rattle.handled_kinds.specs.Kinds.{PlaceKinds}
 use Rattle.handled_kinds.proofs.Parts.{split_front, front_first, drop_on}
 
 both_true : (a b : Bool) → a && b ≡ true → (a ≡ true) × (b ≡ true)
@@ -43,10 +43,10 @@ module _ (table : Table) (laws : IsTable table) (m : Flat) (here taken : List Ki
   At = PlaceKinds table m here taken
 
   abbrev pub Reads : Code → Kind → Type 0
-  Reads = LooksKinds m here taken
+  Reads = Looks m here taken
 
   pub no_reads : Reads no_index sort.Int
-  unfolding LooksKinds
+  unfolding Looks
   no_reads = tt
 
   -- ---- further on, by a fixed number of words
@@ -80,7 +80,7 @@ module _ (table : Table) (laws : IsTable table) (m : Flat) (here taken : List Ki
           by false f = cc
 
   joined_reads : (i j : Code) → Reads i sort.Int → Reads j sort.Int → Reads (joined i j) sort.Int
-  unfolding LooksKinds
+  unfolding Looks
   joined_reads (Number (pos zero)) j first second = second
   joined_reads i j first second = (tt, first, second)
 
@@ -107,7 +107,7 @@ module _ (table : Table) (laws : IsTable table) (m : Flat) (here taken : List Ki
     step = Scaled i low high size
 
     step_reads : Reads step sort.Int
-    unfolding LooksKinds
+    unfolding Looks
     step_reads = (tt, reads)
 
     element_is : element_type table t ≡ element
@@ -142,7 +142,7 @@ module _ (table : Table) (laws : IsTable table) (m : Flat) (here taken : List Ki
   -- ---- the word of a place
 
   pub load_reads : (p : Place) (t : ℕ) (k : Kind) → kinds table t ≡ k ∷ [] → At p t → Reads (load k p) k
-  unfolding LooksKinds
+  unfolding Looks
   load_reads (InFrame at i) t k one is =
       (is.0, λ o e. front_first here (m.base + at + unsigned_abs o) k (subst (λ ks. IsFront ks (drop (m.base + at + unsigned_abs o) here)) one (is.1 o e)))
   load_reads (InPackages at i) t k one is = (is.0, λ o e. front_first here (at + unsigned_abs o) k (subst (λ ks. IsFront ks (drop (at + unsigned_abs o) here)) one (is.1 o e)))

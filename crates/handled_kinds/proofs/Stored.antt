@@ -1,5 +1,5 @@
 -- Points that store a value look at words of the kinds of its type.
-use Rattle.std.proofs.Common.{◌≡◌, refl, ap, ◌∙◌, subst, ℕ, zero, suc, ◌+◌, arith, Bool, true, false, ◌&&◌, ◌==◌, List, [], ◌∷◌, map, drop, slice_get, Option, Some, None, ℤ, pos, if◌then◌else◌}
+use Rattle.std.proofs.Common.{◌≡◌, refl, sym, ap, ◌∙◌, subst, ℕ, zero, suc, ◌+◌, arith, Bool, true, false, ◌&&◌, ◌==◌, List, [], ◌∷◌, map, drop, slice_get, Option, Some, None, ℤ, pos, if◌then◌else◌}
 use Rattle.std.specs.Prelude.{option_and_then}
 use Rattle.spark_base.specs.declared.position.Pos.{Pos}
 use Rattle.typed_tree.specs.Trees.{TypedTree, Name, Call, Parens, Aggregate, Alike, New, NoMore, More}
@@ -25,12 +25,11 @@ use Rattle.run_codes.specs.Related.{IsTable}
 use Rattle.run_codes.proofs.Expressions.{and_then_some, map_some}
 use Rattle.run_codes.proofs.Places.{impossible, if_some, some_same}
 use Rattle.handled_runs.specs.Looks.{IsFront}
-use Rattle.handled_runs.specs.Alike.{StandAt, LooksFill}
+use Rattle.handled_runs.specs.Alike.{LooksThere, LooksFill}
 use Rattle.handled_steps.specs.Looks.{LooksDoes, turn_of}
 use Rattle.handled_kinds.specs.Kinds.{HasKinds}
-use Rattle.handled_kinds.specs.Values.{StoreKept}
-use Rattle.handled_kinds.proofs.Looks.{looks_at}
-use Rattle.handled_kinds.proofs.Places.{place_stands, filled_base}
+use Rattle.handled_kinds.specs.Turns.{LeaksThere}
+use Rattle.handled_kinds.proofs.Places.{looks_there}
 use Rattle.handled_kinds.proofs.Filled.{Fine, AtPlace, by_shape, waits_by, both_some, taken_is}
 
 -- ---- a value within bounds is of a scalar type
@@ -146,59 +145,53 @@ module _ (c : Site) (laws : IsTable c.typing.table) (here taken : List Kind) (ba
     abbrev t : points.Turn
     t = turn_of table program input s f outer p
 
-    abbrev m : Flat
-    m = points.start t
-
-    abbrev Looks : Does → Type 0
-    Looks d = StoreKept table m d → LooksDoes t here taken d
-
-    later : (v : Fill) (zs : List ℤ) (i : Flat) → filled table v m ≡ Done zs i → i.base ≡ base
-    later v zs i e = filled_base table v m zs i e ∙ frame
+    -- what is told of leak checks
+    abbrev Fits : Does → Type 0
+    Fits d = LeaksThere t d → LooksDoes t here taken d
 
     -- an object of the frame
-    frame_front : (of at : ℕ) → AtPlace c laws here taken base has (record { place = InFrame at (Number (pos 0)); of = of }) → (i : Flat) → i.base ≡ base → IsFront (kinds table of) (drop (i.base + at) here)
+    frame_front : (of at : ℕ) → AtPlace c laws here taken base has (record { place = InFrame at (Number (pos 0)); of = of }) → IsFront (kinds table of) (drop (base + at) here)
     unfolding word
-    frame_front of at is i e =
-        let same : i.base + at + 0 ≡ i.base + at = omega arith in
-        subst (λ n. IsFront (kinds table of) (drop n here)) same ((is i e).1 (pos 0) refl)
+    frame_front of at is =
+        let i : Flat = record (points.start t) { base = base } in
+        let same : base + at + 0 ≡ base + at = omega arith in
+        subst (λ n. IsFront (kinds table of) (drop n here)) same ((is i refl).1 (pos 0) refl)
 
-    put_looks : (of at : ℕ) (v : Fill) (n : Option ℕ) → AtPlace c laws here taken base has (record { place = InFrame at (Number (pos 0)); of = of }) → Fine c laws here taken base has v (kinds table of) → Looks (Put at v n)
-    put_looks of at v n is fine kept = (kinds table of, fine m frame kept, λ zs i e. frame_front of at is i (later v zs i e))
+    put_looks : (of at : ℕ) (v : Fill) (n : Option ℕ) → AtPlace c laws here taken base has (record { place = InFrame at (Number (pos 0)); of = of }) → Fine c laws here taken base has v (kinds table of) → Fits (Put at v n)
+    put_looks of at v n is fine there =
+        subst (λ b. (ks : List Kind) × LooksFill table b here taken v ks × IsFront ks (drop (b + at) here)) (sym frame) (kinds table of, fine, frame_front of at is)
 
-    store_looks : (q : Placed) (v : Fill) (n : Option ℕ) → AtPlace c laws here taken base has q → Fine c laws here taken base has v (kinds table q.of) → IsScalar (shape_of table q.of) → Looks (Store q.place v (kind_at (shape_of table q.of)) n)
-    store_looks q v n is fine scalar kept =
-        let one : kinds table q.of ≡ kind_at (shape_of table q.of) ∷ [] = scalar_kind q.of (shape_of table q.of) refl scalar in (
-          subst (LooksFill table m here taken v) one (fine m frame kept.0),
-          λ zs i e. (
-            looks_at i here taken table q.place q.of (is i (later v zs i e)) (kept.1 zs i e),
-            λ r g. subst (StandAt i here r) one (place_stands table i here taken q.place q.of r (is i (later v zs i e)) g),
-          ),
+    store_looks : (q : Placed) (v : Fill) (n : Option ℕ) → AtPlace c laws here taken base has q → Fine c laws here taken base has v (kinds table q.of) → IsScalar (shape_of table q.of) → Fits (Store q.place v (kind_at (shape_of table q.of)) n)
+    store_looks q v n is fine scalar there =
+        let one : kinds table q.of ≡ kind_at (shape_of table q.of) ∷ [] = scalar_kind q.of (shape_of table q.of) refl scalar in
+        subst (λ b. LooksFill table b here taken v (kind_at (shape_of table q.of) ∷ []) × LooksThere b here taken q.place (kind_at (shape_of table q.of) ∷ [])) (sym frame) (
+          subst (LooksFill table base here taken v) one fine,
+          subst (LooksThere base here taken q.place) one (looks_there table base here taken q.place q.of is),
         )
 
-    assign_looks : (q : Placed) (v : Fill) (checks : Option Pos) (n : Option ℕ) → AtPlace c laws here taken base has q → Fine c laws here taken base has v (kinds table q.of) → Looks (Assign q.place v q.of checks n)
-    assign_looks q v checks n is fine kept = (
-      fine m frame kept.0,
-      λ zs i e. (let on = kept.1 zs i e in
-          (looks_at i here taken table q.place q.of (is i (later v zs i e)) on.0, λ r g. (place_stands table i here taken q.place q.of r (is i (later v zs i e)) g, on.1 r g))),
+    assign_looks : (q : Placed) (v : Fill) (checks : Option Pos) (n : Option ℕ) → AtPlace c laws here taken base has q → Fine c laws here taken base has v (kinds table q.of) → Fits (Assign q.place v q.of checks n)
+    assign_looks q v checks n is fine there = (
+      subst (λ b. LooksFill table b here taken v (kinds table q.of)) (sym frame) fine,
+      λ zs i e. (subst (λ b. LooksThere b here taken q.place (kinds table q.of)) (sym frame) (looks_there table base here taken q.place q.of is), there zs i e),
     )
 
     -- one word within bounds
     checked_looks : (q : Placed) (e : Code) (low high : ℤ) (n : Option ℕ) (checks : Option Pos) → AtPlace c laws here taken base has q → Fine c laws here taken base has (Checked e low high) (kinds table q.of)
-        → IsScalar (shape_of table q.of) → Looks (put_at (shape_of table q.of) q (Checked e low high) checks n)
+        → IsScalar (shape_of table q.of) → Fits (put_at (shape_of table q.of) q (Checked e low high) checks n)
     checked_looks q e low high n checks is fine scalar = by q.place is
       where
-        by : (place : Place) → AtPlace c laws here taken base has (record { place = place; of = q.of }) → Looks (put_at (shape_of table q.of) (record { place = place; of = q.of }) (Checked e low high) checks n)
+        by : (place : Place) → AtPlace c laws here taken base has (record { place = place; of = q.of }) → Fits (put_at (shape_of table q.of) (record { place = place; of = q.of }) (Checked e low high) checks n)
         by (InFrame at (Number (pos zero))) at_place = put_looks q.of at (Checked e low high) n at_place fine
         by (InFrame at i) at_place = store_looks (record { place = InFrame at i; of = q.of }) (Checked e low high) n at_place fine scalar
         by (InPackages at i) at_place = store_looks (record { place = InPackages at i; of = q.of }) (Checked e low high) n at_place fine scalar
         by (Behind a at i) at_place = store_looks (record { place = Behind a at i; of = q.of }) (Checked e low high) n at_place fine scalar
 
     looked_looks : (q : Placed) (e : Code) (n : Option ℕ) (checks : Option Pos) → AtPlace c laws here taken base has q → Fine c laws here taken base has (LookedAt e) (kinds table q.of)
-        → Looks (put_at (shape_of table q.of) q (LookedAt e) checks n)
+        → Fits (put_at (shape_of table q.of) q (LookedAt e) checks n)
     looked_looks q e n (Some x) is fine = assign_looks q (LookedAt e) (Some x) n is fine
     looked_looks q e n None is fine = by q.place is
       where
-        by : (place : Place) → AtPlace c laws here taken base has (record { place = place; of = q.of }) → Looks (put_at (shape_of table q.of) (record { place = place; of = q.of }) (LookedAt e) None n)
+        by : (place : Place) → AtPlace c laws here taken base has (record { place = place; of = q.of }) → Fits (put_at (shape_of table q.of) (record { place = place; of = q.of }) (LookedAt e) None n)
         by (InFrame at (Number (pos zero))) at_place = put_looks q.of at (LookedAt e) n at_place fine
         by (InFrame at i) at_place = assign_looks (record { place = InFrame at i; of = q.of }) (LookedAt e) None n at_place fine
         by (InPackages at i) at_place = assign_looks (record { place = InPackages at i; of = q.of }) (LookedAt e) None n at_place fine
@@ -206,7 +199,7 @@ module _ (c : Site) (laws : IsTable c.typing.table) (here taken : List Kind) (ba
 
     -- A value that a point stores at a place of its type.
     pub stored_looks : (q : Placed) (v : Fill) (checks : Option Pos) (n : Option ℕ) → AtPlace c laws here taken base has q → Fine c laws here taken base has v (kinds table q.of) → Checks v q.of
-        → Looks (stored_at table q v checks n)
+        → Fits (stored_at table q v checks n)
     stored_looks q (Checked e low high) checks n is fine scalar = checked_looks q e low high n checks is fine scalar
     stored_looks q (LookedAt e) checks n is fine scalar = looked_looks q e n checks is fine
     stored_looks q (MovedPointer a) checks n is fine scalar = assign_looks q (MovedPointer a) checks n is fine

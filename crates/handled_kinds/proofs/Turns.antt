@@ -23,26 +23,30 @@ use Rattle.run_codes.specs.Codes as codes
 use Rattle.run_codes.specs.Flat.{Flat, Given, kind_of, kinds, word, default_words}
 use Rattle.run_codes.specs.Lowered.{Site, Placed, Lowered, option_map, offset_of, no_index, lowered, place, value, Scalar, scalar_of}
 use Rattle.run_codes.specs.Programs.{Program, Around, typing, type_of, going, own_offset, own_loop, on_going, on_next, is_loop, use_for, name_pos, stored_at, declared, assigned, called, text_pieces, actuals, input_to, release_at, tested, condition, chosen, chosen_code, alternatives, started, scalar_code, next_turn, operand, is_or_else, gone_on, held_result, scope_end, does, point, point_takes, with_takes}
-use Rattle.run_codes.specs.Points.{Frame}
+use Rattle.run_codes.specs.Points.{Frame, sub_at as lowered_sub}
 use Rattle.run_codes.specs.Points as points
 use Rattle.run_codes.specs.Related.{IsTable}
 use Rattle.run_codes.proofs.Parts.{many}
 use Rattle.run_codes.proofs.Expressions.{and_then_some, map_some}
 use Rattle.run_codes.proofs.Places.{impossible, if_some, some_same}
-use Rattle.handled_runs.specs.Looks.{IsFront}
-use Rattle.handled_steps.specs.Looks.{LooksData, LooksPieces, HasData, HasLoop, IsOneData, LooksDoes, LooksTurn, taken_kinds, turn_of}
-use Rattle.handled_kinds.specs.Kinds.{LooksKinds, LooksKept, HasKinds}
-use Rattle.handled_kinds.specs.Turns.{PiecesKept, DoesKept}
-use Rattle.handled_kinds.proofs.Looks.{looks}
+use Rattle.handled_runs.specs.Looks.{Looks, IsFront}
+use Rattle.handled_runs.specs.Alike.{LooksThere}
+use Rattle.handled_steps.specs.Backs.{IsOneData}
+use Rattle.handled_steps.specs.Alike.{frame_kinds}
+use Rattle.handled_steps.specs.Looks.{LooksData, LooksPieces, LooksActuals, HasData, HasLoop, LooksDoes, taken_kinds, turn_of}
+use Rattle.handled_kinds.specs.Kinds.{HasKinds, HaveFormals}
+use Rattle.handled_kinds.specs.Turns.{LeaksThere}
 use Rattle.handled_kinds.proofs.Parts.{front_first}
 use Rattle.handled_kinds.proofs.Lowered.{lowered_reads}
 use Rattle.handled_kinds.proofs.Filled.{Fine, AtPlace, named_at, value_fine, default_fine}
-use Rattle.handled_kinds.proofs.Points.{condition_looks, choice_looks, text_looks, number_place, release_looks}
+use Rattle.handled_kinds.proofs.Places.{looks_there}
+use Rattle.handled_kinds.proofs.Calls.{formals_look, actuals_look}
+use Rattle.handled_kinds.proofs.Points.{condition_looks, choice_looks, text_looks, release_looks}
 use Rattle.handled_kinds.proofs.Stored.{Checks, value_checks, stored_looks}
 
 module _ (a : Around) (laws : IsTable a.site.typing.table) (truth : IsOneData (kinds a.site.typing.table boolean)) (here taken : List Kind)
     (program : Program) (input : List ℕ) (s : points.State) (f : Frame) (outer : List Frame) (p : Point)
-    (has : HasKinds a.site f.base here taken) (q : FlowPoint) where
+    (has : HasKinds a.site f.base here taken) (q : FlowPoint) (formals : HaveFormals a.site.typing program) where
   abbrev c : Site
   c = a.site
 
@@ -56,7 +60,7 @@ module _ (a : Around) (laws : IsTable a.site.typing.table) (truth : IsOneData (k
   m = points.start t
 
   abbrev Fits : Does → Type 0
-  Fits d = DoesKept t here taken d → LooksDoes t here taken d
+  Fits d = LeaksThere t d → LooksDoes t here taken d
 
   -- ---- objects of the subprogram
 
@@ -67,7 +71,7 @@ module _ (a : Around) (laws : IsTable a.site.typing.table) (truth : IsOneData (k
   loop_some x at e = let sure = if_some (is_loop x c.own) (own_offset a x) at e in (sure.0, own_some x at sure.1)
 
   own_at : (x at : ℕ) → offset_of c x ≡ Some at → AtPlace c laws here taken f.base has (record { place = InFrame at no_index; of = type_of a x })
-  unfolding LooksKinds word
+  unfolding Looks word
   own_at x at there i base = (
     tt,
     λ o e. (let none : unsigned_abs o ≡ 0 = zero_word o e in
@@ -106,17 +110,17 @@ module _ (a : Around) (laws : IsTable a.site.typing.table) (truth : IsOneData (k
       one_sort (x ∷ []) k e = refl
       one_sort (x ∷ y ∷ all) k e = cc
 
-  bound_looks : (e : TypedTree) (k : ℕ) (w : Sort) (code : Code) → option_and_then (scalar_code w) (lowered c k AsValue e) ≡ Some code → LooksKept m code → LooksData m here taken code
-  bound_looks e k w code is kept =
+  bound_looks : (e : TypedTree) (k : ℕ) (w : Sort) (code : Code) → option_and_then (scalar_code w) (lowered c k AsValue e) ≡ Some code → LooksData m here taken code
+  bound_looks e k w code is =
       let l = and_then_some (scalar_code w) (lowered c k AsValue e) code is in
       by l.0 w l.0.sort (lowered_reads c laws m here taken has e k AsValue l.0 l.1) l.2
     where
-      renamed : (l : Lowered) (j : Kind) → LooksKinds m here taken l.code j → Some l.code ≡ Some code → LooksKinds m here taken code j
-      renamed l j reads f = subst (λ x. LooksKinds m here taken x j) (some_same l.code code f) reads
+      renamed : (l : Lowered) (j : Kind) → Looks m here taken l.code j → Some l.code ≡ Some code → Looks m here taken code j
+      renamed l j reads f = subst (λ x. Looks m here taken x j) (some_same l.code code f) reads
 
-      by : (l : Lowered) (w s : Sort) → LooksKinds m here taken l.code (kind_of s) → scalar_code w (record { code = l.code; sort = s }) ≡ Some code → LooksData m here taken code
-      by l Whole Whole reads g = (sort.Int, tt, looks m here taken code sort.Int (renamed l sort.Int reads g) kept)
-      by l Position Position reads g = (sort.Enum, tt, looks m here taken code sort.Enum (renamed l sort.Enum reads g) kept)
+      by : (l : Lowered) (w s : Sort) → Looks m here taken l.code (kind_of s) → scalar_code w (record { code = l.code; sort = s }) ≡ Some code → LooksData m here taken code
+      by l Whole Whole reads g = (sort.Int, tt, renamed l sort.Int reads g)
+      by l Position Position reads g = (sort.Enum, tt, renamed l sort.Enum reads g)
       by l Whole Position reads g = impossible code g
       by l Whole (Pointer d) reads g = impossible code g
       by l Position Whole reads g = impossible code g
@@ -136,7 +140,7 @@ module _ (a : Around) (laws : IsTable a.site.typing.table) (truth : IsOneData (k
   stored_fits r v checks d at fine scalar e =
       let n = on_some (λ n. Some (stored_at table r v checks n)) d e in
       subst Fits (some_same (stored_at table r v checks n.0) d n.1)
-      (λ kept. stored_looks c laws here taken f.base has program input s f outer p refl r v checks n.0 at fine scalar kept.0)
+      (λ kept. stored_looks c laws here taken f.base has program input s f outer p refl r v checks n.0 at fine scalar kept)
 
   declared_from : (x : ℕ) (w : Option Fill) (d : Does)
       → ((v : Fill) → w ≡ Some v → Fine c laws here taken f.base has v (kinds table (type_of a x)) × Checks c laws here taken f.base has v (type_of a x))
@@ -189,17 +193,26 @@ module _ (a : Around) (laws : IsTable a.site.typing.table) (truth : IsOneData (k
   called_fits sub e d is =
       let all = and_then_some (λ all. on_next a q (λ n. Some (codes.Call sub all n))) (actuals c q.pos 0 (passings (typing a) (sub_at (typing a) sub)) (sub_at (typing a) sub).formals e) d is in
       let n = next_some (λ n. Some (codes.Call sub all.0 n)) d all.2 in
-      subst Fits (some_same (codes.Call sub all.0 (Some n.0)) d n.1) (λ kept. kept.1)
+      subst Fits (some_same (codes.Call sub all.0 (Some n.0)) d n.1)
+      (λ kept. (
+        tt,
+        (
+          subst (λ fs. LooksActuals table f.base here taken fs all.0) (sym (formals sub).0)
+              (actuals_look c laws here taken f.base has q.pos e 0 (passings (typing a) (sub_at (typing a) sub)) (sub_at (typing a) sub).formals all.0 all.1),
+          formals_look table here (lowered_sub program sub).formals (frame_kinds table (lowered_sub program sub)) (formals sub).1.0 (formals sub).1.1,
+          kept,
+        ),
+      ))
 
-  texts : (text : TypedTree) (all : List Piece) → text_pieces c text ≡ Some all → PiecesKept m all → LooksPieces m here taken all
-  texts (More e rest) all is kept = text_looks c laws m here taken has e 0 all is kept
-  texts _ all is kept = subst (LooksPieces m here taken) (some_same [] all is) tt
+  texts : (text : TypedTree) (all : List Piece) → text_pieces c text ≡ Some all → LooksPieces m here taken all
+  texts (More e rest) all is = text_looks c laws m here taken has e 0 all is
+  texts _ all is = subst (LooksPieces m here taken) (some_same [] all is) tt
 
   output_fits : (text : TypedTree) (line : Bool) (d : Does) → option_and_then (λ u. on_going a q (λ n. Some (Output u line n))) (text_pieces c text) ≡ Some d → Fits d
   output_fits text line d is =
       let all = and_then_some (λ u. on_going a q (λ n. Some (Output u line n))) (text_pieces c text) d is in
       let n = on_some (λ n. Some (Output all.0 line n)) d all.2 in
-      subst Fits (some_same (Output all.0 line n.0) d n.1) (λ kept. texts text all.0 all.1 kept.1)
+      subst Fits (some_same (Output all.0 line n.0) d n.1) (λ kept. texts text all.0 all.1)
 
   abbrev input_by : Placed → Shape → Option Does
   input_by r (shape.Whole low high) = on_going a q (λ n. Some (Input r.place low high n))
@@ -212,7 +225,8 @@ module _ (a : Around) (laws : IsTable a.site.typing.table) (truth : IsOneData (k
       by : (r : Placed) → AtPlace c laws here taken f.base has r → (sh : Shape) → shape_of table r.of ≡ sh → input_by r sh ≡ Some d → Fits d
       by r at (shape.Whole low high) shape_is e =
           let n = on_some (λ n. Some (Input r.place low high n)) d e in
-          subst Fits (some_same (Input r.place low high n.0) d n.1) (λ kept. number_place c laws m here taken has r.place r.of low high shape_is (at m refl) kept.1)
+          subst Fits (some_same (Input r.place low high n.0) d n.1)
+          (λ kept. subst (LooksThere f.base here taken r.place) (ap (map kind_of) (laws.whole r.of low high shape_is)) (looks_there table f.base here taken r.place r.of at))
       by r at (shape.Listed literals low high) shape_is e = impossible d e
       by r at (shape.Access u constant named) shape_is e = impossible d e
       by r at (shape.Fields cs) shape_is e = impossible d e
@@ -231,7 +245,7 @@ module _ (a : Around) (laws : IsTable a.site.typing.table) (truth : IsOneData (k
       by r at (shape.Access u constant named) shape_is g =
           let n = on_some (λ n. Some (Release r.place u (name_pos q.pos e) n)) d g in
           subst Fits (some_same (Release r.place u (name_pos q.pos e) n.0) d n.1)
-          (λ kept. release_looks c laws m here taken has r.place r.of u constant named shape_is (at m refl) kept.1.0 kept.1.1)
+          (λ kept. release_looks c laws m here taken has r.place r.of u constant named shape_is (at m refl) kept)
       by r at (shape.Whole low high) shape_is g = impossible d g
       by r at (shape.Listed literals low high) shape_is g = impossible d g
       by r at (shape.Fields cs) shape_is g = impossible d g
@@ -243,13 +257,13 @@ module _ (a : Around) (laws : IsTable a.site.typing.table) (truth : IsOneData (k
       let code = and_then_some (λ c. option_and_then (λ n. option_map (Test c n) (going a q 1)) (going a q 0)) (condition a e) d is in
       let n = and_then_some (λ n. option_map (Test code.0 n) (going a q 1)) (going a q 0) d code.2 in
       let k = map_some (Test code.0 n.0) (going a q 1) d n.2 in
-      subst Fits k.2 (λ kept. condition_looks c laws m here taken has e code.0 code.1 kept.1)
+      subst Fits k.2 (λ kept. condition_looks c laws m here taken has e code.0 code.1)
 
   chosen_fits : (e : TypedTree) (all : List TypedCode) (d : Does) → chosen a q e all ≡ Some d → Fits d
   chosen_fits e all d is =
       let code = and_then_some (λ c. option_map (Choose c) (alternatives a q 0 all)) (option_and_then chosen_code (lowered c 0 AsValue e)) d is in
       let k = map_some (Choose code.0) (alternatives a q 0 all) d code.2 in
-      subst Fits k.2 (λ kept. choice_looks c laws m here taken has e code.0 code.1 kept.1)
+      subst Fits k.2 (λ kept. choice_looks c laws m here taken has e code.0 code.1)
 
   started_fits : (x : ℕ) (low high : TypedTree) (d : Does) → started a q x low high ≡ Some d → Fits d
   started_fits x low high d is =
@@ -263,9 +277,9 @@ module _ (a : Around) (laws : IsTable a.site.typing.table) (truth : IsOneData (k
       let n = next_some (λ n. Some (Start at.0 (at.0 + 1) l.0 h.0 w.0.low w.0.high n)) d h.2 in
       by at.0 w.0 l.0 h.0 (Some n.0) (bound_looks low 0 w.0.sort l.0 l.1) (bound_looks high (waiting low) w.0.sort h.0 h.1) (parameter_looks x at.0 w.0 at.1 w.1) n.1
     where
-      by : (at : ℕ) (w : Scalar) (l h : Code) (n : Option ℕ) → (LooksKept m l → LooksData m here taken l) → (LooksKept m h → LooksData m here taken h)
+      by : (at : ℕ) (w : Scalar) (l h : Code) (n : Option ℕ) → LooksData m here taken l → LooksData m here taken h
           → HasData here (f.base + at) × HasLoop here (f.base + (at + 1)) → Some (Start at (at + 1) l h w.low w.high n) ≡ Some d → Fits d
-      by at w l h n first second words e = subst Fits (some_same (Start at (at + 1) l h w.low w.high n) d e) (λ kept. (first kept.1.0, second kept.1.1, words.0, words.1))
+      by at w l h n first second words e = subst Fits (some_same (Start at (at + 1) l h w.low w.high n) d e) (λ kept. (first, second, words.0, words.1))
 
   abbrev first_word : List ℤ → ℤ
   first_word [] = pos 0
@@ -291,11 +305,11 @@ module _ (a : Around) (laws : IsTable a.site.typing.table) (truth : IsOneData (k
       let code = and_then_some (λ c. option_and_then (λ n. option_map (EvaluateLeft c (is_or_else op) n) (going a q 1)) (going a q 0)) (condition a e) d is in
       let n = and_then_some (λ n. option_map (EvaluateLeft code.0 (is_or_else op) n) (going a q 1)) (going a q 0) d code.2 in
       let k = map_some (EvaluateLeft code.0 (is_or_else op) n.0) (going a q 1) d n.2 in
-      subst Fits k.2 (λ kept. (condition_looks c laws m here taken has e code.0 code.1 kept.1, truth))
+      subst Fits k.2 (λ kept. (condition_looks c laws m here taken has e code.0 code.1, truth))
   operand_fits e None d is =
       let code = and_then_some (λ c. on_going a q (λ n. Some (EvaluateRight c n))) (condition a e) d is in
       let n = on_some (λ n. Some (EvaluateRight code.0 n)) d code.2 in
-      subst Fits (some_same (EvaluateRight code.0 n.0) d n.1) (λ kept. (condition_looks c laws m here taken has e code.0 code.1 kept.1, truth))
+      subst Fits (some_same (EvaluateRight code.0 n.0) d n.1) (λ kept. (condition_looks c laws m here taken has e code.0 code.1, truth))
 
   abbrev held_by : ℕ → Fill → Option ℕ → Option Does
   held_by of v None = None
@@ -309,7 +323,7 @@ module _ (a : Around) (laws : IsTable a.site.typing.table) (truth : IsOneData (k
     where
       by : (v : Fill) (n : Option ℕ) → Fine c laws here taken f.base has v (kinds table of) → held_by of v n ≡ Some d → Fits d
       by v None fine e = impossible d e
-      by v (Some n) fine e = subst Fits (some_same (Hold v of (Some n)) d e) (λ kept. fine m refl kept.1)
+      by v (Some n) fine e = subst Fits (some_same (Hold v of (Some n)) d e) (λ kept. fine)
   held_fits (More e rest) None d is = gone_fits d is
   held_fits _ r d is = gone_fits d is
 
@@ -325,12 +339,12 @@ module _ (a : Around) (laws : IsTable a.site.typing.table) (truth : IsOneData (k
       subst Fits (some_same (scope_by (type_of a x) (shape_of table (type_of a x)) at.0 n.0) d n.1) (by at.0 n.0 (own_some x at.0 at.1) (shape_of table (type_of a x)) refl)
     where
       whole : (at : ℕ) (n : Option ℕ) → offset_of c x ≡ Some at → Fits (EndScope at (type_of a x) n)
-      whole at n there kept = ((has.own x at there, kept.1.0), kept.1.1)
+      whole at n there kept = ((has.own x at there, has.within x at there), kept)
 
       by : (at : ℕ) (n : Option ℕ) → offset_of c x ≡ Some at → (sh : Shape) → shape_of table (type_of a x) ≡ sh → Fits (scope_by (type_of a x) sh at n)
       by at n there (shape.Access u constant true) shape_is kept =
           let one : kinds table (type_of a x) ≡ sort.Access ∷ [] = ap (map kind_of) (laws.access (type_of a x) u constant true shape_is) in
-          (front_first here (f.base + at) sort.Access (subst (λ ks. IsFront ks (drop (f.base + at) here)) one (has.own x at there)), kept.1)
+          (front_first here (f.base + at) sort.Access (subst (λ ks. IsFront ks (drop (f.base + at) here)) one (has.own x at there)), kept)
       by at n there (shape.Access u constant false) shape_is kept = whole at n there kept
       by at n there (shape.Whole low high) shape_is kept = whole at n there kept
       by at n there (shape.Listed literals low high) shape_is kept = whole at n there kept
@@ -340,7 +354,7 @@ module _ (a : Around) (laws : IsTable a.site.typing.table) (truth : IsOneData (k
 
   -- ---- the law
 
-  pub does_looks : (i : Instruction) (d : Does) → does a q i ≡ Some d → DoesKept t here taken d → LooksDoes t here taken d
+  pub does_looks : (i : Instruction) (d : Does) → does a q i ≡ Some d → LeaksThere t d → LooksDoes t here taken d
   does_looks Skip d is = gone_fits d is
   does_looks (Declare x v) d is = declared_fits x v d is
   does_looks (instruction.Assign target e) d is = assigned_fits target e d is
@@ -357,26 +371,27 @@ module _ (a : Around) (laws : IsTable a.site.typing.table) (truth : IsOneData (k
   does_looks (LeaveLoop _) d is = gone_fits d is
   does_looks (instruction.Hold v) d is = held_fits v a.result d is
   does_looks (instruction.EndScope x) d is = scope_fits x d is
-  does_looks instruction.Finish d is = subst Fits (some_same codes.Finish d is) (λ kept. kept.1)
+  does_looks instruction.Finish d is = subst Fits (some_same codes.Finish d is) (λ kept. tt)
   does_looks instruction.Fall d is = subst Fits (some_same codes.Fall d is) (λ kept. tt)
 
 -- A point of a program.
 pub point_looks : (a : Around) → IsTable a.site.typing.table → IsOneData (kinds a.site.typing.table boolean) → (here : List Kind)
-    → (program : Program) (input : List ℕ) (s : points.State) (f : Frame) (outer : List Frame) (p : Point) (q : FlowPoint) → point a q ≡ Some p
+    → (program : Program) (input : List ℕ) (s : points.State) (f : Frame) (outer : List Frame) (p : Point) (q : FlowPoint) → HaveFormals a.site.typing program → point a q ≡ Some p
     → (points.are_taken (turn_of a.site.typing.table program input s f outer p) ≡ true
     → HasKinds (record a.site { takes = p.takes }) f.base here (taken_kinds (turn_of a.site.typing.table program input s f outer p)))
-    → DoesKept (turn_of a.site.typing.table program input s f outer p) here (taken_kinds (turn_of a.site.typing.table program input s f outer p)) p.does
-    → LooksTurn (turn_of a.site.typing.table program input s f outer p) here
-point_looks a laws truth here program input s f outer p q is has kept taken =
+    → LeaksThere (turn_of a.site.typing.table program input s f outer p) p.does
+    → points.are_taken (turn_of a.site.typing.table program input s f outer p) ≡ true
+    → LooksDoes (turn_of a.site.typing.table program input s f outer p) here (taken_kinds (turn_of a.site.typing.table program input s f outer p)) p.does
+point_looks a laws truth here program input s f outer p q formals is has kept taken =
     let takes : List ℕ = point_takes (typing a) q.instr in
     let as_point : Does → Point = λ d. record { takes = takes; does = d; pos = q.pos } in
     let on = map_some as_point (does (with_takes a takes) q q.instr) p is in
-    subst Looks on.2 (λ has kept. does_looks (with_takes a takes) laws truth here (taken_kinds (turn (as_point on.0))) program input s f outer (as_point on.0) has q q.instr on.0 on.1 kept) (has taken) kept
+    subst Asked on.2 (λ has kept. does_looks (with_takes a takes) laws truth here (taken_kinds (turn (as_point on.0))) program input s f outer (as_point on.0) has q formals q.instr on.0 on.1 kept) (has taken) kept
   where
     turn : Point → points.Turn
     turn x = turn_of a.site.typing.table program input s f outer x
 
-    Looks : Point → Type 0
-    Looks x =
+    Asked : Point → Type 0
+    Asked x =
         HasKinds (record a.site { takes = x.takes }) f.base here (taken_kinds (turn x))
-        → DoesKept (turn x) here (taken_kinds (turn x)) x.does → LooksDoes (turn x) here (taken_kinds (turn x)) x.does
+        → LeaksThere (turn x) x.does → LooksDoes (turn x) here (taken_kinds (turn x)) x.does

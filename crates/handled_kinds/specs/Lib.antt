@@ -1,4 +1,3 @@
 pub mod Kinds
-pub mod Values
 pub mod Stacks
 pub mod Turns

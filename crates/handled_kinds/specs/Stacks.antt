@@ -18,9 +18,9 @@ abbrev pub stack_kinds : Table → Program → List ℕ → List Kind
 stack_kinds table p [] = []
 stack_kinds table p (n ∷ rest) = stack_kinds table p rest ++ frame_kinds table (sub_at p n)
 
--- The package objects have the last frame.
+-- The package objects have the last frame, where there is one.
 abbrev pub EndsWithPackages : List ℕ → Type 0
-EndsWithPackages [] = ⊥
+EndsWithPackages [] = Unit {0}
 EndsWithPackages (n ∷ []) = n ≡ 0
 EndsWithPackages (n ∷ k ∷ rest) = EndsWithPackages (k ∷ rest)
 

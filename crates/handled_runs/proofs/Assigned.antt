@@ -12,43 +12,65 @@ use Rattle.run_codes.specs.Points as points
 use Rattle.run_codes.specs.Points.{Turn, Outcome, on_made, on_got, leaking_goes}
 use Rattle.handled_runs.specs.Slots.{Slots}
 use Rattle.handled_runs.specs.Slots as slots
-use Rattle.handled_runs.specs.Changes.{stored}
+use Rattle.handled_runs.specs.Changes.{stored, settled}
 use Rattle.handled_runs.specs.Leaks.{AreLeaked}
-use Rattle.handled_runs.specs.Assigned.{Left, flat_assigned, assigned, checked_at, LooksTo, AreLeft, LeftAlike}
+use Rattle.handled_runs.specs.Assigned.{Left, flat_assigned, assigned, checked_at, WhereChecked, LooksTo, AreLeft, LeftAlike}
 use Rattle.handled_runs.specs.Beside.{GotsAlike, all_renamed, spot_renamed, NameWords, Beside}
 use Rattle.handled_runs.specs.Alike.{StandAt}
 use Rattle.handled_runs.proofs.Gots.{gots_then}
-use Rattle.handled_runs.proofs.Places.{spot_gots}
+use Rattle.handled_runs.specs.Marks.{During}
+use Rattle.handled_runs.proofs.Marking.{settled_beside}
+use Rattle.handled_runs.proofs.Copies.{spots_alike}
 use Rattle.handled_runs.proofs.There.{stored_gots}
 use Rattle.handled_runs.proofs.Leaks.{leaks_gots}
 
 module _ (handles : List ℕ) (here taken : List Kind) (m : Flat) (s : Slots) (beside : Beside handles here taken m s) where
   -- the leak checks of a spot, where there are some
   checks_gots : (table : Table) (q : Spot) (of : ℕ) (checks : Option Pos) → StandAt m here q (kinds table of) → are_pointers (kinds table of) (access_offsets table of) ≡ true
-      → ((zs : List ℤ) → flat.words_at m q (kinds table of) ≡ Given zs → AreLeaked m.cells zs (access_offsets table of))
+      → WhereChecked checks ((zs : List ℤ) → flat.words_at m q (kinds table of) ≡ Given zs → AreLeaked m.cells zs (access_offsets table of))
       → GotsAlike (λ a b. b ≡ a) (points.checked_at table m q of checks) (checked_at table s (spot_renamed handles q) of checks)
   checks_gots table q of None stand are leaked = refl
   checks_gots table q of (Some p) stand are leaked = leaks_gots handles here taken m s beside table q of p stand are leaked
 
-  pub assigned_alike : (table : Table) (p : Place) (of : ℕ) (checks : Option Pos) (zs : List ℤ) → LooksTo table m here taken p of → are_pointers (kinds table of) (access_offsets table of) ≡ true
+  -- what is checked and stored at a spot
+  left_alike : (table : Table) (q : Spot) (of : ℕ) (checks : Option Pos) (zs : List ℤ) → StandAt m here q (kinds table of)
+      → WhereChecked checks ((us : List ℤ) → flat.words_at m q (kinds table of) ≡ Given us → AreLeaked m.cells us (access_offsets table of))
+      → are_pointers (kinds table of) (access_offsets table of) ≡ true → length (kinds table of) ≡ length zs → NameWords (length handles) (kinds table of) zs
+      → LeftAlike handles here taken (and_then (points.checked_at table m q of checks) (λ leaks. and_then (flat.stored m q (kinds table of) zs) (λ n. Given (record { leaks = leaks; memory = n }))))
+      (and_then (checked_at table s (spot_renamed handles q) of checks)
+      (λ leaks. and_then (stored s (spot_renamed handles q) (kinds table of) (all_renamed handles (kinds table of) zs)) (λ t. Given (record { leaks = leaks; memory = t }))))
+  left_alike table q of checks zs stand leaked are long names =
+      let ks : List Kind = kinds table of in
+      let us : List ℤ = all_renamed handles ks zs in
+      gots_then (λ a b. b ≡ a) (AreLeft handles here taken) (points.checked_at table m q of checks) (checked_at table s (spot_renamed handles q) of checks)
+      (λ leaks. and_then (flat.stored m q ks zs) (λ n. Given (record { leaks = leaks; memory = n }))) (λ leaks. and_then (stored s (spot_renamed handles q) ks us) (λ t. Given (record { leaks = leaks; memory = t })))
+      (checks_gots table q of checks stand are leaked)
+      (λ leaks ls checked same_leaks.
+      gots_then (Beside handles here taken) (AreLeft handles here taken) (flat.stored m q ks zs) (stored s (spot_renamed handles q) ks us) (λ n. Given (record { leaks = leaks; memory = n })) (λ t. Given (record { leaks = ls; memory = t }))
+      (stored_gots handles here taken m s beside q ks zs stand long names) (λ n t kept both. (same_leaks, both)))
+
+module _ (handles : List ℕ) (here taken : List Kind) (m : Flat) (s : Slots) (is : During handles here taken m s) where
+  pub assigned_alike : (table : Table) (p : Place) (of : ℕ) (checks : Option Pos) (zs : List ℤ) → LooksTo table m.base m here taken p of checks → are_pointers (kinds table of) (access_offsets table of) ≡ true
       → length (kinds table of) ≡ length zs → NameWords (length handles) (kinds table of) zs
       → LeftAlike handles here taken (flat_assigned table p of checks zs m) (assigned table p of checks (all_renamed handles (kinds table of) zs) s)
   assigned_alike table p of checks zs looks are long names =
       let ks : List Kind = kinds table of in
       let us : List ℤ = all_renamed handles ks zs in
+      let done = settled_beside handles here taken m s is in
       gots_then (λ q r. r ≡ spot_renamed handles q) (AreLeft handles here taken) (flat.spot m p) (slots.spot s p)
       (λ q. and_then (points.checked_at table m q of checks) (λ leaks. and_then (flat.stored m q ks zs) (λ n. Given (record { leaks = leaks; memory = n }))))
-      (λ q. and_then (checked_at table s q of checks) (λ leaks. and_then (stored s q ks us) (λ t. Given (record { leaks = leaks; memory = t }))))
-      (spot_gots handles here taken m s beside p looks.0)
+      (λ q. and_then (settled s) (λ k. and_then (checked_at table k q of checks) (λ leaks. and_then (stored k q ks us) (λ t. Given (record { leaks = leaks; memory = t })))))
+      (spots_alike handles here taken m s is p (λ x e. (looks.0 x e).0))
       (λ q r at same.
-      subst (λ x. GotsAlike (AreLeft handles here taken) (and_then (points.checked_at table m q of checks) (λ leaks. and_then (flat.stored m q ks zs) (λ n. Given (record { leaks = leaks; memory = n }))))
-      (and_then (checked_at table s x of checks) (λ leaks. and_then (stored s x ks us) (λ t. Given (record { leaks = leaks; memory = t }))))) (sym same)
-      (gots_then (λ a b. b ≡ a) (AreLeft handles here taken) (points.checked_at table m q of checks) (checked_at table s (spot_renamed handles q) of checks)
-      (λ leaks. and_then (flat.stored m q ks zs) (λ n. Given (record { leaks = leaks; memory = n }))) (λ leaks. and_then (stored s (spot_renamed handles q) ks us) (λ t. Given (record { leaks = leaks; memory = t })))
-      (checks_gots table q of checks (looks.1 q at).0 are (looks.1 q at).1)
-      (λ leaks ls checked same_leaks.
-      gots_then (Beside handles here taken) (AreLeft handles here taken) (flat.stored m q ks zs) (stored s (spot_renamed handles q) ks us) (λ n. Given (record { leaks = leaks; memory = n })) (λ t. Given (record { leaks = ls; memory = t }))
-      (stored_gots handles here taken m s beside q ks zs (looks.1 q at).0 long names) (λ n t kept both. (same_leaks, both)))))
+      subst (λ g. GotsAlike (AreLeft handles here taken) (and_then (points.checked_at table m q of checks) (λ leaks. and_then (flat.stored m q ks zs) (λ n. Given (record { leaks = leaks; memory = n }))))
+      (and_then g (λ k. and_then (checked_at table k r of checks) (λ leaks. and_then (stored k r ks us) (λ t. Given (record { leaks = leaks; memory = t })))))) (sym done.1)
+      (subst (λ x. GotsAlike (AreLeft handles here taken) (and_then (points.checked_at table m q of checks) (λ leaks. and_then (flat.stored m q ks zs) (λ n. Given (record { leaks = leaks; memory = n }))))
+      (and_then (checked_at table done.0 x of checks) (λ leaks. and_then (stored done.0 x ks us) (λ t. Given (record { leaks = leaks; memory = t }))))) (sym same)
+      (left_alike handles here taken m done.0 done.2 table q of checks zs ((looks.0 m refl).1 q at) (at_spot _ checks q at looks.1) are long names)))
+    where
+      at_spot : (P : Spot → Type 0) (checks : Option Pos) (q : Spot) → flat.spot m p ≡ Given q → WhereChecked checks ((r : Spot) → flat.spot m p ≡ Given r → P r) → WhereChecked checks (P q)
+      at_spot P None q at leaked = tt
+      at_spot P (Some x) q at leaked = leaked q at
 
 -- So it is in points that assign.
 pub assign_is : (t : Turn) (p : Place) (v : Fill) (of : ℕ) (checks : Option Pos) (n : Option ℕ)

@@ -10,14 +10,14 @@ pub gots_mapped : {A B : Type 0} (f : A → B) (x : Got A) (y : Got B) → y ≡
 gots_mapped f (Given a) y e = subst (GotsAlike (λ a b. b ≡ f a) (Given a)) (sym e) refl
 gots_mapped f (Stops (Raises x)) y e = e
 gots_mapped f (Stops (Traps t)) y e = tt
-gots_mapped f (Stops Memory) y e = tt
+gots_mapped f (Stops Memory) y e = e
 gots_mapped f Broken y e = tt
 
 pub gots_same : {A : Type 0} (x y : Got A) → y ≡ x → GotsAlike (λ a b. b ≡ a) x y
 gots_same (Given a) y e = subst (GotsAlike (λ a b. b ≡ a) (Given a)) (sym e) refl
 gots_same (Stops (Raises s)) y e = e
 gots_same (Stops (Traps t)) y e = tt
-gots_same (Stops Memory) y e = tt
+gots_same (Stops Memory) y e = e
 gots_same Broken y e = tt
 
 pub gots_on : {A B : Type 0} (R S : A → B → Type 0) (x : Got A) (y : Got B) → ((a : A) (b : B) → R a b → S a b) → GotsAlike R x y → GotsAlike S x y
@@ -26,7 +26,7 @@ gots_on R S (Given a) (Stops y) on is = is
 gots_on R S (Given a) Broken on is = is
 gots_on R S (Stops (Raises e)) y on is = is
 gots_on R S (Stops (Traps t)) y on is = tt
-gots_on R S (Stops Memory) y on is = tt
+gots_on R S (Stops Memory) y on is = is
 gots_on R S Broken y on is = tt
 
 pub gots_then : {A B C D : Type 0} (R : A → B → Type 0) (S : C → D → Type 0) (x : Got A) (y : Got B) (F : A → Got C) (G : B → Got D) → GotsAlike R x y
@@ -36,7 +36,7 @@ gots_then R S (Given a) (Stops y) F G is on = absurd is
 gots_then R S (Given a) Broken F G is on = absurd is
 gots_then R S (Stops (Raises x)) y F G is on = ap (λ g. and_then g G) is
 gots_then R S (Stops (Traps t)) y F G is on = tt
-gots_then R S (Stops Memory) y F G is on = tt
+gots_then R S (Stops Memory) y F G is on = ap (λ g. and_then g G) is
 gots_then R S Broken y F G is on = tt
 
 -- What stops silently or is given over both.
@@ -44,7 +44,7 @@ pub given_both : {A B : Type 0} (R : A → B → Type 0) (x : Got A) (y : Got B)
 given_both R (Given a) y goes both = let is = both a refl in subst (GotsAlike R (Given a)) (sym is.1) is.2
 given_both R (Stops (Raises e)) y goes both = absurd (goes (Raises e) refl)
 given_both R (Stops (Traps t)) y goes both = tt
-given_both R (Stops Memory) y goes both = tt
+given_both R (Stops Memory) y goes both = absurd (goes Memory refl)
 given_both R Broken y goes both = tt
 
 -- ---- cells that are touched
@@ -69,7 +69,7 @@ touch_silent (Some c) f s then_silent e = by c.freed e
     trap : (s : Stop) → Traps Touched ≡ s → IsSilent s
     trap (Raises x) e = cc
     trap (Traps t) e = tt
-    trap Memory e = tt
+    trap Memory e = cc
 
     by : (b : Bool) → (if b then Stops (Traps Touched) else f c) ≡ Stops s → IsSilent s
     by true e = trap s (let same : Traps Touched ≡ s = cc in same)

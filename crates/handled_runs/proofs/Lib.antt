@@ -2,11 +2,15 @@
 pub mod Gots
 -- words of cells, and of stacks
 pub mod Named
+-- none that is looked at is gone
+pub mod Kept
 -- codes
 pub mod Words
 -- places, and what stands there
 pub mod Places
 pub mod Standing
+-- memories without their marks
+pub mod Unmarked
 -- lists of words in which some are replaced
 pub mod Lists
 -- what changes in the stack
@@ -19,9 +23,17 @@ pub mod Moves
 pub mod Names
 -- copies and moves
 pub mod There
+-- what a point has moved so far
+pub mod Marking
+pub mod Copies
 -- values
+pub mod Bases
 pub mod Outcomes
 pub mod Filled
+-- frames that are pushed and filled in the course of a point
+pub mod Framed
+-- what is copied back as a call ends
+pub mod Backs
 -- leak checks, and stores at spots
 pub mod Leaks
 -- values that go to places

@@ -24,7 +24,7 @@ use Rattle.handled_runs.proofs.Cells.{never_below, changed_at, changed_there, ki
 
 -- ---- one value that is gone
 
-gone_kind : (v : Value) → kind (value_gone v) ≡ kind v
+pub gone_kind : (v : Value) → kind (value_gone v) ≡ kind v
 gone_kind (value.Int i) = refl
 gone_kind (value.Enum n) = refl
 gone_kind value.Null = refl
@@ -56,7 +56,7 @@ gone_names bound (value.Cell n) is = by (nat_lt n gone_from) refl
 
 -- ---- words that are gone, one after the other
 
-abbrev moved : ℕ → List ℕ → List Value → List Value
+abbrev pub moved : ℕ → List ℕ → List Value → List Value
 moved o [] ws = ws
 moved o (g ∷ gone) ws = moved o gone (at_number (o + g) value_gone ws)
 
@@ -79,37 +79,37 @@ replaced_at f (suc o) g vs (w ∷ ws) low fits =
     ap (λ rest. w ∷ rest) (replaced_at f o g vs ws low (omega (arith, fits)))
     ∙ ap (λ i. at_number i f (w ∷ replaced o vs ws)) (sym next)
 
-abbrev AllBelow : ℕ → List ℕ → Type 0
+abbrev pub AllBelow : ℕ → List ℕ → Type 0
 AllBelow n [] = Unit {0}
 AllBelow n (g ∷ gone) = (g < n) × AllBelow n gone
 
-replaced_gone : (o : ℕ) (gone : List ℕ) (vs ws : List Value) → AllBelow (length vs) gone → o + length vs ≤ length ws → replaced o (values_gone gone vs) ws ≡ moved o gone (replaced o vs ws)
+pub replaced_gone : (o : ℕ) (gone : List ℕ) (vs ws : List Value) → AllBelow (length vs) gone → o + length vs ≤ length ws → replaced o (values_gone gone vs) ws ≡ moved o gone (replaced o vs ws)
 replaced_gone o [] vs ws below fits = refl
 replaced_gone o (g ∷ gone) vs ws below fits =
     let same = at_long value_gone g vs in
     replaced_gone o gone (at_number g value_gone vs) ws (subst (λ n. AllBelow n gone) (sym same) below.1) (omega (arith, same, fits))
     ∙ ap (moved o gone) (replaced_at value_gone o g vs ws below.0 fits)
 
-gone_long : (gone : List ℕ) (vs : List Value) → length (values_gone gone vs) ≡ length vs
+pub gone_long : (gone : List ℕ) (vs : List Value) → length (values_gone gone vs) ≡ length vs
 gone_long [] vs = refl
 gone_long (g ∷ gone) vs = gone_long gone (at_number g value_gone vs) ∙ at_long value_gone g vs
 
 -- what stands there anyway
-replaced_same : (o k : ℕ) (ws : List Value) → replaced o (take k (drop o ws)) ws ≡ ws
+pub replaced_same : (o k : ℕ) (ws : List Value) → replaced o (take k (drop o ws)) ws ≡ ws
 replaced_same zero zero ws = refl
 replaced_same zero (suc k) [] = refl
 replaced_same zero (suc k) (w ∷ ws) = ap (λ rest. w ∷ rest) (replaced_same zero k ws)
 replaced_same (suc o) k [] = refl
 replaced_same (suc o) k (w ∷ ws) = ap (λ rest. w ∷ rest) (replaced_same o k ws)
 
-take_long : (k : ℕ) (ws : List Value) → k ≤ length ws → length (take k ws) ≡ k
+pub take_long : (k : ℕ) (ws : List Value) → k ≤ length ws → length (take k ws) ≡ k
 take_long zero ws less = refl
 take_long (suc k) [] less = absurd (omega (arith, less))
 take_long (suc k) (w ∷ ws) less = ap suc (take_long k ws (omega (arith, less)))
 
 -- ---- access values at offsets
 
-abbrev AreAccess : ℕ → List ℕ → List Kind → Type 0
+abbrev pub AreAccess : ℕ → List ℕ → List Kind → Type 0
 AreAccess o [] js = Unit {0}
 AreAccess o (g ∷ gone) js = (slice_get js (o + g) ≡ Some sort.Access) × AreAccess o gone js
 
@@ -123,7 +123,7 @@ set_at f [] i v is = cc
 set_at f (w ∷ ws) zero v is = ap (λ x. f x ∷ ws) (let same : w ≡ v = cc in same)
 set_at f (w ∷ ws) (suc i) v is = ap (λ rest. w ∷ rest) (set_at f ws i v is)
 
-kinds_at : (i : ℕ) (ws : List Value) → map kind (at_number i value_gone ws) ≡ map kind ws
+pub kinds_at : (i : ℕ) (ws : List Value) → map kind (at_number i value_gone ws) ≡ map kind ws
 kinds_at i [] = refl
 kinds_at zero (w ∷ ws) = ap (λ k. k ∷ map kind ws) (gone_kind w)
 kinds_at (suc i) (w ∷ ws) = ap (λ ks. kind w ∷ ks) (kinds_at i ws)
@@ -133,7 +133,7 @@ kinds_at (suc i) (w ∷ ws) = ap (λ ks. kind w ∷ ks) (kinds_at i ws)
 abbrev one_moved : ℕ → Cell → Cell
 one_moved i c = record c { words = at_number i value_gone c.words }
 
-abbrev all_moved : ℕ → List ℕ → Cell → Cell
+abbrev pub all_moved : ℕ → List ℕ → Cell → Cell
 all_moved o gone c = record c { words = moved o gone c.words }
 
 moved_none : (o : ℕ) (cells : List Cell) (n : ℕ) → numbered.changed (all_moved o []) cells n ≡ cells
@@ -169,15 +169,15 @@ all_null handles n o (g ∷ gone) ws cells m there access f =
 
 -- ---- what the tests say
 
-first_of : (a b : Bool) → a && b ≡ true → a ≡ true
+pub first_of : (a b : Bool) → a && b ≡ true → a ≡ true
 first_of true b e = refl
 first_of false b e = cc
 
-second_of : (a b : Bool) → a && b ≡ true → b ≡ true
+pub second_of : (a b : Bool) → a && b ≡ true → b ≡ true
 second_of true b e = e
 second_of false b e = cc
 
-pointer_there : (ks : List Kind) (g : ℕ) → is_pointer (slice_get ks g) ≡ true → (slice_get ks g ≡ Some sort.Access) × (g < length ks)
+pub pointer_there : (ks : List Kind) (g : ℕ) → is_pointer (slice_get ks g) ≡ true → (slice_get ks g ≡ Some sort.Access) × (g < length ks)
 pointer_there [] g is = cc
 pointer_there (sort.Access ∷ ks) zero is = (refl, omega arith)
 pointer_there (sort.Int ∷ ks) zero is = cc
@@ -195,14 +195,14 @@ drop_there js zero g = let same : g ≡ 0 + g = omega arith in ap (slice_get js)
 drop_there [] (suc o) g = refl
 drop_there (j ∷ js) (suc o) g = let next : suc (o + g) ≡ suc o + g = omega arith in drop_there js o g ∙ ap (slice_get (j ∷ js)) next
 
-all_access : (ks : List Kind) (o : ℕ) (gone : List ℕ) (js : List Kind) → IsFront ks (drop o js) → are_pointers ks gone ≡ true → AreAccess o gone js
+pub all_access : (ks : List Kind) (o : ℕ) (gone : List ℕ) (js : List Kind) → IsFront ks (drop o js) → are_pointers ks gone ≡ true → AreAccess o gone js
 all_access ks o [] js is e = tt
 all_access ks o (g ∷ gone) js is e = (
   sym (drop_there js o g) ∙ front_there ks (drop o js) g sort.Access is (pointer_there ks g (first_of (is_pointer (slice_get ks g)) (are_pointers ks gone) e)).0,
   all_access ks o gone js is (second_of (is_pointer (slice_get ks g)) (are_pointers ks gone) e),
 )
 
-all_below : (ks : List Kind) (gone : List ℕ) → are_pointers ks gone ≡ true → AllBelow (length ks) gone
+pub all_below : (ks : List Kind) (gone : List ℕ) → are_pointers ks gone ≡ true → AllBelow (length ks) gone
 all_below ks [] e = tt
 all_below ks (g ∷ gone) e = (
   (pointer_there ks g (first_of (is_pointer (slice_get ks g)) (are_pointers ks gone) e)).1,

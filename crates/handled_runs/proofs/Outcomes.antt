@@ -1,5 +1,5 @@
 -- Outcomes that are alike, one after the other.
-use Rattle.std.proofs.Common.{◌≡◌, refl, sym, ap, ◌∙◌, subst, ℕ, zero, suc, ◌+◌, arith, Bool, true, false, not, nat_lt, nat_le, List, [], ◌∷◌, ◌++◌, append_assoc, length-append, length, get_or, ℤ, pos, if◌then◌else◌}
+use Rattle.std.proofs.Common.{◌≡◌, refl, sym, ap, ◌∙◌, subst, ℕ, zero, suc, ◌+◌, arith, Bool, true, false, true≢false, not, nat_lt, nat_le, List, [], ◌∷◌, ◌++◌, append_assoc, length-append, length, get_or, ℤ, pos, if◌then◌else◌}
 use mathlib.Core.Logic.{inl, inr}
 use Rattle.run_values.specs.declared.value.Kind.{Kind}
 use Rattle.run_values.specs.declared.value.Kind.TheVariants as sort
@@ -8,11 +8,14 @@ use Rattle.run_codes.specs.Flat.{Flat, Made, Done, Halted, Failed, Stop, Raises,
 use Rattle.run_codes.specs.Flat as flat
 use Rattle.handled_runs.specs.Slots.{Slots}
 use Rattle.handled_runs.specs.Values.{Outcome, Gives, Ends, Fails, Then, MakesCell, Makes}
-use Rattle.handled_runs.specs.Beside.{renamed, all_renamed, NameWords, Beside}
+use Rattle.handled_runs.specs.Beside.{renamed, all_renamed, NameWords}
+use Rattle.handled_runs.specs.Looks.{AreKept}
+use Rattle.handled_runs.specs.Marks.{During}
 use Rattle.handled_runs.specs.Alike.{Alike, AreAlike, StopsAlike, kinds_repeated}
 use Rattle.handled_runs.proofs.Named.{long_renamed}
-use Rattle.handled_runs.proofs.Cells.{words_on, names_on, new_beside}
-use Rattle.handled_runs.proofs.There.{silent_stops, stops_alike}
+use Rattle.handled_runs.proofs.Cells.{words_on, names_on}
+use Rattle.handled_runs.proofs.Marking.{during_made}
+use Rattle.handled_runs.proofs.Copies.{unmarked_long, silent_stops, stops_alike}
 
 -- ---- words one after the other
 
@@ -44,6 +47,16 @@ long_repeated : (n : ℕ) (ks : List Kind) (zs : List ℤ) → length ks ≡ len
 long_repeated zero ks zs long = refl
 long_repeated (suc n) ks zs long = long_append ks (kinds_repeated n ks) zs (repeated n zs) long (long_repeated n ks zs long)
 
+pub kept_append : (is js : List Kind) (xs ys : List ℤ) → length is ≡ length xs → AreKept is xs → AreKept js ys → AreKept (is ++ js) (xs ++ ys)
+kept_append [] js [] ys long first second = second
+kept_append [] js (x ∷ xs) ys long first second = cc
+kept_append (i ∷ is) js [] ys long first second = cc
+kept_append (i ∷ is) js (x ∷ xs) ys long first second = (first.0, kept_append is js xs ys (let same : length is ≡ length xs = cc in same) first.1 second)
+
+kept_repeated : (n : ℕ) (ks : List Kind) (zs : List ℤ) → length ks ≡ length zs → AreKept ks zs → AreKept (kinds_repeated n ks) (repeated n zs)
+kept_repeated zero ks zs long kept = tt
+kept_repeated (suc n) ks zs long kept = kept_append ks (kinds_repeated n ks) zs (repeated n zs) long kept (kept_repeated n ks zs long kept)
+
 -- ---- outcomes
 
 module _ (handles : List ℕ) (here taken : List Kind) where
@@ -63,7 +76,7 @@ module _ (handles : List ℕ) (here taken : List Kind) where
   stops_on more x m Fails same = same
   stops_on more x m (Ends y s) (inl e) = inl e
   stops_on more x m (Ends y s) (inr (inl e)) = inr (inl e)
-  stops_on more x m (Ends y s) (inr (inr both)) = inr (inr (both.0, (more ++ both.1.0, subst (λ hs. Beside hs here taken m s) (append_assoc handles more both.1.0) both.1.1)))
+  stops_on more x m (Ends y s) (inr (inr both)) = inr (inr (both.0, (more ++ both.1.0, subst (λ hs. During hs here taken m s) (append_assoc handles more both.1.0) both.1.1)))
 
   pub alike_on : (more : List ℕ) (ks : List Kind) (f : Made (List ℤ)) (r : Outcome) → AreAlike (handles ++ more) here taken ks f r → AreAlike handles here taken ks f r
   alike_on more ks (Done zs m) (Gives us s) a =
@@ -72,7 +85,8 @@ module _ (handles : List ℕ) (here taken : List Kind) where
         words = a.words ∙ ap (λ hs. all_renamed hs ks zs) same;
         known = a.known;
         names = subst (λ hs. NameWords (length hs) ks zs) same a.names;
-        beside = subst (λ hs. Beside hs here taken m s) same a.beside;
+        kept = a.kept;
+        during = subst (λ hs. During hs here taken m s) same a.during;
       }
   alike_on more ks (Done zs m) (Ends x s) a = a
   alike_on more ks (Done zs m) Fails a = a
@@ -89,7 +103,8 @@ module _ (handles : List ℕ) (here taken : List Kind) where
         words = ap (repeated n) a.words ∙ renamed_repeated (handles ++ a.more) n js zs a.known;
         known = long_repeated n js zs a.known;
         names = names_repeated (length (handles ++ a.more)) n js zs a.known a.names;
-        beside = a.beside;
+        kept = kept_repeated n js zs a.known a.kept;
+        during = a.during;
       } in
       subst (AreAlike handles here taken (kinds_repeated n js) (Done (repeated n zs) m)) (sym so) alike
   repeated_alike n js (Done zs m) (Ends x s) r a so = subst (AreAlike handles here taken (kinds_repeated n js) (Done (repeated n zs) m)) (sym so) a
@@ -99,22 +114,23 @@ module _ (handles : List ℕ) (here taken : List Kind) where
 
   -- ---- words after others
 
-  pub second_alike : (is js : List Kind) (zs us : List ℤ) (f : Made (List ℤ)) (q r : Outcome) → us ≡ all_renamed handles is zs → length is ≡ length zs → NameWords (length handles) is zs
+  pub second_alike : (is js : List Kind) (zs us : List ℤ) (f : Made (List ℤ)) (q r : Outcome) → us ≡ all_renamed handles is zs → length is ≡ length zs → NameWords (length handles) is zs → AreKept is zs
       → AreAlike handles here taken js f q → Then q (λ ws u. r ≡ Gives (us ++ ws) u) r → AreAlike handles here taken (is ++ js) (made_then f (λ ws. Done (zs ++ ws))) r
-  second_alike is js zs us (Done ws m) (Gives vs s) r words known names a so =
+  second_alike is js zs us (Done ws m) (Gives vs s) r words known names kept a so =
       let hs : List ℕ = handles ++ a.more in
       let alike : Alike handles here taken (is ++ js) (zs ++ ws) m (us ++ vs) s = record {
         more = a.more;
         words = ap (λ xs. xs ++ vs) (words ∙ words_on handles a.more is zs names) ∙ (ap (λ ys. all_renamed hs is zs ++ ys) a.words ∙ sym (renamed_append hs is js zs ws known));
         known = long_append is js zs ws known a.known;
         names = names_append (length hs) is js zs ws known (names_on handles a.more is zs names) a.names;
-        beside = a.beside;
+        kept = kept_append is js zs ws known kept a.kept;
+        during = a.during;
       } in
       subst (AreAlike handles here taken (is ++ js) (Done (zs ++ ws) m)) (sym so) alike
-  second_alike is js zs us (Done ws m) (Ends x s) r words known names a so = subst (AreAlike handles here taken (is ++ js) (Done (zs ++ ws) m)) (sym so) a
-  second_alike is js zs us (Done ws m) Fails r words known names a so = absurd a
-  second_alike is js zs us (Halted x m) q r words known names a so = stops_then x m q r (λ ws u. r ≡ Gives (us ++ ws) u) a so
-  second_alike is js zs us Failed q r words known names a so = tt
+  second_alike is js zs us (Done ws m) (Ends x s) r words known names kept a so = subst (AreAlike handles here taken (is ++ js) (Done (zs ++ ws) m)) (sym so) a
+  second_alike is js zs us (Done ws m) Fails r words known names kept a so = absurd a
+  second_alike is js zs us (Halted x m) q r words known names kept a so = stops_then x m q r (λ ws u. r ≡ Gives (us ++ ws) u) a so
+  second_alike is js zs us Failed q r words known names kept a so = tt
 
 -- ---- a new cell
 
@@ -122,35 +138,39 @@ last_of : (hs : List ℕ) (h : ℕ) → get_or (hs ++ h ∷ []) (length hs) 0 �
 last_of [] h = refl
 last_of (x ∷ hs) h = last_of hs h
 
-module _ (handles : List ℕ) (here taken : List Kind) (m : Flat) (s : Slots) (beside : Beside handles here taken m s) where
-  pub cell_alike : (ks : List Kind) (zs : List ℤ) (r : Outcome) → length ks ≡ length zs → NameWords (length handles) ks zs → Makes s ks (all_renamed handles ks zs) r
+module _ (handles : List ℕ) (here taken : List Kind) (m : Flat) (s : Slots) (is : During handles here taken m s) where
+  pub cell_alike : (ks : List Kind) (zs : List ℤ) (r : Outcome) → length ks ≡ length zs → NameWords (length handles) ks zs → AreKept ks zs → Makes s ks (all_renamed handles ks zs) r
       → AreAlike handles here taken (sort.Access ∷ []) (flat.made m ks zs) r
-  cell_alike ks zs r known names makes =
-      by (are_words ks zs) (nat_le (m.live + length zs) heap_words) (nat_lt (length m.cells) most_cells) r refl (subst (λ b. MakesCell b s ks (all_renamed handles ks zs) r) tests makes)
+  cell_alike ks zs r known names kept makes =
+      by (are_words ks zs) (nat_le (m.live + length zs) heap_words) (nat_lt (length m.cells) most_cells) r refl refl (subst (λ b. MakesCell b s ks (all_renamed handles ks zs) r) tests makes)
     where
       us : List ℤ
       us = all_renamed handles ks zs
 
       tests : nat_le (s.live + length (all_renamed handles ks zs)) heap_words ≡ nat_le (m.live + length zs) heap_words
-      tests = ap (λ l. nat_le (l + length (all_renamed handles ks zs)) heap_words) beside.live ∙ ap (λ l. nat_le (m.live + l) heap_words) (long_renamed handles ks zs known)
+      tests = ap (λ l. nat_le (l + length (all_renamed handles ks zs)) heap_words) (is.beside.live ∙ is.unmarked.live) ∙ ap (λ l. nat_le (m.live + l) heap_words) (long_renamed handles ks zs known)
 
-      by : (a b c : Bool) (r : Outcome) → are_words ks zs ≡ a → MakesCell b s ks (all_renamed handles ks zs) r
+      numbers : nat_lt s.made most_cells ≡ nat_lt (length m.cells) most_cells
+      numbers = ap (λ n. nat_lt n most_cells) (is.beside.made ∙ unmarked_long is.whole.cells m.cells is.unmarked.cells)
+
+      by : (a b c : Bool) (r : Outcome) → are_words ks zs ≡ a → nat_lt (length m.cells) most_cells ≡ c → MakesCell b s ks (all_renamed handles ks zs) r
           → AreAlike handles here taken (sort.Access ∷ [])
           (if not a then Failed else (if b then (if c then Done (pos (suc (length m.cells)) ∷ []) (with_cell m (values ks zs)) else Halted Memory m) else Halted (Raises StorageError) m)) r
-      by true true true (Gives ws t) are (h, new, word, made) =
-          let after = new_beside handles here taken m s beside h ks zs new names are in
+      by true true true (Gives ws t) are room (h, new, word, made, few) =
+          let after = during_made handles here taken m s h ks zs is new names kept are in
           let long = length-append handles (h ∷ []) in
-          let count = beside.cells.len in record {
+          let count : length handles ≡ length m.cells = is.beside.cells.len ∙ unmarked_long is.whole.cells m.cells is.unmarked.cells in record {
             more = h ∷ [];
             words = word ∙ ap (λ n. pos (suc n) ∷ []) (sym (ap (λ n. get_or (handles ++ h ∷ []) n 0) (sym count) ∙ last_of handles h));
             known = refl;
             names = (omega (arith, long, count), tt);
-            beside = subst (Beside (handles ++ h ∷ []) here taken (with_cell m (values ks zs))) (sym made) after;
+            kept = (tt, tt);
+            during = subst (During (handles ++ h ∷ []) here taken (with_cell m (values ks zs))) (sym made) after;
           }
-      by true true true (Ends x t) are made = made.0
-      by true true true Fails are made = absurd made
-      by true true false (Gives ws t) are made = tt
-      by true true false (Ends x t) are made = inl tt
-      by true true false Fails are made = tt
-      by true false c r are made = subst (StopsAlike handles here taken (Raises StorageError) m) (sym made) (stops_alike handles here taken m s beside (Raises StorageError))
-      by false b c r are made = tt
+      by true true true (Ends x t) are room made = made.0
+      by true true true Fails are room made = absurd made
+      by true true false (Gives ws t) are room (h, new, word, made, few) = absurd (true≢false (sym few ∙ (numbers ∙ room)))
+      by true true false (Ends x t) are room made = inr (inl made.0)
+      by true true false Fails are room made = absurd made
+      by true false c r are room made = subst (StopsAlike handles here taken (Raises StorageError) m) (sym made) (stops_alike handles here taken m s is (Raises StorageError))
+      by false b c r are room made = tt

@@ -25,6 +25,8 @@ use Rattle.handled_runs.specs.Released.{flat_freed, flat_cell, flat_at, flat_rel
 use Rattle.handled_runs.specs.Beside.{GotsAlike, handle_word, all_renamed, spot_renamed, Beside}
 use Rattle.handled_runs.specs.Alike.{StandAt}
 use Rattle.handled_runs.proofs.Gots.{gots_then, given_both}
+use Rattle.handled_runs.specs.Looks.{IsKept, AreKept, IsClear}
+use Rattle.handled_runs.proofs.Kept.{words_kept}
 use Rattle.handled_runs.proofs.Places.{spot_gots}
 use Rattle.handled_runs.proofs.Standing.{stack_words, cell_words_same}
 use Rattle.handled_runs.proofs.There.{words_silent, words_there, stored_gots}
@@ -68,7 +70,7 @@ stored_stays m (InCell i o) ks zs n k ws e there = by (slice_get m.cells i) e
 
 -- ---- the law
 
-module _ (handles : List ℕ) (here taken : List Kind) (m : Flat) (s : Slots) (beside : Beside handles here taken m s) where
+module _ (handles : List ℕ) (here taken : List Kind) (m : Flat) (s : Slots) (beside : Beside handles here taken m s) (clear : IsClear here taken m) where
   abbrev one : List Kind
   one = sort.Access ∷ []
 
@@ -132,24 +134,24 @@ module _ (handles : List ℕ) (here taken : List Kind) (m : Flat) (s : Slots) (b
         by true = freed_by c.freed refl
         by false = tt
 
-    named_alike : (q : Spot) (z : ℤ) → StandAt m here q one → IsOwner table m of z → Alike (flat_at table of at q m (z ∷ [])) (released_at table of at (spot_renamed handles q) s (handle_word handles z ∷ []))
-    named_alike q (pos zero) stand is = (refl, beside)
-    named_alike q (negsuc k) stand is = absurd is
-    named_alike q (pos (suc k)) stand is = cell_alike q k (slice_get m.cells k) refl stand is
+    named_alike : (q : Spot) (z : ℤ) → StandAt m here q one → IsKept z → IsOwner table m of z → Alike (flat_at table of at q m (z ∷ [])) (released_at table of at (spot_renamed handles q) s (handle_word handles z ∷ []))
+    named_alike q (pos zero) stand kept is = (refl, beside)
+    named_alike q (negsuc k) stand kept is = absurd kept
+    named_alike q (pos (suc k)) stand kept is = cell_alike q k (slice_get m.cells k) refl stand is
 
-    words_alike : (q : Spot) (zs : List ℤ) → StandAt m here q one → ((z : ℤ) → zs ≡ z ∷ [] → IsOwner table m of z) → Alike (flat_at table of at q m zs) (released_at table of at (spot_renamed handles q) s (all_renamed handles one zs))
-    words_alike q [] stand is = tt
-    words_alike q (z ∷ []) stand is = named_alike q z stand (is z refl)
-    words_alike q (z ∷ y ∷ zs) stand is = tt
+    words_alike : (q : Spot) (zs : List ℤ) → StandAt m here q one → AreKept one zs → ((z : ℤ) → zs ≡ z ∷ [] → IsOwner table m of z) → Alike (flat_at table of at q m zs) (released_at table of at (spot_renamed handles q) s (all_renamed handles one zs))
+    words_alike q [] stand kept is = tt
+    words_alike q (z ∷ []) stand kept is = named_alike q z stand kept.0 (is z refl)
+    words_alike q (z ∷ y ∷ zs) stand kept is = tt
 
     pub released_alike : (p : Place) → LooksFor table m here taken p of → Alike (flat_released table p of at m) (released table p of at s)
     released_alike p looks =
         gots_then (λ q r. r ≡ spot_renamed handles q) (AreLeft handles here taken) (flat.spot m p) (slots.spot s p) (λ q. and_then (flat.words_at m q one) (flat_at table of at q m))
-        (λ q. and_then (slots.held s q one) (released_at table of at q s)) (spot_gots handles here taken m s beside p looks.0)
+        (λ q. and_then (slots.held s q one) (released_at table of at q s)) (spot_gots handles here taken m s beside clear p looks.0)
         (λ q r found same.
         subst (λ x. Alike (and_then (flat.words_at m q one) (flat_at table of at q m)) (and_then (slots.held s x one) (released_at table of at x s))) (sym same)
         (gots_then (λ zs us. us ≡ all_renamed handles one zs) (AreLeft handles here taken) (flat.words_at m q one) (slots.held s (spot_renamed handles q) one) (flat_at table of at q m)
         (released_at table of at (spot_renamed handles q) s) (words_gots q (looks.1 q found).0)
         (λ zs us e words.
         subst (λ x. Alike (flat_at table of at q m zs) (released_at table of at (spot_renamed handles q) s x)) (sym words)
-        (words_alike q zs (looks.1 q found).0 (λ z is. (looks.1 q found).1 z (e ∙ ap Given is))))))
+        (words_alike q zs (looks.1 q found).0 (words_kept here taken m clear q one zs (looks.1 q found).0 e) (λ z is. (looks.1 q found).1 z (e ∙ ap Given is))))))

@@ -1,6 +1,5 @@
 -- What is held at a spot, stored there and moved from there is alike over both heaps.
 use Rattle.std.proofs.Common.{◌≡◌, refl, sym, ap, ◌∙◌, subst, ℕ, zero, suc, ◌+◌, ◌≤◌, arith, Option, Some, None, get_or, ◌++◌, Bool, true, false, ◌&&◌, nat_le, nat_lt, List, [], ◌∷◌, append-nil, take, drop, length, slice_get, ℤ, if◌then◌else◌}
-use mathlib.Core.Logic.{inl, inr}
 use Rattle.run_values.specs.declared.value.Value.{Value}
 use Rattle.run_values.specs.declared.value.Kind.{Kind}
 use Rattle.machine.specs.Evaluate.{Touched}
@@ -12,10 +11,9 @@ use Rattle.run_codes.specs.Flat as flat
 use Rattle.handled_runs.specs.Slots.{Slots}
 use Rattle.handled_runs.specs.Slots as slots
 use Rattle.handled_runs.specs.Changes.{cell_stored, stored, emptied}
-use Rattle.handled_runs.specs.Values.{Outcome, Gives, Ends, Fails, reads, copies, moves}
 use Rattle.handled_runs.specs.Beside.{IsSilent, GotsAlike, all_renamed, spot_renamed, NameWords, Beside}
 use Rattle.handled_runs.specs.Looks.{AreKept}
-use Rattle.handled_runs.specs.Alike.{StandAt, Alike, AreAlike, StopsAlike}
+use Rattle.handled_runs.specs.Alike.{StandAt}
 use Rattle.handled_runs.proofs.Gots.{given_both, there_of, touch_silent}
 use Rattle.handled_runs.proofs.Standing.{stack_held, cell_held, front_long}
 use Rattle.handled_runs.proofs.Lists.{front_names}
@@ -54,7 +52,7 @@ held_silent m p ks t e = by (flat.words_at m p ks) refl e
     by (Stops u) found e = let same : u ≡ t = cc in subst IsSilent same (words_silent m p ks u found)
     by Broken found e = cc
 
-moved_silent : (m : Flat) (p : Spot) (ks : List Kind) (gone : List ℕ) (t : Stop) → flat.moved_out m p ks gone ≡ Stops t → IsSilent t
+pub moved_silent : (m : Flat) (p : Spot) (ks : List Kind) (gone : List ℕ) (t : Stop) → flat.moved_out m p ks gone ≡ Stops t → IsSilent t
 moved_silent m (InStack n) ks gone t e = absurd (by (are_pointers ks gone) (flat.front ks (drop n m.stack)) refl e)
   where
     by : (b : Bool) (g : Got (List ℤ)) → flat.front ks (drop n m.stack) ≡ g
@@ -71,7 +69,7 @@ moved_silent m (InCell n o) ks gone t e =
     by c true f = cc
     by c false f = cc
 
-stored_silent : (m : Flat) (q : Spot) (ks : List Kind) (zs : List ℤ) (t : Stop) → flat.stored m q ks zs ≡ Stops t → IsSilent t
+pub stored_silent : (m : Flat) (q : Spot) (ks : List Kind) (zs : List ℤ) (t : Stop) → flat.stored m q ks zs ≡ Stops t → IsSilent t
 stored_silent m (InStack n) ks zs t e = absurd (by (nat_le (n + length zs) (length m.stack)) e)
   where
     by : (b : Bool) → (if b then Given (flat.with_stack m (spliced n zs m.stack)) else Broken) ≡ Stops t → ⊥
@@ -94,6 +92,7 @@ pub record AreRenamed (handles : List ℕ) (ks : List Kind) (zs us : List ℤ) :
   pub words : us ≡ all_renamed handles ks zs
   pub known : length ks ≡ length zs
   pub names : NameWords (length handles) ks zs
+  pub kept : AreKept ks zs
 
 second_true : (a b : Bool) → a && b ≡ true → b ≡ true
 second_true true b e = e
@@ -105,38 +104,7 @@ kinds_room k ks zero ws is = omega arith
 kinds_room k ks (suc o) [] is = cc
 kinds_room k ks (suc o) (w ∷ ws) is = let less = kinds_room k ks o ws is in omega (arith, less)
 
-module _ (handles : List ℕ) (here taken : List Kind) where
-  pub silent_stops : (x : Stop) (m : Flat) (r : Outcome) → IsSilent x → StopsAlike handles here taken x m r
-  silent_stops x m (Gives us s) e = e
-  silent_stops x m (Ends y s) e = inl e
-  silent_stops x m Fails e = e
-
 module _ (handles : List ℕ) (here taken : List Kind) (m : Flat) (s : Slots) (beside : Beside handles here taken m s) where
-  -- what is given, with no handle more
-  pub given_alike : (ks : List Kind) (zs : List ℤ) (n : Flat) (t : Slots) → length ks ≡ length zs → NameWords (length handles) ks zs → Beside handles here taken n t
-      → Alike handles here taken ks zs n (all_renamed handles ks zs) t
-  given_alike ks zs n t known names beside = record {
-    more = [];
-    words = ap (λ hs. all_renamed hs ks zs) (sym (append-nil handles));
-    known = known;
-    names = subst (λ hs. NameWords (length hs) ks zs) (sym (append-nil handles)) names;
-    beside = subst (λ hs. Beside hs here taken n t) (sym (append-nil handles)) beside;
-  }
-
-  pub stops_alike : (x : Stop) → StopsAlike handles here taken x m (Ends x s)
-  stops_alike x = inr (inr (refl, ([], subst (λ hs. Beside hs here taken m s) (sym (append-nil handles)) beside)))
-
-  -- after what is only read
-  pub reads_on : {A B : Type 0} (R : A → B → Type 0) (ks : List Kind) (x : Got A) (y : Got B) (F : A → Made (List ℤ)) (G : B → Outcome) → GotsAlike R x y
-      → ((a : A) (b : B) → x ≡ Given a → R a b → AreAlike handles here taken ks (F a) (G b)) → AreAlike handles here taken ks (flat.reads m x F) (reads s y G)
-  reads_on R ks (Given a) (Given b) F G is on = on a b refl is
-  reads_on R ks (Given a) (Stops y) F G is on = absurd is
-  reads_on R ks (Given a) Broken F G is on = absurd is
-  reads_on R ks (Stops (Raises e)) y F G is on = subst (λ g. AreAlike handles here taken ks (Halted (Raises e) m) (reads s g G)) (sym is) (stops_alike (Raises e))
-  reads_on R ks (Stops (Traps t)) y F G is on = silent_stops handles here taken (Traps t) m (reads s y G) tt
-  reads_on R ks (Stops Memory) y F G is on = silent_stops handles here taken Memory m (reads s y G) tt
-  reads_on R ks Broken y F G is on = tt
-
   -- ---- what is held
 
   pub there_words : (p : Spot) (ks : List Kind) (zs : List ℤ) → StandAt m here p ks → flat.words_at m p ks ≡ Given zs → (length ks ≡ length zs) × NameWords (length handles) ks zs
@@ -172,7 +140,7 @@ module _ (handles : List ℕ) (here taken : List Kind) (m : Flat) (s : Slots) (b
           let same : zs ≡ us = sym (let first : all_fresh ks zs ≡ zs = cc in first) ∙ fresh in (
             all_renamed handles ks zs,
             there.1,
-            subst (λ xs. AreRenamed handles ks xs (all_renamed handles ks zs)) same (record { words = refl; known = words.0; names = words.1 }),
+            subst (λ xs. AreRenamed handles ks xs (all_renamed handles ks zs)) same (record { words = refl; known = words.0; names = words.1; kept = kept zs found }),
           )
       by (Stops t) found us e = cc
       by Broken found us e = cc
@@ -193,7 +161,7 @@ module _ (handles : List ℕ) (here taken : List Kind) (m : Flat) (s : Slots) (b
   none_beside : (i o : ℕ) → Beside handles here taken (with_words m i o []) s
   none_beside i o = subst (λ cells. Beside handles here taken (record m { cells = cells }) s) (sym (none_changed o m.cells i)) beside
 
-  there_emptied : (p : Spot) (ks : List Kind) (gone : List ℕ) (n : Flat) → StandAt m here p ks → flat.moved_out m p ks gone ≡ Given n
+  pub there_emptied : (p : Spot) (ks : List Kind) (gone : List ℕ) (n : Flat) → StandAt m here p ks → flat.moved_out m p ks gone ≡ Given n
       → (t : Slots) × (emptied s (spot_renamed handles p) ks gone ≡ Given t) × Beside handles here taken n t
   there_emptied (InStack i) ks gone n stand e = stack_emptied handles here taken m s beside i ks gone n stand.0 stand.1 e
   there_emptied (InCell i o) [] (g ∷ gone) n stand e = absurd (by (slice_get m.cells i) e)
@@ -235,7 +203,7 @@ module _ (handles : List ℕ) (here taken : List Kind) (m : Flat) (s : Slots) (b
   moved_gots p ks gone stand =
       given_both (Beside handles here taken) (flat.moved_out m p ks gone) (emptied s (spot_renamed handles p) ks gone) (moved_silent m p ks gone) (λ n e. there_emptied p ks gone n stand e)
 
-  there_stored : (q : Spot) (ks : List Kind) (zs : List ℤ) (n : Flat) → StandAt m here q ks → length ks ≡ length zs → NameWords (length handles) ks zs → flat.stored m q ks zs ≡ Given n
+  pub there_stored : (q : Spot) (ks : List Kind) (zs : List ℤ) (n : Flat) → StandAt m here q ks → length ks ≡ length zs → NameWords (length handles) ks zs → flat.stored m q ks zs ≡ Given n
       → (t : Slots) × (stored s (spot_renamed handles q) ks (all_renamed handles ks zs) ≡ Given t) × Beside handles here taken n t
   there_stored (InStack i) ks zs n stand long names e = stack_stored handles here taken m s beside i ks ks zs n stand.0 long names e
   there_stored (InCell i o) [] (z ∷ zs) n stand long names e = cc
@@ -262,31 +230,3 @@ module _ (handles : List ℕ) (here taken : List Kind) (m : Flat) (s : Slots) (b
   stored_gots q ks zs stand long names =
       given_both (Beside handles here taken) (flat.stored m q ks zs) (stored s (spot_renamed handles q) ks (all_renamed handles ks zs)) (stored_silent m q ks zs)
       (λ n e. there_stored q ks zs n stand long names e)
-
-  -- ---- copies and moves
-
-  abbrev Stand : Got Spot → List Kind → Type 0
-  Stand g ks = (q : Spot) → g ≡ Given q → StandAt m here q ks × ((zs : List ℤ) → flat.words_at m q ks ≡ Given zs → AreKept ks zs)
-
-  pub copies_alike : (g : Got Spot) (h : Got Spot) (ks : List Kind) → GotsAlike (λ q r. r ≡ spot_renamed handles q) g h → Stand g ks
-      → AreAlike handles here taken ks (flat.reads m g (λ p. flat.reads m (flat.held m p ks) (λ zs. Done zs m))) (copies s h ks)
-  copies_alike g h ks same stand =
-      reads_on (λ q r. r ≡ spot_renamed handles q) ks g h (λ p. flat.reads m (flat.held m p ks) (λ zs. Done zs m)) (λ p. reads s (slots.held s p ks) (λ zs. Gives zs s)) same
-      (λ q r found is.
-      subst (λ x. AreAlike handles here taken ks (flat.reads m (flat.held m q ks) (λ zs. Done zs m)) (reads s (slots.held s x ks) (λ zs. Gives zs s))) (sym is)
-      (reads_on (AreRenamed handles ks) ks (flat.held m q ks) (slots.held s (spot_renamed handles q) ks) (λ zs. Done zs m) (λ zs. Gives zs s) (held_gots q ks (stand q found).0 (stand q found).1)
-      (λ zs us at words. subst (λ x. Alike handles here taken ks zs m x s) (sym words.words) (given_alike ks zs m s words.known words.names beside))))
-
-  pub moves_alike : (g : Got Spot) (h : Got Spot) (ks : List Kind) (gone : List ℕ) → GotsAlike (λ q r. r ≡ spot_renamed handles q) g h → Stand g ks
-      → AreAlike handles here taken ks
-      (flat.reads m g (λ p. flat.reads m (flat.held m p ks) (λ zs. flat.reads m (flat.moved_out m p ks gone) (Done zs)))) (moves s h ks gone)
-  moves_alike g h ks gone same stand =
-      reads_on (λ q r. r ≡ spot_renamed handles q) ks g h (λ p. flat.reads m (flat.held m p ks) (λ zs. flat.reads m (flat.moved_out m p ks gone) (Done zs)))
-      (λ p. reads s (slots.held s p ks) (λ zs. reads s (emptied s p ks gone) (Gives zs))) same
-      (λ q r found is.
-      subst (λ x. AreAlike handles here taken ks (flat.reads m (flat.held m q ks) (λ zs. flat.reads m (flat.moved_out m q ks gone) (Done zs))) (reads s (slots.held s x ks) (λ zs. reads s (emptied s x ks gone) (Gives zs)))) (sym is)
-      (reads_on (AreRenamed handles ks) ks (flat.held m q ks) (slots.held s (spot_renamed handles q) ks) (λ zs. flat.reads m (flat.moved_out m q ks gone) (Done zs))
-      (λ zs. reads s (emptied s (spot_renamed handles q) ks gone) (Gives zs)) (held_gots q ks (stand q found).0 (stand q found).1)
-      (λ zs us at words.
-      reads_on (Beside handles here taken) ks (flat.moved_out m q ks gone) (emptied s (spot_renamed handles q) ks gone) (Done zs) (Gives us) (moved_gots q ks gone (stand q found).0)
-      (λ n t out both. subst (λ x. Alike handles here taken ks zs n x t) (sym words.words) (given_alike ks zs n t words.known words.names both)))))

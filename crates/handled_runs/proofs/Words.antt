@@ -10,9 +10,10 @@ use Rattle.run_codes.specs.Flat as flat
 use Rattle.handled_runs.specs.Slots.{Slots}
 use Rattle.handled_runs.specs.Slots as slots
 use Rattle.handled_runs.specs.Beside.{GotsAlike, handle_word, renamed, Beside}
-use Rattle.handled_runs.specs.Looks.{IsData, IsNumber, Looks}
+use Rattle.handled_runs.specs.Looks.{IsData, IsNumber, Looks, IsClear}
 use Rattle.handled_runs.proofs.Gots.{gots_mapped, gots_same, gots_on, gots_then}
 use Rattle.handled_runs.proofs.Named.{slice_renamed, zero_same, behind_gots}
+use Rattle.handled_runs.proofs.Kept.{word_kept}
 
 number_same : (handles : List ℕ) (k : Kind) (z : ℤ) → IsNumber k z → z ≡ renamed handles k z
 number_same handles sort.Int z is = refl
@@ -24,7 +25,7 @@ data_renamed handles sort.Int z is = refl
 data_renamed handles sort.Enum z is = refl
 data_renamed handles sort.Access z is = absurd is
 
-module _ (handles : List ℕ) (kinds taken : List Kind) (m : Flat) (s : Slots) (beside : Beside handles kinds taken m s) where
+module _ (handles : List ℕ) (kinds taken : List Kind) (m : Flat) (s : Slots) (beside : Beside handles kinds taken m s) (clear : IsClear kinds taken m) where
   abbrev pub Words : Kind → Got ℤ → Got ℤ → Type 0
   Words k = GotsAlike (λ a b. b ≡ renamed handles k a)
 
@@ -76,7 +77,7 @@ module _ (handles : List ℕ) (kinds taken : List Kind) (m : Flat) (s : Slots) (
         (λ z w at_word same.
         subst (λ v. GotsAlike (λ a b. b ≡ renamed handles k a) (flat.behind m (at + unsigned_abs o) j z) (slots.behind s (at + unsigned_abs o) j v)) (sym same)
         (subst (λ q. GotsAlike (λ a b. b ≡ renamed handles q a) (flat.behind m (at + unsigned_abs o) j z) (slots.behind s (at + unsigned_abs o) j (handle_word handles z))) looks.0
-        (behind_gots handles kinds taken m s beside (at + unsigned_abs o) j z (looks.3 z at_word))))))
+        (behind_gots handles kinds taken m s beside (at + unsigned_abs o) j z (word_kept kinds taken m clear p z looks.2 at_word))))))
     word_gots (Scaled i low high size) k looks =
         as_data k looks.0 (flat.word m (Scaled i low high size)) (slots.word s (Scaled i low high size))
         (same_then (λ a b. b ≡ a) (flat.word m i) (slots.word s i) (scaled low high size) (scaled low high size) (of_data sort.Int tt (flat.word m i) (slots.word s i) (word_gots i sort.Int looks.1))
@@ -101,12 +102,12 @@ module _ (handles : List ℕ) (kinds taken : List Kind) (m : Flat) (s : Slots) (
         as_data k looks.0 (flat.word m (Short op a b)) (slots.word s (Short op a b))
         (same_then (λ a b. b ≡ a) (flat.word m a) (slots.word s a) (λ x. if decides op x then Given x else flat.word m b) (λ x. if decides op x then Given x else slots.word s b)
         (of_data looks.1.0 looks.1.1 (flat.word m a) (slots.word s a) (word_gots a looks.1.0 looks.1.2))
-        (λ x e. short_gots x (decides op x) (flat.word m b) (slots.word s b) (λ no. let l = looks.2 x e no in of_data l.0 l.1 (flat.word m b) (slots.word s b) (word_gots b l.0 l.2)) refl))
+        (λ x e. short_gots x (decides op x) (flat.word m b) (slots.word s b) (λ no. of_data looks.2.0 looks.2.1 (flat.word m b) (slots.word s b) (word_gots b looks.2.0 looks.2.2)) refl))
     word_gots (IsNull equal p) k looks =
         as_data k looks.0 (flat.word m (IsNull equal p)) (slots.word s (IsNull equal p))
         (gots_then (λ a b. b ≡ handle_word handles a) (λ a b. b ≡ a) (flat.word m p) (slots.word s p) (λ w. Given (truth (if is_zero w then equal else not equal))) (λ w. Given (truth (if is_zero w then equal else not equal)))
         (word_gots p sort.Access looks.1)
-        (λ z w e same. ap (λ v. truth (if is_zero v then equal else not equal)) same ∙ ap (λ b. truth (if b then equal else not equal)) (zero_same handles z (looks.2 z e))))
+        (λ z w e same. ap (λ v. truth (if is_zero v then equal else not equal)) same ∙ ap (λ b. truth (if b then equal else not equal)) (zero_same handles z (word_kept kinds taken m clear p z looks.1 e))))
     word_gots (Waiting at) k looks =
         gots_mapped (renamed handles k) (found (slice_get m.waits at)) (found (slice_get s.waits at)) (ap (λ zs. found (slice_get zs at)) beside.waits ∙ slice_renamed handles taken m.waits at k looks)
     word_gots EndOfFile k looks =

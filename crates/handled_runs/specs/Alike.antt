@@ -7,8 +7,9 @@ use Rattle.run_codes.specs.Codes.{Place, Fill, Checked, Pointer, MovedPointer, C
 use Rattle.run_codes.specs.Flat.{Flat, Made, Done, Halted, Failed, Given, Stop, Memory, Spot, InStack, InCell, word, spot, words_at, filled, kinds, default_words}
 use Rattle.handled_runs.specs.Slots.{Slots}
 use Rattle.handled_runs.specs.Values.{Outcome, Gives, Ends, Fails}
-use Rattle.handled_runs.specs.Beside.{IsSilent, all_renamed, NameWords, Beside}
-use Rattle.handled_runs.specs.Looks.{IsData, IsNumber, IsKept, Looks, LooksAt, IsFront, AreKept}
+use Rattle.handled_runs.specs.Beside.{IsSilent, all_renamed, NameWords}
+use Rattle.handled_runs.specs.Looks.{IsData, IsNumber, Looks, LooksAt, IsFront, AreKept}
+use Rattle.handled_runs.specs.Marks.{During}
 
 -- ---- what is asked
 
@@ -17,11 +18,12 @@ abbrev pub StandAt : Flat → List Kind → Spot → List Kind → Type 0
 StandAt m here (InStack n) ks = IsFront ks (drop n here) × (n ≤ length m.stack)
 StandAt m here (InCell n o) ks = Unit {0}
 
--- None of them is gone.
-abbrev pub LooksThere : Flat → List Kind → List Kind → Place → List Kind → Type 0
-LooksThere m here taken p ks =
-    LooksAt m here taken p
-    × ((q : Spot) → spot m p ≡ Given q → StandAt m here q ks × ((zs : List ℤ) → words_at m q ks ≡ Given zs → AreKept ks zs))
+-- In whichever memory whose frame begins there.
+abbrev pub Wherever : ℕ → (Flat → Type 0) → Type 0
+Wherever base P = (m : Flat) → m.base ≡ base → P m
+
+abbrev pub LooksThere : ℕ → List Kind → List Kind → Place → List Kind → Type 0
+LooksThere base here taken p ks = Wherever base (λ m. LooksAt m here taken p × ((q : Spot) → spot m p ≡ Given q → StandAt m here q ks))
 
 -- Words that name no cell.
 abbrev pub AreNumbers : List Kind → List ℤ → Type 0
@@ -35,22 +37,21 @@ kinds_repeated (suc n) ks = ks ++ kinds_repeated n ks
 
 -- The words that it gives have kinds, the last ones. The words of the stack and of the values that the point takes
 -- have the first ones, before and after.
-unfoldable pub LooksFill : Table → Flat → List Kind → List Kind → Fill → List Kind → Type 0
-LooksFill table m here taken (Checked c low high) ks = (k : Kind) × (ks ≡ k ∷ []) × IsData k × Looks m here taken c k
-LooksFill table m here taken (Pointer c) ks =
-    (ks ≡ sort.Access ∷ []) × Looks m here taken c sort.Access × ((z : ℤ) → word m c ≡ Given z → IsKept z)
-LooksFill table m here taken (MovedPointer p) ks = (ks ≡ sort.Access ∷ []) × LooksThere m here taken p (sort.Access ∷ [])
-LooksFill table m here taken (Copied p of) ks = (ks ≡ kinds table of) × LooksThere m here taken p (kinds table of)
-LooksFill table m here taken (Moved p of) ks = (ks ≡ kinds table of) × LooksThere m here taken p (kinds table of)
-LooksFill table m here taken (Waited at n) ks = (ks ≡ take n (drop at taken)) × (length ks ≡ n)
-LooksFill table m here taken (New v of) ks = (ks ≡ sort.Access ∷ []) × LooksFill table m here taken v (kinds table of)
-LooksFill table m here taken (Default of) ks = AreNumbers ks (default_words table of)
-LooksFill table m here taken (Repeated v n) ks =
-    (js : List Kind) × (ks ≡ kinds_repeated n js) × LooksFill table m here taken v js
-LooksFill table m here taken (Both a b) ks =
-    (is : List Kind) × (js : List Kind) × (ks ≡ is ++ js) × LooksFill table m here taken a is
-    × ((zs : List ℤ) (n : Flat) → filled table a m ≡ Done zs n → LooksFill table n here taken b js)
-LooksFill table m here taken Empty ks = ks ≡ []
+unfoldable pub LooksFill : Table → ℕ → List Kind → List Kind → Fill → List Kind → Type 0
+LooksFill table base here taken (Checked c low high) ks =
+    (k : Kind) × (ks ≡ k ∷ []) × IsData k × Wherever base (λ m. Looks m here taken c k)
+LooksFill table base here taken (Pointer c) ks = (ks ≡ sort.Access ∷ []) × Wherever base (λ m. Looks m here taken c sort.Access)
+LooksFill table base here taken (MovedPointer p) ks = (ks ≡ sort.Access ∷ []) × LooksThere base here taken p (sort.Access ∷ [])
+LooksFill table base here taken (Copied p of) ks = (ks ≡ kinds table of) × LooksThere base here taken p (kinds table of)
+LooksFill table base here taken (Moved p of) ks = (ks ≡ kinds table of) × LooksThere base here taken p (kinds table of)
+LooksFill table base here taken (Waited at n) ks = (ks ≡ take n (drop at taken)) × (length ks ≡ n)
+LooksFill table base here taken (New v of) ks = (ks ≡ sort.Access ∷ []) × LooksFill table base here taken v (kinds table of)
+LooksFill table base here taken (Default of) ks = AreNumbers ks (default_words table of)
+LooksFill table base here taken (Repeated v n) ks =
+    (js : List Kind) × (ks ≡ kinds_repeated n js) × LooksFill table base here taken v js
+LooksFill table base here taken (Both a b) ks =
+    (is : List Kind) × (js : List Kind) × (ks ≡ is ++ js) × LooksFill table base here taken a is × LooksFill table base here taken b js
+LooksFill table base here taken Empty ks = ks ≡ []
 
 -- ---- the same outcome
 
@@ -60,15 +61,16 @@ pub record Alike (handles : List ℕ) (here taken ks : List Kind) (zs : List ℤ
   pub words : us ≡ all_renamed (handles ++ more) ks zs
   pub known : length ks ≡ length zs
   pub names : NameWords (length (handles ++ more)) ks zs
-  pub beside : Beside (handles ++ more) here taken m s
+  pub kept : AreKept ks zs
+  pub during : During (handles ++ more) here taken m s
 
-abbrev pub AreBeside : List ℕ → List Kind → List Kind → Flat → Slots → Type 0
-AreBeside handles here taken m s = (more : List ℕ) × Beside (handles ++ more) here taken m s
+abbrev pub GoOn : List ℕ → List Kind → List Kind → Flat → Slots → Type 0
+GoOn handles here taken m s = (more : List ℕ) × During (handles ++ more) here taken m s
 
--- They stop for the same reason, but for where nothing is said. Memory may be out alone.
+-- They stop for the same reason, but for where nothing is said. Over the heap memory may be out alone.
 abbrev pub StopsAlike : List ℕ → List Kind → List Kind → Stop → Flat → Outcome → Type 0
 StopsAlike handles here taken x m (Gives us s) = IsSilent x
-StopsAlike handles here taken x m (Ends y s) = IsSilent x ⊎ ((y ≡ Memory) ⊎ ((x ≡ y) × AreBeside handles here taken m s))
+StopsAlike handles here taken x m (Ends y s) = IsSilent x ⊎ ((y ≡ Memory) ⊎ ((x ≡ y) × GoOn handles here taken m s))
 StopsAlike handles here taken x m Fails = IsSilent x
 
 abbrev pub AreAlike : List ℕ → List Kind → List Kind → List Kind → Made (List ℤ) → Outcome → Type 0

@@ -10,11 +10,10 @@ use Rattle.run_codes.specs.Flat.{Flat, Got, Given, Stops, Broken, Stop, Traps, a
 use Rattle.run_codes.specs.Flat as flat
 use Rattle.run_codes.specs.Points as points
 use Rattle.handled_runs.specs.Slots.{Slots, spot}
-use Rattle.handled_runs.specs.Changes.{stored}
+use Rattle.handled_runs.specs.Changes.{stored, settled}
 use Rattle.handled_runs.specs.Leaks.{leaks_at, AreLeaked}
 use Rattle.handled_runs.specs.Beside.{GotsAlike, Beside}
-use Rattle.handled_runs.specs.Looks.{LooksAt}
-use Rattle.handled_runs.specs.Alike.{StandAt}
+use Rattle.handled_runs.specs.Alike.{LooksThere}
 
 -- The leak checks that were made, and the memory then.
 pub record Left (M : Type 0) : Type 0 where
@@ -34,15 +33,20 @@ checked_at table s q of (Some p) = leaks_at table s q of p
 
 abbrev pub assigned : Table → Place → ℕ → Option Pos → List ℤ → Slots → Got (Left Slots)
 assigned table p of checks zs s =
-    and_then (spot s p) (λ q. and_then (checked_at table s q of checks)
-    (λ leaks. and_then (stored s q (kinds table of) zs) (λ t. Given (record { leaks = leaks; memory = t }))))
+    and_then (spot s p) (λ q. and_then (settled s)
+    (λ k. and_then (checked_at table k q of checks) (λ leaks. and_then (stored k q (kinds table of) zs) (λ t. Given (record { leaks = leaks; memory = t })))))
 
--- What is asked of the place: words of the type stand there, and what isn't gone of them names a cell that is there.
-abbrev pub LooksTo : Table → Flat → List Kind → List Kind → Place → ℕ → Type 0
-LooksTo table m here taken p of =
-    LooksAt m here taken p
-    × ((q : Spot) → flat.spot m p ≡ Given q → StandAt m here q (kinds table of)
-    × ((zs : List ℤ) → flat.words_at m q (kinds table of) ≡ Given zs → AreLeaked m.cells zs (access_offsets table of)))
+-- What is asked of the place: words of the type stand there, and where they are checked, what isn't gone of them names a
+-- cell that is there.
+abbrev pub WhereChecked : Option Pos → Type 0 → Type 0
+WhereChecked None P = Unit {0}
+WhereChecked (Some p) P = P
+
+abbrev pub LooksTo : Table → ℕ → Flat → List Kind → List Kind → Place → ℕ → Option Pos → Type 0
+LooksTo table base m here taken p of checks =
+    LooksThere base here taken p (kinds table of)
+    × WhereChecked checks ((q : Spot) → flat.spot m p ≡ Given q → (zs : List ℤ) → flat.words_at m q (kinds table of) ≡ Given zs
+    → AreLeaked m.cells zs (access_offsets table of))
 
 -- ---- the same outcome
 

@@ -40,11 +40,16 @@ abbrev pub NameWords : ℕ → List Kind → List ℤ → Type 0
 NameWords bound (k ∷ ks) (z ∷ zs) = NamesWord bound k z × NameWords bound ks zs
 NameWords bound ks zs = Unit {0}
 
--- Nothing is said where a freed cell is touched, and where numbers are out.
+-- So of a spot.
+abbrev pub NamesSpot : ℕ → Spot → Type 0
+NamesSpot bound (InStack n) = Unit {0}
+NamesSpot bound (InCell n o) = n < bound
+
+-- Nothing is said where a freed cell is touched.
 abbrev pub IsSilent : Stop → Type 0
 IsSilent (Raises e) = ⊥
 IsSilent (Traps t) = Unit {0}
-IsSilent Memory = Unit {0}
+IsSilent Memory = ⊥
 
 -- What is read over both is given, and in relation, or it stops for the same reason. Nothing is said where what is
 -- asked for isn't there over numbers.
@@ -54,7 +59,7 @@ GotsAlike R (Given a) (Stops y) = ⊥
 GotsAlike R (Given a) Broken = ⊥
 GotsAlike R (Stops (Raises e)) g = g ≡ Stops (Raises e)
 GotsAlike R (Stops (Traps t)) g = Unit {0}
-GotsAlike R (Stops Memory) g = Unit {0}
+GotsAlike R (Stops Memory) g = g ≡ Stops Memory
 GotsAlike R Broken g = Unit {0}
 
 -- What is given, as it is named there.

@@ -1,5 +1,5 @@
 -- What changes in words over a heap that uses its slots again.
-use Rattle.std.specs.Prelude.{ℕ, zero, suc, ◌+◌, ◌-◌, ◌==◌, List, [], ◌∷◌, drop, length, nat_le, Option, Some, None, ℤ, pos, unsigned_abs, if◌then◌else◌}
+use Rattle.std.specs.Prelude.{ℕ, zero, suc, ◌+◌, ◌-◌, ◌==◌, List, [], ◌∷◌, ◌++◌, drop, length, nat_le, Option, Some, None, ℤ, pos, unsigned_abs, if◌then◌else◌}
 use Rattle.run_values.specs.declared.value.Value.{Value}
 use Rattle.run_values.specs.declared.value.Value.TheVariants as value
 use Rattle.run_values.specs.declared.value.Kind.{Kind}
@@ -7,7 +7,7 @@ use Rattle.run_values.specs.declared.value.Kind.TheVariants as sort
 use Rattle.machine.specs.Memory.{Peak, at_number, greatest}
 use Rattle.slot_heap.specs.Heaps.{Heap, words_at, live_count, allocated, written, released}
 use Rattle.run_codes.specs.Flat.{Got, Given, Broken, and_then, spliced, Spot, InStack, InCell}
-use Rattle.handled_runs.specs.Slots.{Slots, front}
+use Rattle.handled_runs.specs.Slots.{Move, Slots, front}
 
 abbrev pub with_stack : Slots → List ℤ → Slots
 with_stack s stack = record s { stack = stack }
@@ -60,6 +60,18 @@ nulled m h o (g ∷ gone) = nulled (written m h (o + g) value.Null) h o gone
 abbrev pub emptied : Slots → Spot → List Kind → List ℕ → Got Slots
 emptied s (InStack n) ks gone = and_then (front ks (drop n s.stack)) (λ zs. Given (with_stack s (spliced n (all_null gone zs) s.stack)))
 emptied s (InCell h o) ks gone = Given (with_heap s (nulled s.heap h o gone))
+
+-- It is noted first.
+abbrev pub moving : Slots → Spot → List Kind → List ℕ → Slots
+moving s q ks gone = record s { moves = s.moves ++ record { at = q; kinds = ks; offsets = gone } ∷ [] }
+
+abbrev pub all_emptied : List Move → Slots → Got Slots
+all_emptied [] s = Given s
+all_emptied (q ∷ rest) s = and_then (emptied s q.at q.kinds q.offsets) (all_emptied rest)
+
+-- What is noted is done.
+abbrev pub settled : Slots → Got Slots
+settled s = all_emptied s.moves (record s { moves = [] })
 
 -- ---- cells that are made and freed
 

@@ -5,6 +5,8 @@ pub mod Changes
 pub mod Beside
 -- what is asked of what is read
 pub mod Looks
+-- what a point has moved so far
+pub mod Marks
 -- values, and the same outcome
 pub mod Values
 pub mod Alike

@@ -1,11 +1,13 @@
 -- What is asked of what a code reads, so that both heaps give the same.
 --
--- Each word that it reads has the kind that the code is of. Where it looks at an access value, that isn't gone.
-use Rattle.std.specs.Prelude.{◌≡◌, ◌+◌, false, List, [], ◌∷◌, slice_get, Some, ℤ, pos, negsuc, unsigned_abs}
+-- Each word that it reads has the kind that the code is of, and none of a memory is gone.
+use Rattle.std.specs.Prelude.{◌≡◌, ◌+◌, ℕ, List, [], ◌∷◌, map, slice_get, Some, ℤ, pos, negsuc, unsigned_abs}
 use Rattle.run_values.specs.declared.value.Kind.{Kind}
 use Rattle.run_values.specs.declared.value.Kind.TheVariants as sort
 use Rattle.run_codes.specs.Codes.{Code, Number, Local, Global, Via, Scaled, Plus, Unary, Binary, Short, IsNull, Waiting, EndOfFile, Nothing, Place, InFrame, InPackages, Behind}
-use Rattle.run_codes.specs.Flat.{Flat, Given, word, decides}
+use Rattle.run_values.specs.Values.{kind}
+use Rattle.reuse_heap.specs.Cells.{Cell}
+use Rattle.run_codes.specs.Flat.{Flat, Given, word, words_in}
 
 -- A kind of words that name no cell.
 abbrev pub IsData : Kind → Type 0
@@ -24,35 +26,31 @@ abbrev pub IsKept : ℤ → Type 0
 IsKept (pos n) = Unit {0}
 IsKept (negsuc n) = ⊥
 
--- `kinds` are those of the words of the stack, `taken` those of the values that the point takes.
+-- `here` has the kinds of the words of the stack, `taken` those of the values that the point takes.
 unfoldable pub Looks : Flat → List Kind → List Kind → Code → Kind → Type 0
-Looks m kinds taken (Number z) k = IsNumber k z
-Looks m kinds taken (Local at i) k =
-    Looks m kinds taken i sort.Int × ((o : ℤ) → word m i ≡ Given o → slice_get kinds (m.base + at + unsigned_abs o) ≡ Some k)
-Looks m kinds taken (Global at i) k =
-    Looks m kinds taken i sort.Int × ((o : ℤ) → word m i ≡ Given o → slice_get kinds (at + unsigned_abs o) ≡ Some k)
-Looks m kinds taken (Via p at i j) k =
-    (j ≡ k) × Looks m kinds taken i sort.Int × Looks m kinds taken p sort.Access
-    × ((z : ℤ) → word m p ≡ Given z → IsKept z)
-Looks m kinds taken (Scaled i low high size) k = IsData k × Looks m kinds taken i sort.Int
-Looks m kinds taken (Plus a b) k = IsData k × Looks m kinds taken a sort.Int × Looks m kinds taken b sort.Int
-Looks m kinds taken (Unary op a) k = IsData k × (j : Kind) × IsData j × Looks m kinds taken a j
-Looks m kinds taken (Binary op a b) k =
-    IsData k × ((j : Kind) × IsData j × Looks m kinds taken a j) × ((j : Kind) × IsData j × Looks m kinds taken b j)
-Looks m kinds taken (Short op a b) k =
-    IsData k × ((j : Kind) × IsData j × Looks m kinds taken a j)
-    × ((x : ℤ) → word m a ≡ Given x → decides op x ≡ false → (j : Kind) × IsData j × Looks m kinds taken b j)
-Looks m kinds taken (IsNull equal p) k = IsData k × Looks m kinds taken p sort.Access × ((z : ℤ) → word m p ≡ Given z → IsKept z)
-Looks m kinds taken (Waiting at) k = slice_get taken at ≡ Some k
-Looks m kinds taken EndOfFile k = IsData k
-Looks m kinds taken Nothing k = Unit {0}
+Looks m here taken (Number z) k = IsNumber k z
+Looks m here taken (Local at i) k =
+    Looks m here taken i sort.Int × ((o : ℤ) → word m i ≡ Given o → slice_get here (m.base + at + unsigned_abs o) ≡ Some k)
+Looks m here taken (Global at i) k =
+    Looks m here taken i sort.Int × ((o : ℤ) → word m i ≡ Given o → slice_get here (at + unsigned_abs o) ≡ Some k)
+Looks m here taken (Via p at i j) k = (j ≡ k) × Looks m here taken i sort.Int × Looks m here taken p sort.Access
+Looks m here taken (Scaled i low high size) k = IsData k × Looks m here taken i sort.Int
+Looks m here taken (Plus a b) k = IsData k × Looks m here taken a sort.Int × Looks m here taken b sort.Int
+Looks m here taken (Unary op a) k = IsData k × (j : Kind) × IsData j × Looks m here taken a j
+Looks m here taken (Binary op a b) k =
+    IsData k × ((j : Kind) × IsData j × Looks m here taken a j) × ((j : Kind) × IsData j × Looks m here taken b j)
+Looks m here taken (Short op a b) k =
+    IsData k × ((j : Kind) × IsData j × Looks m here taken a j) × ((j : Kind) × IsData j × Looks m here taken b j)
+Looks m here taken (IsNull equal p) k = IsData k × Looks m here taken p sort.Access
+Looks m here taken (Waiting at) k = slice_get taken at ≡ Some k
+Looks m here taken EndOfFile k = IsData k
+Looks m here taken Nothing k = Unit {0}
 
 -- So it is with places.
 abbrev pub LooksAt : Flat → List Kind → List Kind → Place → Type 0
-LooksAt m kinds taken (InFrame at i) = Looks m kinds taken i sort.Int
-LooksAt m kinds taken (InPackages at i) = Looks m kinds taken i sort.Int
-LooksAt m kinds taken (Behind p at i) =
-    Looks m kinds taken i sort.Int × Looks m kinds taken p sort.Access × ((z : ℤ) → word m p ≡ Given z → IsKept z)
+LooksAt m here taken (InFrame at i) = Looks m here taken i sort.Int
+LooksAt m here taken (InPackages at i) = Looks m here taken i sort.Int
+LooksAt m here taken (Behind p at i) = Looks m here taken i sort.Int × Looks m here taken p sort.Access
 
 -- ---- words of a type
 
@@ -71,3 +69,9 @@ IsKeptAs sort.Enum z = Unit {0}
 abbrev pub AreKept : List Kind → List ℤ → Type 0
 AreKept (k ∷ ks) (z ∷ zs) = IsKeptAs k z × AreKept ks zs
 AreKept ks zs = Unit {0}
+
+-- None of them is gone, of the stack, of what the point takes and of cells.
+pub record IsClear (here taken : List Kind) (m : Flat) : Type 0 where
+  pub stack : AreKept here m.stack
+  pub waits : AreKept taken m.waits
+  pub cells : (n : ℕ) (c : Cell) → slice_get m.cells n ≡ Some c → AreKept (map kind c.words) (words_in c.words)

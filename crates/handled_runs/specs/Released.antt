@@ -64,12 +64,12 @@ released table p of at s = and_then (spot s p) (λ q. and_then (held s q (sort.A
 
 -- ---- what is asked
 
--- It isn't gone, and what isn't gone of the words of its cell names cells that are there.
+-- What isn't gone of the words of its cell names cells that are there.
 abbrev pub IsOwner : Table → Flat → ℕ → ℤ → Type 0
 IsOwner table m of (pos zero) = Unit {0}
 IsOwner table m of (pos (suc k)) =
     (zs : List ℤ) → flat.words_at m (InCell k 0) (kinds table of) ≡ Given zs → AreLeaked m.cells zs (access_offsets table of)
-IsOwner table m of (negsuc k) = ⊥
+IsOwner table m of (negsuc k) = Unit {0}
 
 abbrev pub LooksFor : Table → Flat → List Kind → List Kind → Place → ℕ → Type 0
 LooksFor table m here taken p of =

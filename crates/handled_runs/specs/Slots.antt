@@ -1,7 +1,8 @@
 -- Words without tags over a heap that uses its slots again, and what codes give over them.
 --
 -- A word is a value of Integer, a position, or an access value: 0 for null, and else the handle of a cell and 1. A
--- place that an access value was moved from holds null.
+-- place that an access value was moved from holds null. What a point moves is noted until its last check is made: so
+-- it reads what stood there before, and one that stops has nothing to put back.
 use Rattle.std.specs.Prelude.{ℕ, zero, suc, ◌+◌, not, List, [], ◌∷◌, drop, length, map, slice_get, nat_le, Option, Some, None, ℤ, pos, unsigned_abs, if◌then◌else◌}
 use Rattle.run_values.specs.declared.value.Value.{Value}
 use Rattle.run_values.specs.declared.value.Value.TheVariants as value
@@ -13,9 +14,15 @@ use Rattle.slot_heap.specs.Heaps.{Heap, word_at, words_at}
 use Rattle.run_codes.specs.Codes.{Code, Number, Local, Global, Via, Scaled, Plus, Unary, Binary, Short, IsNull, Waiting, EndOfFile, Nothing, Place, InFrame, InPackages, Behind}
 use Rattle.run_codes.specs.Flat.{Got, Given, Stops, Broken, and_then, found, same_kind, have_kinds, constraint, truth, is_zero, operated, operated_alone, decides, offset, scaled, Spot, InStack, InCell}
 
+-- Words of these kinds stand at a spot, and the access values at some offsets are moved from there.
+pub record Move : Type 0 where
+  pub at : Spot
+  pub kinds : List Kind
+  pub offsets : List ℕ
+
 -- The words of all frames, and where the one that runs begins; the heap, which number the cell of a handle has, and how
 -- many words all cells have; how many were made and freed, and the greatest counts by size; the words of the values
--- that the point takes; and the rest of the input.
+-- that the point takes; the rest of the input; and what the point moves, the first one first.
 pub record Slots : Type 0 where
   pub stack : List ℤ
   pub base : ℕ
@@ -27,6 +34,7 @@ pub record Slots : Type 0 where
   pub peaks : List Peak
   pub waits : List ℤ
   pub rest : List ℕ
+  pub moves : List Move
 
 -- ---- words of cells
 

@@ -2,7 +2,7 @@
 --
 -- Which handle a new cell gets, and whether there is memory for it, the heap decides. So this says of each outcome
 -- whether it may come.
-use Rattle.std.specs.Prelude.{◌≡◌, ℕ, suc, ◌+◌, Bool, true, false, List, [], ◌∷◌, ◌++◌, drop, length, nat_le, None, ℤ, pos}
+use Rattle.std.specs.Prelude.{◌≡◌, ℕ, suc, ◌+◌, Bool, true, false, List, [], ◌∷◌, ◌++◌, drop, length, nat_le, nat_lt, None, ℤ, pos}
 use Rattle.type_definitions.specs.Types.{Table}
 use Rattle.run_values.specs.declared.value.Kind.{Kind}
 use Rattle.run_values.specs.declared.value.Kind.TheVariants as sort
@@ -10,9 +10,9 @@ use Rattle.machine.specs.Words.{access_offsets}
 use Rattle.machine.specs.Evaluate.{StorageError, heap_words}
 use Rattle.slot_heap.specs.Heaps.{words_at}
 use Rattle.run_codes.specs.Codes.{Fill, Checked, Pointer, MovedPointer, Copied, Moved, Waited, New, Default, Repeated, Both, Empty}
-use Rattle.run_codes.specs.Flat.{Got, Given, Stops, Broken, Stop, Spot, Raises, Memory, and_then, kinds, checked, default_words, repeated, some_words}
+use Rattle.run_codes.specs.Flat.{Got, Given, Stops, Broken, Stop, Spot, Raises, Memory, and_then, most_cells, kinds, checked, default_words, repeated, some_words}
 use Rattle.handled_runs.specs.Slots.{Slots, word, spot, held}
-use Rattle.handled_runs.specs.Changes.{emptied, made}
+use Rattle.handled_runs.specs.Changes.{moving, made}
 
 -- The words of a value, or why it isn't done, and the memory then.
 pub data Outcome : Type 0 where
@@ -32,9 +32,10 @@ Then (Gives zs t) P r = P zs t
 Then (Ends x t) P r = r ≡ Ends x t
 Then Fails P r = r ≡ Fails
 
--- A new cell, where there is room for it. It has a handle that no cell has.
+-- A new cell, where there is room for it, and a number. It has a handle that no cell has.
 abbrev pub MakesCell : Bool → Slots → List Kind → List ℤ → Outcome → Type 0
-MakesCell true s ks zs (Gives us t) = (h : ℕ) × (words_at s.heap.cells h ≡ None) × (us ≡ pos (suc h) ∷ []) × (t ≡ made s h ks zs)
+MakesCell true s ks zs (Gives us t) =
+    (h : ℕ) × (words_at s.heap.cells h ≡ None) × (us ≡ pos (suc h) ∷ []) × (t ≡ made s h ks zs) × (nat_lt s.made most_cells ≡ true)
 MakesCell true s ks zs (Ends x t) = (x ≡ Memory) × (t ≡ s)
 MakesCell true s ks zs Fails = ⊥
 MakesCell false s ks zs r = r ≡ Ends (Raises StorageError) s
@@ -47,7 +48,7 @@ abbrev pub copies : Slots → Got Spot → List Kind → Outcome
 copies s g ks = reads s g (λ p. reads s (held s p ks) (λ zs. Gives zs s))
 
 abbrev pub moves : Slots → Got Spot → List Kind → List ℕ → Outcome
-moves s g ks gone = reads s g (λ p. reads s (held s p ks) (λ zs. reads s (emptied s p ks gone) (Gives zs)))
+moves s g ks gone = reads s g (λ p. reads s (held s p ks) (λ zs. Gives zs (moving s p ks gone)))
 
 unfoldable pub Fills : Table → Fill → Slots → Outcome → Type 0
 Fills table (Checked c low high) s r = r ≡ reads s (and_then (word s c) (checked low high)) (λ w. Gives (w ∷ []) s)

@@ -17,9 +17,10 @@ use Rattle.handled_runs.proofs.Names.{named_data}
 use Rattle.handled_steps.specs.States.{Outcome, Goes, Turn, waiting, start, halted, on_got, goes, after}
 use Rattle.handled_steps.specs.Steps.{test, choice, choose, evaluate_left, evaluate_right}
 use Rattle.handled_steps.specs.Alike.{HeldAlike, OutcomesAlike, led_kinds, got_kinds, tested, decided_by}
-use Rattle.handled_steps.specs.Looks.{LooksData, IsOneData, taken_kinds}
+use Rattle.handled_steps.specs.Backs.{IsOneData}
+use Rattle.handled_steps.specs.Looks.{LooksData, taken_kinds}
 use Rattle.handled_steps.proofs.Pairs.{paired_drop}
-use Rattle.handled_steps.proofs.Turns.{Both, flat_turn, slot_turn, start_more, got_on, goes_alike, halted_alike, after_alike, waiting_on}
+use Rattle.handled_steps.proofs.Turns.{Both, flat_turn, slot_turn, start_more, got_on, goes_alike, halted_alike, after_alike, waiting_on, back_on}
 use Rattle.handled_steps.proofs.Gots.{data_gots}
 
 pub truth_alike : (table : Table) (handles : List ℕ) (w : ℤ) → IsOneData (kinds table boolean) → HeldAlike table handles (truth_held w) (truth_held w)
@@ -53,7 +54,7 @@ module _ (handles : List ℕ) (here : List Kind) (z : Both handles here) where
   beside = start_more handles here z
 
   pub go_alike : (n : Option ℕ) → Same (led_kinds t here n) (points.goes t m n) (goes u s n)
-  go_alike = goes_alike handles here z [] here takes m s beside
+  go_alike = goes_alike handles here z [] takes m s beside
 
   pub fall_alike : Same here (points.halted t (Raises ProgramError) m) (halted u (Raises ProgramError) s)
   fall_alike = halted_alike handles here z [] here takes m s beside here (Raises ProgramError)
@@ -62,7 +63,7 @@ module _ (handles : List ℕ) (here : List Kind) (z : Both handles here) where
   pub word_on : (there : List Kind) (c : Code) (F : ℤ → points.Outcome) (G : ℤ → Outcome) → LooksData m here takes c → ((w : ℤ) → flat.word m c ≡ Given w → Same there (F w) (G w))
       → Same there (points.on_got t m (flat.word m c) F) (on_got u s (slots.word s c) G)
   word_on there c F G looks on =
-      got_on handles here z [] here takes m s beside (λ a b. b ≡ a) there (flat.word m c) (slots.word s c) F G (data_gots (handles ++ []) here takes m s beside c looks)
+      got_on handles here z [] here takes m s beside (λ a b. b ≡ a) there (flat.word m c) (slots.word s c) F G (data_gots (handles ++ []) here takes m s beside z.clear c looks)
       (λ w v found same. subst (λ x. Same there (F w) (G x)) (sym same) (on w found))
 
   -- what follows is told by the word
@@ -97,6 +98,7 @@ module _ (handles : List ℕ) (here : List Kind) (z : Both handles here) where
         [],
         after_alike handles here z [] here takes m s beside (truth_held w ∷ points.waiting t) (truth_held w ∷ waiting u)
             (truth_alike z.table (handles ++ []) w one, waiting_on handles here z [] here takes m s beside) (decided_by or_else n decided w),
+        back_on handles here z m beside.known (truth_held w ∷ points.waiting t) (decided_by or_else n decided w),
       ))
 
   pub right_alike : (c : Code) (n : Option ℕ) → LooksData m here takes c → IsOneData (kinds z.table boolean)
@@ -109,4 +111,5 @@ module _ (handles : List ℕ) (here : List Kind) (z : Both handles here) where
           truth_alike z.table (handles ++ []) w one,
           paired_drop (HeldAlike z.table (handles ++ [])) 1 (points.waiting t) (waiting u) (waiting_on handles here z [] here takes m s beside),
         ) n,
+        back_on handles here z m beside.known (truth_held w ∷ drop 1 (points.waiting t)) n,
       ))

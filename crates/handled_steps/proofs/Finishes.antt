@@ -1,5 +1,5 @@
 -- The ends of calls, over both heaps.
-use Rattle.std.proofs.Common.{◌≡◌, refl, sym, ap, ◌∙◌, subst, ℕ, suc, ◌+◌, Bool, true, false, List, [], ◌∷◌, ◌++◌, take, ℤ, if◌then◌else◌}
+use Rattle.std.proofs.Common.{◌≡◌, refl, sym, ap, ◌∙◌, subst, ℕ, suc, ◌+◌, Bool, true, false, List, [], ◌∷◌, ◌++◌, arith, take, length, ℤ, if◌then◌else◌}
 use Rattle.type_definitions.specs.Types.{Table}
 use Rattle.run_values.specs.declared.value.Kind.{Kind}
 use Rattle.machine.specs.Words.{access_offsets}
@@ -10,18 +10,20 @@ use Rattle.run_codes.specs.Points.{Return, Frame, fits}
 use Rattle.run_codes.specs.Points as points
 use Rattle.handled_runs.specs.Slots.{Slots}
 use Rattle.handled_runs.specs.Slots as slots
-use Rattle.handled_runs.specs.Changes.{with_stack, stored, emptied}
+use Rattle.handled_runs.specs.Changes.{with_stack, stored}
 use Rattle.handled_runs.specs.Beside.{GotsAlike, spot_renamed, Beside}
 use Rattle.handled_steps.specs.States.{Outcome, Turn, start, counted, halted, on_got}
 use Rattle.handled_steps.specs.Steps.{in_stack, copied_back, returned, finish}
-use Rattle.handled_steps.specs.Steps as steps
 use Rattle.handled_steps.specs.Alike.{Paired, ReturnAlike, FrameAlike, StatesAlike, OutcomesAlike}
-use Rattle.handled_steps.specs.Looks.{LooksReturn, LooksBack, back_stored, taken_kinds}
+use Rattle.handled_steps.specs.Backs.{LooksReturn, LooksBack, LookBack}
+use Rattle.handled_steps.specs.Looks.{taken_kinds}
 use Rattle.handled_steps.proofs.Pairs.{return_on, paired_on, frames_on}
-use Rattle.handled_steps.proofs.Turns.{Both, flat_turn, slot_turn, start_more, got_on, halted_alike, silent_halts}
+use Rattle.handled_steps.proofs.Turns.{Both, flat_turn, slot_turn, start_beside, start_more, read_on, stops_alike, silent_halts}
+use Rattle.handled_steps.proofs.GivenUp.{IsMade}
 use Rattle.handled_steps.proofs.Frames.{frame_left}
-use Rattle.handled_runs.proofs.Gots.{gots_then}
-use Rattle.handled_runs.proofs.There.{AreRenamed, held_gots, moved_gots, stored_gots as spot_stored}
+use Rattle.handled_runs.proofs.There.{AreRenamed}
+use Rattle.handled_runs.proofs.Unmarked.{all_kept}
+use Rattle.handled_runs.proofs.Backs.{Back, back_held, back_moved}
 use Rattle.handled_steps.proofs.Moving.{reached_is, reached_silent, fits_same}
 
 -- What is copied back, by handles.
@@ -40,21 +42,33 @@ reads_on t m (Given a) K F = refl
 reads_on t m (Stops x) K F = refl
 reads_on t m Broken K F = refl
 
-module _ (table : Table) (handles : List ℕ) (here taken : List Kind) (m : Flat) (s : Slots) (beside : Beside handles here taken m s) where
-  stored_gots : (r : Return) (zs us : List ℤ) → LooksReturn table m here r → AreRenamed handles (kinds table r.from) zs us
-      → GotsAlike (Beside handles here taken) (back_stored table m r zs) (steps.back_stored table s (renamed_return handles r) us)
-  stored_gots r zs us looks is =
-      subst (λ b. GotsAlike (Beside handles here taken) (back_stored table m r zs)
-      (and_then (emptied s (InStack (b + r.at)) (kinds table r.from) (access_offsets table r.from)) (λ n. stored n (spot_renamed handles r.to) (kinds table r.of) us))) (sym beside.base)
-      (gots_then (Beside handles here taken) (Beside handles here taken) (flat.moved_out m (InStack (m.base + r.at)) (kinds table r.from) (access_offsets table r.from))
-      (emptied s (InStack (m.base + r.at)) (kinds table r.from) (access_offsets table r.from)) (λ n. flat.stored n r.to (kinds table r.of) zs) (λ n. stored n (spot_renamed handles r.to) (kinds table r.of) us)
-      (moved_gots handles here taken m s beside (InStack (m.base + r.at)) (kinds table r.from) (access_offsets table r.from) looks.0.0)
-      (λ n t left both.
-      subst (λ x. GotsAlike (Beside handles here taken) (flat.stored n r.to (kinds table r.of) zs) (stored t (spot_renamed handles r.to) (kinds table r.of) x)) (sym as_of.words)
-      (spot_stored handles here taken n t both r.to (kinds table r.of) zs (looks.3 n left) as_of.known as_of.names)))
-    where
-      as_of : AreRenamed handles (kinds table r.of) zs us
-      as_of = subst (λ ks. AreRenamed handles ks zs us) looks.1 is
+-- A formal is moved to its place.
+abbrev back_stored : Table → Flat → Return → List ℤ → Got Flat
+back_stored table m r zs =
+    and_then (flat.moved_out m (points.in_stack m r.at) (kinds table r.from) (access_offsets table r.from)) (λ n. flat.stored n r.to (kinds table r.of) zs)
+
+module _ (table : Table) (handles : List ℕ) (here taken : List Kind) (base : ℕ) (m : Flat) (s : Slots) (back : Back handles here taken base m s) (r : Return) (looks : LooksReturn table base here r) where
+  slots_base : s.base ≡ base
+  slots_base = back.2.base ∙ (ap (λ (y : Flat). y.base) back.1.same ∙ back.1.frame)
+
+  held_at : GotsAlike (AreRenamed handles (kinds table r.from)) (flat.held m (points.in_stack m r.at) (kinds table r.from)) (slots.held s (in_stack s r.at) (kinds table r.from))
+  held_at =
+      subst (λ b. GotsAlike (AreRenamed handles (kinds table r.from)) (flat.held m (InStack (b + r.at)) (kinds table r.from)) (slots.held s (in_stack s r.at) (kinds table r.from))) (sym back.1.frame)
+      (subst (λ b. GotsAlike (AreRenamed handles (kinds table r.from)) (flat.held m (InStack (base + r.at)) (kinds table r.from)) (slots.held s (InStack (b + r.at)) (kinds table r.from))) (sym slots_base)
+      (back_held handles here taken base m s back (base + r.at) (kinds table r.from) looks.0))
+
+  stored_at : (zs us : List ℤ) → AreRenamed handles (kinds table r.from) zs us
+      → GotsAlike (Back handles here taken base) (back_stored table m r zs) (stored s (spot_renamed handles r.to) (kinds table r.of) us)
+  stored_at zs us words =
+      subst (λ b. GotsAlike (Back handles here taken base)
+      (and_then (flat.moved_out m (InStack (b + r.at)) (kinds table r.from) (access_offsets table r.from)) (λ n. flat.stored n r.to (kinds table r.of) zs)) (stored s (spot_renamed handles r.to) (kinds table r.of) us)) (sym back.1.frame)
+      (back_moved handles here taken base m s back (base + r.at) (kinds table r.from) (kinds table r.of) (access_offsets table r.from) r.to zs us (omega arith) looks.0 looks.3
+      (subst (λ ks. AreRenamed handles ks zs us) looks.1 words))
+
+  back_made : IsMade handles m s
+  back_made =
+      let cells : back.0.cells ≡ m.cells = ap (λ (y : Flat). y.cells) back.1.same in
+      (back.2.made ∙ ap length cells, back.2.cells.len ∙ ap length cells)
 
 module _ (handles : List ℕ) (here : List Kind) (z : Both handles here) where
   abbrev t : points.Turn
@@ -78,7 +92,7 @@ module _ (handles : List ℕ) (here : List Kind) (z : Both handles here) where
 
   abbrev slots_next : (G : Slots → Outcome) → Return → List Return → Slots → List ℤ → Outcome
   slots_next G r qs s us =
-      if fits z.table r.of us then on_got u s (steps.back_stored z.table s (renamed_return hs r) us) (λ n. copied_back u qs n G) else halted u constraint s
+      if fits z.table r.of us then on_got u s (stored s (spot_renamed hs r.to) (kinds z.table r.of) us) (λ n. copied_back u qs n G) else halted u constraint s
 
   -- what the first one does, read by read
   flat_first : (F : Flat → Flat → points.Outcome) (r : Return) (rs : List Return) (m : Flat) → points.reached m r.to ≡ Given r.to
@@ -125,51 +139,51 @@ module _ (handles : List ℕ) (here : List Kind) (z : Both handles here) where
   flat_breaks : (F : Flat → Flat → points.Outcome) (r : Return) (rs : List Return) (m : Flat) → points.reached m r.to ≡ Broken → points.on_made t (points.copied_back z.table (r ∷ rs) m) F ≡ points.Fails
   flat_breaks F r rs m e = ap (λ g. points.on_made t (reads m g (after_spot r rs m)) F) e
 
-  module _ (ks : List Kind) (F : Flat → Flat → points.Outcome) (G : Slots → Outcome) (on : (m : Flat) (s : Slots) → Beside hs here takes m s → Same ks (F m m) (G s)) where
-    next_alike : (r : Return) (rs qs : List Return) (m : Flat) (s : Slots) → Beside hs here takes m s → LooksReturn z.table m here r → (zs us : List ℤ) → AreRenamed hs (kinds z.table r.from) zs us
-        → ((n : Flat) (i : Slots) → back_stored z.table m r zs ≡ Given n → Beside hs here takes n i → Same ks (points.on_made t (points.copied_back z.table rs n) F) (copied_back u qs i G))
+  abbrev Backwards : Flat → Slots → Type 0
+  Backwards = Back hs here takes z.f.base
+
+  module _ (ks : List Kind) (F : Flat → Flat → points.Outcome) (G : Slots → Outcome) (on : (m : Flat) (s : Slots) → Backwards m s → Same ks (F m m) (G s)) where
+    next_alike : (r : Return) (rs qs : List Return) (m : Flat) (s : Slots) → Backwards m s → LooksReturn z.table z.f.base here r → (zs us : List ℤ) → AreRenamed hs (kinds z.table r.from) zs us
+        → ((n : Flat) (i : Slots) → Backwards n i → Same ks (points.on_made t (points.copied_back z.table rs n) F) (copied_back u qs i G))
         → Same ks (flat_next F r rs m zs) (slots_next G r qs s us)
-    next_alike r rs qs m s beside looks zs us is more =
+    next_alike r rs qs m s back looks zs us is more =
         subst (λ b. Same ks (flat_next F r rs m zs) (slots_by b)) (sym same) (by (fits z.table r.of zs))
       where
         same : fits z.table r.of us ≡ fits z.table r.of zs
         same = ap (fits z.table r.of) is.words ∙ fits_same hs z.table r.of (kinds z.table r.from) zs looks.2 is.known
 
         slots_by : Bool → Outcome
-        slots_by b = if b then on_got u s (steps.back_stored z.table s (renamed_return hs r) us) (λ n. copied_back u qs n G) else halted u constraint s
+        slots_by b = if b then on_got u s (stored s (spot_renamed hs r.to) (kinds z.table r.of) us) (λ n. copied_back u qs n G) else halted u constraint s
 
         by : (b : Bool) → Same ks (if b then points.on_got t m (back_stored z.table m r zs) (λ n. points.on_made t (points.copied_back z.table rs n) F) else points.halted t constraint m) (slots_by b)
         by true =
-            got_on handles here z [] here takes m s beside (Beside hs here takes) ks (back_stored z.table m r zs) (steps.back_stored z.table s (renamed_return hs r) us)
-            (λ n. points.on_made t (points.copied_back z.table rs n) F) (λ n. copied_back u qs n G) (stored_gots z.table hs here takes m s beside r zs us looks is) more
-        by false = halted_alike handles here z [] here takes m s beside ks constraint
+            read_on handles here z [] m s (back_made z.table hs here takes z.f.base m s back r looks) Backwards ks (back_stored z.table m r zs) (stored s (spot_renamed hs r.to) (kinds z.table r.of) us)
+            (λ n. points.on_made t (points.copied_back z.table rs n) F) (λ n. copied_back u qs n G) (stored_at z.table hs here takes z.f.base m s back r looks zs us is) (λ n i given both. more n i both)
+        by false = stops_alike handles here z [] m s (back_made z.table hs here takes z.f.base m s back r looks) ks constraint
 
-    first_alike : (r : Return) (rs qs : List Return) (m : Flat) (s : Slots) (g : Got Spot) → points.reached m r.to ≡ g → Beside hs here takes m s → LooksReturn z.table m here r
-        → ((zs : List ℤ) (n : Flat) (i : Slots) → flat.held m (points.in_stack m r.at) (kinds z.table r.from) ≡ Given zs → back_stored z.table m r zs ≡ Given n → Beside hs here takes n i
-        → Same ks (points.on_made t (points.copied_back z.table rs n) F) (copied_back u qs i G))
+    first_alike : (r : Return) (rs qs : List Return) (m : Flat) (s : Slots) (g : Got Spot) → points.reached m r.to ≡ g → Backwards m s → LooksReturn z.table z.f.base here r
+        → ((n : Flat) (i : Slots) → Backwards n i → Same ks (points.on_made t (points.copied_back z.table rs n) F) (copied_back u qs i G))
         → Same ks (points.on_made t (points.copied_back z.table (r ∷ rs) m) F) (copied_back u (renamed_return hs r ∷ qs) s G)
-    first_alike r rs qs m s (Given q) reached beside looks more =
+    first_alike r rs qs m s (Given q) reached back looks more =
         subst (λ x. Same ks x (copied_back u (renamed_return hs r ∷ qs) s G)) (sym (flat_first F r rs m (reached ∙ ap Given (reached_is m r.to q reached))))
-        (subst (λ b. Same ks (points.on_got t m (flat.held m (InStack (m.base + r.at)) (kinds z.table r.from)) (flat_next F r rs m)) (on_got u s (slots.held s (InStack (b + r.at)) (kinds z.table r.from)) (slots_next G r qs s)))
-        (sym beside.base)
-        (got_on handles here z [] here takes m s beside (AreRenamed hs (kinds z.table r.from)) ks (flat.held m (InStack (m.base + r.at)) (kinds z.table r.from)) (slots.held s (InStack (m.base + r.at)) (kinds z.table r.from))
-        (flat_next F r rs m) (slots_next G r qs s)
-        (held_gots hs here takes m s beside (InStack (m.base + r.at)) (kinds z.table r.from) looks.0.0 looks.0.1)
-        (λ zs us found is. next_alike r rs qs m s beside looks zs us is (λ n i given both. more zs n i found given both))))
-    first_alike r rs qs m s (Stops x) reached beside looks more =
+        (read_on handles here z [] m s (back_made z.table hs here takes z.f.base m s back r looks) (AreRenamed hs (kinds z.table r.from)) ks (flat.held m (points.in_stack m r.at) (kinds z.table r.from))
+        (slots.held s (in_stack s r.at) (kinds z.table r.from)) (flat_next F r rs m) (slots_next G r qs s)
+        (held_at z.table hs here takes z.f.base m s back r looks)
+        (λ zs us found is. next_alike r rs qs m s back looks zs us is more))
+    first_alike r rs qs m s (Stops x) reached back looks more =
         subst (λ y. Same ks y (copied_back u (renamed_return hs r ∷ qs) s G)) (sym (flat_stops F r rs m x reached))
         (silent_halts handles here z m ks x (copied_back u (renamed_return hs r ∷ qs) s G) (reached_silent m r.to x reached))
-    first_alike r rs qs m s Broken reached beside looks more =
+    first_alike r rs qs m s Broken reached back looks more =
         subst (λ y. Same ks y (copied_back u (renamed_return hs r ∷ qs) s G)) (sym (flat_breaks F r rs m reached)) tt
 
-    back_alike : (rs qs : List Return) (m : Flat) (s : Slots) → Paired (ReturnAlike hs) rs qs → Beside hs here takes m s → LooksBack z.table rs m here
+    back_alike : (rs qs : List Return) (m : Flat) (s : Slots) → Paired (ReturnAlike hs) rs qs → Backwards m s → LooksBack z.table z.f.base rs here
         → Same ks (points.on_made t (points.copied_back z.table rs m) F) (copied_back u qs s G)
-    back_alike [] [] m s paired beside looks = on m s beside
-    back_alike [] (q ∷ qs) m s paired beside looks = absurd paired
-    back_alike (r ∷ rs) [] m s paired beside looks = absurd paired
-    back_alike (r ∷ rs) (q ∷ qs) m s paired beside looks =
+    back_alike [] [] m s paired back looks = on m s back
+    back_alike [] (q ∷ qs) m s paired back looks = absurd paired
+    back_alike (r ∷ rs) [] m s paired back looks = absurd paired
+    back_alike (r ∷ rs) (q ∷ qs) m s paired back looks =
         subst (λ x. Same ks (points.on_made t (points.copied_back z.table (r ∷ rs) m) F) (copied_back u (x ∷ qs) s G)) (sym (return_is hs r q paired.0))
-        (first_alike r rs qs m s (points.reached m r.to) refl beside looks.0 (λ zs n i found given both. back_alike rs qs n i paired.1 both (looks.1 zs n found given)))
+        (first_alike r rs qs m s (points.reached m r.to) refl back looks.0 (λ n i both. back_alike rs qs n i paired.1 both looks.1))
 
   -- ---- the frame is given back
 
@@ -189,21 +203,32 @@ module _ (handles : List ℕ) (here : List Kind) (z : Both handles here) where
     steps = ap suc z.states.steps;
   }
 
-  left_alike : (ks : List Kind) (m : Flat) (s : Slots) → Beside hs ks takes m s → (fs gs : List Frame) → Paired (FrameAlike z.table hs) fs gs → Same ks (flat_left fs m) (returned u gs s)
-  left_alike ks m s beside [] [] frames = ([], left_states ks m s [] [] beside frames)
-  left_alike ks m s beside [] (g ∷ gs) frames = absurd frames
-  left_alike ks m s beside (f ∷ fs) [] frames = absurd frames
-  left_alike ks m s beside (f ∷ []) (g ∷ []) frames = (refl, (ks, ([], left_states ks m s (f ∷ []) (g ∷ []) beside frames)))
-  left_alike ks m s beside (f ∷ []) (g ∷ h ∷ gs) frames = absurd frames.1
-  left_alike ks m s beside (f ∷ e ∷ fs) (g ∷ []) frames = absurd frames.1
-  left_alike ks m s beside (f ∷ e ∷ fs) (g ∷ h ∷ gs) frames = ([], left_states ks m s (f ∷ e ∷ fs) (g ∷ h ∷ gs) beside frames)
+  left_alike : (ks : List Kind) (m : Flat) (s : Slots) → Beside hs ks takes m s → (fs gs : List Frame) → Paired (FrameAlike z.table hs) fs gs → LookBack z.table ks fs → Same ks (flat_left fs m) (returned u gs s)
+  left_alike ks m s beside [] [] frames back = ([], left_states ks m s [] [] beside frames, back)
+  left_alike ks m s beside [] (g ∷ gs) frames back = absurd frames
+  left_alike ks m s beside (f ∷ fs) [] frames back = absurd frames
+  left_alike ks m s beside (f ∷ []) (g ∷ []) frames back = (refl, (ks, ([], left_states ks m s (f ∷ []) (g ∷ []) beside frames)))
+  left_alike ks m s beside (f ∷ []) (g ∷ h ∷ gs) frames back = absurd frames.1
+  left_alike ks m s beside (f ∷ e ∷ fs) (g ∷ []) frames back = absurd frames.1
+  left_alike ks m s beside (f ∷ e ∷ fs) (g ∷ h ∷ gs) frames back = ([], left_states ks m s (f ∷ e ∷ fs) (g ∷ h ∷ gs) beside frames, back)
 
-  pub finish_alike : LooksBack z.table z.f.returns (points.start t) here → Same (take z.f.base here) (points.finish t) (finish u)
-  finish_alike looks =
+  first_back : Backwards (points.start t) (start u)
+  first_back =
+      let known = (start_beside handles here z).known in (
+        points.start t,
+        record { stack = all_kept here z.a.memory.stack known z.clear.stack; known = known; low = refl; same = refl; frame = refl },
+        start_more handles here z,
+      )
+
+  pub finish_alike : Same (take z.f.base here) (points.finish t) (finish u)
+  finish_alike =
       back_alike (take z.f.base here) (λ f m. flat_left z.fs (record f { stack = take z.f.base f.stack })) (λ f. returned u z.gs (with_stack f (take z.g.base f.stack)))
-      (λ m s beside.
+      (λ m s back.
       subst (λ b. Same (take z.f.base here) (flat_left z.fs (record m { stack = take z.f.base m.stack })) (returned u z.gs (with_stack s (take b s.stack)))) (sym z.frame.base)
-      (left_alike (take z.f.base here) (record m { stack = take z.f.base m.stack }) (with_stack s (take z.f.base s.stack)) (frame_left hs here takes m s beside z.f.base) z.fs z.gs
-      (frames_on handles [] z.table z.fs z.gs z.outer)))
+      (left_alike (take z.f.base here) (record m { stack = take z.f.base m.stack }) (with_stack s (take z.f.base s.stack))
+      (subst (λ y. Beside hs (take z.f.base here) takes y (with_stack s (take z.f.base s.stack)))
+      (ap (λ (y : Flat). record y { stack = take z.f.base back.0.stack }) back.1.same ∙ ap (λ st. record m { stack = st }) back.1.low)
+      (frame_left hs here takes back.0 s back.2 z.f.base)) z.fs z.gs
+      (frames_on handles [] z.table z.fs z.gs z.outer) z.back.1))
       z.f.returns z.g.returns (points.start t) (start u)
-      (paired_on (ReturnAlike handles) (ReturnAlike hs) (return_on handles []) z.f.returns z.g.returns z.frame.returns) (start_more handles here z) looks
+      (paired_on (ReturnAlike handles) (ReturnAlike hs) (return_on handles []) z.f.returns z.g.returns z.frame.returns) first_back z.back.0

@@ -11,6 +11,8 @@ use Rattle.run_codes.specs.Points.{as_freed}
 use Rattle.run_codes.specs.Points as points
 use Rattle.numbered_cells.specs.Follows.{handled, IsThere, Names, AllName, there_count, Back, Follows}
 use Rattle.handled_runs.specs.Slots.{Slots}
+use Rattle.handled_runs.specs.Marks.{During}
+use Rattle.handled_runs.proofs.Copies.{unmarked_long}
 use Rattle.handled_runs.specs.Beside.{Numbers, Beside}
 use Rattle.handled_runs.proofs.Cells.{words_on, names_on}
 use Rattle.handled_steps.specs.States.{given_up}
@@ -121,20 +123,32 @@ module _ (handles added : List ℕ) (cells gone : List Cell) (m : Heap) (slots :
 
 -- ---- the law
 
+-- As many cells were made over both, and each has a handle.
+abbrev pub IsMade : List ℕ → Flat → Slots → Type 0
+IsMade hs m s = (s.made ≡ length m.cells) × (length hs ≡ length m.cells)
+
+pub beside_made : (hs : List ℕ) (here taken : List Kind) (m : Flat) (s : Slots) → Beside hs here taken m s → IsMade hs m s
+beside_made hs here taken m s is = (is.made, is.cells.len)
+
+pub during_made : (hs : List ℕ) (here taken : List Kind) (m : Flat) (s : Slots) → During hs here taken m s → IsMade hs m s
+during_made hs here taken m s is =
+    let long = unmarked_long is.whole.cells m.cells is.unmarked.cells in
+    (is.beside.made ∙ long, is.beside.cells.len ∙ long)
+
 long_drop : {A : Type 0} (n : ℕ) (xs : List A) → n ≤ length xs → n + length (drop n xs) ≡ length xs
 long_drop zero xs less = omega arith
 long_drop (suc n) [] less = absurd (omega (arith, less))
 long_drop (suc n) (x ∷ xs) less = let same = long_drop n xs (omega (arith, less)) in omega (arith, same)
 
 module _ (handles more : List ℕ) (here taken : List Kind) (before : Flat) (old : Slots) (beside : Beside handles here taken before old)
-    (now held : List Kind) (m : Flat) (s : Slots) (after : Beside (handles ++ more) now held m s) where
+    (m : Flat) (s : Slots) (after : IsMade (handles ++ more) m s) where
   abbrev gone : List Cell
   gone = drop (length before.cells) m.cells
 
   all_long : length (before.cells ++ map as_freed gone) ≡ length m.cells
   all_long =
       let first = beside.cells.len in
-      let second = after.cells.len in
+      let second = after.1 in
       let both = length-append handles more in
       let less : length before.cells ≤ length m.cells = omega (arith, first, second, both) in
       let rest = long_drop (length before.cells) m.cells less in
@@ -154,10 +168,10 @@ module _ (handles more : List ℕ) (here taken : List Kind) (before : Flat) (old
     waits = beside.waits ∙ words_on handles more taken before.waits beside.waiting_names;
     base = beside.base;
     live = beside.live;
-    made = after.made ∙ sym all_long;
-    freed = ap (λ n. n + (s.made - old.made)) beside.freed ∙ (ap (λ n. before.freed + (n - old.made)) after.made ∙ ap (λ n. before.freed + (length m.cells - n)) beside.made);
+    made = after.0 ∙ sym all_long;
+    freed = ap (λ n. n + (s.made - old.made)) beside.freed ∙ (ap (λ n. before.freed + (n - old.made)) after.0 ∙ ap (λ n. before.freed + (length m.cells - n)) beside.made);
     rest = beside.rest;
-    cells = given_follows handles more before.cells gone old.heap s.heap.slots beside.cells (after.cells.len ∙ sym all_long);
+    cells = given_follows handles more before.cells gone old.heap s.heap.slots beside.cells (after.1 ∙ sym all_long);
     numbered = row;
     names = names_on handles more here before.stack beside.names;
     waiting_names = names_on handles more taken before.waits beside.waiting_names;

@@ -10,20 +10,19 @@ use Rattle.run_codes.specs.Points as points
 use Rattle.handled_runs.specs.Slots.{Slots}
 use Rattle.handled_runs.specs.Slots as slots
 use Rattle.handled_runs.specs.Changes.{stored}
-use Rattle.handled_runs.specs.Beside.{GotsAlike, renamed, all_renamed, NameWords, Beside}
-use Rattle.handled_runs.specs.Looks.{IsFront}
+use Rattle.handled_runs.specs.Beside.{GotsAlike, renamed, all_renamed, NameWords, NamesSpot, Beside}
+use Rattle.handled_runs.specs.Looks.{IsFront, IsClear}
 use Rattle.handled_runs.proofs.Gots.{gots_mapped, given_both, there_of}
 use Rattle.handled_runs.proofs.Words.{word_gots, of_data}
 use Rattle.handled_runs.proofs.Named.{slice_renamed, data_same}
 use Rattle.handled_runs.proofs.Stacks.{stack_stored}
 use Rattle.handled_steps.specs.Steps.{put_words}
-use Rattle.handled_steps.specs.Alike.{NamesSpot}
 use Rattle.handled_steps.specs.Looks.{LooksData, HasData}
 use Rattle.handled_steps.proofs.GivenUp.{there_below}
 
 module _ (handles : List ℕ) (here taken : List Kind) (m : Flat) (s : Slots) (beside : Beside handles here taken m s) where
-  pub data_gots : (c : Code) → LooksData m here taken c → GotsAlike (λ a b. b ≡ a) (flat.word m c) (slots.word s c)
-  data_gots c looks = of_data handles here taken m s beside looks.0 looks.1 (flat.word m c) (slots.word s c) (word_gots handles here taken m s beside c looks.0 looks.2)
+  pub data_gots : IsClear here taken m → (c : Code) → LooksData m here taken c → GotsAlike (λ a b. b ≡ a) (flat.word m c) (slots.word s c)
+  data_gots clear c looks = of_data handles here taken m s beside clear looks.0 looks.1 (flat.word m c) (slots.word s c) (word_gots handles here taken m s beside clear c looks.0 looks.2)
 
   -- a word of the stack
   pub stack_gots : (n : ℕ) (k : Kind) → slice_get here n ≡ Some k → GotsAlike (λ a b. b ≡ renamed handles k a) (found (slice_get m.stack n)) (found (slice_get s.stack n))

@@ -15,8 +15,8 @@ use Rattle.slot_heap.proofs.Greatest.{enough-written, enough-released, enough-al
 use Rattle.numbered_cells.proofs.Peaks.{peaks-allocated}
 use Rattle.run_codes.specs.Codes.{Place, Fill, Checked, Pointer, MovedPointer, Copied, Moved, Waited, New, Default, Repeated, Both, Empty}
 use Rattle.run_codes.specs.Flat.{Got, Given, Stops, Broken, and_then, checked, some_words, repeated, kinds, spliced, Spot, InStack, InCell}
-use Rattle.handled_runs.specs.Slots.{Slots, word, spot, held, front}
-use Rattle.handled_runs.specs.Changes.{slot_values, written_all, cell_stored, stored, nulled, emptied, all_null, made, without_cell, with_stack}
+use Rattle.handled_runs.specs.Slots.{Move, Slots, word, spot, held, front}
+use Rattle.handled_runs.specs.Changes.{slot_values, written_all, cell_stored, stored, nulled, emptied, all_null, made, without_cell, with_stack, moving, all_emptied, settled}
 use Rattle.handled_runs.specs.Leaks.{leaks_at}
 use Rattle.handled_runs.specs.Assigned.{Left, checked_at, assigned}
 use Rattle.handled_runs.specs.Released.{cell_at, named, released_at, released}
@@ -83,6 +83,18 @@ module _ (s : Slots) (keeps : KeepsPeaks s) where
   pub without_keeps : (h size : ℕ) → KeepsPeaks (without_cell s h size)
   without_keeps h size = (enough-released s.heap h keeps.0, keeps.1)
 
+all_keeps : (qs : List Move) (s : Slots) → KeepsPeaks s → (t : Slots) → all_emptied qs s ≡ Given t → KeepsPeaks t
+all_keeps [] s keeps t e = let same : s ≡ t = cc in subst KeepsPeaks same keeps
+all_keeps (q ∷ qs) s keeps t e = by (emptied s q.at q.kinds q.offsets) (emptied_keeps s keeps q.at q.kinds q.offsets) e (λ i kept f. all_keeps qs i kept t f)
+  where
+    by : (g : Got Slots) → ((i : Slots) → g ≡ Given i → KeepsPeaks i) → and_then g (all_emptied qs) ≡ Given t → ((i : Slots) → KeepsPeaks i → all_emptied qs i ≡ Given t → KeepsPeaks t) → KeepsPeaks t
+    by (Given i) kept f on = on i (kept i refl) f
+    by (Stops x) kept f on = cc
+    by Broken kept f on = cc
+
+pub settled_keeps : (s : Slots) → KeepsPeaks s → (t : Slots) → settled s ≡ Given t → KeepsPeaks t
+settled_keeps s keeps t e = all_keeps s.moves (record s { moves = [] }) keeps t e
+
 -- ---- values
 
 abbrev pub FillsPeaks : Outcome → Type 0
@@ -101,16 +113,15 @@ then_keep (Ends x t) r P keeps so on = subst FillsPeaks (sym so) keeps
 then_keep Fails r P keeps so on = subst FillsPeaks (sym so) tt
 
 cell_makes : (b : Bool) (s : Slots) (ks : List Kind) (zs : List ℤ) (r : Outcome) → KeepsPeaks s → MakesCell b s ks zs r → FillsPeaks r
-cell_makes true s ks zs (Gives us t) keeps (h, new, word, is) = subst KeepsPeaks (sym is) (made_keeps s keeps h ks zs)
+cell_makes true s ks zs (Gives us t) keeps (h, new, word, is, few) = subst KeepsPeaks (sym is) (made_keeps s keeps h ks zs)
 cell_makes true s ks zs (Ends x t) keeps is = subst KeepsPeaks (sym is.1) keeps
 cell_makes true s ks zs Fails keeps is = tt
 cell_makes false s ks zs r keeps is = subst FillsPeaks (sym is) keeps
 
 moves_keep : (s : Slots) → KeepsPeaks s → (g : Got Spot) (ks : List Kind) (gone : List ℕ) → FillsPeaks (moves s g ks gone)
 moves_keep s keeps g ks gone =
-    reads_keep s keeps g (λ p. reads s (held s p ks) (λ zs. reads s (emptied s p ks gone) (Gives zs)))
-    (λ p found. reads_keep s keeps (held s p ks) (λ zs. reads s (emptied s p ks gone) (Gives zs))
-    (λ zs at. reads_keep s keeps (emptied s p ks gone) (Gives zs) (λ t e. emptied_keeps s keeps p ks gone t e)))
+    reads_keep s keeps g (λ p. reads s (held s p ks) (λ zs. Gives zs (moving s p ks gone)))
+    (λ p found. reads_keep s keeps (held s p ks) (λ zs. Gives zs (moving s p ks gone)) (λ zs at. keeps))
 
 pub fill_keeps : (table : Table) (v : Fill) (s : Slots) (r : Outcome) → KeepsPeaks s → Fills table v s r → FillsPeaks r
 unfolding Fills
@@ -148,9 +159,12 @@ left_keeps leaks t keeps l e = let same : record { leaks = leaks; memory = t } �
 
 pub assigned_keeps : (table : Table) (p : Place) (of : ℕ) (checks : Option Pos) (zs : List ℤ) (s : Slots) → KeepsPeaks s → LeavesPeaks (assigned table p of checks zs s)
 assigned_keeps table p of checks zs s keeps =
-    got_leaves (spot s p) (λ q. and_then (checked_at table s q of checks) (λ leaks. and_then (stored s q (kinds table of) zs) (λ t. Given (record { leaks = leaks; memory = t }))))
-    (λ q found. got_leaves (checked_at table s q of checks) (λ leaks. and_then (stored s q (kinds table of) zs) (λ t. Given (record { leaks = leaks; memory = t })))
-    (λ leaks at. got_leaves (stored s q (kinds table of) zs) (λ t. Given (record { leaks = leaks; memory = t })) (λ t e. left_keeps leaks t (stored_keeps s keeps q (kinds table of) zs t e))))
+    got_leaves (spot s p) (λ q. and_then (settled s)
+    (λ k. and_then (checked_at table k q of checks) (λ leaks. and_then (stored k q (kinds table of) zs) (λ t. Given (record { leaks = leaks; memory = t })))))
+    (λ q found. got_leaves (settled s) (λ k. and_then (checked_at table k q of checks) (λ leaks. and_then (stored k q (kinds table of) zs) (λ t. Given (record { leaks = leaks; memory = t }))))
+    (λ k done. got_leaves (checked_at table k q of checks) (λ leaks. and_then (stored k q (kinds table of) zs) (λ t. Given (record { leaks = leaks; memory = t })))
+    (λ leaks at. got_leaves (stored k q (kinds table of) zs) (λ t. Given (record { leaks = leaks; memory = t }))
+    (λ t e. left_keeps leaks t (stored_keeps k (settled_keeps s keeps k done) q (kinds table of) zs t e)))))
 
 module _ (table : Table) (of : ℕ) (at : Pos) (q : Spot) (s : Slots) (keeps : KeepsPeaks s) where
   freed_keeps : (h : ℕ) (x : Option (List Value)) → LeavesPeaks (cell_at table of at q s h x)

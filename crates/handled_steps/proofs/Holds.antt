@@ -1,5 +1,5 @@
 -- Points that hand a result to the caller, over both heaps.
-use Rattle.std.proofs.Common.{refl, ap, ℕ, suc, List, [], ◌∷◌, ◌++◌, Option, Some, None, ℤ}
+use Rattle.std.proofs.Common.{refl, ap, ℕ, suc, List, [], ◌∷◌, ◌++◌, take, Option, Some, None, ℤ}
 use Rattle.run_values.specs.declared.value.Kind.{Kind}
 use Rattle.run_codes.specs.Codes.{Fill}
 use Rattle.run_codes.specs.Flat.{Flat, kinds}
@@ -8,12 +8,13 @@ use Rattle.run_codes.specs.Points as points
 use Rattle.handled_runs.specs.Slots.{Slots}
 use Rattle.handled_runs.specs.Beside.{all_renamed, Beside}
 use Rattle.handled_runs.specs.Alike.{LooksFill}
-use Rattle.handled_steps.specs.States.{State, Outcome, Turn, counted, waiting}
+use Rattle.handled_steps.specs.States.{State, Outcome, Goes, Turn, counted, waiting}
 use Rattle.handled_steps.specs.Steps.{Holds, holding}
+use Rattle.handled_steps.specs.Backs.{LookBack}
 use Rattle.handled_steps.specs.Alike.{Paired, HeldAlike, FrameAlike, StatesAlike, OutcomesAlike}
 use Rattle.handled_steps.specs.Looks.{taken_kinds}
 use Rattle.handled_steps.proofs.Pairs.{frame_on, frames_on}
-use Rattle.handled_steps.proofs.Turns.{Both, flat_turn, slot_turn, waiting_on}
+use Rattle.handled_steps.proofs.Turns.{Both, flat_turn, slot_turn, waiting_on, settled_on}
 use Rattle.handled_steps.proofs.Stores.{after_value}
 
 module _ (handles : List ℕ) (here : List Kind) (z : Both handles here) where
@@ -59,7 +60,15 @@ module _ (handles : List ℕ) (here : List Kind) (z : Both handles here) where
           steps = ap suc z.states.steps;
         }
 
-  pub hold_alike : (v : Fill) (of : ℕ) (n : Option ℕ) (r : Outcome) → LooksFill z.table (points.start t) here takes v (kinds z.table of) → Holds u v of n r
+  -- what is copied back isn't in what waits
+  back_given : (n : ℕ) (v : Held) → LookBack z.table here (record z.f { waits = points.waiting t; next = n } ∷ given_to v z.fs)
+  back_given n v = (z.back.0, by z.fs z.back.1)
+    where
+      by : (fs : List Frame) → LookBack z.table (take z.f.base here) fs → LookBack z.table (take z.f.base here) (given_to v fs)
+      by [] back = back
+      by (f ∷ fs) back = back
+
+  pub hold_alike : (v : Fill) (of : ℕ) (n : Option ℕ) (r : Outcome) → LooksFill z.table z.f.base here takes v (kinds z.table of) → Holds u v of n r
       → OutcomesAlike z.table handles here (points.hold t v of n) r
   hold_alike v of None r looks so = tt
   hold_alike v of (Some n) r looks so =
@@ -67,4 +76,8 @@ module _ (handles : List ℕ) (here : List Kind) (z : Both handles here) where
       (λ zs m. points.Goes (points.counted (record z.a { memory = m; frames = record z.f { waits = points.waiting t; next = n } ∷ given_to (record { of = of; words = zs }) z.fs })))
       (holding u of n) r looks so
       (λ zs m s found us alike.
-      (alike.more, held_states alike.more m s alike.beside of n zs (all_renamed (handles ++ alike.more) (kinds z.table of) zs) (record { of = refl; words = refl; known = alike.known; names = alike.names })))
+      settled_on handles here z alike.more here takes m s alike.during here
+      (points.Goes (points.counted (record z.a { memory = m; frames = record z.f { waits = points.waiting t; next = n } ∷ given_to (record { of = of; words = zs }) z.fs })))
+      (λ s. Goes (counted (record z.b { memory = s; frames = record z.g { waits = waiting u; next = n } ∷ given_to (record { of = of; words = all_renamed (handles ++ alike.more) (kinds z.table of) zs }) z.gs })))
+      (λ s beside.
+      (alike.more, held_states alike.more m s beside of n zs (all_renamed (handles ++ alike.more) (kinds z.table of) zs) (record { of = refl; words = refl; known = alike.known; names = alike.names }), back_given n (record { of = of; words = zs }))))

@@ -21,6 +21,8 @@ pub mod Moving
 pub mod Passing
 pub mod Calls
 pub mod Finishes
+-- null where something is gone
+pub mod Cleared
 -- steps and runs
 pub mod Steps
 pub mod Runs

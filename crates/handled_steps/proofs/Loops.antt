@@ -96,7 +96,7 @@ module _ (handles : List ℕ) (here : List Kind) (z : Both handles here) where
       got_on handles here z [] here takes m s beside (Beside hs here takes) (led_kinds t here n)
       (and_then (points.put_words m at (v ∷ [])) (λ k. points.put_words k counter (a ∷ b ∷ c ∷ []))) (and_then (put_words s at (v ∷ [])) (λ k. put_words k counter (a ∷ b ∷ c ∷ [])))
       (λ k. points.goes t k n) (λ k. goes u k n) (both_put at counter v a b c one loop)
-      (λ i j given both. goes_alike handles here z [] here takes i j both n)
+      (λ i j given both. goes_alike handles here z [] takes i j both n)
 
   -- ---- a loop begins
 

@@ -11,7 +11,7 @@ use Rattle.run_codes.specs.Points as points
 use Rattle.handled_runs.specs.Beside.{IsSilent, all_renamed}
 use Rattle.handled_runs.proofs.Gots.{there_of, touch_silent}
 use Rattle.handled_runs.proofs.Words.{data_renamed}
-use Rattle.handled_steps.specs.Looks.{FitsOf, IsOneData}
+use Rattle.handled_steps.specs.Backs.{IsOneData, FitsOf}
 
 -- A spot is reached as it is, where its cell isn't freed.
 pub reached_is : (m : Flat) (q r : Spot) → points.reached m q ≡ Given r → r ≡ q

@@ -6,10 +6,10 @@ use mathlib.Core.List.{reverse, reverse-cons}
 use Rattle.type_definitions.specs.Types.{Table}
 use Rattle.run_codes.specs.Flat.{Spot, InStack, InCell, kinds}
 use Rattle.run_codes.specs.Points.{Held, Return, Frame}
-use Rattle.handled_runs.specs.Beside.{all_renamed, spot_renamed, NameWords}
+use Rattle.handled_runs.specs.Beside.{all_renamed, spot_renamed, NameWords, NamesSpot}
 use Rattle.handled_runs.proofs.Cells.{words_on, names_on}
 use Rattle.handled_runs.proofs.Outcomes.{renamed_append, names_append}
-use Rattle.handled_steps.specs.Alike.{Paired, HeldAlike, NamesSpot, ReturnAlike, FrameAlike}
+use Rattle.handled_steps.specs.Alike.{Paired, HeldAlike, ReturnAlike, FrameAlike}
 
 -- ---- lists in relation
 

@@ -12,19 +12,19 @@ use Rattle.machine.specs.Evaluate.{ProgramError, StorageError, DataError, EndErr
 use Rattle.machine.specs.States.{Leak, stack_words}
 use Rattle.run_codes.specs.Codes.{Fill, Actual, ByValue, From, To, Place, Does, Go, Put, Store, Assign, Call, Output, Input, Release, Test, Choose, Start, Next, EvaluateLeft, EvaluateRight, Hold, EndPointer, EndScope, Finish, Fall, Point, Sub}
 use Rattle.run_codes.specs.Flat.{Got, Given, Stops, Broken, Stop, Raises, Traps, Memory, and_then, found, kinds, constraint, default_words, is_between, is_zero, Spot, InStack}
-use Rattle.run_codes.specs.Points.{Held, Return, Frame, Passed, Value, FromSpot, ToSpot, fits, frames_words, sub_at, chosen, truth_held, next_value}
+use Rattle.run_codes.specs.Points.{Held, Return, Frame, Passed, Value, FromSpot, ToSpot, fits, frames_words, sub_at, chosen, truth_held, given_to, next_value}
 use Rattle.run_codes.specs.Programs.{Program}
 use Rattle.handled_runs.specs.Slots.{Slots, word, spot, held}
-use Rattle.handled_runs.specs.Changes.{with_stack, stored, emptied}
+use Rattle.handled_runs.specs.Changes.{with_stack, stored, moving, settled}
 use Rattle.handled_runs.specs.Values as values
 use Rattle.handled_runs.specs.Values.{Fills}
 use Rattle.handled_runs.specs.Leaks.{leak, leaks_at}
 use Rattle.handled_runs.specs.Assigned.{Left, assigned}
 use Rattle.handled_runs.specs.Released.{released}
-use Rattle.handled_steps.specs.States.{State, Outcome, Goes, Ends, Wants, Fails, Turn, waiting, are_taken, start, halted, on_got, on_made, with_frame, frame_of, begun, left, led, after, goes, leaking_goes}
-use Rattle.handled_steps.specs.Steps.{put_words, in_stack, After, put, store, assign, left_goes, Passing, Passes, Stopping, Failing, on_read, passed_value, from_spot, PassesOne, with_first, Following, PassesAll, out_leaks, with_formal, with_formals, begins, entered, on_passed, CallsSub, back_stored, copied_back, returned, holding, Holds, text, writing, reading, read, choice, looped, loop_started, stack_word, turning, Done, Turned, turn_of, SteppedAt, Stepped, Then, Within}
+use Rattle.handled_steps.specs.States.{State, Outcome, Goes, Ends, Wants, Fails, Turn, waiting, are_taken, start, counted, halted, on_got, on_made, with_frame, frame_of, begun, left, led, after, goes, leaking_goes}
+use Rattle.handled_steps.specs.Steps.{on_settled, put_words, in_stack, After, put, store, assign, left_goes, Passing, Passes, Stopping, Failing, on_read, passed_value, from_spot, PassesOne, with_first, Following, PassesAll, out_leaks, with_formal, with_formals, begins, begun_with, entered, on_passed, CallsSub, copied_back, returned, holding, Holds, text, writing, reading, read, choice, looped, loop_started, stack_word, turning, Done, Turned, turn_of, SteppedAt, Stepped, Then, Within}
 use Rattle.handled_steps.specs.Greatest.{KeepsPeaks, EndsWithPeaks}
-use Rattle.handled_steps.proofs.Greatest.{GivesPeaks, FillsPeaks, LeavesPeaks, stored_keeps, emptied_keeps, fill_keeps, assigned_keeps, released_keeps}
+use Rattle.handled_steps.proofs.Greatest.{GivesPeaks, FillsPeaks, LeavesPeaks, stored_keeps, settled_keeps, fill_keeps, assigned_keeps, released_keeps}
 
 -- ---- how steps go on and end
 
@@ -77,13 +77,19 @@ module _ (t : Turn) (begins_so : KeepsPeaks (start t)) where
   after_value : (v : Fill) (f : List ℤ → Slots → Outcome) (r : Outcome) → After t v f r → ((zs : List ℤ) (i : Slots) → KeepsPeaks i → EndsWithPeaks (f zs i)) → EndsWithPeaks r
   after_value v f r (g, fills, so) on = subst EndsWithPeaks (sym so) (made_keeps t g f (fill_keeps t.table v s g begins_so fills) on)
 
+  pub settles_keep : (i : Slots) (f : Slots → Outcome) → KeepsPeaks i → ((k : Slots) → KeepsPeaks k → EndsWithPeaks (f k)) → EndsWithPeaks (on_settled t i f)
+  settles_keep i f keeps on = got_keeps t i (settled i) f keeps (λ k e. on k (settled_keeps i keeps k e))
+
   put_keeps : (at : ℕ) (n : Option ℕ) (zs : List ℤ) (i : Slots) → KeepsPeaks i → EndsWithPeaks (put t at n zs i)
-  put_keeps at n zs i keeps = got_keeps t i (put_words i at zs) (λ k. goes t k n) keeps (λ k e. goes_keeps t k n (stored_keeps i keeps (in_stack i at) [] zs k e))
+  put_keeps at n zs i keeps =
+      settles_keep i (λ j. on_got t j (put_words j at zs) (λ k. goes t k n)) keeps
+      (λ j kept. got_keeps t j (put_words j at zs) (λ k. goes t k n) kept (λ k e. goes_keeps t k n (stored_keeps j kept (in_stack j at) [] zs k e)))
 
   store_keeps : (p : Place) (k : Kind) (n : Option ℕ) (zs : List ℤ) (i : Slots) → KeepsPeaks i → EndsWithPeaks (store t p k n zs i)
   store_keeps p k n zs i keeps =
-      got_keeps t i (spot i p) (λ q. on_got t i (stored i q (k ∷ []) zs) (λ l. goes t l n)) keeps
-      (λ q found_spot. got_keeps t i (stored i q (k ∷ []) zs) (λ l. goes t l n) keeps (λ l e. goes_keeps t l n (stored_keeps i keeps q (k ∷ []) zs l e)))
+      got_keeps t i (spot i p) (λ q. on_settled t i (λ j. on_got t j (stored j q (k ∷ []) zs) (λ l. goes t l n))) keeps
+      (λ q found_spot. settles_keep i (λ j. on_got t j (stored j q (k ∷ []) zs) (λ l. goes t l n)) keeps
+      (λ j kept. got_keeps t j (stored j q (k ∷ []) zs) (λ l. goes t l n) kept (λ l e. goes_keeps t l n (stored_keeps j kept q (k ∷ []) zs l e))))
 
   left_goes_keep : (n : Option ℕ) (i : Slots) (g : Got (Left Slots)) → KeepsPeaks i → LeavesPeaks g → EndsWithPeaks (on_got t i g (left_goes t n))
   left_goes_keep n i g keeps leaves = got_keeps t i g (left_goes t n) keeps (λ l e. leaking_keeps t l.leaks l.memory n (leaves l e))
@@ -132,7 +138,9 @@ module _ (t : Turn) (begins_so : KeepsPeaks (start t)) where
 
   hold_keeps : (v : Fill) (of : ℕ) (n : Option ℕ) (r : Outcome) → Holds t v of n r → EndsWithPeaks r
   hold_keeps v of None r so = subst EndsWithPeaks (sym so) tt
-  hold_keeps v of (Some n) r so = after_value v (holding t of n) r so (λ zs i keeps. keeps)
+  hold_keeps v of (Some n) r so = after_value v (holding t of n) r so
+      (λ zs i keeps. settles_keep i
+      (λ s. Goes (counted (record t.state { memory = s; frames = record t.frame { waits = waiting t; next = n } ∷ given_to (record { of = of; words = zs }) t.outer }))) keeps (λ j kept. kept))
 
   -- ---- the end of a call
 
@@ -141,24 +149,16 @@ module _ (t : Turn) (begins_so : KeepsPeaks (start t)) where
   returned_keeps (f ∷ []) i keeps = keeps.1
   returned_keeps (f ∷ g ∷ outer) i keeps = keeps
 
-  back_keeps : (i : Slots) (r : Return) (zs : List ℤ) → KeepsPeaks i → GivesPeaks (back_stored t.table i r zs)
-  back_keeps i r zs keeps = by (emptied i (in_stack i r.at) (kinds t.table r.from) (access_offsets t.table r.from)) (emptied_keeps i keeps (in_stack i r.at) (kinds t.table r.from) (access_offsets t.table r.from))
-    where
-      by : (g : Got Slots) → GivesPeaks g → GivesPeaks (and_then g (λ n. stored n r.to (kinds t.table r.of) zs))
-      by (Given k) gives = λ l e. stored_keeps k (gives k refl) r.to (kinds t.table r.of) zs l e
-      by (Stops x) gives = λ l e. cc
-      by Broken gives = λ l e. cc
-
   copied_keeps : (rs : List Return) (i : Slots) (f : Slots → Outcome) → KeepsPeaks i → ((k : Slots) → KeepsPeaks k → EndsWithPeaks (f k)) → EndsWithPeaks (copied_back t rs i f)
   copied_keeps [] i f keeps on = on i keeps
   copied_keeps (r ∷ rs) i f keeps on =
       got_keeps t i (held i (in_stack i r.at) (kinds t.table r.from))
-      (λ zs. if fits t.table r.of zs then on_got t i (back_stored t.table i r zs) (λ n. copied_back t rs n f) else halted t constraint i) keeps
+      (λ zs. if fits t.table r.of zs then on_got t i (stored i r.to (kinds t.table r.of) zs) (λ n. copied_back t rs n f) else halted t constraint i) keeps
       (λ zs e. by zs (fits t.table r.of zs) (λ n k. copied_keeps rs n f k on))
     where
       by : (zs : List ℤ) (b : Bool) → ((n : Slots) → KeepsPeaks n → EndsWithPeaks (copied_back t rs n f))
-          → EndsWithPeaks (if b then on_got t i (back_stored t.table i r zs) (λ n. copied_back t rs n f) else halted t constraint i)
-      by zs true next = got_keeps t i (back_stored t.table i r zs) (λ n. copied_back t rs n f) keeps (λ n e. next n (back_keeps i r zs keeps n e))
+          → EndsWithPeaks (if b then on_got t i (stored i r.to (kinds t.table r.of) zs) (λ n. copied_back t rs n f) else halted t constraint i)
+      by zs true next = got_keeps t i (stored i r.to (kinds t.table r.of) zs) (λ n. copied_back t rs n f) keeps (λ n e. next n (stored_keeps i keeps r.to (kinds t.table r.of) zs n e))
       by zs false next = halted_keeps t constraint i keeps
 
 -- ---- calls
@@ -211,16 +211,15 @@ then_gives (Given a) f on = on a refl
 then_gives (Stops x) f on = λ t e. cc
 then_gives Broken f on = λ t e. cc
 
+same_keeps : (s : Slots) → KeepsPeaks s → GivesPeaks (Given s)
+same_keeps s keeps t e = let same : s ≡ t = cc in subst KeepsPeaks same keeps
+
 formal_keeps : (table : Table) (at f : ℕ) (p : Passed) (s : Slots) → KeepsPeaks s → GivesPeaks (with_formal table at f p s)
 formal_keeps table at f (Value zs) s keeps = stored_keeps s keeps (InStack at) (kinds table f) zs
 formal_keeps table at f (FromSpot q of) s keeps =
-    then_gives (held s q (kinds table of)) (λ zs. and_then (emptied s q (kinds table of) (access_offsets table of)) (λ n. stored n (InStack at) (kinds table f) zs))
-    (λ zs found_words. then_gives (emptied s q (kinds table of) (access_offsets table of)) (λ n. stored n (InStack at) (kinds table f) zs)
-    (λ n e. stored_keeps n (emptied_keeps s keeps q (kinds table of) (access_offsets table of) n e) (InStack at) (kinds table f) zs))
-formal_keeps table at f (ToSpot q of p) s keeps = emptied_keeps s keeps q (kinds table of) (access_offsets table of)
-
-same_keeps : (s : Slots) → KeepsPeaks s → GivesPeaks (Given s)
-same_keeps s keeps t e = let same : s ≡ t = cc in subst KeepsPeaks same keeps
+    then_gives (held s q (kinds table of)) (λ zs. stored (moving s q (kinds table of) (access_offsets table of)) (InStack at) (kinds table f) zs)
+    (λ zs found_words. stored_keeps (moving s q (kinds table of) (access_offsets table of)) keeps (InStack at) (kinds table f) zs)
+formal_keeps table at f (ToSpot q of p) s keeps = same_keeps (moving s q (kinds table of) (access_offsets table of)) keeps
 
 formals_keep : (table : Table) (at : ℕ) (formals : List ℕ) (passed : List Passed) (s : Slots) → KeepsPeaks s → GivesPeaks (with_formals table at formals passed s)
 formals_keep table at [] [] s keeps = same_keeps s keeps
@@ -234,16 +233,22 @@ module _ (t : Turn) (begins_so : KeepsPeaks (start t)) where
   entered_keeps : (sub : Sub) (n : Option ℕ) (passed : List Passed) (s : Slots) → KeepsPeaks s → EndsWithPeaks (entered t sub n passed s)
   entered_keeps sub n passed s keeps = by (nat_le (frames_words (frame_of s sub [] ∷ t.frame ∷ t.outer)) stack_words)
     where
+      formals_kept : (leaks : List Leak) → EndsWithPeaks (on_got t s (with_formals t.table (length s.stack) sub.formals passed (with_frame t.table sub s)) (begun_with t sub passed s n leaks))
+      formals_kept leaks =
+          got_keeps t s (with_formals t.table (length s.stack) sub.formals passed (with_frame t.table sub s)) (begun_with t sub passed s n leaks) keeps
+          (λ f e. settles_keep t begins_so f (λ f. Goes (begins t sub passed s n leaks f)) (formals_keep t.table (length s.stack) sub.formals passed (with_frame t.table sub s) keeps f e)
+          (λ k kept. after_keeps t (waiting t) k n kept))
+
       by : (b : Bool)
           → EndsWithPeaks (if b
-          then on_got t s (out_leaks t.table s passed)
-          (λ leaks. on_got t s (with_formals t.table (length s.stack) sub.formals passed (with_frame t.table sub s)) (λ f. Goes (begins t sub passed s n leaks f)))
+          then on_settled t s (λ k. on_got t s (out_leaks t.table k passed)
+          (λ leaks. on_got t s (with_formals t.table (length s.stack) sub.formals passed (with_frame t.table sub s)) (begun_with t sub passed s n leaks)))
           else halted t (Raises StorageError) s)
       by true =
-          got_keeps t s (out_leaks t.table s passed)
-          (λ leaks. on_got t s (with_formals t.table (length s.stack) sub.formals passed (with_frame t.table sub s)) (λ f. Goes (begins t sub passed s n leaks f))) keeps
-          (λ leaks found_leaks. got_keeps t s (with_formals t.table (length s.stack) sub.formals passed (with_frame t.table sub s)) (λ f. Goes (begins t sub passed s n leaks f)) keeps
-          (λ f e. after_keeps t (waiting t) f n (formals_keep t.table (length s.stack) sub.formals passed (with_frame t.table sub s) keeps f e)))
+          settles_keep t begins_so s
+          (λ k. on_got t s (out_leaks t.table k passed) (λ leaks. on_got t s (with_formals t.table (length s.stack) sub.formals passed (with_frame t.table sub s)) (begun_with t sub passed s n leaks))) keeps
+          (λ k kept. got_keeps t s (out_leaks t.table k passed)
+          (λ leaks. on_got t s (with_formals t.table (length s.stack) sub.formals passed (with_frame t.table sub s)) (begun_with t sub passed s n leaks)) keeps (λ leaks found_leaks. formals_kept leaks))
       by false = halted_keeps t (Raises StorageError) s keeps
 
   call_keeps : (sub : ℕ) (actuals : List Actual) (n : Option ℕ) (r : Outcome) → CallsSub t sub actuals n r → EndsWithPeaks r

@@ -21,7 +21,9 @@ use Rattle.handled_runs.specs.Beside.{Beside}
 use Rattle.handled_runs.proofs.Places.{as_long}
 use Rattle.handled_steps.specs.States.{State, Outcome, Goes, Ends, Wants, Fails, frame_of, with_frame}
 use Rattle.handled_steps.specs.Alike.{FrameAlike, Paired, StatesAlike, EndsAlike, OutcomesAlike, frame_kinds}
-use Rattle.handled_steps.specs.Looks.{HavePointers, LooksRun}
+use Rattle.handled_steps.specs.Looks.{HavePointers}
+use Rattle.handled_steps.specs.Backs.{LookBack}
+use Rattle.handled_steps.specs.Clear.{clear_within, clear_run_of, LooksRun}
 use Rattle.handled_steps.specs.Greatest.{KeepsPeaks, EndsWithPeaks}
 use Rattle.handled_steps.specs.Runs.{NeverTraps, no_memory, state_of, main_begun, state_at_start, RunsWithin, RunOf, ran_with, given, main_kinds, first_kinds}
 use Rattle.handled_steps.proofs.Frames.{frame_pushed}
@@ -92,18 +94,27 @@ module _ (table : Table) (program : Program) where
   start_alike true = at_start (frame_kinds table (sub_at program 0)) flat_first slots_first (flat_frame ∷ []) (slots_frame ∷ []) first_beside (frame_alike, tt)
   start_alike false = main_alike program.main
 
+  -- Nothing is copied back yet.
+  main_back : (main : Option ℕ) → LookBack table (main_kinds table program (frame_kinds table (sub_at program 0)) main) (flat_main main).frames
+  main_back None = (tt, tt)
+  main_back (Some main) = (tt, (tt, tt))
+
+  pub start_back : (declares : Bool) → LookBack table (first_kinds table program declares) (points.state_at_start table program declares).frames
+  start_back true = (tt, tt)
+  start_back false = main_back program.main
+
   -- ---- whole runs
 
   pub run_alike : HavePointers table → (declares : Bool) (at : Pos) (main : ℕ) (input : List ℕ) (n : ℕ) (ks : List Kind) (r : Outcome)
       → LooksRun n table program input (points.state_at_start table program declares) (first_kinds table program declares) → RunOf table program declares at main input n r
-      → OutcomesAlike table [] ks (points.run_of table program declares at main input n) r
+      → OutcomesAlike table [] ks (clear_run_of table program declares at main input n) r
   run_alike pointers declares at main input n ks r looks so = by (nat_le ((sub_at program main).words + (sub_at program 0).words) stack_words) so
     where
       by : (b : Bool) → RunsWithin b table program declares at input n r
           → OutcomesAlike table [] ks
-          (if b then points.within n table program input (points.state_at_start table program declares) else points.Ends (Raised StorageError at) (points.state_at_start table program declares)) r
+          (if b then clear_within n table program input (points.state_at_start table program declares) (first_kinds table program declares) else points.Ends (Raised StorageError at) (points.state_at_start table program declares)) r
       by true so =
-          within_alike table pointers program input n [] (first_kinds table program declares) ks (points.state_at_start table program declares) (state_at_start table program declares) r (start_alike declares) looks so
+          within_alike table pointers program input n [] (first_kinds table program declares) ks (points.state_at_start table program declares) (state_at_start table program declares) r (start_alike declares) (start_back declares) looks so
       by false so =
           subst (OutcomesAlike table [] ks (points.Ends (Raised StorageError at) (points.state_at_start table program declares))) (sym so)
           (refl, (first_kinds table program declares, ([], start_alike declares)))
@@ -137,17 +148,6 @@ given_same table handles ks (points.Ends Spent a) r q is never e = ends_same tab
 given_same table handles ks (points.Ends (Trapped x p) a) r q is never e = absurd (never x p (let same : run_with (Trapped x p) a ≡ q = cc in sym (ap (λ (y : Ran). y.ending) same)))
 given_same table handles ks points.Wants r q is never e = cc
 given_same table handles ks points.Fails r q is never e = cc
-
--- The law for the runs of programs that are lowered.
-pub lowered_alike : (program : FlowProgram) (p : Program) (input : List ℕ) (n : ℕ) (r : Outcome) (q : Ran) → lowered_program program ≡ Some p → HavePointers program.table
-    → LooksRun n program.table p input (points.state_at_start program.table p (is_declaring program)) (first_kinds program.table p (is_declaring program))
-    → RunOf program.table p (is_declaring program) (machine.sub_of program (main_of program.main)).pos (main_of program.main) input n r
-    → NeverTraps q.ending → lowered_run program input n ≡ Some q → (given r ≡ Some q) ⊎ (r ≡ Wants)
-unfolding lowered_run
-lowered_alike program p input n r q lowered pointers looks so never e =
-    given_same program.table [] [] (run_of program.table p (is_declaring program) (machine.sub_of program (main_of program.main)).pos (main_of program.main) input n) r q
-    (run_alike program.table p pointers (is_declaring program) (machine.sub_of program (main_of program.main)).pos (main_of program.main) input n [] r looks so) never
-    (sym (ap (option_and_then (λ (x : Program). run_given (run_of program.table x (is_declaring program) (machine.sub_of program (main_of program.main)).pos (main_of program.main) input n))) lowered) ∙ e)
 
 -- As a run ends, its slots number the greatest counts of live cells.
 pub run_keeps : (table : Table) (program : Program) (declares : Bool) (at : Pos) (main : ℕ) (input : List ℕ) (n : ℕ) (r : Outcome) → RunOf table program declares at main input n r → EndsWithPeaks r

@@ -18,6 +18,8 @@ use Rattle.handled_runs.specs.Released.{flat_freed, flat_cell, flat_named, flat_
 use Rattle.handled_runs.specs.Beside.{handle_word, all_renamed, Beside}
 use Rattle.handled_runs.specs.Looks.{IsFront}
 use Rattle.handled_runs.specs.Alike.{AreNumbers}
+use Rattle.handled_runs.specs.Marks.{Stands}
+use Rattle.handled_runs.proofs.Marking.{stands_at}
 use Rattle.handled_runs.proofs.Filled.{numbers_renamed, numbers_long, numbers_named}
 use Rattle.handled_runs.proofs.Leaks.{leak_same, leaks_gots}
 use Rattle.handled_runs.proofs.Released.{released_alike}
@@ -153,7 +155,7 @@ module _ (handles : List ℕ) (here : List Kind) (z : Both handles here) where
       subst (λ x. Same (led_kinds turn here n) x (release u p of at n)) (sym (release_is turn of at n p))
       (got_on handles here z [] here takes first s beside (AreLeft hs here takes) (led_kinds turn here n) (flat_released z.table p of at first) (released z.table p of at s)
       (λ l. points.leaking_goes turn l.leaks l.memory n) (left_goes u n)
-      (released_alike hs here takes first s beside z.table of at (pointers of) p looks)
+      (released_alike hs here takes first s beside z.clear z.table of at (pointers of) p looks)
       (λ a b found both. left_alike handles here z [] first s n a b both))
 
   -- words of the stack that are put, after leak checks
@@ -167,7 +169,7 @@ module _ (handles : List ℕ) (here : List Kind) (z : Both handles here) where
       (put_gots hs here takes first s beside at ks zs is (numbers_long ks zs are) (numbers_named (length hs) ks zs are))
       (λ i j found both.
       subst (λ xs. Same (led_kinds turn here n) (points.leaking_goes turn leaks i n) (leaking_goes u xs j n)) (sym same)
-      (leaking_goes_alike handles here z [] here takes i j both leaks n)))
+      (leaking_goes_alike handles here z [] takes i j both leaks n)))
 
   pub pointer_alike : (at : ℕ) (n : Option ℕ) → slice_get here (z.f.base + at) ≡ Some sort.Access → ((w : ℤ) → slice_get first.stack (z.f.base + at) ≡ Some w → IsLeaked first.cells w)
       → Same (led_kinds turn here n) (points.end_pointer turn at n) (end_pointer u at n)
@@ -186,7 +188,7 @@ module _ (handles : List ℕ) (here : List Kind) (z : Both handles here) where
       some_found (Some v) w e = let same : v ≡ w = cc in ap Some same
       some_found None w e = cc
 
-  pub scope_alike : HavePointers z.table → (at of : ℕ) (n : Option ℕ) → LeaksAt z.table first here (points.in_stack first at) of
+  pub scope_alike : HavePointers z.table → (at of : ℕ) (n : Option ℕ) → Stands here (InStack (z.f.base + at)) (kinds z.table of) × LeaksAt z.table first (InStack (z.f.base + at)) of
       → Same (led_kinds turn here n) (points.end_scope turn at of n) (end_scope u at of n)
   scope_alike pointers at of n looks =
       subst (λ i. Same (led_kinds turn here n) (points.end_scope turn at of n)
@@ -195,5 +197,5 @@ module _ (handles : List ℕ) (here : List Kind) (z : Both handles here) where
       (leaks_at z.table s (InStack (z.f.base + at)) of z.point.pos)
       (λ leaks. points.on_got turn first (points.put_words first at (default_words z.table of)) (λ i. points.leaking_goes turn leaks i n))
       (λ leaks. on_got u s (put_words s at (default_words z.table of)) (λ j. leaking_goes u leaks j n))
-      (leaks_gots hs here takes first s beside z.table (InStack (z.f.base + at)) of z.point.pos looks.0 (pointers of) looks.1)
+      (leaks_gots hs here takes first s beside z.table (InStack (z.f.base + at)) of z.point.pos (stands_at hs here takes first beside.known (InStack (z.f.base + at)) (kinds z.table of) looks.0) (pointers of) looks.1)
       (λ leaks ls found same. put_leaking at (kinds z.table of) (default_words z.table of) leaks ls n looks.0.0 (defaults_numbers z.table of) same))

@@ -18,12 +18,12 @@ use Rattle.handled_runs.specs.Slots.{Slots}
 use Rattle.handled_runs.specs.Slots as slots
 use Rattle.handled_runs.specs.Changes.{stored}
 use Rattle.handled_runs.specs.Beside.{GotsAlike, spot_renamed, Beside}
-use Rattle.handled_runs.specs.Alike.{StandAt}
+use Rattle.handled_runs.specs.Alike.{StandAt, LooksThere}
 use Rattle.handled_steps.specs.States.{State, Outcome, Goes, Turn, start, waiting, halted, on_got, after}
 use Rattle.handled_steps.specs.Steps.{piece_bytes, text, writing, output, reading, read, input}
 use Rattle.handled_steps.specs.Alike.{StatesAlike, OutcomesAlike, led_kinds}
-use Rattle.handled_steps.specs.Looks.{LooksData, LooksPiece, LooksPieces, LooksPlace, taken_kinds}
-use Rattle.handled_steps.proofs.Turns.{Both, flat_turn, slot_turn, start_more, got_on, halted_alike, after_alike, waiting_on}
+use Rattle.handled_steps.specs.Looks.{LooksData, LooksPiece, LooksPieces, taken_kinds}
+use Rattle.handled_steps.proofs.Turns.{Both, flat_turn, slot_turn, start_more, got_on, halted_alike, after_alike, waiting_on, back_on}
 use Rattle.handled_runs.proofs.Gots.{gots_then}
 use Rattle.handled_runs.proofs.Places.{spot_gots}
 use Rattle.handled_runs.proofs.There.{stored_gots}
@@ -61,7 +61,7 @@ module _ (handles : List ℕ) (here : List Kind) (z : Both handles here) where
 
   word_piece : (c : Code) (f : ℤ → List ℕ) → LooksData m here takes c → SameBytes (and_then (flat.word m c) (λ w. Given (f w))) (and_then (slots.word s c) (λ w. Given (f w)))
   word_piece c f looks =
-      gots_then (λ a b. b ≡ a) (λ a b. b ≡ a) (flat.word m c) (slots.word s c) (λ w. Given (f w)) (λ w. Given (f w)) (data_gots hs here takes m s beside c looks) (λ w v e same. ap f same)
+      gots_then (λ a b. b ≡ a) (λ a b. b ≡ a) (flat.word m c) (slots.word s c) (λ w. Given (f w)) (λ w. Given (f w)) (data_gots hs here takes m s beside z.clear c looks) (λ w v e same. ap f same)
 
   piece_gots : (p : Piece) → LooksPiece m here takes p → SameBytes (points.piece_bytes z.table m p) (piece_bytes z.table s p)
   piece_gots (Bytes bytes) looks = refl
@@ -100,6 +100,7 @@ module _ (handles : List ℕ) (here : List Kind) (z : Both handles here) where
         [],
         written_alike (led_kinds t here n) (bytes ++ (if line then 10 ∷ [] else [])) (points.after t (points.waiting t) m n) (after u (waiting u) s n)
             (after_alike handles here z [] here takes m s beside (points.waiting t) (waiting u) (waiting_on handles here z [] here takes m s beside) n),
+        back_on handles here z m beside.known (points.waiting t) n,
       ))
 
   -- ---- input
@@ -140,15 +141,16 @@ module _ (handles : List ℕ) (here : List Kind) (z : Both handles here) where
             [],
             moved_alike (led_kinds t here n) end (points.after t (points.waiting t) i n) (after u (waiting u) j n)
                 (after_alike handles here z [] here takes i j both (points.waiting t) (waiting u) (waiting_on handles here z [] here takes i j both) n),
+            back_on handles here z i both.known (points.waiting t) n,
           ))
       by false = halted_alike handles here z [] here takes m s beside (led_kinds t here n) constraint
 
-  pub input_alike : (p : Place) (low high : ℤ) (n : Option ℕ) → LooksPlace m here takes p (sort.Int ∷ []) → Same (led_kinds t here n) (points.input t p low high n) (input u p low high n)
+  pub input_alike : (p : Place) (low high : ℤ) (n : Option ℕ) → LooksThere z.f.base here takes p (sort.Int ∷ []) → Same (led_kinds t here n) (points.input t p low high n) (input u p low high n)
   input_alike p low high n looks =
       got_on handles here z [] here takes m s beside (λ q r. r ≡ spot_renamed hs q) (led_kinds t here n) (flat.spot m p) (slots.spot s p)
       (λ q. flat_read low high n q (next_item z.input z.a.at)) (λ q. read u low high n q (next_item z.input z.b.at))
-      (spot_gots hs here takes m s beside p looks.0)
+      (spot_gots hs here takes m s beside z.clear p (looks m refl).0)
       (λ q r found same.
       subst (λ x. Same (led_kinds t here n) (flat_read low high n q (next_item z.input z.a.at)) (read u low high n x (next_item z.input z.b.at))) (sym same)
       (subst (λ i. Same (led_kinds t here n) (flat_read low high n q (next_item z.input z.a.at)) (read u low high n (spot_renamed hs q) (next_item z.input i))) (sym z.states.at)
-      (read_alike low high n q (next_item z.input z.a.at) (looks.1 q found))))
+      (read_alike low high n q (next_item z.input z.a.at) ((looks m refl).1 q found))))

@@ -8,7 +8,8 @@ use Rattle.run_codes.specs.Codes.{Room, Object, Counter, Sub, Does, Go, Put, Sto
 use Rattle.run_codes.specs.Flat.{Got, Given, Stops, Broken, and_then, found, is_zero, word, Spot, InStack, InCell, kinds}
 use Rattle.run_codes.specs.Points.{Held, Return, Frame, sub_at, next_value}
 use Rattle.run_codes.specs.Points as points
-use Rattle.handled_runs.specs.Beside.{all_renamed, spot_renamed, NameWords, Beside}
+use Rattle.handled_runs.specs.Beside.{all_renamed, spot_renamed, NameWords, NamesSpot, Beside}
+use Rattle.handled_steps.specs.Backs.{LookBack}
 use Rattle.handled_steps.specs.States.{State, Outcome, Goes, Ends, Wants, Fails}
 
 -- Two lists are as long, and what stands at the same place is in relation.
@@ -25,10 +26,6 @@ pub record HeldAlike (table : Table) (handles : List ℕ) (a b : Held) : Type 0 
   pub words : b.words ≡ all_renamed handles (kinds table a.of) a.words
   pub known : length (kinds table a.of) ≡ length a.words
   pub names : NameWords (length handles) (kinds table a.of) a.words
-
-abbrev pub NamesSpot : ℕ → Spot → Type 0
-NamesSpot bound (InStack n) = Unit {0}
-NamesSpot bound (InCell n o) = n < bound
 
 pub record ReturnAlike (handles : List ℕ) (a b : Return) : Type 0 where
   pub at : b.at ≡ a.at
@@ -56,18 +53,18 @@ pub record StatesAlike (table : Table) (handles : List ℕ) (here : List Kind) (
   pub leaks : b.leaks ≡ a.leaks
   pub steps : b.steps ≡ a.steps
 
--- With handles for the cells that were made since.
+-- With handles for the cells that were made since; and what is copied back is of the kinds of its types.
 abbrev pub LaterAlike : Table → List ℕ → List Kind → points.State → State → Type 0
-LaterAlike table handles here a b = (more : List ℕ) × StatesAlike table (handles ++ more) here a b
+LaterAlike table handles here a b = (more : List ℕ) × StatesAlike table (handles ++ more) here a b × LookBack table here a.frames
 
 abbrev pub EndsAlike : Table → List ℕ → Ending → points.State → Outcome → Type 0
 EndsAlike table handles e a (Goes b) = ⊥
-EndsAlike table handles e a (Ends d b) = (d ≡ e) × ((ks : List Kind) × LaterAlike table handles ks a b)
+EndsAlike table handles e a (Ends d b) = (d ≡ e) × ((ks : List Kind) × ((more : List ℕ) × StatesAlike table (handles ++ more) ks a b))
 EndsAlike table handles e a Wants = Unit {0}
 EndsAlike table handles e a Fails = ⊥
 
--- Both go on, or end in the same way. Over the heap memory may be out. Nothing is said where a freed cell is touched or
--- freed again, where numbers are out, and where something isn't there. `here` has the kinds of the stack after the step.
+-- Both go on, or end in the same way. Over the heap memory may be out alone. Nothing is said where a freed cell is touched
+-- or freed again, and where something isn't there. `here` has the kinds of the stack after the step.
 abbrev pub OutcomesAlike : Table → List ℕ → List Kind → points.Outcome → Outcome → Type 0
 OutcomesAlike table handles here (points.Goes a) (Goes b) = LaterAlike table handles here a b
 OutcomesAlike table handles here (points.Goes a) (Ends e b) = ⊥
@@ -77,7 +74,7 @@ OutcomesAlike table handles here (points.Ends Normal a) r = EndsAlike table hand
 OutcomesAlike table handles here (points.Ends (Raised x p) a) r = EndsAlike table handles (Raised x p) a r
 OutcomesAlike table handles here (points.Ends Spent a) r = EndsAlike table handles Spent a r
 OutcomesAlike table handles here (points.Ends (Trapped x p) a) r = Unit {0}
-OutcomesAlike table handles here points.Wants r = Unit {0}
+OutcomesAlike table handles here points.Wants r = r ≡ Wants
 OutcomesAlike table handles here points.Fails r = Unit {0}
 
 -- ---- the kinds of the stack

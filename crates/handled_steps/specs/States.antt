@@ -53,6 +53,7 @@ start t = record t.state.memory {
   base = t.frame.base;
   waits = flat_map (λ (h : Held). h.words) (taken t);
   rest = drop t.state.at t.input;
+  moves = [];
 }
 
 -- ---- how steps end

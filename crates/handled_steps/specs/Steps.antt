@@ -20,7 +20,7 @@ use Rattle.run_codes.specs.Flat.{Got, Given, Stops, Broken, Stop, Raises, and_th
 use Rattle.run_codes.specs.Points.{Return, Frame, Passed, Value, FromSpot, ToSpot, fits, returns_of, frames_words, chosen, truth_held, next_value, given_to, sub_at}
 use Rattle.run_codes.specs.Programs.{Program}
 use Rattle.handled_runs.specs.Slots.{Slots, word, spot, held}
-use Rattle.handled_runs.specs.Changes.{with_stack, stored, emptied}
+use Rattle.handled_runs.specs.Changes.{with_stack, stored, moving, settled}
 use Rattle.handled_runs.specs.Values as values
 use Rattle.handled_runs.specs.Values.{Fills}
 use Rattle.handled_runs.specs.Leaks.{leak, leaks_at}
@@ -40,14 +40,18 @@ put_words s at zs = stored s (in_stack s at) [] zs
 abbrev pub After : Turn → Fill → (List ℤ → Slots → Outcome) → Outcome → Type 0
 After t v f r = (g : values.Outcome) × Fills t.table v (start t) g × (r ≡ on_made t g f)
 
+-- No more is checked: what was moved is gone.
+abbrev pub on_settled : Turn → Slots → (Slots → Outcome) → Outcome
+on_settled t s f = on_got t s (settled s) f
+
 abbrev pub left_goes : Turn → Option ℕ → Left Slots → Outcome
 left_goes t n l = leaking_goes t l.leaks l.memory n
 
 abbrev pub put : Turn → ℕ → Option ℕ → List ℤ → Slots → Outcome
-put t at n zs s = on_got t s (put_words s at zs) (λ s. goes t s n)
+put t at n zs s = on_settled t s (λ s. on_got t s (put_words s at zs) (λ s. goes t s n))
 
 abbrev pub store : Turn → Place → Kind → Option ℕ → List ℤ → Slots → Outcome
-store t p k n zs s = on_got t s (spot s p) (λ q. on_got t s (stored s q (k ∷ []) zs) (λ s. goes t s n))
+store t p k n zs s = on_got t s (spot s p) (λ q. on_settled t s (λ s. on_got t s (stored s q (k ∷ []) zs) (λ s. goes t s n)))
 
 abbrev pub assign : Turn → Place → ℕ → Option Pos → Option ℕ → List ℤ → Slots → Outcome
 assign t p of checks n zs s = on_got t s (assigned t.table p of checks zs s) (left_goes t n)
@@ -105,9 +109,8 @@ out_leaks table s (_ ∷ rest) = out_leaks table s rest
 abbrev pub with_formal : Table → ℕ → ℕ → Passed → Slots → Got Slots
 with_formal table at formal (Value zs) s = stored s (InStack at) (kinds table formal) zs
 with_formal table at formal (FromSpot q of) s =
-    and_then (held s q (kinds table of)) (λ zs. and_then (emptied s q (kinds table of) (access_offsets table of))
-    (λ n. stored n (InStack at) (kinds table formal) zs))
-with_formal table at formal (ToSpot q of p) s = emptied s q (kinds table of) (access_offsets table of)
+    and_then (held s q (kinds table of)) (λ zs. stored (moving s q (kinds table of) (access_offsets table of)) (InStack at) (kinds table formal) zs)
+with_formal table at formal (ToSpot q of p) s = Given (moving s q (kinds table of) (access_offsets table of))
 
 abbrev pub with_formals : Table → ℕ → List ℕ → List Passed → Slots → Got Slots
 with_formals table at (f ∷ formals) (a ∷ passed) s =
@@ -119,12 +122,17 @@ begins t sub passed s n leaks f =
     let a : State = leaking leaks (after t (waiting t) f n) in
     record a { frames = frame_of s sub (returns_of t.table 0 sub.formals passed) ∷ a.frames }
 
--- The stack is tested, then come the leak checks, then the formals have their values.
+-- The formals have their values, and then what was moved is gone.
+abbrev pub begun_with : Turn → Sub → List Passed → Slots → Option ℕ → List Leak → Slots → Outcome
+begun_with t sub passed s n leaks f = on_settled t f (λ f. Goes (begins t sub passed s n leaks f))
+
+-- The stack is tested, then come the leak checks, of what is left after the moves so far; then the formals have their
+-- values.
 abbrev pub entered : Turn → Sub → Option ℕ → List Passed → Slots → Outcome
 entered t sub n passed s =
     if nat_le (frames_words (frame_of s sub [] ∷ t.frame ∷ t.outer)) stack_words
-    then on_got t s (out_leaks t.table s passed)
-    (λ leaks. on_got t s (with_formals t.table (length s.stack) sub.formals passed (with_frame t.table sub s)) (λ f. Goes (begins t sub passed s n leaks f)))
+    then on_settled t s (λ k. on_got t s (out_leaks t.table k passed)
+    (λ leaks. on_got t s (with_formals t.table (length s.stack) sub.formals passed (with_frame t.table sub s)) (begun_with t sub passed s n leaks)))
     else halted t (Raises StorageError) s
 
 abbrev pub on_passed : Turn → Passing → (List Passed → Slots → Outcome) → Outcome
@@ -136,16 +144,12 @@ abbrev pub CallsSub : Turn → ℕ → List Actual → Option ℕ → Outcome �
 CallsSub t sub actuals n r =
     (g : Passing) × PassesAll t.table actuals (start t) g × (r ≡ on_passed t g (entered t (sub_at t.program sub) n))
 
--- The formals are copied back in order, and what they hold is moved there.
-abbrev pub back_stored : Table → Slots → Return → List ℤ → Got Slots
-back_stored table s r zs =
-    and_then (emptied s (in_stack s r.at) (kinds table r.from) (access_offsets table r.from)) (λ n. stored n r.to (kinds table r.of) zs)
-
+-- The formals are copied back in order. Their words are given back with the frame.
 abbrev pub copied_back : Turn → List Return → Slots → (Slots → Outcome) → Outcome
 copied_back t [] s f = f s
 copied_back t (r ∷ rest) s f =
     on_got t s (held s (in_stack s r.at) (kinds t.table r.from))
-    (λ zs. if fits t.table r.of zs then on_got t s (back_stored t.table s r zs) (λ n. copied_back t rest n f) else halted t constraint s)
+    (λ zs. if fits t.table r.of zs then on_got t s (stored s r.to (kinds t.table r.of) zs) (λ n. copied_back t rest n f) else halted t constraint s)
 
 abbrev pub returned : Turn → List Frame → Slots → Outcome
 returned t (outer ∷ []) s = Ends Normal (counted (record t.state { memory = s; frames = outer ∷ [] }))
@@ -157,10 +161,10 @@ finish t = copied_back t t.frame.returns (start t) (λ f. returned t t.outer (wi
 
 -- The result waits in the frame of the caller.
 abbrev pub holding : Turn → ℕ → ℕ → List ℤ → Slots → Outcome
-holding t of n zs s = Goes (counted (record t.state {
+holding t of n zs s = on_settled t s (λ s. Goes (counted (record t.state {
   memory = s;
   frames = record t.frame { waits = waiting t; next = n } ∷ given_to (record { of = of; words = zs }) t.outer;
-}))
+})))
 
 abbrev pub Holds : Turn → Fill → ℕ → Option ℕ → Outcome → Type 0
 Holds t v of None r = r ≡ Fails

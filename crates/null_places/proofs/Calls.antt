@@ -1,6 +1,6 @@
 -- Calls of subprograms and their ends lead to the same in memories that agree, where of what is passed
 -- and copied back nothing is gone: so it is with formals of scalar types.
-use Rattle.std.proofs.Common.{◌≡◌, refl, sym, subst, ℕ, suc, Bool, true, false, List, [], ◌∷◌, ◌++◌, length, nat_le, if◌then◌else◌}
+use Rattle.std.proofs.Common.{◌≡◌, refl, sym, subst, ℕ, suc, Bool, true, false, List, [], ◌∷◌, ◌++◌, length, nat_le, if◌then◌else◌, ◌∙◌}
 use Rattle.spark_base.specs.declared.position.Pos.{Pos}
 use Rattle.type_definitions.specs.Types.{full}
 use Rattle.typed_tree.specs.Trees.{TypedTree, More}
@@ -8,7 +8,7 @@ use Rattle.flow_paths.specs.Objects.{Typing, object_at, sub_at, passings}
 use Rattle.flow_paths.specs.Names.{written}
 use Rattle.machine.specs.Words.{fits_type}
 use Rattle.machine.specs.Words as machine
-use Rattle.machine.specs.Memory.{Memory, OfVariable, Place, slots_of, words_of, stored, moved_out, declared, without_frame}
+use Rattle.machine.specs.Memory.{Memory, OfVariable, Place, slots_of, words_of, stored, moved_out, declared, without_frame, cell, Base, OfCell}
 use Rattle.machine.specs.Evaluate.{Now, Evaluated, Done, Raises, Traps, followed_by, checked, variable_place, ConstraintError, StorageError}
 use Rattle.machine.specs.Calls.{Passed, Value, From, To, written_pos, all_passed, out_checks, with_formal, with_formals, returns_of}
 use Rattle.machine.specs.States.{Waiting, Return, Frame, State, Normal, Outcome, Goes, Ends, sub_of, frame_words, stack_words, frame_at_start}
@@ -22,7 +22,7 @@ use Rattle.soundness.proofs.Fixed.{fixed_at, fixed_spot}
 use Rattle.soundness.proofs.Passing.{Enters}
 use Rattle.null_places.proofs.Walks.{SameTo}
 use Rattle.null_places.specs.Agrees.{Agrees}
-use Rattle.null_places.proofs.Memories.{NoneGone, words_agree, checks_agree, declared_agree, moved_agree, stored_agree, frame_agree}
+use Rattle.null_places.proofs.Memories.{NoneGone, words_agree, checks_agree, declared_agree, moved_agree, stored_agree, frame_agree, cell_agree}
 use Rattle.null_places.proofs.Only.{OnlyOwners, stored_only, declared_only, frame_only}
 use Rattle.null_places.proofs.Places.{spot_whole, plain_whole, moved_only}
 use Rattle.null_places.proofs.Instructions.{SameStep, twin, both_are, leaking_same, raised_same, step_then}
@@ -91,7 +91,8 @@ module _ (s : Typing) (settled : IsSettled s.table) (own_law : OwnsByShape s.tab
   fixed_wholly k fixed m kept only = (
     spot_whole s settled m hands only kept k (fixed_at s settled k fixed) (fixed_spot s settled k fixed m hands)
         (plain_whole s settled m hands k (fixed_at s settled k fixed) (fixed_spot s settled k fixed m hands) (λ p. no_leaf s.table settled k.of fixed.scalar p)),
-    moved_only s settled m hands only kept k (fixed_at s settled k fixed) (fixed_spot s settled k fixed m hands),
+    moved_only s settled m hands only kept k (fixed_at s settled k fixed) (fixed_spot s settled k fixed m hands)
+        (λ p leaf f x is. (let no : true ≡ false = sym leaf ∙ no_leaf s.table settled k.of fixed.scalar p in cc)),
   )
 
 -- ---- the call
@@ -159,19 +160,28 @@ BackSame s (Done m i) (Done n j) = Agrees m n × OnlyOwners s m
 BackSame s (Raises e i) (Raises f j) = (e ≡ f) × Agrees i.memory j.memory
 BackSame s _ _ = ⊥
 
--- Of formals that are copied back nothing is gone, one after the other; and the places are in variables.
+-- A place is in a variable, or in a cell that wasn't freed.
+abbrev pub IsStanding : Memory → Base → Type 0
+IsStanding m (OfVariable f x) = Unit {0}
+IsStanding m (OfCell n) = (cell m n).freed ≡ false
+
+stands_agree : (m n : Memory) → Agrees m n → (b : Base) → IsStanding m b → IsStanding n b
+stands_agree m n same (OfVariable f x) there = tt
+stands_agree m n same (OfCell k) there = sym (cell_agree m n same k).1 ∙ there
+
+-- Of formals that are copied back nothing is gone, one after the other; and the places are there.
 abbrev pub AreWhollyBack : Turn → List Return → Memory → Type 0
 AreWhollyBack t [] m = Unit {0}
 AreWhollyBack t (r ∷ rest) m =
-    ((f x : ℕ) × (r.to.base ≡ OfVariable f x)) × IsWholly (typing t) (variable_place (here t) r.formal) m
+    IsStanding m r.to.base × IsWholly (typing t) (variable_place (here t) r.formal) m
     × AreWhollyBack t rest (stored (typing t) r.to (words_of (typing t) m (variable_place (here t) r.formal)) (moved_out (typing t) (variable_place (here t) r.formal) m))
 
 module _ (t : Turn) where
-  -- a place in a variable is there
-  back_is : (r : Return) (rest : List Return) (i : Now) (f x : ℕ) → r.to.base ≡ OfVariable f x → copied_back t (r ∷ rest) i
+  back_is : (r : Return) (rest : List Return) (i : Now) (b : Base) → r.to.base ≡ b → IsStanding i.memory b → copied_back t (r ∷ rest) i
       ≡ followed_by (checked (here t) r.to.of (words_of (typing t) i.memory (variable_place (here t) r.formal)) i)
       (λ ws n. copied_back t rest (record n { memory = stored (typing t) r.to ws (moved_out (typing t) (variable_place (here t) r.formal) n.memory) }))
-  back_is r rest i f x base = rw base refl
+  back_is r rest i (OfVariable f x) base there = rw base refl
+  back_is r rest i (OfCell n) base there = rw (base, there) refl
 
 module _ (t : Turn) (n : Memory) (agrees : Agrees t.state.memory n) where
   if_same : (b : Bool) (ws : List machine.Word) (i j : Now) (f g : List machine.Word → Now → Evaluated Memory) → Agrees i.memory j.memory
@@ -195,8 +205,8 @@ module _ (t : Turn) (n : Memory) (agrees : Agrees t.state.memory n) where
       (λ us z. copied_back t rest (record z { memory = stored s r.to us (moved_out s formal z.memory) })) in
       let g : List machine.Word → Now → Evaluated Memory =
       (λ us z. copied_back (twin t n) rest (record z { memory = stored s r.to us (moved_out s formal z.memory) })) in
-      subst (λ z. BackSame s z (copied_back (twin t n) (r ∷ rest) j)) (sym (back_is t r rest i whole.0.0 whole.0.1 whole.0.2))
-      (subst (BackSame s (followed_by (checked (here t) r.to.of ws i) f)) (sym (back_is (twin t n) r rest j whole.0.0 whole.0.1 whole.0.2))
+      subst (λ z. BackSame s z (copied_back (twin t n) (r ∷ rest) j)) (sym (back_is t r rest i r.to.base refl whole.0))
+      (subst (BackSame s (followed_by (checked (here t) r.to.of ws i) f)) (sym (back_is (twin t n) r rest j r.to.base refl (stands_agree i.memory j.memory same r.to.base whole.0)))
       (subst (λ us. BackSame s (followed_by (checked (here t) r.to.of ws i) f) (followed_by (checked (here t) r.to.of us j) g)) words_so
       (if_same (fits_type s.table r.to.of ws) ws i j f g same
       (back_same rest (record i { memory = next }) (record j { memory = next' }) whole.2

@@ -32,7 +32,7 @@ use Rattle.null_places.proofs.Memories.{NoneGone, words_agree, moved_agree, made
 use Rattle.null_places.proofs.Only.{OnlyOwners, made_only}
 use Rattle.null_places.proofs.Places.{spot_whole, plain_whole, moved_only}
 use Rattle.null_places.proofs.Walks.{SameNow, SameTo, then_same, simply}
-use Rattle.null_places.proofs.Laws.{Premises, Behaves, Values, GivenBy, IsAt, IsWholeAt, checked_by}
+use Rattle.null_places.proofs.Laws.{Premises, Behaves, Values, GivenBy, IsAt, checked_by, IsMovableAt}
 use Rattle.null_places.proofs.Scalars.{copy_same, place_then, scalar_on, steps_on}
 
 module _ (h : Here) (settled : IsSettled h.typing.table) (own_law : OwnsByShape h.typing.table) (asks : Premises h)
@@ -75,17 +75,17 @@ module _ (h : Here) (settled : IsSettled h.typing.table) (own_law : OwnsByShape 
     IsThere on k n = (n ≡ record { memory = m; waits = on }) × IsAt h asks m hands facts t k
 
     abbrev IsWhole : List (List machine.Word) → Place → Now → Type 0
-    IsWhole on k n = (n ≡ record { memory = m; waits = on }) × IsWholeAt h asks m hands facts t k
+    IsWhole on k n = (n ≡ record { memory = m; waits = on }) × IsMovableAt h asks m hands facts t k
 
     -- what a place has is taken, where its type owns
     owner_same : (on : List (List machine.Word)) → is_owning h.typing.table t ≡ true → (k : Place) (n n' : Now) → IsWhole on k n → SameNow h.typing n n'
         → Same (held_or_taken h AsValue k n) (held_or_taken h AsValue k n')
-    owner_same on owns k n n' (is, (l, spot, of, none)) same =
+    owner_same on owns k n n' (is, ((l, spot, of, none), owner)) same =
         subst (λ z. SameNow h.typing z n' → SameTo h.typing (taken h k z) (taken h k n')) (sym is) (λ now. (
           words_agree h.typing m n'.memory now.0 k none,
           subst (λ b. SameNow h.typing (if b then record (at on) { memory = moved_out h.typing k m } else (at on)) (if b then record n' { memory = moved_out h.typing k n'.memory } else n'))
               (sym (ap (is_owning h.typing.table) of ∙ owns))
-              (moved_agree h.typing k m n'.memory now.0, now.1, moved_only h.typing settled m hands law.only law.kept k l spot),
+              (moved_agree h.typing k m n'.memory now.0, now.1, moved_only h.typing settled m hands law.only law.kept k l spot (λ p leaf. owner)),
         )) same
 
     -- a copy of what doesn't own
@@ -107,7 +107,7 @@ module _ (h : Here) (settled : IsSettled h.typing.table) (own_law : OwnsByShape 
     name_by before on lead takes calls compares allowed mine kept true owns n' same =
         let is : used h.typing (name_of x steps) t ≡ act.Move (name_of x steps) (parts h.typing.table t) =
         ap (λ b. if b then act.Move (name_of x steps) (parts h.typing.table t) else act.Read (name_of x steps)) owns in
-        place_then h settled own_law asks m hands facts law before on x t steps (held_or_taken h AsValue) (held_or_taken h AsValue) (IsWholeAt h asks m hands facts t)
+        place_then h settled own_law asks m hands facts law before on x t steps (held_or_taken h AsValue) (held_or_taken h AsValue) (IsMovableAt h asks m hands facts t)
         (λ way goes. law.move on x t steps way goes owns (subst (Allows facts) is mine) (subst (λ z. asks.keeps (z ∷ [])) is kept))
         (law.steps (object_at h.typing x).of t steps lead before on takes calls allowed).0
         n' (steps_on h settled own_law asks m hands facts law (object_at h.typing x).of t steps lead before on takes calls compares allowed n' same)

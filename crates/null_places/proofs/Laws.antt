@@ -14,7 +14,7 @@ use Rattle.flow_paths.specs.Names.{has_call, waiting, name_of}
 use Rattle.flow_paths.specs.Acts.{acts_in}
 use Rattle.machine.specs.Words.{element_type, fits_type}
 use Rattle.machine.specs.Words as machine
-use Rattle.machine.specs.Memory.{Memory, Place, slots_of}
+use Rattle.machine.specs.Memory.{Memory, Place, slots_of, OfVariable}
 use Rattle.machine.specs.Evaluate.{Here, Now, Use, AsValue, part_type, Evaluated, Done, Raises, Traps, followed_by, evaluate, steps_of, checked, variable_place, walked}
 use Rattle.machine.specs.Evaluate as run
 use Rattle.machine.specs.Typed.{is_record, is_array}
@@ -29,6 +29,7 @@ use Rattle.soundness.proofs.Stays.{Quiet, One}
 use Rattle.null_places.proofs.Memories.{NoneGone}
 use Rattle.null_places.proofs.Only.{OnlyOwners}
 use Rattle.null_places.proofs.Walks.{SameNow, SameTo}
+use Rattle.soundness.specs.Seen.{is_view_formal}
 
 module _ (h : Here) where
   -- What is asked of the text.
@@ -63,6 +64,10 @@ module _ (h : Here) where
     -- and nothing that it has is gone.
     abbrev pub IsWholeAt : ℕ → Place → Type 0
     IsWholeAt t k = (l : Loc) × Spot h.typing m hands k l × (k.of ≡ t) × NoneGone (slots_of h.typing m k)
+
+    -- and it isn't in a formal that owns nothing.
+    abbrev pub IsMovableAt : ℕ → Place → Type 0
+    IsMovableAt t k = IsWholeAt t k × ((f x : ℕ) → k.base ≡ OfVariable f x → is_view_formal h.typing x ≡ false)
 
     -- This is known of the place where a name leads; and it leads to the same in memories that agree.
     abbrev pub Finds : List (List machine.Word) → ℕ → List run.Step → (Place → Type 0) → Type 0
@@ -103,7 +108,7 @@ module _ (h : Here) where
           → (d : ℕ) (c n : Bool) → shape_of h.typing.table t ≡ shape.Access d c n → Allows facts (act.Look (name_of x steps)) → LeadsWhole on x t way
       pub move : (on : List (List machine.Word)) (x t : ℕ) (steps : TypedTree) (way : List run.Step) → asks.goes (object_at h.typing x).of t steps way
           → is_owning h.typing.table t ≡ true → Allows facts (act.Move (name_of x steps) (parts h.typing.table t))
-          → asks.keeps (act.Move (name_of x steps) (parts h.typing.table t) ∷ []) → LeadsWhole on x t way
+          → asks.keeps (act.Move (name_of x steps) (parts h.typing.table t) ∷ []) → Finds on x way (IsMovableAt t)
       pub free : (on : List (List machine.Word)) (x t : ℕ) (steps : TypedTree) (way : List run.Step) → asks.goes (object_at h.typing x).of t steps way
           → (d : ℕ) → shape_of h.typing.table t ≡ shape.Access d false true → Allows facts (act.Free (name_of x steps))
           → asks.keeps (act.Free (name_of x steps) ∷ []) → LeadsWhole on x t way

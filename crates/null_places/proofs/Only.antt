@@ -8,7 +8,7 @@ use Rattle.owned_ways.specs.Ways.{Step, Loc, OfRoot}
 use Rattle.owned_ways.specs.Ways as ways
 use Rattle.owned_ways.proofs.Locations.{same_loc}
 use Rattle.part_offsets.specs.Parts.{offset_in, is_leaf}
-use Rattle.soundness.specs.Seen.{Content, content}
+use Rattle.soundness.specs.Seen.{Content, content, is_view_formal}
 use Rattle.soundness.specs.Typed.{loc_of}
 use Rattle.soundness.proofs.Memories.{put_same, put_other, removed_same, removed_other}
 use Rattle.null_places.proofs.Memories.{NoneGone}
@@ -20,8 +20,11 @@ IsGone xs o = (get_or xs o no_slot).gone ≡ true
 abbrev pub OwnersGone : Table → Content → Type 0
 OwnersGone table c = (o : ℕ) → IsGone c.slots o → (p : List Step) × (is_leaf table c.of p ≡ true) × (offset_in table c.of p ≡ o)
 
+-- So it is of all that there is, and nothing is gone of a formal that owns nothing.
 abbrev pub OnlyOwners : Typing → Memory → Type 0
-OnlyOwners s m = (b : Base) → OwnersGone s.table (content s m [] (loc_of b))
+OnlyOwners s m =
+    ((b : Base) → OwnersGone s.table (content s m [] (loc_of b)))
+    × ((f x o : ℕ) → IsGone (variable_slots s f x m.variables) o → is_view_formal s x ≡ false)
 
 -- Nothing more is gone.
 abbrev pub LessGone : Typing → Memory → Memory → Type 0
@@ -30,9 +33,12 @@ LessGone s m n =
     → IsGone (content s m [] (loc_of b)).slots o × ((content s m [] (loc_of b)).of ≡ (content s n [] (loc_of b)).of)
 
 pub only_less : (s : Typing) (m n : Memory) → OnlyOwners s m → LessGone s m n → OnlyOwners s n
-only_less s m n only less b o gone =
-    let was = less b o gone in
-    subst (λ t. (p : List Step) × (is_leaf s.table t p ≡ true) × (offset_in s.table t p ≡ o)) was.1 (only b o was.0)
+only_less s m n only less = (
+  λ b o gone. (
+      let was = less b o gone in
+      subst (λ t. (p : List Step) × (is_leaf s.table t p ≡ true) × (offset_in s.table t p ≡ o)) was.1 (only.0 b o was.0)),
+  λ f x o gone. only.1 f x o (less (OfVariable f x) o gone).0,
+)
 
 -- ---- lists
 

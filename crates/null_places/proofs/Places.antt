@@ -15,7 +15,7 @@ use Rattle.owned_ways.proofs.Locations.{same_loc, reaches_along, named_along as 
 use Rattle.part_offsets.specs.Parts.{type_in, offset_in, owns_one, is_leaf, IsSettled}
 use Rattle.part_offsets.proofs.Ranges.{leaf_outside, leaf_end, leaf_part}
 use Rattle.part_offsets.proofs.Leaves.{leaf_from}
-use Rattle.soundness.specs.Seen.{Content, content, owner_at, trunk, steps_in, seen}
+use Rattle.soundness.specs.Seen.{Content, content, owner_at, trunk, steps_in, seen, is_view_formal}
 use Rattle.soundness.specs.Changes.{Put}
 use Rattle.soundness.specs.Typed.{Kept, loc_of, Spot}
 use Rattle.soundness.proofs.Joined.{leaf_join, offset_join}
@@ -83,7 +83,7 @@ module _ (s : Typing) (settled : IsSettled s.table) (m : Memory) (hands : List W
           let at_base : IsGone (slots_at s m k.base) (k.at + i) = ap (λ (x : Slot). x.gone) (sym ((taken_slots s settled m k space).1 i lt)) ∙ gone in
           let there : IsGone c.slots (k.at + i) = subst (λ z. IsGone z (k.at + i)) (sym same) at_base in
           let own : OwnersGone s.table c =
-          subst (λ z. OwnersGone s.table (content s m hands z)) (sym spot.base) (subst (OwnersGone s.table) (same_there s m [] hands k.base) (only k.base)) in
+          subst (λ z. OwnersGone s.table (content s m hands z)) (sym spot.base) (subst (OwnersGone s.table) (same_there s m [] hands k.base) (only.0 k.base)) in
           let found = own (k.at + i) there in
           let at = found.2 in
           let start = spot.at in
@@ -139,12 +139,25 @@ module _ (s : Typing) (settled : IsSettled s.table) (m : Memory) (hands : List W
 
   -- ---- what a place has is taken
 
-  pub moved_only : OnlyOwners s m → Kept s m hands → (k : Place) (l : Loc) → Spot s m hands k l → OnlyOwners s (moved_out s k m)
-  moved_only only kept k l spot b = elim (same_loc (loc_of b) (loc_of k.base)) [
-    | inr ne ↦ subst (OwnersGone s.table) (sym (put_off s m [] k marks (loc_of b) (own_trunk b) ne)) (only b)
-    | inl e ↦ subst (λ z. OwnersGone s.table (content s (moved_out s k m) [] z)) (sym e) mine
-  ]
+  -- a place that isn't in a formal that owns nothing, if its type owns
+  pub moved_only : OnlyOwners s m → Kept s m hands → (k : Place) (l : Loc) → Spot s m hands k l
+      → ((p : List Step) → is_leaf s.table k.of p ≡ true → (f x : ℕ) → k.base ≡ OfVariable f x → is_view_formal s x ≡ false) → OnlyOwners s (moved_out s k m)
+  moved_only only kept k l spot owner = (
+    λ b. elim (same_loc (loc_of b) (loc_of k.base)) [
+      | inr ne ↦ subst (OwnersGone s.table) (sym (put_off s m [] k marks (loc_of b) (own_trunk b) ne)) (only.0 b)
+      | inl e ↦ subst (λ z. OwnersGone s.table (content s (moved_out s k m) [] z)) (sym e) mine
+    ],
+    λ f x o gone. elim (same_loc (loc_of (OfVariable f x)) (loc_of k.base)) [
+      | inr ne ↦ only.1 f x o
+          (subst (λ (z : Content). IsGone z.slots o) (put_off s m [] k marks (loc_of (OfVariable f x)) (own_trunk (OfVariable f x)) ne) gone)
+      | inl e ↦ mine_owner f x (same_base k.base f x (sym e)) o (subst (λ z. IsGone (content s (moved_out s k m) [] z).slots o) e gone)
+    ],
+  )
     where
+      same_base : (b : Base) (f x : ℕ) → loc_of b ≡ loc_of (OfVariable f x) → b ≡ OfVariable f x
+      same_base (OfVariable g y) f x e = cc
+      same_base (OfCell n) f x e = cc
+
       marks : List Slot
       marks = gone_at (access_offsets s.table k.of) (slots_of s m k)
 
@@ -194,7 +207,7 @@ module _ (s : Typing) (settled : IsSettled s.table) (m : Memory) (hands : List W
           )
 
       old : (o : ℕ) → IsGone before.slots o → Owner before.of o
-      old o gone = only k.base o gone
+      old o gone = only.0 k.base o gone
 
       inside : (i : ℕ) → i < length marks → IsGone after.slots (k.at + i) → Owner before.of (k.at + i)
       inside i lt gone = elim (marked_from (access_offsets s.table k.of) (slots_of s m k) i (ap (λ (x : Slot). x.gone) (sym (put.inside i lt)) ∙ gone)) [
@@ -215,3 +228,27 @@ module _ (s : Typing) (settled : IsSettled s.table) (m : Memory) (hands : List W
               subst (Owner before.of) is (inside i (omega (arith, lt, ge, is)) (subst (IsGone after.slots) (sym is) gone)))
         ]
       ])
+
+      -- in a variable, only one of an owner
+      mine_owner : (f x : ℕ) → k.base ≡ OfVariable f x → (o : ℕ) → IsGone after.slots o → is_view_formal s x ≡ false
+      mine_owner f x at o gone = elim (cases_lt o k.at) [
+        | inl lt ↦ before_owner o (ap (λ (x : Slot). x.gone) (sym (put.outside o (inl lt))) ∙ gone)
+        | inr ge ↦ elim (cases_lt o (k.at + length marks)) [
+          | inr more ↦ before_owner o (ap (λ (x : Slot). x.gone) (sym (put.outside o (inr more))) ∙ gone)
+          | inl lt ↦ (
+              let i : ℕ = o - k.at in
+              let is : k.at + i ≡ o = omega (arith, ge) in
+              inside_owner i (omega (arith, lt, ge, is)) (subst (IsGone after.slots) (sym is) gone))
+        ]
+      ]
+        where
+          before_owner : (o : ℕ) → IsGone before.slots o → is_view_formal s x ≡ false
+          before_owner o was = only.1 f x o (subst (λ b. IsGone (content s m [] (loc_of b)).slots o) at was)
+
+          inside_owner : (i : ℕ) → i < length marks → IsGone after.slots (k.at + i) → is_view_formal s x ≡ false
+          inside_owner i lt gone = elim (marked_from (access_offsets s.table k.of) (slots_of s m k) i (ap (λ (x : Slot). x.gone) (sym (put.inside i lt)) ∙ gone)) [
+            | inr has ↦ (let leaf = leaf_from s.table settled k.of i has in owner leaf.0 leaf.1 f x at)
+            | inl was ↦ before_owner (k.at + i) (
+                ap (λ z. (get_or z (k.at + i) no_slot).gone) (ap (λ (z : Content). z.slots) (same_there s m [] hands k.base) ∙ base_slots k.base)
+                ∙ ap (λ (x : Slot). x.gone) (sym ((taken_slots s settled m k space).1 i (let n = many in omega (arith, n, lt)))) ∙ was)
+          ]

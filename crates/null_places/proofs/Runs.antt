@@ -3,15 +3,17 @@ use Rattle.std.proofs.Common.{◌≡◌, refl, sym, ap, ◌∙◌, subst, ℕ, z
 use Rattle.flow_paths.specs.Objects.{Typing, object_at}
 use Rattle.flow_paths.specs.Laid.{FlowProgram, flow_typing}
 use Rattle.machine.specs.Words.{default}
-use Rattle.machine.specs.Memory.{Memory, OfVariable, OfCell}
+use Rattle.machine.specs.Memory.{Memory, OfVariable, OfCell, Base}
 use Rattle.machine.specs.Evaluate.{StorageError}
 use Rattle.machine.specs.States.{State, Ending, Raised, Spent, Outcome, Goes, Ends, sub_of, frame_words, stack_words, frame_at_start}
 use Rattle.machine.specs.Run.{empty_memory, step, then_on, within, state_at_start, run_of, main_of, run_with, ended, run}
 use Rattle.null_places.specs.Cleared.{cleared_state, cleared_outcome, null_step, null_within, null_run_of, null_run, RunsWithNull}
 use Rattle.null_places.specs.Agrees.{Agrees, SameState, SameOutcome}
 use Rattle.null_places.proofs.Memories.{itself, clear_agrees, agrees_right, agrees_clear, count_agree, freed_count}
-use Rattle.null_places.proofs.Only.{OnlyOwners, fresh_whole}
+use Rattle.null_places.proofs.Only.{OnlyOwners, fresh_whole, OwnersGone}
 use Rattle.null_places.proofs.Instructions.{SameStepBy}
+use Rattle.soundness.specs.Seen.{content}
+use Rattle.soundness.specs.Typed.{loc_of}
 
 -- ---- outcomes
 
@@ -97,11 +99,17 @@ module _ (program : FlowProgram) (input : List ℕ) (sound : State → Type 0)
   start_good : IsGood (state_at_start program)
   start_good = (begins, none)
     where
-      none : OnlyOwners (flow_typing program) empty_memory
-      none (OfVariable f x) o gone =
+      each : (b : Base) → OwnersGone (flow_typing program).table (content (flow_typing program) empty_memory [] (loc_of b))
+      each (OfVariable f x) o gone =
           (let no : true ≡ false = sym gone ∙ fresh_whole (default (flow_typing program).table (object_at (flow_typing program) x).of) o in cc)
-      none (OfCell zero) o gone = cc
-      none (OfCell (suc k)) o gone = cc
+      each (OfCell zero) o gone = cc
+      each (OfCell (suc k)) o gone = cc
+
+      none : OnlyOwners (flow_typing program) empty_memory
+      none = (
+        each,
+        λ f x o gone. (let no : true ≡ false = sym gone ∙ fresh_whole (default (flow_typing program).table (object_at (flow_typing program) x).of) o in cc),
+      )
 
   runs_same : (main k : ℕ) → SameOutcome (run_of program main input k) (null_run_of program main input k)
   runs_same main k = by_room (nat_le (frame_words program (frame_at_start main [] ∷ frame_at_start 0 [] ∷ [])) stack_words)

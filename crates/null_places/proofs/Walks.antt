@@ -1,22 +1,13 @@
 -- Evaluations in memories that agree, and where names lead in them.
-use Rattle.std.proofs.Common.{◌≡◌, refl, sym, subst, ℕ, Bool, true, false, List, [], ◌∷◌, if◌then◌else◌}
-use Rattle.flow_paths.specs.Objects.{Typing, designated}
+use Rattle.std.proofs.Common.{◌≡◌, refl, subst, ℕ, Bool, true, false, List, [], ◌∷◌, if◌then◌else◌}
+use Rattle.flow_paths.specs.Objects.{Typing}
 use Rattle.machine.specs.Words.{component_type, element_type}
 use Rattle.machine.specs.Words as machine
-use Rattle.machine.specs.Memory.{Memory, Place, cell, slots_of, words_of}
-use Rattle.machine.specs.Evaluate.{Now, Evaluated, Done, Raises, Traps, followed_by, component_place, element_place, cell_place, designated_place, stepped, walked, Touched}
-use Rattle.machine.specs.Evaluate as run
-use Rattle.machine.specs.States.{Waiting, Leak}
-use Rattle.owned_ways.specs.Ways.{Component, Element, Loc, Way, Into, All, Reaches, IsRooted, Past, Owned, Known}
-use Rattle.owned_ways.proofs.Locations.{under_itself}
-use Rattle.part_offsets.specs.Parts.{IsSettled}
-use Rattle.soundness.specs.Seen.{content, trunk, seen}
-use Rattle.soundness.specs.Typed.{Kept, Spot}
-use Rattle.soundness.proofs.Walks.{way_along, past_along, Lead, Walked, walk}
+use Rattle.machine.specs.Memory.{cell}
+use Rattle.machine.specs.Evaluate.{Now, Evaluated, Done, Raises, Traps, followed_by, cell_place, designated_place, Touched}
 use Rattle.null_places.specs.Agrees.{Agrees}
-use Rattle.null_places.proofs.Memories.{NoneGone, words_agree, cell_agree}
+use Rattle.null_places.proofs.Memories.{cell_agree}
 use Rattle.null_places.proofs.Only.{OnlyOwners}
-use Rattle.null_places.proofs.Places.{spot_whole, access_whole}
 
 -- ---- two evaluations
 
@@ -65,49 +56,3 @@ designated_same s t (machine.Cell k ∷ []) n n' same =
     by_test : (b : Bool) → SameTo s (if b then Traps Touched n else Done (cell_place t k) n) (if b then Traps Touched n' else Done (cell_place t k) n')
     by_test true = (refl, same)
     by_test false = (refl, same)
-
--- ---- names
-
-module _ (s : Typing) (settled : IsSettled s.table) (hands : List Waiting) (leaks : List Leak) (m : Memory) (waits : List (List machine.Word)) (moved : Way → Type 0)
-    (kept : Kept s m hands) (owned : Owned (seen s m hands leaks)) (known : Known (seen s m hands leaks) moved)
-    (live : (w : Way) (l : Loc) → IsRooted w → Reaches (seen s m hands leaks) w l → (content s m hands (trunk l)).owns ≡ true) (only : OnlyOwners s m) where
-  abbrev at : Now
-  at = record { memory = m; waits = waits }
-
-  abbrev WalkedIn : Way → ℕ → Evaluated Place → Type 0
-  WalkedIn w u x = Walked s settled hands leaks m waits w u x
-
-  strip : (w : Way) (u : ℕ) (x : Evaluated Place) → WalkedIn w u (followed_by x (walked s [])) → WalkedIn w u x
-  strip w u (Done k n) is = is
-  strip w u (Raises e n) is = is
-  strip w u (Traps e n) is = is
-
-  -- a name whose way meets nothing moved leads to the same place
-  pub walk_same : (steps : List run.Step) (k : Place) (l : Loc) (w : Way) (u : ℕ) → Spot s m hands k l → IsRooted w → Reaches (seen s m hands leaks) w l
-      → Lead s.table k.of steps u → ((v : Way) → Past v (way_along steps w) → moved v → ⊥) → (n' : Now) → SameNow s at n'
-      → SameTo s (walked s steps k at) (walked s steps k n')
-  walk_same [] k l w u spot rooted reaches lead clean n' same = (refl, same)
-  walk_same (run.ToComponent i ∷ rest) k l w u spot rooted reaches lead clean n' same =
-      let one : WalkedIn (Into w (Component i)) (component_type s.table k.of i) (Done (component_place s.table i k) at) =
-      walk s settled hands leaks m waits moved kept owned known live (run.ToComponent i ∷ []) k l w (component_type s.table k.of i) spot rooted reaches (lead.0, refl)
-      (λ v p gone. clean v (past_along v (Into w (Component i)) rest p) gone) in
-      walk_same rest (component_place s.table i k) one.0 (Into w (Component i)) u one.2 rooted one.3 lead.1 clean n' same
-  walk_same (run.ToElement i ∷ rest) k l w u spot rooted reaches lead clean n' same =
-      let one : WalkedIn (Into w (Element i)) (element_type s.table k.of) (Done (element_place s.table i k) at) =
-      walk s settled hands leaks m waits moved kept owned known live (run.ToElement i ∷ []) k l w (element_type s.table k.of) spot rooted reaches (lead.0, refl)
-      (λ v p gone. clean v (past_along v (Into w (Element i)) rest p) gone) in
-      walk_same rest (element_place s.table i k) one.0 (Into w (Element i)) u one.2 rooted one.3 lead.1 clean n' same
-  walk_same (run.ToDesignated ∷ rest) k l w u spot rooted reaches (d, c, is, lead) clean n' same =
-      let mine : moved w → ⊥ = (λ gone. clean w (past_along w (All w) rest (under_itself w)) gone) in
-      let none : NoneGone (slots_of s m k) =
-      spot_whole s settled m hands only kept k l spot
-      (access_whole s settled m hands leaks moved known w l rooted reaches (live w l rooted reaches) k d c spot is mine) in
-      let one = walk s settled hands leaks m waits moved kept owned known live (run.ToDesignated ∷ []) k l w d spot rooted reaches (d, c, is, refl)
-      (λ v p gone. clean v (past_along v (All w) rest p) gone) in
-      let read : SameTo s (stepped s run.ToDesignated k at) (stepped s run.ToDesignated k n') =
-      subst (λ z. SameTo s (designated_place (designated s.table k.of) (words_of s m k) at) (designated_place (designated s.table k.of) z n'))
-      (words_agree s m n'.memory same.0 k none) (designated_same s (designated s.table k.of) (words_of s m k) at n' same) in
-      then_same s (WalkedIn (All w) d) (stepped s run.ToDesignated k at) (stepped s run.ToDesignated k n') (walked s rest) (walked s rest)
-      (strip (All w) d (stepped s run.ToDesignated k at) one) read
-      (λ a n n'' p now. subst (λ z. SameTo s (walked s rest a z) (walked s rest a n'')) (sym p.1)
-      (walk_same rest a p.0 (All w) u p.2 rooted p.3 (subst (λ t. Lead s.table t rest u) (sym p.4) lead) clean n'' (subst (λ z. SameNow s z n'') p.1 now)))

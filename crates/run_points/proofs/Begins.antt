@@ -17,10 +17,10 @@ use Rattle.run_codes.specs.Programs.{Program, objects_of, is_loop, sub_rows}
 use Rattle.run_codes.specs.Points.{Frame, State, with_frame, frame_of, no_memory, state_at_start, is_declaring, sub_at, no_sub}
 use Rattle.run_codes.specs.Related.{types}
 use Rattle.run_codes.proofs.Places.{if_some, some_same}
-use Rattle.run_points.specs.States.{first_point, Laid, site_of, FrameStands, MemoryStands, StateStands, main_begun, MainBegins}
+use Rattle.run_points.specs.States.{first_point, Laid, site_of, FrameStands, MemoryStands, StateStands, main_begun, MainBegins, lyings, loops_from}
 use Rattle.run_points.specs.Turns.{IsLowered, HasTypes}
 use Rattle.run_points.specs.Frames.{IsCallable, HasFrames, IsSmall}
-use Rattle.run_points.proofs.Rooms.{lyings, loops_from, offset_there, loop_there}
+use Rattle.run_points.proofs.Rooms.{offset_there, loop_there}
 use Rattle.run_points.proofs.Templates.{room_template, room_loops, are_rooms, are_one_word, template_is, words_are}
 use Rattle.run_points.proofs.Entered.{in_left, in_either, with_room, memory_entered, frames_entered, frame_entered}
 
@@ -42,7 +42,7 @@ main_enters program p has lowers n callable few s g f h laid memory frame at out
       laid = with_room (flow_typing program) laid 1 (length g.memory.stack) all;
       memory = memory_entered program laid 1 s.memory g.memory all has (are_rooms (sub_of program n) callable.formals) memory;
       frames = (
-        frame_entered program p laid (types s.memory) g.memory 1 n [] [] has lowers callable few memory.apart.within (λ c there. (memory.loops_low c there, memory.loops_apart.within c there)) frame.sited.packages tt,
+        frame_entered program p laid (types s.memory) g.memory 1 n [] [] has lowers callable few memory.low memory.apart.within (λ c there. (memory.loops_low c there, memory.loops_apart.within c there)) frame.sited.packages tt,
         frames_entered program laid (types s.memory) g.memory.stack (room_template (flow_typing program) all) 1 all (f ∷ []) (h ∷ []) (same 1) memory.loops_apart (frame, tt),
       );
       runs = callable.points;
@@ -125,6 +125,14 @@ first_frame program p has lowers few = record {
         in_left (lyings s 0 0 all) [] (record { frame = 0; object = x; at = at })
         (subst (λ n. Has (lyings s 0 0 all) (record { frame = 0; object = x; at = n })) (none at) (offset_there s 0 0 0 0 all x at refl there));
   };
+  lying = λ l has of. elim (in_either (lyings s 0 0 all) [] l has) [
+    | inl new ↦ new
+    | inr old ↦ absurd old
+  ];
+  looping = λ c has of. elim (in_either (loops_from s 0 0 all) [] c has) [
+    | inl new ↦ new
+    | inr old ↦ absurd old
+  ];
   first = λ zero. (refl, refl);
   turning = λ x at there. (
       let sure = if_some (is_loop x all) (offset_of (site_of program 0 []) x) at there in

@@ -30,7 +30,7 @@ use Rattle.run_codes.proofs.Expressions.{and_then_some}
 use Rattle.run_fills.specs.Filled.{IsWhole, at, Later}
 use Rattle.run_fills.proofs.Wholes.{unchanged}
 use Rattle.run_points.specs.Outcomes.{IsAlike}
-use Rattle.run_points.specs.States.{LoopsApart, Laid, FrameStands, FramesStand, AreUndeclared, MemoryStands, StateStands, IsLow}
+use Rattle.run_points.specs.States.{LoopsApart, Laid, FrameStands, FramesStand, AreUndeclared, MemoryStands, StateStands, IsLow, lyings}
 use Rattle.run_points.specs.Turns.{Turns, state, turn, flat_state, flat_turn, around, seen, TurnStands, IsLowered, HasTypes, DoesAlike}
 use Rattle.run_points.specs.Frames.{IsCallable}
 use Rattle.run_points.proofs.More.{frames_more}
@@ -42,7 +42,7 @@ use Rattle.run_points.proofs.Storing.{loops_later}
 use Rattle.run_points.proofs.Leaking.{leaking_stands}
 use Rattle.run_points.proofs.Keeping.{Keeps}
 use Rattle.run_points.proofs.Flags.{FreesNone, frees_none, Anywhere, keeps_flags, keeps_undeclared}
-use Rattle.run_points.proofs.Rooms.{lyings, offset_there}
+use Rattle.run_points.proofs.Rooms.{offset_there}
 use Rattle.run_points.proofs.Templates.{room_template, are_rooms, template_is, words_are, formals_are}
 use Rattle.run_points.proofs.Entered.{in_left, with_room, memory_entered, frames_entered, frame_entered, sited_entered}
 use Rattle.run_points.proofs.Offsets.{are_formals}
@@ -171,6 +171,8 @@ caller_stands b laid is m f later d i within =
       few = is.frame.few;
       waits = waits_on b laid is d;
       sited = is.frame.sited;
+      lying = is.frame.lying;
+      looping = is.frame.looping;
       first = is.frame.first;
       turning = is.frame.turning;
       loops = λ c has of. loops_later b laid is m f later c has ∙ is.frame.loops c has of;
@@ -199,7 +201,7 @@ callee_stands b laid is lowers sub callable few tree m f ps qs passed =
     let kept : List Kept = objects_of (sub_of b.program sub) in
     let d : ℕ = suc (length b.outer) in
     frame_entered b.program b.lowered laid (types m) f d sub (machine_calls.returns_of (sub_of b.program sub).formals ps) (returns_of (flow_typing b.program).table 0 (formal_types b sub) qs)
-    (types_of b laid is) lowers callable few memory.apart.within (λ c there. (memory.loops_low c there, memory.loops_apart.within c there)) is.frame.sited.packages
+    (types_of b laid is) lowers callable few memory.low memory.apart.within (λ c there. (memory.loops_low c there, memory.loops_apart.within c there)) is.frame.sited.packages
     (returns_stand (seen b) kept (objects_of (sub_of b.program 0)) laid.objects (lyings (flow_typing b.program) d (length f.stack) kept) d (last (length b.outer))
     (subst (λ n. IsSited (seen b).site (seen b).frame n laid.objects) passed.later.base passed.later.whole.sited) (types m) b.point.pos (sub_of b.program sub).formals tree ps qs callable.own 0
     (are_formals (flow_typing b.program) (sub_of b.program sub) callable.formals) passed.stand)

@@ -15,10 +15,10 @@ use Rattle.run_codes.specs.Programs.{Program, objects_of, is_loop}
 use Rattle.run_codes.specs.Points.{Return, Frame, frame_of, sub_at}
 use Rattle.run_codes.specs.Related.{AllStand, types, Lying, lying_sorts, IsSited}
 use Rattle.run_codes.proofs.Places.{if_some}
-use Rattle.run_points.specs.States.{LoopAt, LoopsApart, PlaceStands, ReturnsStand, Laid, site_of, FrameStands, FramesStand, MemoryStands}
+use Rattle.run_points.specs.States.{LoopAt, LoopsApart, PlaceStands, ReturnsStand, Laid, site_of, FrameStands, FramesStand, MemoryStands, lyings, loops_from}
 use Rattle.run_points.specs.Turns.{IsLowered, HasTypes}
 use Rattle.run_points.specs.Frames.{IsCallable}
-use Rattle.run_points.proofs.Rooms.{lyings, loops_from, room_total, AreRooms, offset_there, loop_there, lies_within, loop_within, lyings_apart, loop_object, loops_apart}
+use Rattle.run_points.proofs.Rooms.{room_total, AreRooms, offset_there, loop_there, lies_within, loop_within, lyings_apart, loop_object, loops_apart}
 use Rattle.run_points.proofs.Templates.{room_template, template_long, room_stands, room_loops, are_one_word, first_is, words_are}
 
 -- ---- lists
@@ -226,6 +226,14 @@ frames_entered program laid made stack more d all (f ∷ fs) (g ∷ gs) low apar
     few = is.0.few;
     waits = is.0.waits;
     sited = sited_entered (site_of program f.sub []) (length fs) g.base (lyings s d base all) laid.objects is.0.sited;
+    lying = λ l has of. elim (in_either (lyings s d base all) laid.objects l has) [
+      | inl new ↦ not_high (length fs) d l.frame (lies_within s d base all l new).frame low of
+      | inr old ↦ is.0.lying l old of
+    ];
+    looping = λ c has of. elim (in_either (loops_from s d base all) laid.loops c has) [
+      | inl new ↦ not_high (length fs) d c.frame (loop_within s d base all c new).frame low of
+      | inr old ↦ is.0.looping c old of
+    ];
     first = is.0.first;
     turning = λ x at there. in_right (loops_from s d base all) laid.loops (record { frame = length fs; parameter = x; at = g.base + (at + 1) }) (is.0.turning x at there);
     loops = λ c has of. elim (in_either (loops_from s d base all) laid.loops c has) [
@@ -263,12 +271,12 @@ HasPackages program laid =
 
 pub frame_entered : (program : FlowProgram) (p : Program) (laid : Laid) (made : List ℕ) (f : Flat) (d n : ℕ) (rs : List machine.Return) (qs : List Return) → HasTypes program → IsLowered program p → IsCallable program n
     → nat_lt stack_words (sub_of program n).words ≡ false
-    → ((l : Lying) → Has laid.objects l → l.at + length (lying_sorts (flow_typing program) l) ≤ length f.stack) → ((c : LoopAt) → Has laid.loops c → c.frame < d × (c.at + 3 ≤ length f.stack))
+    → ((l : Lying) → Has laid.objects l → l.frame < d) → ((l : Lying) → Has laid.objects l → l.at + length (lying_sorts (flow_typing program) l) ≤ length f.stack) → ((c : LoopAt) → Has laid.loops c → c.frame < d × (c.at + 3 ≤ length f.stack))
     → HasPackages program laid
     → ReturnsStand (site_of program n []) (lyings (flow_typing program) d (length f.stack) (objects_of (sub_of program n)) ++ laid.objects) d made rs qs
     → FrameStands program (with_room (flow_typing program) laid d (length f.stack) (objects_of (sub_of program n))) made (f.stack ++ room_template (flow_typing program) (objects_of (sub_of program n))) d
     (frame_at_start n rs) (frame_of f (sub_at p n) qs)
-frame_entered program p laid made f d n rs qs has lowers callable few inside loops_inside packages returns = record {
+frame_entered program p laid made f d n rs qs has lowers callable few low inside loops_inside packages returns = record {
   next = first_is program p lowers n callable.points;
   within = inl callable.points;
   words = words_are program p lowers n;
@@ -278,6 +286,14 @@ frame_entered program p laid made f d n rs qs has lowers callable few inside loo
     own = λ x at there own. in_left (lyings s d base all) laid.objects (record { frame = d; object = x; at = base + at }) (offset_there s d base 0 base all x at (none base) there);
     packages = λ x at there own. in_right (lyings s d base all) laid.objects (record { frame = 0; object = x; at = at }) (packages x at there own);
   };
+  lying = λ l has of. elim (in_either (lyings s d base all) laid.objects l has) [
+    | inl new ↦ new
+    | inr old ↦ not_same l.frame d (low l old) of
+  ];
+  looping = λ c has of. elim (in_either (loops_from s d base all) laid.loops c has) [
+    | inl new ↦ new
+    | inr old ↦ not_same c.frame d (loops_inside c old).0 of
+  ];
   first = λ zero. absurd (never n zero callable.other);
   turning = λ x at there. (
       let sure = if_some (is_loop x all) (offset_of (site_of program n []) x) at there in

@@ -240,6 +240,8 @@ frames_below program laid made stack other d (f ∷ fs) (g ∷ gs) le same is =
         few = is.0.few;
         waits = is.0.waits;
         sited = sited_below (site_of program f.sub []) laid d (length fs) g.base less is.0.sited;
+        lying = λ l has of. is.0.lying l (filtered (is_under d) laid.objects l has).0 of;
+        looping = λ c has of. is.0.looping c (filtered (loop_under d) laid.loops c has).0 of;
         first = is.0.first;
         turning = λ x at there. stays (loop_under d) laid.loops (record { frame = length fs; parameter = x; at = g.base + (at + 1) }) (is.0.turning x at there) (is_below (length fs) d less);
         loops = λ c has of. (let sure = filtered (loop_under d) laid.loops c has in same c sure.0 (below c.frame d sure.1) ∙ is.0.loops c sure.0 of);

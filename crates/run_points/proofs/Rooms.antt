@@ -9,24 +9,9 @@ use Rattle.run_codes.specs.Programs.{has_room, rooms, is_loop}
 use Rattle.run_codes.specs.Related.{Lying, lying_sorts, IsBefore, IsSame}
 use Rattle.run_codes.proofs.Parts.{many}
 use Rattle.run_codes.proofs.Places.{impossible, some_same}
-use Rattle.run_points.specs.States.{LoopAt, IsSameLoop}
+use Rattle.run_points.specs.States.{LoopAt, IsSameLoop, lyings, with_loop, loop_from, loops_from}
 
 -- ---- where they lie
-
-abbrev pub lyings : Typing → ℕ → ℕ → List Kept → List Lying
-lyings s d at [] = []
-lyings s d at (k ∷ all) = record { frame = d; object = k.object; at = at } ∷ lyings s d (at + kept_words s k) all
-
-abbrev pub with_loop : Bool → LoopAt → List LoopAt → List LoopAt
-with_loop true c all = c ∷ all
-with_loop false c all = all
-
-abbrev pub loop_from : Typing → ℕ → ℕ → Kept → LoopAt
-loop_from s d at k = record { frame = d; parameter = k.object; at = at + words s.table (object_at s k.object).of }
-
-abbrev pub loops_from : Typing → ℕ → ℕ → List Kept → List LoopAt
-loops_from s d at [] = []
-loops_from s d at (k ∷ all) = with_loop k.loops (loop_from s d at k) (loops_from s d (at + kept_words s k) all)
 
 abbrev pub room_total : Typing → List Kept → ℕ
 room_total s [] = 0

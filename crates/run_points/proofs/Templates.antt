@@ -32,11 +32,11 @@ use Rattle.run_codes.proofs.Places.{impossible}
 use Rattle.run_codes.proofs.Expressions.{and_then_some}
 use Rattle.run_fills.specs.Filled.{HasParts}
 use Rattle.run_fills.proofs.Values.{default_value}
-use Rattle.run_points.specs.States.{LoopAt, first_point}
+use Rattle.run_points.specs.States.{LoopAt, first_point, lyings, with_loop, loop_from, loops_from}
 use Rattle.run_points.specs.Turns.{IsLowered, around_sub}
 use Rattle.run_points.specs.Frames.{AreDifferent}
 use Rattle.run_points.proofs.Tests.{mapped}
-use Rattle.run_points.proofs.Rooms.{lyings, with_loop, loop_from, loops_from, room_total, AreRooms, AreOneWord}
+use Rattle.run_points.proofs.Rooms.{room_total, AreRooms, AreOneWord}
 
 -- ---- the words
 

@@ -1,7 +1,7 @@
 -- Which states of the executor stand for those of the machine.
-use Rattle.std.specs.Prelude.{◌≡◌, ◌⊎◌, ◌≤◌, ◌<◌, ℕ, zero, suc, ◌+◌, false, ◌&&◌, ◌==◌, true, List, [], ◌∷◌, ◌++◌, length, take, drop, get_or, nat_lt, Option, Some, None, ℤ, if◌then◌else◌}
+use Rattle.std.specs.Prelude.{◌≡◌, ◌⊎◌, ◌≤◌, ◌<◌, ℕ, zero, suc, ◌+◌, Bool, false, ◌&&◌, ◌==◌, true, List, [], ◌∷◌, ◌++◌, length, take, drop, get_or, nat_lt, Option, Some, None, ℤ, if◌then◌else◌}
 use Rattle.spark_base.specs.Lists.{Has}
-use Rattle.type_definitions.specs.Types.{Table}
+use Rattle.type_definitions.specs.Types.{Table, words}
 use Rattle.type_definitions.specs.Entries.{integer}
 use Rattle.flow_paths.specs.Objects.{Typing, object_at, is_package_object}
 use Rattle.flow_paths.specs.Laid.{FlowSub, FlowProgram, flow_typing}
@@ -12,7 +12,7 @@ use Rattle.machine.specs.States.{Waiting, Loop, stack_words, sub_of}
 use Rattle.machine.specs.States as machine
 use Rattle.machine.specs.Step.{no_loop, loop_of, main_frame}
 use Rattle.run_codes.specs.Flat.{kinds, are_words, truth, Flat, Spot, InStack, InCell}
-use Rattle.run_codes.specs.Lowered.{Site, offset_of, one_type}
+use Rattle.run_codes.specs.Lowered.{Site, Kept, kept_words, offset_of, one_type}
 use Rattle.run_codes.specs.Programs.{Program, objects_of, is_loop}
 use Rattle.run_codes.specs.Points.{Held, Return, Frame, State, with_frame, frame_of, sub_at}
 use Rattle.run_codes.specs.Related.{types, IsValue, IsSplit, Lying, lying_sorts, Related, AreApart, IsSited}
@@ -117,6 +117,23 @@ ReturnsStand c all d made (r ∷ rs) [] = ⊥
 
 -- ---- frames
 
+-- Where the objects of a frame lie, from an index of the stack on.
+abbrev pub lyings : Typing → ℕ → ℕ → List Kept → List Lying
+lyings s d at [] = []
+lyings s d at (k ∷ all) = record { frame = d; object = k.object; at = at } ∷ lyings s d (at + kept_words s k) all
+
+-- Its loops lie after their parameters.
+abbrev pub with_loop : Bool → LoopAt → List LoopAt → List LoopAt
+with_loop true c all = c ∷ all
+with_loop false c all = all
+
+abbrev pub loop_from : Typing → ℕ → ℕ → Kept → LoopAt
+loop_from s d at k = record { frame = d; parameter = k.object; at = at + words s.table (object_at s k.object).of }
+
+abbrev pub loops_from : Typing → ℕ → ℕ → List Kept → List LoopAt
+loops_from s d at [] = []
+loops_from s d at (k ∷ all) = with_loop k.loops (loop_from s d at k) (loops_from s d (at + kept_words s k) all)
+
 -- Where the objects of a program's frames and their loops lie.
 pub record Laid : Type 0 where
   pub objects : List Lying
@@ -139,9 +156,11 @@ pub record FrameStands (program : FlowProgram) (laid : Laid) (made : List ℕ) (
   pub few : nat_lt stack_words (sub_of program f.sub).words ≡ false
   pub waits : WaitsStand (flow_typing program).table made f.waits g.waits
   pub sited : IsSited (site_of program f.sub []) d g.base laid.objects
+  pub lying : (l : Lying) → Has laid.objects l → l.frame ≡ d → Has (lyings (flow_typing program) d g.base (objects_of (sub_of program f.sub))) l
   -- the package objects are declared in the first frame alone
   pub first : f.sub ≡ 0 → (d ≡ 0) × (g.base ≡ 0)
   pub turning : (x at : ℕ) → loop_offset (site_of program f.sub []) x ≡ Some at → Has laid.loops (record { frame = d; parameter = x; at = g.base + (at + 1) })
+  pub looping : (c : LoopAt) → Has laid.loops c → c.frame ≡ d → Has (loops_from (flow_typing program) d g.base (objects_of (sub_of program f.sub))) c
   pub loops : LoopsStand laid.loops d stack f.loops
   pub bounds : AreBounded (flow_typing program) f.loops
   pub returns : ReturnsStand (site_of program f.sub []) laid.objects d made f.returns g.returns

@@ -20,12 +20,13 @@ use Rattle.soundness.specs.Sound.{goes_through_none, AreCopied}
 use Rattle.machine.specs.Run.{no_point}
 use Rattle.soundness.proofs.Passing.{signature_is}
 use Rattle.soundness.proofs.Typings.{Agree, flow_agrees}
-use Rattle.called_subs.specs.Called.{PointCalls}
+use Rattle.viewed_steps.specs.Sound.{LendsShared}
+use Rattle.called_subs.specs.Called.{PointCalls, CodeCalls}
 use Rattle.called_subs.proofs.Main.{points_asked_at}
 use Rattle.called_subs.proofs.Statements.{IsFineSub}
 use Rattle.ready_laws.specs.InOrder.{IsSub}
 use Rattle.order_laws.specs.Orderly.{typed_of, typing_in, bodies_of}
-use Rattle.sound_files.specs.Class.{IsScalarAt, IsShownAt, IsOwnlessAt, IsFitActual, AreFitActuals, FormalsAreScalar, FormalsAreKinds, CopyToVariables, PassFitActuals, CallsFunctions, CallsWithOwners}
+use Rattle.sound_files.specs.Class.{IsScalarAt, IsShownAt, IsOwnlessAt, IsFitActual, AreFitActuals, AreShownFit, AreOwnersShown, ShowOwners, FormalsAreScalar, FormalsAreKinds, CopyToVariables, PassFitActuals, CallsFunctions, CallsWithOwners}
 use Rattle.sound_files.proofs.Functions.{FunctionsTakeIn}
 use Rattle.sound_files.proofs.Weaker.{code_weaker}
 use Rattle.sound_files.proofs.Called.{at_number}
@@ -122,18 +123,28 @@ module _ (p : Program) where
 
   -- ---- actuals
 
-  abbrev Passed : ℕ → TypedTree → Type 0
-  Passed n actuals = AreFitActuals wide (sub_at wide n).formals actuals
-
-  pub passed_there : PassFitActuals p → (sub : FlowSub) → Has flow.subs sub → (q : FlowPoint) → Has sub.points q → (n : ℕ) (actuals : TypedTree) (result : Option ℕ)
-      → q.instr ≡ Call n actuals result → AreFitActuals wide (sub_of flow n).formals actuals
-  passed_there all sub has q there n actuals result is =
+  -- What is so of each call of the code is so of each point that calls.
+  pub called_there : (Asked : List ℕ → TypedTree → Type 0)
+      → ((sub : TypedSub) → Has (typed_of p).subs sub → CodeCalls (λ n actuals. Asked (sub_at wide n).formals actuals) sub.body)
+      → (sub : FlowSub) → Has flow.subs sub → (q : FlowPoint) → Has sub.points q → (n : ℕ) (actuals : TypedTree) (result : Option ℕ)
+      → q.instr ≡ Call n actuals result → Asked (sub_of flow n).formals actuals
+  called_there Asked all sub has q there n actuals result is =
       let i = at_number flow.subs sub no_sub has in
       let k = at_number sub.points q no_point there in
       let same : (get_or (sub_of flow i.0).points k.0 no_point).instr ≡ Call n actuals result
       = ap (λ (z : FlowSub). (get_or z.points k.0 no_point).instr) i.1 ∙ ap (λ (z : FlowPoint). z.instr) k.1 ∙ is in
-      subst (λ fs. AreFitActuals wide fs actuals) (ap (λ (z : Signature). z.formals) (signature_is flow n))
-      (subst (PointCalls Passed) same (points_asked_at Passed table (typed_of p) (all_of (IsFineSub Passed) (typed_of p).subs all) i.0 k.0))
+      subst (λ fs. Asked fs actuals) (ap (λ (z : Signature). z.formals) (signature_is flow n))
+      (subst (PointCalls (λ n actuals. Asked (sub_at wide n).formals actuals)) same
+      (points_asked_at (λ n actuals. Asked (sub_at wide n).formals actuals) table (typed_of p)
+      (all_of (IsFineSub (λ n actuals. Asked (sub_at wide n).formals actuals)) (typed_of p).subs all) i.0 k.0))
+
+  pub passed_there : PassFitActuals p → (sub : FlowSub) → Has flow.subs sub → (q : FlowPoint) → Has sub.points q → (n : ℕ) (actuals : TypedTree) (result : Option ℕ)
+      → q.instr ≡ Call n actuals result → AreFitActuals wide (sub_of flow n).formals actuals
+  passed_there = called_there (AreFitActuals wide)
+
+  pub owners_shown : ShowOwners p → (sub : FlowSub) → Has flow.subs sub → (q : FlowPoint) → Has sub.points q → (n : ℕ) (actuals : TypedTree) (result : Option ℕ)
+      → q.instr ≡ Call n actuals result → AreOwnersShown wide (sub_of flow n).formals actuals
+  owners_shown = called_there (AreOwnersShown wide)
 
   -- ---- the third class
 
@@ -150,9 +161,15 @@ module _ (p : Program) where
 
   code_passed : FormalsAreScalar p → CopyToVariables p → PassFitActuals p
   code_passed all copied sub has =
-      code_weaker (λ n actuals. AreCopied own (sub_at own n).formals actuals) Passed
+      code_weaker (λ n actuals. AreCopied own (sub_at own n).formals actuals) (λ n actuals. AreFitActuals wide (sub_at wide n).formals actuals)
       (λ n actuals h. subst (λ (z : Signature). AreFitActuals wide z.formals actuals) (sym (signature_same p n)) (scalar_passed all (sub_at own n).formals actuals h))
       sub.body (copied sub has)
+
+  -- what scalar formals get is shown to none
+  scalar_shown : FormalsAreScalar p → (shared : Type 0) (formals : List ℕ) (actuals : TypedTree) → AreShownFit wide shared formals actuals
+  scalar_shown all shared (x ∷ formals) (More e rest) = ((λ is. inl (scalar_wide x is (all x (formal_own x is)))), scalar_shown all shared formals rest)
+  scalar_shown all shared [] actuals = tt
+  scalar_shown all shared (x ∷ formals) actuals = tt
 
   -- It is a part of this one.
   pub calls_functions : CallsFunctions p → CallsWithOwners p
@@ -161,4 +178,5 @@ module _ (p : Program) where
     formals = λ x is. inl (calls.formals x is);
     seen = λ n t x result has is. inl (scalar_wide x is (calls.formals x (formal_own x is)));
     passed = code_passed calls.formals calls.copied;
+    shown = inr (λ sub has q there n actuals result is. scalar_shown calls.formals (LendsShared wide sub) (sub_of flow n).formals actuals);
   }

@@ -20,8 +20,9 @@ use Rattle.soundness.specs.Seen.{is_view_formal}
 use Rattle.soundness.specs.Sound.{calls_nothing, calls_procedures, goes_through_none, AreCopied}
 use Rattle.soundness.specs.Ready.{root_of}
 use Rattle.gathered_laws.specs.Named.{IsNamed}
-use Rattle.viewed_soundness.specs.Holds.{is_exclusive, sees_only}
+use Rattle.viewed_soundness.specs.Holds.{is_exclusive}
 use Rattle.scope_laws.specs.Alone.{ResultsFit}
+use Rattle.viewed_steps.specs.Sound.{LendsShared}
 use Rattle.called_subs.specs.Called.{CodeCalls}
 use Rattle.order_laws.specs.Orderly.{typed_of, typing_in, bodies_of}
 use Rattle.meant_files.specs.Formless.{IsFormless}
@@ -112,14 +113,11 @@ FunctionsSee p =
     (n t x : ℕ) → (sub_at (laid_in p) n).result ≡ Some t → Has (sub_at (laid_in p) n).formals x → is_formal (laid_in p) x ≡ true
     → IsScalarAt (laid_in p) x ⊎ (is_view_formal (laid_in p) x ≡ true → is_exclusive (laid_in p) x ≡ false)
 
--- An actual for one of a named access type is null, or a name of its type that is rooted in a variable of a subprogram, but
--- no borrower or observer, or in such a formal.
-abbrev pub IsShownRoot : Typing → ℕ → Type 0
-IsShownRoot s y = (is_package_object s y ≡ false) × (is_anonymous (view_of s y) ≡ false)
-
+-- An actual for one of a named access type is null, or a name of its type that is rooted in an object that belongs to no
+-- package.
 abbrev pub IsShownActual : Typing → ℕ → TypedTree → Type 0
 IsShownActual s x typed.Null = Unit {0}
-IsShownActual s x (Name p y path u) = (shape_of s.table u ≡ shape_of s.table (object_at s x).of) × IsShownRoot s y
+IsShownActual s x (Name p y path u) = (shape_of s.table u ≡ shape_of s.table (object_at s x).of) × (is_package_object s y ≡ false)
 IsShownActual s x e = ⊥
 
 -- One for a formal of mode `in` whose type owns nothing is a name of its type.
@@ -127,12 +125,17 @@ abbrev pub IsCopiedActual : Typing → ℕ → TypedTree → Type 0
 IsCopiedActual s x (Name p y path u) = shape_of s.table u ≡ shape_of s.table (object_at s x).of
 IsCopiedActual s x e = ⊥
 
--- One that is copied back to goes through no access value, and isn't rooted in a formal of mode `in` that owns; or the formal
--- is of a scalar type, and it is rooted in an object that belongs to no package, or goes through none.
+-- One that is copied back to goes through no access value, and isn't rooted in a formal of mode `in` that owns; or it is
+-- rooted in an object that belongs to no package, and the formal is of a scalar type, or of mode `in out` and that object is
+-- no borrower or observer, and no such formal.
+abbrev pub IsOwnRoot : Typing → ℕ → Type 0
+IsOwnRoot s y = (is_package_object s y ≡ false) × (is_anonymous (view_of s y) ≡ false) × (is_view_formal s y ≡ false)
+
 abbrev pub IsKeptActual : Typing → ℕ → TypedTree → Type 0
 IsKeptActual s x e =
     (IsScalarAt s x × ((goes_through_none e ≡ true) ⊎ ((y : ℕ) → Has (root_of e) y → is_package_object s y ≡ false)))
-    ⊎ ((goes_through_none e ≡ true) × ((y : ℕ) → Has (root_of e) y → is_view_formal s y ≡ false))
+    ⊎ (((goes_through_none e ≡ true) × ((y : ℕ) → Has (root_of e) y → is_view_formal s y ≡ false))
+    ⊎ (((object_at s x).mode ≡ mode.InOut) × ((y : ℕ) → Has (root_of e) y → IsOwnRoot s y)))
 
 abbrev pub IsFitActual : Typing → ℕ → Mode → TypedTree → Type 0
 IsFitActual s x mode.In e =
@@ -148,6 +151,29 @@ abbrev pub PassFitActuals : Program → Type 0
 PassFitActuals p =
     (sub : TypedSub) → Has (typed_of p).subs sub → CodeCalls (λ n actuals. AreFitActuals (laid_in p) (sub_at (laid_in p) n).formals actuals) sub.body
 
+-- No actual that a formal of a named access type sees is rooted in a borrower or observer.
+abbrev pub AreOwnersShown : Typing → List ℕ → TypedTree → Type 0
+AreOwnersShown s (x ∷ formals) (More e rest) =
+    (is_view_formal s x ≡ true → (y : ℕ) → Has (root_of e) y → is_anonymous (view_of s y) ≡ false) × AreOwnersShown s formals rest
+AreOwnersShown s formals actuals = Unit {0}
+
+abbrev pub ShowOwners : Program → Type 0
+ShowOwners p =
+    (sub : TypedSub) → Has (typed_of p).subs sub → CodeCalls (λ n actuals. AreOwnersShown (laid_in p) (sub_at (laid_in p) n).formals actuals) sub.body
+
+-- Or only where the subprogram that calls lends no part of a package object.
+abbrev pub AreShownFit : Typing → Type 0 → List ℕ → TypedTree → Type 0
+AreShownFit s shared (x ∷ formals) (More e rest) =
+    (is_formal s x ≡ true → IsScalarAt s x ⊎ ((y : ℕ) → Has (root_of e) y → is_anonymous (view_of s y) ≡ true → shared → ⊥))
+    × AreShownFit s shared formals rest
+AreShownFit s shared formals actuals = Unit {0}
+
+abbrev pub ShowsFit : Program → Type 0
+ShowsFit p =
+    (sub : FlowSub) → Has (flow_program (known_of p).table (typed_of p)).subs sub → (q : FlowPoint) → Has sub.points q → (n : ℕ) (actuals : TypedTree) (result : Option ℕ)
+    → q.instr ≡ Call n actuals result
+    → AreShownFit (laid_in p) (LendsShared (laid_in p) sub) (sub_of (flow_program (known_of p).table (typed_of p)) n).formals actuals
+
 -- What a function gives is of a scalar type; or it stands alone, and is of no anonymous access type: an object is declared
 -- with it, or it is assigned or returned.
 abbrev pub AllResultsFit : Program → Type 0
@@ -158,3 +184,4 @@ pub record CallsWithOwners (p : Program) : Type 0 where
   pub formals : FormalsAreKinds p
   pub seen : FunctionsSee p
   pub passed : PassFitActuals p
+  pub shown : ShowOwners p ⊎ ShowsFit p

@@ -5,7 +5,7 @@ use Rattle.ada_lexer.specs.declared.token.Token.{Token}
 use Rattle.std.specs.List.{slice_get}
 use Rattle.std.proofs.lemmas.List.Elements.{All-push}
 use Rattle.ada_lexer.specs.Tokens.{Cut}
-use Rattle.spark_tool.specs.Lexing.{AllTokens}
+use Rattle.source_trees.specs.Cuts.{AllTokens}
 
 -- the tokens of the files before
 abbrev pub with_files : List (List Cut) → AllTokens → AllTokens

@@ -14,8 +14,8 @@ use Rattle.run_command.specs.Answers.{Answer}
 use Rattle.spark_tool.specs.declared.finding.Outcome.{Outcome}
 use Rattle.spark_tool.specs.declared.stop.Stop.{Stop}
 use Rattle.spark_tool.specs.Answers.{answer_for}
-use Rattle.spark_tool.specs.Product.{Finding, Ends, Passes, Lists, ends, planned, listed, Answers, usage, check, check_answer, leaks, run, run_answer_of, make, made, Checks, missing, misused, unread, fixed_answer, selftest, made_names, made_source, test_answer}
-use Rattle.spark_tool.specs.Reading.{Sources, Missing, sources}
+use Rattle.tool_answers.specs.Product.{Finding, Ends, Passes, Lists, ends, planned, listed, Answers, usage, check, check_answer, leaks, run, run_answer_of, make, made, Checks, missing, misused, unread, fixed_answer, selftest, made_names, made_source, test_answer}
+use Rattle.tool_answers.specs.Reading.{Sources, Missing, sources}
 use Rattle.spark_tool.specs.Refusals.{Gives, IsFor}
 
 -- each file of a command is an operand, and may be opened

@@ -5,7 +5,8 @@ use Rattle.std.specs.Io.KnownBytes.{Appends, Keeps}
 use Rattle.std.proofs.KnownBytes.{Appends-nil, Appends-kept}
 use Rattle.spark_base.specs.Outside.{AppendsPrefix}
 use Rattle.run_command.specs.Answers.{Answer, Tells, TellsFront}
-use Rattle.spark_tool.specs.Product.{Product, unread}
+use Rattle.tool_answers.specs.Product.{Product, unread}
+use Rattle.accepted_runs.proofs.Headline.{run_soundly}
 use Rattle.spark_tool.specs.Promises.{Delivers, DeliversFront, DeliversNoMore, HasInput}
 use Rattle.spark_tool.specs.Stops.{stop_status}
 use Rattle.spark_tool.specs.declared.stop.Stop.{Stop}
@@ -19,6 +20,7 @@ delivers files input words answer out new_out err new_err status is told = recor
   defined = is;
   only = λ other other_is. one_answer files input words other answer other_is is;
   told = told;
+  sound = run_soundly files input words;
 }
 
 -- an answer was written that is defined whatever the input has

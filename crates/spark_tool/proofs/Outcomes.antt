@@ -7,8 +7,8 @@ use Rattle.spark_tool.specs.declared.finding.Outcome.{Outcome}
 use Rattle.spark_tool.specs.declared.stop.Stop.{Stop}
 use Rattle.spark_tool.specs.declared.stop.Stop.TheVariants.{Read, Write, Memory}
 use Rattle.spark_tool.specs.Answers.{answer_for}
-use Rattle.spark_tool.specs.Commands.{command_of, reads_files, runs}
-use Rattle.spark_tool.specs.Product.{Answers, Product}
+use Rattle.tool_answers.specs.Commands.{command_of, reads_files, runs}
+use Rattle.tool_answers.specs.Product.{Answers, Product}
 use Rattle.spark_tool.specs.Promises.{IsUnrun, HasInput, Delivers}
 use Rattle.spark_tool.specs.Refusals.{Gives}
 use Rattle.spark_tool.specs.Stops.{stop_status}

@@ -15,10 +15,12 @@ use Rattle.name_resolve.specs.Inputs.{trees_of}
 use Rattle.ada_parser.specs.declared.refusal.ParseRefusal.{ParseRefusal}
 use Rattle.ada_parser.specs.declared.refusal.ParseRefusal.TheVariants.{Syntax, TooDeep, LeftOut, Memory}
 use Rattle.ada_parser.specs.Refused.{RefusedAt, IsRefusal}
-use Rattle.spark_tool.specs.Lexing.{all_tokens, cuts_of}
-use Rattle.spark_tool.specs.Parsing.{told_cut, IsParsed, AreTreesOf, IsRefusedAt, FirstRefused}
-use Rattle.spark_tool.specs.Product.{Finding, Checks, syntactic}
-use Rattle.spark_tool.specs.Reading.{Texts}
+use Rattle.source_trees.specs.Cuts.{all_tokens}
+use Rattle.spark_tool.specs.Lexing.{cuts_of}
+use Rattle.source_trees.specs.Trees.{told_cut, AreTreesOf}
+use Rattle.tool_answers.specs.Parsing.{IsParsed, IsRefusedAt, FirstRefused}
+use Rattle.tool_answers.specs.Product.{Finding, Checks, syntactic}
+use Rattle.tool_answers.specs.Reading.{Texts}
 use Rattle.spark_tool.specs.Refusals.{IsFirstRefusal, IsRefused, parse_code}
 
 -- tokens are told alike as they are and as they were cut

@@ -8,9 +8,9 @@ use Rattle.name_events.specs.Faults.{name_fault}
 use Rattle.name_resolve.specs.declared.refusal.NameRefusal.{NameRefusal}
 use Rattle.name_resolve.specs.declared.refusal.NameRefusal.TheVariants as refusal
 use Rattle.name_resolve.specs.Judges.{Says}
-use Rattle.spark_tool.specs.Parsing.{AreRead}
-use Rattle.spark_tool.specs.Product.{Finding, Checks, unresolved, name_code, stops}
-use Rattle.spark_tool.specs.Reading.{Texts}
+use Rattle.source_trees.specs.Trees.{AreRead}
+use Rattle.tool_answers.specs.Product.{Finding, Checks, unresolved, name_code, stops}
+use Rattle.tool_answers.specs.Reading.{Texts}
 use Rattle.spark_tool.specs.Refusals.{IsRefused, naming_code}
 
 broken_answers : (names texts : List (List ℕ)) (trees : List (List SourceUnit)) (broken : NameRule) (pos : Pos) (answer : Finding) → AreRead texts trees

@@ -11,7 +11,7 @@ use Rattle.spark_tool.specs.declared.finding.Finding as held_finding
 use Rattle.spark_tool.specs.declared.finding.Finding.TheVariants as found
 use Rattle.spark_tool.specs.declared.finding.Outcome.{Outcome}
 use Rattle.spark_tool.specs.declared.finding.Outcome.TheVariants as outcome
-use Rattle.spark_tool.specs.Product.{Finding, Ends, Rejects, Passes}
+use Rattle.tool_answers.specs.Product.{Finding, Ends, Rejects, Passes}
 
 abbrev pub answer_to : Stream → List ℕ → ℕ → Answer
 answer_to stream.Out text status = record { out = text; err = []; status = status }

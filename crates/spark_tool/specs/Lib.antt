@@ -1,9 +1,6 @@
 -- what the public contract rests on
-pub mod Commands
 pub mod Reading
 pub mod Lexing
-pub mod Parsing
-pub mod Product
 pub mod Promises
 -- what the functions inside promise each other
 pub mod Stops

@@ -2,7 +2,8 @@
 use Rattle.std.specs.Prelude.{◌≡◌, ℕ, List, Bool, true, false, Option, Some, [], ◌∷◌}
 use Rattle.spark_base.specs.Lists.{Has}
 use Rattle.run_command.specs.Answers.{Answer, Tells, TellsFront}
-use Rattle.spark_tool.specs.Product.{Product}
+use Rattle.accepted_runs.specs.Headline.{IsRunSoundly}
+use Rattle.tool_answers.specs.Product.{Product}
 
 -- The statuses of an answer: done; rejected; refused; the ends of a run by an exception, by its
 -- budget and after a leak; misused; an input that is too large; the end of a run by a trap.
@@ -22,12 +23,14 @@ abbrev pub HasInput : Bool → Option (List ℕ) → List ℕ → Type 0
 HasInput true left input = left ≡ Some input
 HasInput false left input = Unit {0}
 
--- Both streams got the bytes of the one answer that is defined, and its status was answered.
+-- Both streams got the bytes of the one answer that is defined, and its status was answered. What was run, it ran
+-- soundly, if it is of the class.
 pub record Delivers (stored : List (List ℕ × List ℕ)) (input : List ℕ) (words : List (List ℕ)) (out new_out err new_err : Option (List ℕ)) (status : ℕ) : Type 0 where
   pub answer : Answer
   pub defined : Product stored input words answer
   pub only : (other : Answer) → Product stored input words other → other ≡ answer
   pub told : Tells answer out new_out err new_err status
+  pub sound : IsRunSoundly stored input words
 
 -- Both streams got some front of the bytes of the one answer that is defined.
 pub record DeliversFront (stored : List (List ℕ × List ℕ)) (input : List ℕ) (words : List (List ℕ)) (out new_out err new_err : Option (List ℕ)) : Type 0 where

@@ -27,16 +27,16 @@ use Rattle.rule_reports.specs.declared.code.Code.{Code}
 use Rattle.rule_reports.specs.Lines.{report_lines}
 use Rattle.spark_tool.specs.declared.parsing.SourceRefusal.{SourceRefusal}
 use Rattle.spark_tool.specs.declared.parsing.SourceRefusal.TheVariants as source
-use Rattle.spark_tool.specs.Lexing.{all_tokens}
-use Rattle.spark_tool.specs.Parsing.{FirstRefused}
-use Rattle.spark_tool.specs.Product as product
-use Rattle.spark_tool.specs.Product.{Finding, Ends, Rejects, Passes}
+use Rattle.source_trees.specs.Cuts.{all_tokens}
+use Rattle.tool_answers.specs.Parsing.{FirstRefused}
+use Rattle.tool_answers.specs.Product as product
+use Rattle.tool_answers.specs.Product.{Finding, Ends, Rejects, Passes}
 use Rattle.spark_tool.specs.declared.finding.Finding as held
 use Rattle.spark_tool.specs.declared.finding.Finding.TheVariants as found
 use Rattle.spark_tool.specs.declared.finding.Outcome.{Outcome}
 use Rattle.spark_tool.specs.declared.finding.Outcome.TheVariants as outcome
 use Rattle.spark_tool.specs.Answers.{answer_of, answer_for, names_of}
-use Rattle.spark_tool.specs.Commands.{runs}
+use Rattle.tool_answers.specs.Commands.{runs}
 
 -- The refusal is that of the first of the files that isn't that of a source; out of memory has no
 -- cause in them.

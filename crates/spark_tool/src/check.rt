@@ -5,14 +5,15 @@ ghost use Rattle.name_resolve.specs.Inputs.{trees_of};
 ghost use Rattle.name_resolve.specs.Judges as resolving;
 ghost use Rattle.spark_tool.specs.Answers.{finding_of};
 ghost use Rattle.spark_tool.specs.Lexing.{texts_of};
-ghost use Rattle.spark_tool.specs.Parsing.{AreRead};
+ghost use Rattle.source_trees.specs.Trees.{AreRead};
 ghost use Rattle.flow_paths.specs.Printing.{printed_name};
 ghost use Rattle.path_check.specs.Told.{reports_in};
 ghost use Rattle.program_check.specs.Answers.{KeepsNames};
 ghost use Rattle.rule_reports.specs.Lines.{report_lines};
-ghost use Rattle.spark_tool.specs.Product.{Checks};
+ghost use Rattle.tool_answers.specs.Product.{Checks};
 ghost use Rattle.spark_tool.specs.Refusals.{IsRefused, IsNamed, Tells, IsChecked};
-ghost use Rattle.spark_tool.specs.Reading.{sources_of, IsWhole, Texts};
+ghost use Rattle.tool_answers.specs.Reading.{Texts};
+ghost use Rattle.spark_tool.specs.Reading.{sources_of, IsWhole};
 
 use crate::answer::{file_refusal_answer, refusal_answer};
 use crate::codes::{naming_code, program_code, source_code};

@@ -1,7 +1,8 @@
 //! Cuts all files into tokens.
 ghost use Rattle.std.specs.Prelude.{◌≡◌, ◌≢◌, ◌<◌, ◌≤◌, Ok, Err, IfOk, IfErr, IfSome, All, length, slice_get};
 ghost use Rattle.ada_lexer.specs.Tokens.{EndsOnce, kinds_of};
-ghost use Rattle.spark_tool.specs.Lexing.{all_tokens, texts_of, cuts_of, IsAmong};
+ghost use Rattle.source_trees.specs.Cuts.{all_tokens};
+ghost use Rattle.spark_tool.specs.Lexing.{texts_of, cuts_of, IsAmong};
 
 use ada_lexer::{LexRefusal, Token, lex};
 use spark_base::{FILES, SOURCE_BYTES, TOKENS};

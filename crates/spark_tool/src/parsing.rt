@@ -3,7 +3,7 @@ ghost use Rattle.std.specs.Prelude.{◌≡◌, ◌≤◌, IfOk, IfErr, All, leng
 ghost use Rattle.ada_lexer.specs.Tokens.{EndsOnce, kinds_of};
 ghost use Rattle.name_resolve.specs.Inputs.{trees_of};
 ghost use Rattle.spark_tool.specs.Lexing.{cuts_of, texts_of};
-ghost use Rattle.spark_tool.specs.Parsing.{AreTreesOf, AreRead};
+ghost use Rattle.source_trees.specs.Trees.{AreTreesOf, AreRead};
 ghost use Rattle.spark_tool.specs.Refusals.{IsFirstRefusal, RefusesTexts};
 ghost use Rattle.spark_tool.specs.declared.parsing.SourceRefusal.TheVariants as refused;
 

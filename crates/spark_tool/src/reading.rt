@@ -3,7 +3,8 @@ ghost use Rattle.std.specs.Prelude.{◌≡◌, ◌≢◌, ◌⊎◌, ◌≤◌, 
 ghost use Rattle.spark_base.specs.Lists.{Has};
 ghost use Rattle.spark_base.specs.Outside.{Rose, Lacks};
 ghost use Rattle.spark_base.specs.Words.{operands};
-ghost use Rattle.spark_tool.specs.Reading.{IsWithin, ReadsFile, IsWhole, sources, sources_of, Missing};
+ghost use Rattle.tool_answers.specs.Reading.{sources, Missing};
+ghost use Rattle.spark_tool.specs.Reading.{IsWithin, ReadsFile, IsWhole, sources_of};
 
 use crate::stop::Stop;
 use spark_base::{FILES, FileStore, SOURCE_BYTES};

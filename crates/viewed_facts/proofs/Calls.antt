@@ -1,6 +1,6 @@
 -- What is called moved stays so in calls and their ends: it is in no place that a call takes.
-use Rattle.viewed_soundness.specs.Holds.{sees_only}
-use Rattle.std.proofs.Common.{◌≡◌, sym, ap, ◌∙◌, subst, ◌⊎◌, inl, inr, ℕ, suc, ◌<◌, Bool, true, false, List, [], ◌∷◌, length, append-nil, arith, if◌then◌else◌}
+use Rattle.viewed_soundness.specs.Holds.{sees_only, is_view}
+use Rattle.std.proofs.Common.{◌≡◌, sym, ap, ◌∙◌, subst, ◌⊎◌, inl, inr, ℕ, suc, ◌<◌, Bool, true, false, List, [], ◌∷◌, length, append-nil, arith, if◌then◌else◌, Some}
 use Rattle.spark_base.specs.Lists.{Has}
 use Rattle.place_names.specs.declared.fact.Fact.{Fact}
 use Rattle.place_names.specs.declared.rule.Loan.TheVariants.{Borrowed}
@@ -18,14 +18,16 @@ use Rattle.owned_loans.specs.Views.{Views, AreClear, AreViews, expand}
 use Rattle.owned_loans.proofs.Safe.{clean_name}
 use Rattle.exact_facts.proofs.Steps.{under_covers}
 use Rattle.viewed_steps.specs.Sound.{ViewStage, stages_of, Lies}
-use Rattle.viewed_steps.specs.Taken.{TakenBy, AreCarried, IsPassedOn, AreTaken, Lodge}
+use Rattle.viewed_steps.specs.Taken.{TakenBy, AreCarried, IsPassedOn, AreTaken, Lodge, IsTakenIn}
 use Rattle.viewed_soundness.proofs.Names.{owner_sees}
 use Rattle.viewed_steps.proofs.Entered.{inside_plain, inside_named, inside_number, inside_itself}
 use Rattle.viewed_facts.specs.Exact.{IsDefiniteBy}
 
 -- ---- ways from variables, where words are carried
 
-module _ (s : Typing) (these : ℕ → Type 0) (ways : List Way) (m n : Memory) (carried : AreCarried s these ways m n) where
+module _ (s : Typing) (these : ℕ → Type 0) (cells : List Lodge) (ways : List Way) (m n : Memory) (carried : AreCarried s these cells ways m n)
+    (off_cells : (w : Way) → (f : ℕ) × (x : ℕ) × (base_of w ≡ OfRoot (OfVariable f x)) × these f → ((to : Way) → Has ways to → Under to w → ⊥)
+    → (k : ℕ) (p : List Step) → Reaches (seen s m [] []) w (part (OfCell k) p) → IsTakenIn cells ways k p → ⊥) where
   abbrev was : View
   was = seen s m [] []
 
@@ -59,25 +61,29 @@ module _ (s : Typing) (these : ℕ → Type 0) (ways : List Way) (m n : Memory) 
   off_place : (w : Way) → IsOff w → TakenBy ways w → ⊥
   off_place w off (to, has, p, is) = off to has (subst (Under to) (sym is) (under_along to to p (under_itself to)))
 
-  cell_word : (c : ℕ) (p : List Step) → now.word (part (OfCell c) p) ≡ was.word (part (OfCell c) p)
-  cell_word c p =
-      word_part s.table (content s n []) (OfCell c) p
-      ∙ subst (λ q. word_in s.table (content s n [] (OfCell c)) q ≡ word_in s.table (content s m [] (OfCell c)) q) (sym (append-nil p)) (carried.cells c p)
-      ∙ sym (word_part s.table (content s m []) (OfCell c) p)
+  cell_here : (c : ℕ) (p : List Step) (k : Memory) → (seen s k [] []).word (part (OfCell c) p) ≡ word_in s.table (content s k [] (OfCell c)) p
+  cell_here c p k =
+      word_part s.table (content s k []) (OfCell c) p
+      ∙ ap (λ q. word_in s.table (content s k [] (OfCell c)) q) (append-nil p)
 
-  held_before : (w : Way) (l : Loc) → Stands w l → IsOff w → (c : ℕ) → now.word l ≡ Held c → was.word l ≡ Held c
-  held_before w l (inr (d, p, at)) off c held =
-      subst (λ z. was.word z ≡ Held c) (sym at) (sym (cell_word d p) ∙ subst (λ z. now.word z ≡ Held c) at held)
-  held_before w l (inl (f, x, p, there, is, at)) off c held =
+  not_taken : (w : Way) → Begins w → IsOff w → (c : ℕ) (p : List Step) → (l : Loc) → Reaches was w l → l ≡ part (OfCell c) p → IsTakenIn cells ways c p → ⊥
+  not_taken w begins off c p l reach at taken = off_cells w begins off c p (subst (Reaches was w) at reach) taken
+
+  held_before : (w : Way) (l : Loc) → Begins w → Stands w l → IsOff w → Reaches was w l → (c : ℕ) → now.word l ≡ Held c → was.word l ≡ Held c
+  held_before w l begins (inr (d, p, at)) off reach c held =
+      subst (λ z. was.word z ≡ Held c) (sym at)
+      (cell_here d p m ∙ carried.in_cells d p c (not_taken w begins off d p l reach at) (sym (cell_here d p n) ∙ subst (λ z. now.word z ≡ Held c) at held))
+  held_before w l begins (inl (f, x, p, there, is, at)) off reach c held =
       subst (λ z. was.word z ≡ Held c) (sym at)
       (word_root s.table (content s m []) (OfVariable f x) p
       ∙ carried.held f x p c there (λ taken. off_place w off (subst (TakenBy ways) (sym is) taken))
       (sym (word_root s.table (content s n []) (OfVariable f x) p) ∙ subst (λ z. now.word z ≡ Held c) at held))
 
-  gone_then : (w : Way) (l : Loc) → Stands w l → IsOff w → was.word l ≡ Gone → now.word l ≡ Gone
-  gone_then w l (inr (d, p, at)) off gone =
-      subst (λ z. now.word z ≡ Gone) (sym at) (cell_word d p ∙ subst (λ z. was.word z ≡ Gone) at gone)
-  gone_then w l (inl (f, x, p, there, is, at)) off gone =
+  gone_then : (w : Way) (l : Loc) → Begins w → Stands w l → IsOff w → Reaches was w l → was.word l ≡ Gone → now.word l ≡ Gone
+  gone_then w l begins (inr (c, p, at)) off reach gone =
+      subst (λ z. now.word z ≡ Gone) (sym at)
+      (cell_here c p n ∙ carried.gone_cells c p (not_taken w begins off c p l reach at) (sym (cell_here c p m) ∙ subst (λ z. was.word z ≡ Gone) at gone))
+  gone_then w l begins (inl (f, x, p, there, is, at)) off reach gone =
       subst (λ z. now.word z ≡ Gone) (sym at)
       (word_root s.table (content s n []) (OfVariable f x) p
       ∙ carried.gone f x p there (λ taken. off_place w off (subst (TakenBy ways) (sym is) taken))
@@ -90,11 +96,12 @@ module _ (s : Typing) (these : ℕ → Type 0) (ways : List Way) (m n : Memory) 
   reached_before (Into w i) l begins off (k, reach, e) = (k, reached_before w k begins (λ to has under. off to has (inr under)) reach, e)
   reached_before (All w) l begins off (k, c, reach, held, e) =
       let off_front : IsOff w = (λ to has under. off to has (inr under)) in
-      (k, c, reached_before w k begins off_front reach, held_before w k (stands w k begins reach) off_front c held, e)
+      (let before = reached_before w k begins off_front reach in (k, c, before, held_before w k begins (stands w k begins reach) off_front before c held, e))
 
   pub carried_told : (P : Way → Type 0) → ((w : Way) → P w → Begins w) → ((w : Way) → P w → IsOff w) → Told (seen s m [] []) P → Told (seen s n [] []) P
   carried_told P begins off told w l is reach =
-      gone_then w l (stands w l (begins w is) reach) (off w is) (told w l is (reached_before w l (begins w is) (off w is) reach))
+      let before = reached_before w l (begins w is) (off w is) reach in
+      gone_then w l (begins w is) (stands w l (begins w is) reach) (off w is) before (told w l is before)
 
 -- ---- where frames have names
 
@@ -122,23 +129,23 @@ lower (h ∷ older) (f ∷ outer) (frame, deep, others) g (inr has) = (let less 
 -- ---- the places that a call took
 
 pub passed_of : (s : Typing) (cells : List Lodge) (m : Memory) (depth : ℕ) (facts : List Fact) (scope : List ℕ) (returns : List Return) (ways : List Way)
-    → AreTaken s cells m depth facts scope returns ways → (to : Way) → Has ways to → (r : Return) × IsPassedOn s depth facts scope r.formal r.to to
+    → AreTaken s cells m depth facts scope returns ways → (to : Way) → Has ways to → (r : Return) × IsPassedOn s cells depth facts scope r.formal r.to to
 passed_of s cells m depth facts scope [] ways none to has = absurd (subst (λ z. Has z to) none has)
 passed_of s cells m depth facts scope (r ∷ rest) [] taken to has = absurd has
 passed_of s cells m depth facts scope (r ∷ rest) (k ∷ ways) (inl copied) to has = passed_of s cells m depth facts scope rest (k ∷ ways) copied.1 to has
 passed_of s cells m depth facts scope (r ∷ rest) (k ∷ ways) (inr (one, apart, another, more)) to (inl same) =
-    (r, subst (IsPassedOn s depth facts scope r.formal r.to) same one.0)
+    (r, subst (IsPassedOn s cells depth facts scope r.formal r.to) same one.0)
 passed_of s cells m depth facts scope (r ∷ rest) (k ∷ ways) (inr (one, apart, another, more)) to (inr has) = passed_of s cells m depth facts scope rest ways more to has
 
-module _ (s : Typing) (settled : IsSettled s.table) (depth : ℕ) (facts : List Fact) (scope : List ℕ) (r : Return) (to : Way)
-    (passed : IsPassedOn s depth facts scope r.formal r.to to) where
+module _ (s : Typing) (settled : IsSettled s.table) (cells : List Lodge) (depth : ℕ) (facts : List Fact) (scope : List ℕ) (r : Return) (to : Way)
+    (passed : IsPassedOn s cells depth facts scope r.formal r.to to) where
   -- nothing is there that the frame moved, by a name without an element
-  pub passed_clean : (v : Views) (view : View) → AreViews (home s depth) (sees_only s) v view facts → AreClear (sees_only s) facts
+  pub passed_clean : (v : Views) (view : View) → ((x : ℕ) (w : Way) → v.way x ≡ Some w → is_view s x ≡ true) → AreViews (home s depth) (sees_only s) v view facts → AreClear (sees_only s) facts
       → (w : Way) → IsDefiniteBy (home s depth) v facts w → Under to w → ⊥
-  passed_clean v view views clear w (m, moved, plain, same) under =
+  passed_clean v view only views clear w (m, moved, plain, same) under =
       clean_name (home s depth) (sees_only s) v view facts views clear to m (
         inside_named s settled depth r.to to passed.inside,
         ap (sees_only s) (inside_number s settled depth r.to to passed.inside)
             ∙ owner_sees s (passed.inside).object (inside_plain s settled depth r.to to passed.inside) (passed.inside).owner,
       ) (λ h n has over. passed.unlent Borrowed h n has over) moved (λ below. passed.cleared (name_of m) moved.1 (under_covers to m below plain))
-      (subst (λ z. Under z (expand v m)) (sym (inside_itself s settled depth r.to to passed.inside v)) (subst (Under to) (sym same) under))
+      (subst (λ z. Under z (expand v m)) (sym (inside_itself s settled depth r.to to passed.inside v only)) (subst (Under to) (sym same) under))

@@ -21,7 +21,7 @@ use Rattle.machine.specs.Memory.{Memory, Place, words_of, moved_out, with_new_ce
 use Rattle.machine.specs.Evaluate.{Here, Now, AsValue, part_type, parts_of, Evaluated, Done, Raises, Traps, followed_by, evaluate, steps_of, initial, checked, allocated, variable_place, walked, held_or_taken, taken, heap_words, StorageError}
 use Rattle.machine.specs.Evaluate as run
 use Rattle.machine.specs.States.{Waiting, Leak}
-use Rattle.owned_ways.specs.Ways.{OfVariable, Loc, Way, Object, Reaches, Under, Named, Allows, after, AllowsAll, number_of}
+use Rattle.owned_ways.specs.Ways.{OfVariable, Loc, Way, Object, Reaches, Named, Allows, after, AllowsAll, number_of}
 use Rattle.owned_ways.specs.Ways as ways
 use Rattle.part_offsets.specs.Parts.{IsSettled}
 use Rattle.soundness.specs.Seen.{seen, home, IsNear}

@@ -18,7 +18,7 @@ use Rattle.machine.specs.Memory.{Memory}
 use Rattle.machine.specs.States.{Waiting, Frame, State, Outcome, Goes, Ends, sub_of, Return}
 use Rattle.machine.specs.Owners.{waiting_in}
 use Rattle.machine.specs.Run.{step}
-use Rattle.owned_ways.specs.Ways.{OfVariable, OfRoot, Under, base_of, number_of, Way, Loc, Gone, Reaches, Told, name_of}
+use Rattle.owned_ways.specs.Ways.{OfVariable, OfRoot, Under, base_of, number_of, Way, Loc, Gone, Reaches, Told, name_of, OfCell, Step, along, part, Owned}
 use Rattle.soundness.specs.Seen.{home, seen}
 use Rattle.soundness.specs.Typed.{Kept}
 use Rattle.soundness.specs.Sound.{Stage, facts_of, AreStages, IsRunnable, InScope, IsNamedSub, IsAtPoint, IsNoCall, IsOnward, view_of as view_here}
@@ -36,7 +36,7 @@ use Rattle.owned_ways.proofs.Named.{longer}
 use Rattle.owned_loans.proofs.Meeting.{stands}
 use Rattle.viewed_steps.proofs.Views.{same_lies, base_named}
 use Rattle.viewed_facts.proofs.Calls.{carried_told, lies_low, lower, passed_of, passed_clean}
-use Rattle.viewed_steps.specs.Taken.{AreCarried, Lodge}
+use Rattle.viewed_steps.specs.Taken.{AreCarried, Lodge, IsTakenIn}
 use Rattle.viewed_facts.proofs.Frames.{IsDefiniteHere}
 use Rattle.viewed_facts.proofs.Told.{told_next}
 use Rattle.viewed_facts.proofs.ScopeEnds.{told_left}
@@ -44,6 +44,10 @@ use Rattle.place_names.specs.Facts.{place}
 use Rattle.viewed_steps.proofs.Between.{base_under, taken_from, IsHomed, number_based}
 use Rattle.viewed_steps.proofs.Apart.{kept_there, written_disturbs}
 use Rattle.viewed_steps.proofs.Outside.{IsSpared, gone_clear}
+use Rattle.owned_ways.proofs.Unique.{one_way}
+use Rattle.owned_ways.proofs.Locations.{reaches_along, under_along, under_itself}
+use Rattle.exact_facts.proofs.Memories.{same_reach}
+use Rattle.viewed_facts.proofs.Steps.{based_variable}
 
 module _ (table : Table) (typed : TypedProgram) (effects : Effects) (input : List ℕ) (ready : IsReady table typed effects) where
   abbrev program : FlowProgram
@@ -96,24 +100,36 @@ module _ (table : Table) (typed : TypedProgram) (effects : Effects) (input : Lis
 
   -- ---- a call, and the end of one
 
-  told_called : (depth : ℕ) (m n : Memory) (stages : List ViewStage)
+  told_called : (depth : ℕ) (cells : List Lodge) (m n : Memory) (stages : List ViewStage)
       → ((g : ViewStage) → Has stages g → (w : Way) → Definite g w → (f : ℕ) × (x : ℕ) × (base_of w ≡ OfRoot (OfVariable f x)) × (f < suc depth))
-      → AreCarried s (λ f. f ≡ suc depth → ⊥) [] m n → AllTold m stages → AllTold n stages
-  told_called depth m n stages low carried told =
-      carried_told s (λ f. f ≡ suc depth → ⊥) [] m n carried (IsDefiniteOf program effects stages)
+      → AreCarried s (λ f. f ≡ suc depth → ⊥) cells [] m n → AllTold m stages → AllTold n stages
+  told_called depth cells m n stages low carried told =
+      carried_told s (λ f. f ≡ suc depth → ⊥) cells [] m n carried (λ w begins off k p reach (c, has, same, (to, never, q, is)). never) (IsDefiniteOf program effects stages)
       (λ w (g, has, definite). (let there = low g has w definite in (there.0, there.1, there.2, λ e. (let less = there.3 in omega (arith, less, e)))))
       (λ w is to none under. none) told
 
   gone_by : (g : ViewStage) (stages : List ViewStage) → Has stages g → (w : Way) → Definite g w → GoneElsewhere program effects stages w
   gone_by g stages has w d = (g, has, inl (d.0, d.1, d.3))
 
-  told_ended : (state : State) (depth : ℕ) (m n : Memory) (ways : List Way) (stages : List ViewStage) → ((g : ViewStage) → Has stages g → Between state depth g)
+  told_ended : (state : State) (depth : ℕ) (n : Memory) (cells : List Lodge)
+      → ((c : Lodge) → Has cells c → Reaches (view_here s state) c.way (OfCell c.cell)) → Owned (view_here s state) → (ways : List Way) (stages : List ViewStage) → ((g : ViewStage) → Has stages g → Between state depth g)
       → ((g : ViewStage) → Has stages g → (w : Way) → Definite g w → (to : Way) → Has ways to → Under to w → ⊥)
-      → AreCarried s (λ f. f ≡ depth → ⊥) ways m n → AllTold m stages → AllTold n stages
-  told_ended state depth m n ways stages between off carried told =
-      carried_told s (λ f. f ≡ depth → ⊥) ways m n carried (IsDefiniteOf program effects stages) begins_there
+      → AreCarried s (λ f. f ≡ depth → ⊥) cells ways state.memory n → AllTold state.memory stages → AllTold n stages
+  told_ended state depth n cells kept owned ways stages between off carried told =
+      carried_told s (λ f. f ≡ depth → ⊥) cells ways state.memory n carried clear (IsDefiniteOf program effects stages) begins_there
       (λ w (g, has, definite) to there under. off g has w definite to there under) told
     where
+      -- a part of such a cell has the one way that was taken
+      clear : (w : Way) → (f : ℕ) × (x : ℕ) × (base_of w ≡ OfRoot (OfVariable f x)) × (f ≡ depth → ⊥) → ((to : Way) → Has ways to → Under to w → ⊥)
+          → (k : ℕ) (p : List Step) → Reaches (seen s state.memory [] []) w (part (OfCell k) p) → IsTakenIn cells ways k p → ⊥
+      clear w (f, x, base, away) off_ways k p reach (c, has, same, (to, there, q, is)) =
+          let mine : Reaches (view_here s state) w (part (OfCell k) p) =
+          same_reach s (seen s state.memory [] []) (view_here s state) state.memory [] (waiting_in state) (λ l. refl) (λ l. refl) w (part (OfCell k) p) (based_variable w f x base) reach in
+          let theirs : Reaches (view_here s state) (along c.way p) (part (OfCell k) p) =
+          subst (λ z. Reaches (view_here s state) (along c.way p) (part (OfCell z) p)) same (reaches_along (view_here s state) c.way (OfCell c.cell) p (kept c has)) in
+          let one : w ≡ along c.way p = one_way (view_here s state) owned w (along c.way p) (part (OfCell k) p) mine theirs in
+          off_ways to there (subst (Under to) (sym (one ∙ is)) (under_along to to q (under_itself to)))
+
       begins_there : (w : Way) → IsDefiniteOf program effects stages w → (f : ℕ) × (x : ℕ) × (base_of w ≡ OfRoot (OfVariable f x)) × (f ≡ depth → ⊥)
       begins_there w (g, has, definite) =
           let base = gone_low table typed effects unmoved_stage local state depth stages between w (gone_by g stages has w definite) in
@@ -132,6 +148,7 @@ module _ (table : Table) (typed : TypedProgram) (effects : Effects) (input : Lis
       → (f : ℕ) × (x : ℕ) × (base_of w ≡ OfRoot (OfVariable f x)) × (f < suc top.stage.depth))
       (around_clear : (next : ViewStage) (around : List ViewStage) → older ≡ next ∷ around → (to : Way) → Has next.stage.returns to
       → (w : Way) → GoneElsewhere (flow_program table typed) effects around w → Under to w → ⊥)
+      (owned : Owned (view_here (flow_typing (flow_program table typed)) state))
       (told : Told (seen (flow_typing (flow_program table typed)) state.memory [] []) (IsDefiniteOf (flow_program table typed) effects (top ∷ older)))
       (next : ViewStage) (around : List ViewStage)
       (told_step : IsOnward top.stage next.stage → Stays top.stage.depth i top.views next.views
@@ -147,6 +164,13 @@ module _ (table : Table) (typed : TypedProgram) (effects : Effects) (input : Lis
     abbrev with_cells : List Lodge → ViewStage
     with_cells cells = record { stage = next.stage; views = next.views; cells = cells }
 
+    kept_cells : (cells : List Lodge) → older ≡ record { stage = next.stage; views = next.views; cells = cells } ∷ around → (c : Lodge) → Has cells c
+        → Reaches (view_here s state) c.way (OfCell c.cell)
+    kept_cells cells same c has = elim (between (with_cells cells) (subst (λ gs. Has gs (with_cells cells)) (sym same) (inl refl))) [
+      | inl first ↦ absurd (subst (λ z. Has z c) first.4 has)
+      | inr (some, less, callee, backs, waits) ↦ (waits.kept c has).reaches
+    ]
+
     -- what the frames moved is in no place that the call took
     off_places : (cells : List Lodge) → older ≡ record { stage = next.stage; views = next.views; cells = cells } ∷ around → (g : ViewStage) → Has older g
         → (w : Way) → Definite g w → (to : Way) → Has next.stage.returns to → Under to w → ⊥
@@ -156,7 +180,7 @@ module _ (table : Table) (typed : TypedProgram) (effects : Effects) (input : Lis
         | inl is ↦ (
             let passed = passed_of s cells state.memory next.stage.depth (facts_of program effects next.stage) (lasting_of s waits.point.scope) backs next.stage.returns waits.taken to there in
             let own : Definite next w = same_stage (with_cells cells) g is w definite in
-            passed_clean s ready.accepted.settled next.stage.depth (facts_of program effects next.stage) (lasting_of s waits.point.scope) passed.0 to passed.1 next.views (view_here s state)
+            passed_clean s ready.accepted.settled cells next.stage.depth (facts_of program effects next.stage) (lasting_of s waits.point.scope) passed.0 to passed.1 next.views (view_here s state) waits.holds.only
             waits.views waits.clear w own under)
         | inr other ↦
             around_clear (with_cells cells) around same to there w (gone_by g around other w definite) under
@@ -201,12 +225,12 @@ module _ (table : Table) (typed : TypedProgram) (effects : Effects) (input : Lis
       where
         by_frame : (waits : Stage) (cells : List Lodge) → around ≡ record { stage = waits; views = top.views; cells = cells } ∷ older → IsOnward top.stage waits → next.stage.before ≡ []
             → ((f : Fact) → Has (facts_of program effects waits) f → Has (facts_of program effects top.stage) f)
-            → AreCarried s (λ f. f ≡ suc top.stage.depth → ⊥) [] state.memory after_step.memory
+            → AreCarried s (λ f. f ≡ suc top.stage.depth → ⊥) cells [] state.memory after_step.memory
             → (w : Way) (l : Loc) (g : ViewStage) → Has (next ∷ around) g → Definite g w → Reaches (seen s after_step.memory [] []) w l
             → (seen s after_step.memory [] []).word l ≡ Gone
         by_frame waits cells same on fresh fewer carried w l g (inl is) definite reaches = absurd (none_yet next fresh w (same_stage next g is w definite))
         by_frame waits cells same on fresh fewer carried w l g (inr has) definite reaches =
-            let all : AllTold after_step.memory (top ∷ older) = told_called top.stage.depth state.memory after_step.memory (top ∷ older) all_low carried told in
+            let all : AllTold after_step.memory (top ∷ older) = told_called top.stage.depth cells state.memory after_step.memory (top ∷ older) all_low carried told in
             elim (subst (λ gs. Has gs g) same has) [
               | inr there ↦ all w l (g, inr there, definite) reaches
               | inl is ↦ (
@@ -216,7 +240,7 @@ module _ (table : Table) (typed : TypedProgram) (effects : Effects) (input : Lis
                   all w l (top, inl refl, subst (λ d. IsDefiniteBy (home s d) top.views (facts_of program effects top.stage) w) on.1 before) reaches)
             ]
     follows_told (ends_one cells same carried) = λ w l (g, has, definite) reaches.
-        told_ended state top.stage.depth state.memory after_step.memory next.stage.returns older between (off_places cells same) carried
+        told_ended state top.stage.depth after_step.memory cells (kept_cells cells same) owned next.stage.returns older between (off_places cells same) carried
         (λ v k (h, there, is) r. told v k (h, inr there, is) r) w l (elim has [
           | inl is ↦ (with_cells cells, subst (λ gs. Has gs (with_cells cells)) (sym same) (inl refl), same_stage next g is w definite)
           | inr there ↦ (g, subst (λ gs. Has gs g) (sym same) (inr there), definite)
@@ -381,7 +405,7 @@ module _ (table : Table) (typed : TypedProgram) (effects : Effects) (input : Lis
         follows_told sound.point.instr state after_step (record { stage = sound.top; views = sound.views; cells = [] }) sound.older (packages_of state sound.top sound.views sound.older sound.running)
             (between_of state sound.top sound.views sound.older state.frames sound.stages sound.running)
             (own_low state sound)
-            (clear_around state sound.top sound.views sound.older state.frames sound.stages sound.running) exact (record { stage = (leads.0).top; views = (leads.0).views; cells = [] }) (leads.0).older
+            (clear_around state sound.top sound.views sound.older state.frames sound.stages sound.running) sound.viewed.owned exact (record { stage = (leads.0).top; views = (leads.0).views; cells = [] }) (leads.0).older
             (λ on stays. step_told state sound.top sound.views sound.older state.frames refl sound.stages sound.running sound.awaited sound.path sound.viewed sound.kept sound.named sound.of_sub sound.point
             sound.at_point sound.scope sound.holds (sound.placed, sound.past) (sound.none_above, sound.traversals) exact after_step is (leads.0).views (
               (leads.0).holds.only,

@@ -18,7 +18,7 @@ use Rattle.flow_paths.specs.declared.point.LeakSpot.{LeakSpot}
 use Rattle.flow_paths.specs.Instructions.{Instruction}
 use Rattle.flow_paths.specs.Objects.{Typing, is_package_object}
 use Rattle.flow_paths.specs.Acts as flow
-use Rattle.flow_paths.specs.Acts.{acts_in, leaks_of, spot, stored_acts, assigned_to}
+use Rattle.flow_paths.specs.Acts.{leaks_of, spot}
 use Rattle.flow_paths.specs.Points.{NamedPoint}
 use Rattle.flow_paths.specs.Laid.{FlowProgram, NamedSub, number_in, flow_sub, typing_of, flow_typing, flow_program, flow_named}
 use Rattle.flow_paths.specs.Paths.{PathPoint, path_point, ControlPath, facts_before}
@@ -27,7 +27,6 @@ use Rattle.flow_paths.specs.LeakPlan.{IsExcused}
 use Rattle.flow_paths.specs.Scopes.{taken}
 use Rattle.machine.specs.Memory.{Memory}
 use Rattle.machine.specs.Words as machine
-use Rattle.machine.specs.Words.{fits_type}
 use Rattle.machine.specs.States.{Frame, State, sub_of}
 use Rattle.machine.specs.Step.{Turn, start}
 use Rattle.machine.specs.Owners.{waiting_in}

@@ -25,7 +25,7 @@ use Rattle.machine.specs.Memory.{Memory, declared, undeclared, stored}
 use Rattle.machine.specs.Evaluate.{Here, Now, AsValue, Evaluated, Done, Raises, Traps, followed_by, evaluate, initial, checked, value, viewed, place_of, variable_place}
 use Rattle.machine.specs.Calls.{checks_at}
 use Rattle.machine.specs.States.{Waiting, Leak, Outcome, Goes, Ends}
-use Rattle.machine.specs.Step.{Turn, typing, here, Stored, first_value, taken_by, declare, goes, leaking_goes, target_pos}
+use Rattle.machine.specs.Step.{Turn, typing, here, Stored, first_value, taken_by, goes, leaking_goes, target_pos}
 use Rattle.machine.specs.Step as steps
 use Rattle.machine.specs.Owners.{waiting_in}
 use Rattle.owned_ways.specs.Ways.{OfVariable, OfRoot, Way, Object, Empty, Held, View, Under, Named, IsSame, after, AllowsAll, number_of, name_of as way_name, base_of}

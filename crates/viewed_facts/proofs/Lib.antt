@@ -10,6 +10,7 @@ pub mod Viewing
 pub mod Given
 pub mod Frames
 pub mod Here
+pub mod Sighted
 pub mod Stepping
 pub mod Told
 pub mod ScopeEnds

@@ -26,10 +26,10 @@ use Rattle.machine.specs.Memory.{Memory, Place, Slot, fresh, variable_slots, wor
 use Rattle.machine.specs.Evaluate.{Now, AsValue, Evaluated, Done, Raises, Traps, followed_by, value, place_of, variable_place, walked, steps_of, text_of}
 use Rattle.machine.specs.Evaluate as run
 use Rattle.machine.specs.States.{Waiting, Outcome, Goes}
-use Rattle.machine.specs.Step.{Turn, typing, here, start, waiting, behind}
+use Rattle.machine.specs.Step.{Turn, typing, here, waiting, behind}
 use Rattle.machine.specs.Step as steps
 use Rattle.machine.specs.Owners.{waiting_in}
-use Rattle.owned_ways.specs.Ways.{OfVariable, Way, Object, Under, Named, Allows, after, AllowsAll, number_of, Reaches}
+use Rattle.owned_ways.specs.Ways.{OfVariable, Way, Object, Named, Allows, after, AllowsAll, number_of, Reaches}
 use Rattle.owned_ways.specs.Ways as ways
 use Rattle.part_offsets.specs.Parts.{IsSettled}
 use Rattle.soundness.specs.Seen.{seen, home, IsNear, is_view_formal}

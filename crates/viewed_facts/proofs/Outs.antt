@@ -1,6 +1,6 @@
 -- The leak checks of a call are those of what is passed for formals of mode `out`. None fails that is excused, if facts are
 -- exact before the call.
-use Rattle.std.proofs.Common.{◌≡◌, refl, sym, ap, ◌∙◌, subst, inl, inr, ℕ, ◌+◌, Bool, true, false, ◌&&◌, List, [], ◌∷◌, ◌++◌, map, length, append_assoc, arith}
+use Rattle.std.proofs.Common.{◌≡◌, refl, sym, ap, ◌∙◌, subst, inl, inr, ℕ, ◌+◌, Bool, true, false, ◌&&◌, List, [], ◌∷◌, ◌++◌, map, length, append_assoc, arith, Some}
 use Rattle.std.proofs.lemmas.List.{length-append, length-map}
 use Rattle.spark_base.specs.Lists.{Has}
 use Rattle.spark_base.specs.declared.position.Pos.{Pos}
@@ -25,7 +25,7 @@ use Rattle.owned_ways.specs.Ways.{Way}
 use Rattle.owned_ways.specs.Ways as ways
 use Rattle.part_offsets.specs.Parts.{IsSettled}
 use Rattle.soundness.specs.Seen.{home, seen}
-use Rattle.soundness.specs.Typed.{Matches}
+use Rattle.soundness.specs.Typed.{Matches, Kept}
 use Rattle.soundness.proofs.Fixed.{matches_scalar}
 use Rattle.soundness.proofs.Freeing.{plain_parts}
 use Rattle.owned_loans.specs.Views.{Views}
@@ -36,6 +36,7 @@ use Rattle.viewed_steps.proofs.Entered.{inside_named, inside_itself}
 use Rattle.exact_facts.specs.Exact.{IsOfVariable, NoneFails}
 use Rattle.viewed_facts.specs.Exact.{IsDefinite, IsExact}
 use Rattle.viewed_facts.proofs.Checks.{place_holds}
+use Rattle.viewed_soundness.specs.Holds.{is_view}
 
 -- ---- lists of checks
 
@@ -61,7 +62,8 @@ head_first s p m (To k) passed e rest = refl
 
 module _ (s : Typing) (settled : IsSettled s.table) (depth : ℕ) (v : Views) (elsewhere : Way → Type 0) (m : Memory) (hands : List Waiting) (leaks : List Leak)
     (facts : List Fact) (variables : (w : Way) → IsDefinite (home s depth) v elsewhere facts w → IsOfVariable w)
-    (exact : IsExact s (home s depth) v elsewhere m facts) (Excused : LeakSpot → Type 0) (pos : Pos) where
+    (exact : IsExact s (home s depth) v elsewhere m facts) (typed : Kept s m hands)
+    (only : (x : ℕ) (w : Way) → v.way x ≡ Some w → is_view s x ≡ true) (Excused : LeakSpot → Type 0) (pos : Pos) where
   -- What an excused spot says, before some acts.
   abbrev KnowsAt : ℕ → PlaceName → Type 0
   KnowsAt before name =
@@ -85,17 +87,22 @@ module _ (s : Typing) (settled : IsSettled s.table) (depth : ℕ) (v : Views) (e
 
   own_holds : (x y u before : ℕ) (p pos' : Pos) (path : TypedTree) (k : Place) → IsOwnPut s depth x (Name p y path u) k → shape_of s.table k.of ≡ shape_of s.table u → KnowsAt before (name_of y path)
       → Holds (map (spot p (name_of y path) before) (parts s.table u)) (checks_at s pos' m k)
-  own_holds x y u before p pos' path k (to, inside, called, object_is, fits) same known =
+  own_holds x y u before p pos' path k (to, inside, called, object_is, fits, stands) same known =
       subst (λ z. Holds (map (spot p (name_of y path) before) z) (checks_at s pos' m k)) (parts_same k.of u same) (
         length-map (parts s.table k.of) (spot p (name_of y path) before)
             ∙ sym (length-map (parts s.table k.of) (λ part. checked_at pos' k.at (slots_at s m k.base) (offsets s.table k.of part))),
         subst (λ z. NoneFails Excused (map (spot p z before) (parts s.table k.of)) (checks_at s pos' m k)) called
-            (place_holds s settled (home s depth) v elsewhere m hands leaks facts variables exact k (inside_at s depth k to inside) to (inside_spot s depth k to inside m hands)
+            (place_holds s settled (home s depth) v elsewhere m hands leaks facts variables exact k (inside_at s depth k to inside) to (inside_spot s depth k to inside settled m hands leaks typed begins)
             (inside_named s settled depth k to inside)
-            (subst (λ w. ways.Reaches (seen s m hands leaks) w (inside_at s depth k to inside)) (sym (inside_itself s settled depth k to inside v))
-            (inside_reached s depth k to inside (seen s m hands leaks))) Excused pos' p before
+            (subst (λ w. ways.Reaches (seen s m hands leaks) w (inside_at s depth k to inside)) (sym (inside_itself s settled depth k to inside v only))
+            (inside_reached s depth k to inside (seen s m hands leaks) begins)) Excused pos' p before
             (λ q has. subst (KnowsAt before) (sym called) known p q)),
       )
+    where
+      begins : ways.Reaches (seen s m hands leaks) inside.trunk inside.start
+      begins =
+          subst (λ z. ways.Reaches (seen s m hands leaks) z inside.start) (sym stands.0)
+          stands.1
 
   scalar_type : (t u : ℕ) → Matches s.table t u → is_scalar (full s.table u) ≡ true → is_scalar (full s.table t) ≡ true
   scalar_type t u (inl e) plain = matches_scalar s u t (inl (sym e)) plain

@@ -22,10 +22,10 @@ use Rattle.machine.specs.Memory.{Memory, Place, Slot, cell, freed, words_of, sto
 use Rattle.machine.specs.Evaluate.{Now, Evaluated, Done, Raises, Traps, followed_by, place_of, cell_place, variable_place, walked, steps_of}
 use Rattle.machine.specs.Evaluate as run
 use Rattle.machine.specs.States.{Waiting, Leak, Outcome}
-use Rattle.machine.specs.Step.{Turn, release, typing, here, start}
+use Rattle.machine.specs.Step.{Turn, typing, here}
 use Rattle.machine.specs.Step as steps
 use Rattle.machine.specs.Owners.{waiting_in}
-use Rattle.owned_ways.specs.Ways.{OfVariable, Loc, OfCell, Way, Object, All, Held, View, Reaches, IsRooted, Under, Named, Allows, after, AllowsAll, number_of}
+use Rattle.owned_ways.specs.Ways.{OfVariable, Loc, OfCell, Way, Object, All, Held, View, Reaches, Named, Allows, after, AllowsAll, number_of}
 use Rattle.owned_ways.specs.Ways as ways
 use Rattle.owned_ways.proofs.Locations.{depth as depth_of, under_itself}
 use Rattle.owned_ways.proofs.Unique.{one_way}

@@ -17,7 +17,7 @@ use Rattle.flow_paths.specs.declared.point.LeakSpot.{LeakSpot}
 use Rattle.flow_paths.specs.Instructions.{Instruction, Declare, Assign, Call, Hold, EndScope}
 use Rattle.flow_paths.specs.Objects.{Typing, object_at, is_package_object, is_borrower}
 use Rattle.flow_paths.specs.Acts as flow
-use Rattle.flow_paths.specs.Acts.{acts_in, leaks_of, spot, stored_acts, assigned_to}
+use Rattle.flow_paths.specs.Acts.{leaks_of}
 use Rattle.flow_paths.specs.Points.{NamedPoint}
 use Rattle.flow_paths.specs.Laid.{FlowProgram, NamedSub, flow_sub, typing_of, flow_typing, flow_program, flow_named}
 use Rattle.flow_paths.specs.Paths.{PathPoint, ControlPath, facts_before}

@@ -25,10 +25,10 @@ use Rattle.typed_tree.specs.Programs.{TypedProgram}
 use Rattle.flow_paths.specs.declared.report.Effects.{Effects}
 use Rattle.flow_paths.specs.declared.point.LeakSpot.{LeakSpot}
 use Rattle.flow_paths.specs.Instructions.{Instruction, Skip, Declare, Assign, Call, Output, Input, Release, Test, Choose, Start, Next, Evaluate, LeaveLoop, Hold, EndScope, Finish, Fall}
-use Rattle.flow_paths.specs.Objects.{Typing, object_at, is_anonymous, is_package_object, is_observer, view_of, designated, is_variable}
+use Rattle.flow_paths.specs.Objects.{Typing, object_at, is_anonymous, is_package_object, is_observer, view_of, designated}
 use Rattle.flow_paths.specs.Names.{has_call, name_of, waiting as waits_in}
 use Rattle.flow_paths.specs.Acts as flow
-use Rattle.flow_paths.specs.Acts.{acts_in, leaks_of, spot, stored_acts, assigned_to}
+use Rattle.flow_paths.specs.Acts.{acts_in, leaks_of, spot, stored_acts}
 use Rattle.flow_paths.specs.Points.{NamedPoint}
 use Rattle.flow_paths.specs.Laid.{FlowSub, FlowProgram, NamedSub, number_in, flow_sub, typing_of, flow_typing, flow_program, flow_named}
 use Rattle.flow_paths.specs.Paths.{PathPoint, ControlPath}
@@ -39,7 +39,7 @@ use Rattle.machine.specs.Memory.{Memory, Place, declared, stored, words_of}
 use Rattle.machine.specs.Words as machine
 use Rattle.machine.specs.Words.{fits_type}
 use Rattle.machine.specs.Calls.{checks_at}
-use Rattle.machine.specs.Evaluate.{Now, Exception, ConstraintError, Trap, Evaluated, Done, Raises, Traps, followed_by, value, place_of, text_of, checked, evaluate, initial}
+use Rattle.machine.specs.Evaluate.{Now, Exception, ConstraintError, Evaluated, Done, Raises, Traps, followed_by, value, place_of, text_of, checked, evaluate, initial}
 use Rattle.machine.specs.Evaluate as run
 use Rattle.run_values.specs.Items.{next_item}
 use Rattle.machine.specs.States.{Frame, State, Outcome, Goes, Ends, sub_of}
@@ -72,7 +72,6 @@ use Rattle.viewed_steps.proofs.Waiting.{StandsBetween, beside_them, handed}
 use Rattle.viewed_steps.proofs.Standing as standing
 use Rattle.viewed_steps.proofs.Packages as packages
 use Rattle.viewed_steps.proofs.Innermost as innermost
-use Rattle.viewed_steps.proofs.Taking as taking
 use Rattle.viewed_steps.proofs.Alone as alone_value
 use Rattle.viewed_steps.proofs.EachInstruction as each
 use Rattle.viewed_steps.proofs.Released.{Releases, released_on as sound_released_on}
@@ -88,11 +87,10 @@ use Rattle.viewed_facts.proofs.Releases.{released_on}
 use Rattle.viewed_facts.proofs.Loops.{next_exact, started_on, output_on, line_exact, got_on}
 use Rattle.viewed_facts.proofs.Frames.{elsewhere as moved_elsewhere}
 use Rattle.viewed_facts.proofs.Here as here
+use Rattle.viewed_facts.proofs.Sighted as sighted
 use Rattle.viewed_steps.proofs.Views.{AreAccess, all_held}
 use Rattle.viewed_facts.proofs.Steps.{IsAway}
-use Rattle.viewed_facts.proofs.Given.{call_tree, given_declared, given_put, gives_no_call, first_plain}
-use Rattle.viewed_steps.specs.Traversals.{AreGiven, GivesView}
-use Rattle.viewed_soundness.proofs.Lends.{Sees}
+use Rattle.viewed_facts.proofs.Given.{gives_no_call, first_plain}
 
 module _ (table : Table) (typed : TypedProgram) (effects : Effects) (input : List ℕ) (ready : IsReady table typed effects) where
   abbrev program : FlowProgram
@@ -356,58 +354,6 @@ module _ (table : Table) (typed : TypedProgram) (effects : Effects) (input : Lis
             (subst (λ ws. ExactTo (steps.here at) ready.accepted.settled state.leaks [] other alone (keeps s ready.accepted.settled ready.owns) index_law ready.owns views
             ready.class.parts_named elsewhere away facts_now (value (steps.here at) call (now ws))) (sym (alone_value.first_value table typed effects input ready state top below more_frames rest named p frames deep stages running awaiting of_sub at_point path views viewed_before kept scope holds placed_before above going taken_alone).1.3) exact))
 
-        given_here : AreGiven s (view_here s state) depth p.instr views top.frame.waits
-        given_here = subst (λ d. AreGiven s (view_here s state) d p.instr views top.frame.waits) deep ((above.1).0.0 named of_sub p at_point)
-
-        -- the call goes through a name, and its value is that of a view
-        module _ (x n : ℕ) (q r : Pos) (path_of : TypedTree) (u : ℕ) (others : TypedTree) (y : ℕ) (call_is : call ≡ call_tree r n q y path_of u others)
-            (gives : GivesView s n (object_at s x).of) (view : is_anonymous (view_of s x) ≡ true) (variable : is_variable (object_at s x).kind ≡ true) (stored_there : IsStoredAt p.instr x) where
-          abbrev word_now : machine.Word
-          word_now = taking.word_there table typed effects input ready state top below more_frames rest named p frames deep stages running awaiting of_sub at_point path views viewed_before kept scope holds placed_before above going no_calls taken_alone given_here (object_at s x).of n q r path_of u others y call_is gives
-
-          words_now : given_words ≡ (word_now ∷ []) ∷ []
-          words_now = taking.words_there table typed effects input ready state top below more_frames rest named p frames deep stages running awaiting of_sub at_point path views viewed_before kept scope holds placed_before above going no_calls taken_alone given_here (object_at s x).of n q r path_of u others y call_is gives
-
-          good_now : IsGood easy ready.accepted.settled ready.owns other alone views ready.class.parts_named none_taken refl refl views facts_now easy.state
-          good_now =
-              let good_there = taking.good_there table typed effects input ready state top below more_frames rest named p frames deep stages running awaiting of_sub at_point path views viewed_before kept scope holds placed_before above going no_calls taken_alone given_here (object_at s x).of n q r path_of u others y call_is gives in
-              record { viewed = good_there.viewed; kept = good_there.kept; holds = good_there.holds }
-
-          looks_now : Sees easy ready.accepted.settled ready.owns other alone views ready.class.parts_named none_taken refl refl x gives.d
-          looks_now = record {
-            k = gives.k;
-            e = gives.e;
-            o = gives.o;
-            view = gives.want;
-            fits = gives.fits;
-            anonymous = view;
-            mine = home_frame x (ready.orderly.local x view);
-          }
-
-          abbrev tree_now : TypedTree
-          tree_now = call_tree r n q y path_of u others
-
-          declared_so : ExactAt (after (acts_by (Declare x (More call NoMore))) facts_now) []
-              (steps.evaluated easy (steps.taken_by at (object_at s x).of call (start at)) (λ vs m. steps.goes easy (declared depth x vs m) 0))
-          declared_so =
-              subst (λ c. ExactAt (after (acts_by (Declare x (More c NoMore))) facts_now) []
-              (steps.evaluated easy (steps.taken_by at (object_at s x).of c (start at)) (λ vs m. steps.goes easy (declared depth x vs m) 0))) (sym call_is)
-              (subst (λ ws. ExactAt (after (acts_by (Declare x (More tree_now NoMore))) facts_now) []
-              (steps.evaluated easy (steps.taken_by at (object_at s x).of tree_now (record { memory = state.memory; waits = ws })) (λ vs m. steps.goes easy (declared depth x vs m) 0))) (sym words_now)
-              (given_declared easy ready.accepted.settled ready.owns other alone in_formals views ready.class.parts_named none_taken refl refl elsewhere away Excused r n q y path_of u others x gives.d word_now facts_now looks_now good_now exact variable))
-
-          abbrev Puts_now : Pos → TypedTree → Now → Outcome
-          Puts_now k c before =
-              steps.evaluated easy (followed_by (steps.taken_by at (object_at s x).of c before)
-              (λ ws now. followed_by (place_of (steps.here at) (Name k x NoMore (object_at s x).of) now) (λ b now. Done (record { words = ws; place = b }) now)))
-              (λ (st : steps.Stored) m. steps.leaking_goes (checks_at s (steps.target_pos at (Name k x NoMore (object_at s x).of)) m st.place) (steps.goes easy (stored s st.place st.words m) 0))
-
-          put_so : (k : Pos) → ExactAt (after (acts_by (Assign (Name k x NoMore (object_at s x).of) call)) facts_now) [] (Puts_now k call (start at))
-          put_so k =
-              subst (λ c. ExactAt (after (acts_by (Assign (Name k x NoMore (object_at s x).of) c)) facts_now) [] (Puts_now k c (start at))) (sym call_is)
-              (subst (λ ws. ExactAt (after (acts_by (Assign (Name k x NoMore (object_at s x).of) tree_now)) facts_now) [] (Puts_now k tree_now (record { memory = state.memory; waits = ws }))) (sym words_now)
-              (given_put easy ready.accepted.settled ready.owns other alone in_formals views ready.class.parts_named none_taken refl refl elsewhere away Excused r n q y path_of u others x gives.d word_now facts_now looks_now good_now exact variable p.pos (steps.target_pos at (Name k x NoMore (object_at s x).of)) k))
-
         no_name : (r : Pos) (b : ℕ) (w : TypedTree) (o : ℕ) → call ≡ Name r b w o → ⊥
         no_name r b w o e = cc
 
@@ -422,7 +368,7 @@ module _ (table : Table) (typed : TypedProgram) (effects : Effects) (input : Lis
             elim found.6 [
               | inl name ↦ absurd (no_name found.0 found.1 found.2 found.3 (tree_is ∙ name))
               | inr (r, n, others, call_is, gives) ↦ declared_main (after (acts_by (Declare y (More call NoMore))) facts_now) y (More call NoMore)
-                  (declared_so y n found.0 r found.2 found.3 others found.1 (tree_is ∙ call_is) gives view (orderly.variables y (inl (inl (More call NoMore, is))) view) (inl (More call NoMore, is)))
+                  (sighted.declared_so table typed effects input ready state top below more_frames rest named p frames deep stages running awaiting of_sub at_point path views viewed_before kept scope holds placed_before above exact_before going no_calls taken_alone y n found.0 r found.2 found.3 others found.1 (tree_is ∙ call_is) gives view (orderly.variables y (inl (inl (More call NoMore, is))) view) (inl (More call NoMore, is)))
             ]
 
         assigns_view : (k : Pos) (y : ℕ) → p.instr ≡ Assign (Name k y NoMore (object_at s y).of) call → is_anonymous (view_of s y) ≡ true
@@ -437,7 +383,7 @@ module _ (table : Table) (typed : TypedProgram) (effects : Effects) (input : Lis
                   subst (λ z. ExactAt (after (acts_by (Assign target call)) facts_now) (map (spot k (name_of y NoMore) (length (acts_in s call ++ acts_in s NoMore))) z) (turn at (Assign target call)))
                   (sym (view_parts easy ready.accepted.settled ready.owns other alone in_formals views ready.class.parts_named none_taken refl refl elsewhere away Excused y view))
                   (assigned_main (after (acts_by (Assign target call)) facts_now) [] target (object_at s y).of call
-                  (put_so y n found.0 r found.2 found.3 others found.1 call_is gives view (orderly.variables y (inl stored_there) view) stored_there k))
+                  (sighted.put_so table typed effects input ready state top below more_frames rest named p frames deep stages running awaiting of_sub at_point path views viewed_before kept scope holds placed_before above exact_before going no_calls taken_alone y n found.0 r found.2 found.3 others found.1 call_is gives view (orderly.variables y (inl stored_there) view) stored_there k))
             ]
 
         declares_owner : (y : ℕ) → p.instr ≡ Declare y (More call NoMore) → is_anonymous (view_of s y) ≡ false → Exacts (Declare y (More call NoMore))

@@ -26,7 +26,6 @@ use Rattle.flow_paths.specs.LeakPlan.{IsExcused}
 use Rattle.flow_paths.specs.Scopes.{taken}
 use Rattle.machine.specs.Memory.{Memory, stored}
 use Rattle.machine.specs.Words as machine
-use Rattle.machine.specs.Words.{fits_type}
 use Rattle.machine.specs.States.{Frame, State, Outcome, Goes, Ends, sub_of}
 use Rattle.machine.specs.Step.{Turn, start}
 use Rattle.machine.specs.Owners.{waiting_in}

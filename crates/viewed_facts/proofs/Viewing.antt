@@ -18,11 +18,11 @@ use Rattle.flow_paths.specs.Scopes.{taken}
 use Rattle.flow_paths.specs.Acts.{acts_in, index_acts, source_acts, declared_acts, observe, reborrow, assigned_to, stored_acts, target_pos as acts_target_pos}
 use Rattle.machine.specs.Words as machine
 use Rattle.machine.specs.Memory.{Memory, Place, declared, stored}
-use Rattle.machine.specs.Evaluate.{Now, AsView, Evaluated, Done, Raises, Traps, followed_by, evaluate, checked, value, viewed, place_of, initial}
+use Rattle.machine.specs.Evaluate.{Now, AsView, Evaluated, Done, Raises, Traps, followed_by, evaluate, checked, value, viewed, initial}
 use Rattle.machine.specs.Evaluate as run
 use Rattle.machine.specs.Calls.{checks_at}
 use Rattle.machine.specs.States.{Waiting, Outcome}
-use Rattle.machine.specs.Step.{Turn, typing, here, Stored, taken_by, goes, leaking_goes, target_pos, first_value}
+use Rattle.machine.specs.Step.{Turn, typing, here, taken_by, goes, leaking_goes, target_pos, first_value}
 use Rattle.machine.specs.Step as steps
 use Rattle.machine.specs.Owners.{waiting_in}
 use Rattle.owned_ways.specs.Ways.{Way, Allows, after, AllowsAll}

@@ -74,18 +74,18 @@ use Rattle.sound_files.proofs.Called.{files_bodies}
 use Rattle.sound_files.proofs.Mains.{main_formless}
 use Rattle.sound_files.proofs.Functions.{functions_in}
 use Rattle.sound_files.proofs.Declared.{declared_known, formals_apart}
-use Rattle.sound_files.proofs.Owners.{kinds_there, modes_there, main_there, passed_there}
+use Rattle.sound_files.proofs.Owners.{kinds_there, modes_there, main_there, passed_there, owners_shown}
 use Rattle.sound_files.proofs.Classes.{are_answered}
 use Rattle.typed_files.proofs.Main.{files_fine, files_steps}
 use Rattle.sound_files.proofs.Main.{files_orderly}
 use Rattle.viewed_steps.specs.Ready.{IsReady}
 use Rattle.viewed_steps.proofs.Main.{ready_sound}
 use Rattle.view_laws.specs.InOrder.{AreViewsInOrder}
-use Rattle.viewed_steps.specs.Sound.{IsScalarObject, IsShown, IsKindOfFormal}
+use Rattle.viewed_steps.specs.Sound.{IsScalarObject, IsShown, IsKindOfFormal, LendsShared}
 use Rattle.view_laws.specs.Program.{PassActuals, IsViewProgram}
 use Rattle.view_laws.proofs.Ready.{views_ready}
 use Rattle.viewed_files.proofs.Sources.{scalar_plain}
-use Rattle.viewed_files.proofs.Passed.{PassFit, actuals_passed, kept_places}
+use Rattle.viewed_files.proofs.Passed.{PassFit, actuals_passed, kept_places, owners_own, shown_own}
 use Rattle.viewed_files.proofs.Main.{IsGiven, views_in_order}
 
 heads : (x y : TypedSub) (xs ys : List TypedSub) → x ∷ xs ≡ y ∷ ys → x ≡ y
@@ -336,6 +336,13 @@ module _ (files : List (List SourceUnit)) where
         modes = modes;
         procedures = procedures;
         copied = λ sub has q there n actuals result is known. kept_places (flow_typing flow_of_files) (sub_of flow_of_files n).formals actuals known (fit sub has q there n actuals result is);
+        shown = λ sub has q there n actuals result is.
+            elim calls.shown [
+              | inl owners ↦ owners_own (flow_typing flow_of_files) (LendsShared (flow_typing flow_of_files) sub) (sub_of flow_of_files n).formals actuals
+                  (owners_shown p owners sub has q there n actuals result is)
+              | inr fits ↦ shown_own (flow_typing flow_of_files) owns (LendsShared (flow_typing flow_of_files) sub) (sub_of flow_of_files n).formals actuals
+                  (fits sub has q there n actuals result is)
+            ];
         order = order;
         results = λ sub has. calls.results sub (subst (λ subs. Has subs sub) (sym rest_is) has);
         answered = subst (AreAnswered table (typed_of p)) rest_is (are_answered p (files_bodies files up named) typed);

@@ -22,10 +22,14 @@ use Rattle.typed_steps.specs.Steps.{Taken, IsPlaceOf, IsActual, ActualsTaken, Is
 use Rattle.soundness.specs.Ready.{root_of}
 use Rattle.soundness.proofs.Passing.{plain_type, signature_there}
 use Rattle.ready_laws.proofs.Actuals.{taken_stays, scalar_back}
-use Rattle.sound_files.specs.Class.{IsShownActual, IsCopiedActual, IsKeptActual, IsFitActual, AreFitActuals}
-use Rattle.viewed_steps.specs.Sound.{IsScalarObject, IsKindOfFormal, AreKeptPlaces}
+use Rattle.sound_files.specs.Class.{IsShownActual, IsCopiedActual, IsKeptActual, IsFitActual, AreFitActuals, AreOwnersShown, AreShownFit}
+use Rattle.viewed_steps.specs.Sound.{IsScalarObject, IsKindOfFormal, IsReachedBack, AreKeptPlaces, AreShownOwn}
 use Rattle.viewed_steps.specs.Ready.{IsSeen, IsCopyOf, IsValueTo, IsActualTo, AreActualsTo}
 use Rattle.view_laws.specs.Program.{PassActuals}
+
+both_first : (a b : Bool) → a && b ≡ true → a ≡ true
+both_first true b e = refl
+both_first false b e = cc
 
 both_second : (a b : Bool) → a && b ≡ true → b ≡ true
 both_second true b e = e
@@ -89,7 +93,8 @@ module _ (y : Typing) (whole : counts (shape_of y.table integer) ≡ true) (list
               found.2,
               elim kept [
                 | inl (plain, which) ↦ inl (scalar_back y whole listed word_law found.0 (object_at y x).of found.2 plain)
-                | inr (none, roots) ↦ inr roots
+                | inr (inl (none, roots)) ↦ inr roots
+                | inr (inr (both, roots)) ↦ inr (λ z has. (roots z has).2)
               ],
             )
 
@@ -106,15 +111,19 @@ module _ (y : Typing) (whole : counts (shape_of y.table integer) ≡ true) (list
     actuals_to (x ∷ formals) actuals known kinds fit taken = absurd taken
 
 -- Where places are that are copied back to.
-kept_one : (s : Typing) (x : ℕ) (e : TypedTree) (m : Mode) → is_in m ≡ false → IsFitActual s x m e
-    → (goes_through_none e ≡ true) ⊎ (IsScalarObject s x × ((z : ℕ) → Holds (root_of e) z → is_package_object s z ≡ false))
+abbrev IsKeptPlace : Typing → ℕ → TypedTree → Type 0
+IsKeptPlace s x e = (goes_through_none e ≡ true) ⊎ (IsReachedBack s x e × ((z : ℕ) → Holds (root_of e) z → is_package_object s z ≡ false))
+
+kept_there : (s : Typing) (x : ℕ) (e : TypedTree) → IsKeptActual s x e → IsKeptPlace s x e
+kept_there s x e (inl (plain, inl none)) = inl none
+kept_there s x e (inl (plain, inr roots)) = inr (inl plain, roots)
+kept_there s x e (inr (inl (none, roots))) = inl none
+kept_there s x e (inr (inr (both, roots))) = inr (inr (both, λ z has. ((roots z has).1, (roots z has).2)), λ z has. (roots z has).0)
+
+kept_one : (s : Typing) (x : ℕ) (e : TypedTree) (m : Mode) → is_in m ≡ false → IsFitActual s x m e → IsKeptPlace s x e
 kept_one s x e mode.In back fit = cc
-kept_one s x e mode.Out back (inl (plain, inl none)) = inl none
-kept_one s x e mode.Out back (inl (plain, inr roots)) = inr (plain, roots)
-kept_one s x e mode.Out back (inr (none, roots)) = inl none
-kept_one s x e mode.InOut back (inl (plain, inl none)) = inl none
-kept_one s x e mode.InOut back (inl (plain, inr roots)) = inr (plain, roots)
-kept_one s x e mode.InOut back (inr (none, roots)) = inl none
+kept_one s x e mode.Out back fit = kept_there s x e fit
+kept_one s x e mode.InOut back fit = kept_there s x e fit
 
 pub kept_places : (s : Typing) (formals : List ℕ) (actuals : TypedTree) → ((x : ℕ) → Holds formals x → is_formal s x ≡ true) → AreFitActuals s formals actuals
     → AreKeptPlaces s formals actuals
@@ -122,6 +131,25 @@ kept_places s (x ∷ formals) (More e rest) known fit =
     ((λ back. kept_one s x e (object_at s x).mode back (fit.0 (known x (inl refl)))), kept_places s formals rest (λ z has. known z (inr has)) fit.1)
 kept_places s [] actuals known fit = tt
 kept_places s (x ∷ formals) actuals known fit = tt
+
+-- What is shown, and where it is rooted.
+pub shown_own : (s : Typing) → OwnsByShape s.table → (shared : Type 0) (formals : List ℕ) (actuals : TypedTree) → AreShownFit s shared formals actuals
+    → AreShownOwn s shared formals actuals
+shown_own s own_law shared (x ∷ formals) (More e rest) fit = (
+  λ view. elim (fit.0 (both_first (is_formal s x) (is_in (object_at s x).mode) (both_first (is_in_formal s x) (is_owning s.table (object_at s x).of) view))) [
+    | inl plain ↦ absurd (let no : true ≡ false = sym (both_second (is_in_formal s x) (is_owning s.table (object_at s x).of) view) ∙ plain_type s own_law (object_at s x).of plain in cc)
+    | inr roots ↦ roots
+  ],
+  shown_own s own_law shared formals rest fit.1,
+)
+shown_own s own_law shared [] actuals fit = tt
+shown_own s own_law shared (x ∷ formals) actuals fit = tt
+
+pub owners_own : (s : Typing) (shared : Type 0) (formals : List ℕ) (actuals : TypedTree) → AreOwnersShown s formals actuals → AreShownOwn s shared formals actuals
+owners_own s shared (x ∷ formals) (More e rest) fit =
+    ((λ view y has anonymous both. (let no : true ≡ false = sym anonymous ∙ fit.0 view y has in cc)), owners_own s shared formals rest fit.1)
+owners_own s shared [] actuals fit = tt
+owners_own s shared (x ∷ formals) actuals fit = tt
 
 module _ (program : FlowProgram) where
   abbrev s : Typing

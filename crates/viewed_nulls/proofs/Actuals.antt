@@ -1,6 +1,6 @@
 -- The actuals of a call lead to the same in memories that agree: values, scalar places in variables, and
 -- other places in variables, of which nothing is moved.
-use Rattle.std.proofs.Common.{◌≡◌, refl, sym, ap, ◌∙◌, subst, ◌⊎◌, inl, inr, ℕ, Bool, true, false, ◌&&◌, List, [], ◌∷◌, map, arith, length, if◌then◌else◌}
+use Rattle.std.proofs.Common.{◌≡◌, refl, sym, ap, ◌∙◌, subst, ◌⊎◌, inl, inr, ℕ, Bool, true, false, ◌&&◌, List, [], ◌∷◌, map, arith, length, if◌then◌else◌, Some, ◌<◌}
 use Rattle.spark_base.specs.Lists.{Has}
 use Rattle.place_names.specs.declared.act.Act.TheVariants as act
 use Rattle.place_names.specs.declared.act.Mode.{Mode}
@@ -14,12 +14,12 @@ use Rattle.typed_tree.specs.Trees.{TypedTree, Name, More}
 use Rattle.flow_paths.specs.Objects.{object_at, is_anonymous, is_observer, is_named_access, view_of, Passing, ByValue, passing_by}
 use Rattle.flow_paths.specs.Objects as objects
 use Rattle.flow_paths.specs.Names.{has_call, waiting, written, name_of}
-use Rattle.flow_paths.specs.Acts.{actual_act, actual_acts, actual_values}
+use Rattle.flow_paths.specs.Acts.{actual_act, actual_acts, actual_values, acts_in, index_acts, used}
 use Rattle.machine.specs.Words as machine
-use Rattle.machine.specs.Memory.{Memory, Place}
-use Rattle.machine.specs.Evaluate.{Here, Now, Evaluated, Done, followed_by, variable_place, walked}
+use Rattle.machine.specs.Memory.{Memory, Place, slots_of}
+use Rattle.machine.specs.Evaluate.{Here, Now, Evaluated, Done, followed_by, variable_place, walked, evaluate, Raises, Traps, held_or_taken, AsView, AsValue, viewed, value, steps_of, checked}
 use Rattle.machine.specs.Evaluate as run
-use Rattle.machine.specs.Calls.{Passed, passed, all_passed}
+use Rattle.machine.specs.Calls.{type_of, Passed, passed, all_passed, value_passed}
 use Rattle.machine.specs.Owners.{is_in}
 use Rattle.machine.specs.States.{Waiting, Leak}
 use Rattle.owned_ways.specs.Ways.{OfVariable, Loc, Way, Object, All, Reaches, IsRooted, Past, Allows, AllowsAll, after}
@@ -28,25 +28,27 @@ use Rattle.owned_ways.proofs.Locations.{under_itself}
 use Rattle.part_offsets.specs.Parts.{IsSettled}
 use Rattle.soundness.specs.Seen.{IsNear, content, trunk, seen, home, is_view_formal}
 use Rattle.soundness.specs.Typed.{OwnsByShape, Matches}
-use Rattle.soundness.specs.Sound.{goes_through_none, AreCopied}
+use Rattle.soundness.specs.Sound.{goes_through_none}
 use Rattle.typed_laws.specs.Needed.{IndexLaw}
 use Rattle.soundness.proofs.Contents.{bool_cases}
 use Rattle.soundness.proofs.Fixed.{matches_scalar}
 use Rattle.soundness.proofs.Walks.{way_along, past_along}
-use Rattle.soundness.proofs.Scalars.{acts, acts_append, allows_both, number_along}
+use Rattle.soundness.proofs.Scalars.{named_along, acts, acts_append, allows_both, number_along}
 use Rattle.soundness.proofs.Stays.{Quiet}
 use Rattle.soundness.proofs.Taking.{Takes, takes_both}
-use Rattle.soundness.proofs.Passing.{reads_keep}
+use Rattle.soundness.proofs.Passing.{reads_keep, plain_type}
 use Rattle.soundness.proofs.Lasting.{keeps}
-use Rattle.owned_loans.specs.Views.{Around, Views, Viewed}
-use Rattle.owned_loans.proofs.Allowed.{cleared_open}
-use Rattle.viewed_soundness.specs.Holds.{IsNamed, PartsAreNamed, sees_only, IsOwners}
-use Rattle.viewed_soundness.proofs.Names.{Starts, true_false, view_access, not_view, plain_observer}
+use Rattle.owned_loans.specs.Views.{Around, Views, IsForeign}
+use Rattle.owned_loans.proofs.Allowed.{cleared_open, cleared_whole}
+use Rattle.viewed_soundness.specs.Holds.{IsNamed, PartsAreNamed, sees_only, IsOwners, IsAccess}
+use Rattle.viewed_soundness.proofs.Names.{Starts, true_false, view_access, not_view, plain_sees, both_no, plain_named}
 use Rattle.viewed_soundness.proofs.Stays.{Goes}
 use Rattle.viewed_soundness.proofs.Evaluated.{matches_named, live_trunk}
-use Rattle.viewed_steps.specs.Sound.{IsKindOfFormal}
-use Rattle.viewed_steps.specs.Ready.{IsActualTo, AreActualsTo}
-use Rattle.viewed_steps.proofs.Called.{way_to, in_plain, head_of, head_values_are, head_of_reads, IsGiven, one_given}
+use Rattle.viewed_steps.specs.Sound.{IsScalarObject, IsKindOfFormal, IsReachedBack}
+use Rattle.viewed_steps.specs.Ready.{IsOwnPlace, IsSeen, IsCopyOf, IsActualTo, AreActualsTo}
+use Rattle.viewed_steps.proofs.Seeing.{IsClear, AreOpenTo}
+use Rattle.viewed_steps.proofs.LaidOut.{IsOpenActual, AreOpenActuals}
+use Rattle.viewed_steps.proofs.Called.{way_to, unowned, unowned_read, head_of, head_values_are, head_of_reads, IsGiven, one_given}
 use Rattle.viewed_nulls.proofs.Spared.{Spares, done_on, spares_on, spared_whole}
 use Rattle.owned_loans.proofs.Safe.{Unlent, Unmoved}
 use Rattle.null_places.specs.Compares.{Compares}
@@ -54,10 +56,20 @@ use Rattle.null_places.proofs.Only.{OnlyOwners}
 use Rattle.null_places.proofs.Direct.{has_deref, past_deref, selectors_direct}
 use Rattle.null_places.proofs.Walks.{SameNow, SameTo, then_same, simply}
 use Rattle.null_places.proofs.Laws.{Premises, Behaves, Finds, IsAt, IsWholeAt}
-use Rattle.null_places.proofs.Scalars.{PassedSame, scalar_none, value_passed_same, to_passed_same, from_passed_same}
-use Rattle.viewed_nulls.proofs.Names.{owner_found}
-use Rattle.viewed_nulls.proofs.Viewed.{viewed_premises, IsReadyIn, viewed_behaves}
+use Rattle.null_places.proofs.Scalars.{scalar_none, value_passed_same, to_passed_same, from_passed_same, place_then, steps_on, view_same, copy_same, none_there}
+use Rattle.viewed_nulls.proofs.Names.{name_same, access_found, view_whole, owner_found}
+use Rattle.viewed_nulls.proofs.Viewed.{viewed_premises, anonymous_access, IsReadyIn, leads, viewed_behaves}
 use Rattle.viewed_steps.proofs.Views.{AreAccess}
+use Rattle.spark_base.specs.declared.position.Pos.{Pos}
+use Rattle.machine.specs.Memory as memory
+use Rattle.machine.specs.Words.{fits_type}
+use Rattle.null_places.proofs.Memories.{NoneGone}
+use Rattle.null_places.proofs.Places.{spot_whole, plain_whole}
+use Rattle.viewed_soundness.proofs.Outcomes.{named_plain}
+use Rattle.soundness.specs.Ready.{root_of}
+use Rattle.type_definitions.specs.Types as types
+use Rattle.type_definitions.specs.declared.table.Shape.TheVariants as shape
+use Rattle.typed_tree.specs.Trees as typed
 
 -- A name that goes through no access value to a place of no anonymous type is that of no view.
 own_variable : (table : Table) (t u : ℕ) (way : List run.Step) (w : Way) → ((z : Way) → Past z (way_along way w) → ⊥) → Starts table t way u → IsNamed table u
@@ -74,10 +86,12 @@ own_variable table t u way w direct starts named = by_view (is_anonymous (full t
     by_view true view (run.ToDesignated ∷ way) direct starts = absurd (direct w (past_along w (All w) way (under_itself w)))
 
 module _ (h : Here) (settled : IsSettled h.typing.table) (leaks : List Leak) (other : Around (home h.typing h.frame))
-    (alone : (w : Way) → IsNear h.frame w → other.gone w → ⊥) (no_formals : (x : ℕ) → is_view_formal h.typing x ≡ false) (index_law : IndexLaw)
+    (alone : (w : Way) → IsNear h.frame w → other.gone w → ⊥) (in_formals : AreAccess h.typing) (index_law : IndexLaw)
     (own_law : OwnsByShape h.typing.table) (v : Views) (parts_named : PartsAreNamed h.typing.table) (m : Memory) (hands : List Waiting) (facts : List Fact)
-    (ready : IsReadyIn h settled leaks other alone no_formals index_law own_law v parts_named m hands facts)
-    (only : OnlyOwners h.typing m) (procedure : Bool) where
+    (ready : IsReadyIn h settled leaks other alone in_formals index_law own_law v parts_named m hands facts)
+    (only : OnlyOwners h.typing m)
+    (formals_low : (x : ℕ) (w : Way) → v.way x ≡ Some w → is_view_formal h.typing x ≡ true → (foreign : IsForeign (home h.typing h.frame) w) × (foreign.0 < h.frame) × (0 < foreign.0))
+    (procedure : Bool) where
   abbrev at : List (List machine.Word) → Now
   at ws = record { memory = m; waits = ws }
 
@@ -85,7 +99,7 @@ module _ (h : Here) (settled : IsSettled h.typing.table) (leaks : List Leak) (ot
   asks = viewed_premises h parts_named
 
   law : Behaves h (viewed_premises h parts_named) m hands facts
-  law = viewed_behaves h settled leaks other alone no_formals index_law own_law v parts_named m hands facts ready only
+  law = viewed_behaves h settled leaks other alone in_formals index_law own_law v parts_named m hands facts ready only
 
   live : (w : Way) (l : Loc) → IsOwners h.typing w → Reaches (seen h.typing m hands leaks) w l → (content h.typing m hands (trunk l)).owns ≡ true
   live = live_trunk h settled leaks [] other alone (keeps h.typing settled own_law) index_law own_law v parts_named m hands ready.viewed.owned
@@ -97,26 +111,35 @@ module _ (h : Here) (settled : IsSettled h.typing.table) (leaks : List Leak) (ot
   way_for x = way_to h.typing own_law procedure x
 
   abbrev SameFor : List (List machine.Word) → List (List machine.Word) → Passing → ℕ → TypedTree → Type 0
-  SameFor before on how x e = PassedSame h settled own_law asks m hands facts law before on how x e
+  SameFor before on how x e = (n' : Now) → SameNow h.typing (at before) n' → SameTo h.typing (passed h how x e (at before)) (passed h how x e n')
 
   abbrev WholeAt : ℕ → Place → Type 0
   WholeAt u k = IsWholeAt h asks m hands facts u k
 
   -- ---- a place in a variable that isn't scalar
 
+  whole_of : (on : List (List machine.Word)) (u : ℕ) (y : Evaluated Place) → Quiet (at on) (λ k. WholeAt u k × ((f z : ℕ) → k.base ≡ memory.OfVariable f z → is_view_formal h.typing z ≡ false)) y
+      → Quiet (at on) (WholeAt u) y
+  whole_of on u (Done k n) found = (found.0, found.1.0)
+  whole_of on u (Raises e n) is = is
+  whole_of on u (Traps e n) never = never
+
   own_finds : (on : List (List machine.Word)) (y u : ℕ) (path : TypedTree) (way : List run.Step)
-      → Goes h.typing.table (object_at h.typing y).of u path way → goes_through_none path ≡ true → IsNamed h.typing.table u
+      → Goes h.typing.table (object_at h.typing y).of u path way → goes_through_none path ≡ true → IsNamed h.typing.table u → is_view_formal h.typing y ≡ false
       → ((w : Way) → ways.name_of w ≡ name_of y path → Unlent facts w × Unmoved facts w) → Finds h asks m hands facts on y way (WholeAt u)
-  own_finds on y u path way goes direct own spared =
+  own_finds on y u path way goes direct own owner spared =
       let w : Way = way_along way (Object (OfVariable (home h.typing h.frame y) y)) in
       let called : ways.name_of w ≡ name_of y path =
       (λ j. record { root = number_along way (Object (OfVariable (home h.typing h.frame y) y)) j; sels = goes.sels (Object (OfVariable (home h.typing h.frame y) y)) j }) in
       let unlent = (spared w called).0 in
       let unmoved = (spared w called).1 in
       let plain : sees_only h.typing y ≡ false =
-      observes_not h.typing no_formals y (plain_observer h.typing y (own_variable h.typing.table (object_at h.typing y).of u way (Object (OfVariable (home h.typing h.frame y) y)) nothing_past goes.lead own)) in (
-        owner_found h settled hands leaks m on other facts v ready.kept ready.viewed ready.holds alone live only no_formals index_law own_law parts_named y u way goes.lead plain
-            (λ e. cleared_open facts w ((λ b n has over. unlent Borrowed b n has over), unmoved)) (λ b n has over. unlent Borrowed b n has over) unmoved,
+      plain_sees h.typing y (both_no (is_anonymous (view_of h.typing y)) (is_view_formal h.typing y)
+      (own_variable h.typing.table (object_at h.typing y).of u way (Object (OfVariable (home h.typing h.frame y) y)) nothing_past goes.lead own) owner) in (
+        whole_of on u (walked h.typing way (variable_place h y) (at on))
+            (owner_found h settled hands leaks m on other facts v ready.kept ready.viewed ready.holds alone live only in_formals index_law own_law parts_named y u way goes.lead plain
+            (λ formal none. true_false (is_view_formal h.typing y) formal owner)
+            (λ e. cleared_open facts w ((λ b n has over. unlent Borrowed b n has over), unmoved)) (λ b n has over. unlent Borrowed b n has over) unmoved),
         (law.direct on y u path way goes direct).1,
       )
     where
@@ -125,6 +148,24 @@ module _ (h : Here) (settled : IsSettled h.typing.table) (leaks : List Leak) (ot
           let none : has_deref (ways.sels_of (way_along way (Object (OfVariable (home h.typing h.frame y) y)))) ≡ false =
           ap has_deref (goes.sels (Object (OfVariable (home h.typing h.frame y) y))) ∙ selectors_direct path direct in
           let no : true ≡ false = sym (past_deref z (way_along way (Object (OfVariable (home h.typing h.frame y) y))) past) ∙ none in cc
+
+  -- and one that an owner leads to, through access values
+  through_finds : (on : List (List machine.Word)) (y u : ℕ) (path : TypedTree) (way : List run.Step)
+      → Goes h.typing.table (object_at h.typing y).of u path way → sees_only h.typing y ≡ false → is_view_formal h.typing y ≡ false
+      → ((w : Way) → ways.name_of w ≡ name_of y path → Unlent facts w × Unmoved facts w) → Finds h asks m hands facts on y way (WholeAt u)
+  through_finds on y u path way goes plain owner spared =
+      let w : Way = way_along way (Object (OfVariable (home h.typing h.frame y) y)) in
+      let called : ways.name_of w ≡ name_of y path =
+      (λ j. record { root = number_along way (Object (OfVariable (home h.typing h.frame y) y)) j; sels = goes.sels (Object (OfVariable (home h.typing h.frame y) y)) j }) in
+      let unlent = (spared w called).0 in
+      let unmoved = (spared w called).1 in (
+        whole_of on u (walked h.typing way (variable_place h y) (at on))
+            (owner_found h settled hands leaks m on other facts v ready.kept ready.viewed ready.holds alone live only in_formals index_law own_law parts_named y u way goes.lead plain
+            (λ formal none. true_false (is_view_formal h.typing y) formal owner)
+            (λ e. cleared_open facts w ((λ b n has over. unlent Borrowed b n has over), unmoved)) (λ b n has over. unlent Borrowed b n has over) unmoved),
+        name_same h settled hands leaks m on other facts v ready.kept ready.viewed ready.holds alone live only in_formals y u way goes.lead
+            (λ e. cleared_open facts w ((λ b n has over. unlent Borrowed b n has over), unmoved)),
+      )
 
   -- ---- one actual
 
@@ -142,41 +183,187 @@ module _ (h : Here) (settled : IsSettled h.typing.table) (leaks : List Leak) (ot
       is_scalar (full h.typing.table (object_at h.typing x).of) ≡ false → (w : Way) → ways.name_of w ≡ name_of y path → Unlent facts w × Unmoved facts w
   IsSpared x mode_of e = Unit {0}
 
-  one_same : (mode_of : Mode) (owning access : Bool) (x : ℕ) (e : TypedTree) → (mode_of ≡ mode.In → owning ≡ false) → Kind x
-      → IsActualTo h.typing x mode_of e → (is_in mode_of ≡ false → goes_through_none e ≡ true) → (before on : List (List machine.Word)) → Takes (waiting e) before on
-      → Compares h.typing e → AllowsAll facts (acts (head_of h.typing own_law procedure mode_of e))
+  -- a place of a scalar type, that a name leads to
+  place_finds : (on : List (List machine.Word)) (x : ℕ) (p : Pos) (y u : ℕ) (path : TypedTree)
+      → (goes_through_none path ≡ true) ⊎ (IsReachedBack h.typing x (Name p y path u) × IsOpenActual h.typing h.frame facts (Name p y path u)) → (way : List run.Step)
+      → Goes h.typing.table (object_at h.typing y).of u path way → Finds h asks m hands facts on y way (IsAt h asks m hands facts u)
+  place_finds on x p y u path (inl direct) way goes = law.direct on y u path way goes direct
+  place_finds on x p y u path (inr (scalar, inl direct)) way goes = law.direct on y u path way goes direct
+  place_finds on x p y u path (inr (scalar, inr (local, sees, opens))) way goes =
+      let w : Way = way_along way (Object (OfVariable (home h.typing h.frame y) y)) in
+      leads h settled leaks other alone in_formals index_law own_law v parts_named m hands facts ready only on y u path way goes
+      (opens w (named_along (home h.typing h.frame) way (Object (OfVariable (home h.typing h.frame y) y)) refl)
+      (λ j. record { root = number_along way (Object (OfVariable (home h.typing h.frame y) y)) j; sels = goes.sels (Object (OfVariable (home h.typing h.frame y) y)) j }))
+
+  -- a copy, of a type that owns nothing
+  copied_same : (before on : List (List machine.Word)) (x : ℕ) (e : TypedTree) → is_owning h.typing.table (object_at h.typing x).of ≡ false → IsNamed h.typing.table (object_at h.typing x).of
+      → IsCopyOf h.typing x e → Takes (waiting e) before on → Compares h.typing e → AllowsAll facts (acts (acts_in h.typing e)) → SameFor before on ByValue x e
+  unfolding Compares evaluate acts_in waiting has_call
+  copied_same before on x (Name p y path u) plain named (lead, fits) takes compares allowed n' same =
+      by_kind (is_anonymous (view_of h.typing x)) (named_plain h.typing.table (object_at h.typing x).of named)
+    where
+      own : is_owning h.typing.table u ≡ false
+      own = unowned h.typing own_law u (object_at h.typing x).of fits plain
+
+      each : AllowsAll facts (acts (acts_in h.typing path)) × AllowsAll (after (acts (acts_in h.typing path)) facts) (used h.typing (name_of y path) u ∷ [])
+      each =
+          allows_both facts (acts (acts_in h.typing path)) (used h.typing (name_of y path) u ∷ [])
+          (subst (AllowsAll facts) (acts_append (acts_in h.typing path) (record { pos = p; act = used h.typing (name_of y path) u } ∷ [])) allowed)
+
+      inner : Quiet (at on) (λ way. asks.goes (object_at h.typing y).of u path way) (steps_of h path (at before)) × (after (acts (acts_in h.typing path)) facts ≡ facts)
+      inner = law.steps (object_at h.typing y).of u path lead before on takes tt each.0
+
+      reads : Allows facts (act.Read (name_of y path))
+      reads =
+          subst (Allows facts) (unowned_read h.typing own_law (name_of y path) u (object_at h.typing x).of fits plain)
+          ((subst (λ z. AllowsAll z (used h.typing (name_of y path) u ∷ [])) inner.1 each.1).0)
+
+      copied : SameTo h.typing (evaluate h AsValue (Name p y path u) (at before)) (evaluate h AsValue (Name p y path u) n')
+      copied =
+          place_then h settled own_law asks m hands facts law before on y u path (held_or_taken h AsValue) (held_or_taken h AsValue) (IsAt h asks m hands facts u)
+          (λ way goes. law.read on y u path way goes reads) inner.0 n'
+          (steps_on h settled own_law asks m hands facts law (object_at h.typing y).of u path lead before on takes tt compares each.0 n' same)
+          (λ k i j found now. copy_same h k i j
+          (subst (λ (z : Now). NoneGone (slots_of h.typing z.memory k)) (sym found.0)
+          (spot_whole h.typing settled m hands only ready.kept k found.1.0 found.1.1
+          (plain_whole h.typing settled m hands k found.1.0 found.1.1 ((keeps h.typing settled own_law).ownerless k.of (ap (is_owning h.typing.table) found.1.2 ∙ own)))))
+          (ap (is_owning h.typing.table) found.1.2 ∙ own) now)
+
+      last : List machine.Word → Now → Evaluated Passed
+      last ws now = followed_by (checked h (type_of h x) ws now) value_passed
+
+      by_test : (ws : List machine.Word) (n n'' : Now) → SameNow h.typing n n'' → (b : Bool)
+          → SameTo h.typing (followed_by (if b then Done ws n else Raises run.ConstraintError n) value_passed) (followed_by (if b then Done ws n'' else Raises run.ConstraintError n'') value_passed)
+      by_test ws n n'' now true = (refl, now)
+      by_test ws n n'' now false = (refl, now)
+
+      by_kind : (b : Bool) → b ≡ false
+          → SameTo h.typing (followed_by (if b then viewed h (Name p y path u) (at before) else value h (Name p y path u) (at before)) last)
+          (followed_by (if b then viewed h (Name p y path u) n' else value h (Name p y path u) n') last)
+      by_kind true e = cc
+      by_kind false e =
+          simply h.typing (value h (Name p y path u) (at before)) (value h (Name p y path u) n') last last copied
+          (λ ws n n'' now. by_test ws n n'' now (fits_type h.typing.table (type_of h x) ws))
+  copied_same before on x e plain named never takes compares allowed n' same = absurd never
+
+  -- what a formal is shown that owns nothing
+  shown_same : (before on : List (List machine.Word)) (access : Bool) (x : ℕ) (e : TypedTree) → IsAccess h.typing x → IsSeen h.typing x e → Takes (waiting e) before on → Compares h.typing e
+      → AllowsAll facts (acts (index_acts h.typing e)) → IsClear h.typing facts e → SameFor before on (objects.Place mode.In true access) x e
+  unfolding Compares evaluate waiting has_call
+  shown_same before on access x typed.Null is seen_there takes compares allowed clears n' same = (refl, same)
+  shown_same before on access x (Name p y path u) is (lead, fits, showable) takes compares allowed clears n' same =
+      simply h.typing (viewed h (Name p y path u) (at before)) (viewed h (Name p y path u) n') value_passed value_passed
+      (place_then h settled own_law asks m hands facts law before on y u path (held_or_taken h AsView) (held_or_taken h AsView) (IsWholeAt h asks m hands facts u)
+      (λ way goes. finds way goes of_access)
+      (law.steps (object_at h.typing y).of u path lead before on takes tt allowed).0 n'
+      (steps_on h settled own_law asks m hands facts law (object_at h.typing y).of u path lead before on takes tt compares allowed n' same)
+      (λ k i j found now. view_same h k i j (none_there h settled own_law asks m hands facts law on u k i found) now))
+      (λ ws n n'' now. (refl, now))
+    where
+      of_access : (d : ℕ) × (c : Bool) × (b : Bool) × (shape_of h.typing.table u ≡ shape.Access d c b)
+      of_access = elim fits [
+        | inl shapes ↦ (is.0, is.1, is.2, shapes ∙ is.3)
+        | inr scalar ↦ absurd (let no : false ≡ true = sym (ap (λ z. is_scalar (types.view_of z)) is.3) ∙ scalar.1 in cc)
+      ]
+
+      finds : (way : List run.Step) → Goes h.typing.table (object_at h.typing y).of u path way → (d : ℕ) × (c : Bool) × (b : Bool) × (shape_of h.typing.table u ≡ shape.Access d c b)
+          → Finds h asks m hands facts on y way (IsWholeAt h asks m hands facts u)
+      finds way goes (d, c, b, shape_is) = by_kind b shape_is
+        where
+          w : Way
+          w = way_along way (Object (OfVariable (home h.typing h.frame y) y))
+
+          called : ways.name_of (way_along way (Object (OfVariable (home h.typing h.frame y) y))) ≡ name_of y path
+          called = (λ j. record { root = number_along way (Object (OfVariable (home h.typing h.frame y) y)) j; sels = goes.sels (Object (OfVariable (home h.typing h.frame y) y)) j })
+
+          alike : (n' : Now) → SameNow h.typing (at on) n' → SameTo h.typing (walked h.typing way (variable_place h y) (at on)) (walked h.typing way (variable_place h y) n')
+          alike =
+              name_same h settled hands leaks m on other facts v ready.kept ready.viewed ready.holds alone live only in_formals y u way goes.lead
+              (λ e. cleared_open facts w (clears w called e))
+
+          by_kind : (b : Bool) → shape_of h.typing.table u ≡ shape.Access d c b → Finds h asks m hands facts on y way (IsWholeAt h asks m hands facts u)
+          by_kind true shape_is = (
+            access_found h settled hands leaks m on other facts v ready.kept ready.viewed ready.holds alone live only in_formals index_law own_law parts_named y u d c way goes.lead shape_is
+                (λ e. cleared_open facts w (clears w called e)) (λ e. cleared_whole facts w (clears w called e)),
+            alike,
+          )
+          by_kind false shape_is = (
+            view_whole h settled hands leaks m on other facts v ready.kept ready.viewed ready.holds alone live only in_formals y u way goes.lead
+                (ap (λ z. is_anonymous (types.view_of z)) shape_is ∙ anonymous_access c) (λ e. cleared_open facts w (clears w called e)),
+            alike,
+          )
+  shown_same before on access x e is never takes compares allowed clears n' same = absurd never
+
+  one_same : (mode_of : Mode) (owning access : Bool) (x : ℕ) (e : TypedTree) → (object_at h.typing x).mode ≡ mode_of → is_owning h.typing.table (object_at h.typing x).of ≡ owning → Kind x
+      → IsActualTo h.typing x mode_of e → (is_view_formal h.typing x ≡ true → IsClear h.typing facts e)
+      → (is_in mode_of ≡ false → (goes_through_none e ≡ true) ⊎ (IsReachedBack h.typing x e × IsOpenActual h.typing h.frame facts e))
+      → (before on : List (List machine.Word)) → Takes (waiting e) before on
+      → Compares h.typing e → AllowsAll facts (acts (head_of h.typing own_law procedure mode_of owning e))
       → IsSpared x mode_of e → SameFor before on (passing_by mode_of owning access) x e
   unfolding Compares goes_through_none has_call waiting
-  one_same mode.In owning access x e fits kind stays direct before on takes compares allowed spared =
-      subst (λ b. SameFor before on (if b then objects.Place mode.In b access else ByValue) x e) (sym (fits refl))
-      (value_passed_same h settled own_law asks m hands facts law before on x e stays takes tt compares allowed)
-  one_same mode.Out owning access x (Name p y path u) fits kind (t, (lead, type), match, which) direct before on takes compares allowed spared =
-      to_passed_same h settled own_law asks m hands facts law before on owning access x p y u path lead takes tt compares allowed (IsAt h asks m hands facts u)
-      (λ way goes. law.direct on y u path way goes (direct refl))
-  one_same mode.Out owning access x e fits kind (t, never, match, which) direct before on takes compares allowed spared = absurd never
-  one_same mode.InOut owning access x (Name p y path u) fits kind (t, (lead, type), match, which) direct before on takes compares allowed spared =
+  one_same mode.In false access x e is fits kind stays clears direct before on takes compares allowed spared = elim (stays.0 fits) [
+    | inl (plain, stay) ↦ (value_passed_same h settled own_law asks m hands facts law before on x e stay takes tt compares allowed).0
+    | inr (named, copy) ↦ copied_same before on x e fits named copy takes compares allowed
+  ]
+  one_same mode.In true access x e is fits kind stays clears direct before on takes compares allowed spared = elim kind [
+    | inl plain ↦ absurd (true_false (is_owning h.typing.table (object_at h.typing x).of) fits (plain_type h.typing own_law (object_at h.typing x).of plain))
+    | inr other_kind ↦ elim other_kind [
+      | inl back ↦ absurd (back.0 is)
+      | inr (inl shown) ↦ shown_same before on access x e shown.1 (stays.1 fits) takes compares allowed (clears shown.0)
+      | inr (inr plain) ↦ absurd (true_false (is_owning h.typing.table (object_at h.typing x).of) fits plain.1)
+    ]
+  ]
+  one_same mode.Out owning access x (Name p y path u) is fits kind (t, (lead, type), match, which) clears direct before on takes compares allowed spared =
+      (to_passed_same h settled own_law asks m hands facts law before on owning access x p y u path lead takes tt compares allowed (IsAt h asks m hands facts u)
+      (place_finds on x p y u path (direct refl))).0
+  one_same mode.Out owning access x e is fits kind (t, never, match, which) clears direct before on takes compares allowed spared = absurd never
+  one_same mode.InOut owning access x (Name p y path u) is fits kind (t, (lead, type), match, which) clears direct before on takes compares allowed spared =
       elim (bool_cases (is_scalar (full h.typing.table (object_at h.typing x).of))) [
-        | inl plain ↦ from_passed_same h settled own_law asks m hands facts law before on owning access x p y u path lead takes tt compares allowed (IsAt h asks m hands facts u)
+        | inl plain ↦ (from_passed_same h settled own_law asks m hands facts law before on owning access x p y u path lead takes tt compares allowed (IsAt h asks m hands facts u)
             (λ k there. scalar_none h settled own_law asks m hands facts law k there.0 u there.1 there.2
             (subst (λ z. is_scalar (full h.typing.table z) ≡ true) (sym type) (scalar_type t (object_at h.typing x).of match plain)))
-            (λ way goes. law.direct on y u path way goes (direct refl))
-        | inr many ↦ from_passed_same h settled own_law asks m hands facts law before on owning access x p y u path lead takes tt compares allowed (WholeAt u)
+            (place_finds on x p y u path (direct refl))).0
+        | inr many ↦ (from_passed_same h settled own_law asks m hands facts law before on owning access x p y u path lead takes tt compares allowed (WholeAt u)
             (λ k there. there.3)
-            (λ way goes. own_finds on y u path way goes (direct refl)
-            (subst (IsNamed h.typing.table) (sym type) (matches_named h.typing.table (object_at h.typing x).of t (matches_back t (object_at h.typing x).of match) (own_type kind many)))
-            (spared many))
+            (λ way goes. kept_finds many way goes (direct refl))).0
       ]
     where
       own_type : Kind x → is_scalar (full h.typing.table (object_at h.typing x).of) ≡ false → IsNamed h.typing.table (object_at h.typing x).of
       own_type (inl plain) many = absurd (true_false (is_scalar (full h.typing.table (object_at h.typing x).of)) plain many)
-      own_type (inr (in_out, own)) many = own
-  one_same mode.InOut owning access x e fits kind (t, never, match, which) direct before on takes compares allowed spared = absurd never
+      own_type (inr (inl (in_out, own))) many = own
+      own_type (inr (inr (inr plain))) many = plain.2
+      own_type (inr (inr (inl shown))) many = plain_named h.typing.table (object_at h.typing x).of (not_anonymous (is_anonymous (view_of h.typing x)) refl)
+        where
+          not_anonymous : (b : Bool) → is_anonymous (view_of h.typing x) ≡ b → is_anonymous (view_of h.typing x) ≡ false
+          not_anonymous false e = e
+          not_anonymous true e = absurd ((in_formals x shown.0).1 e)
+
+      own_root : (is_scalar (full h.typing.table t) ≡ true) ⊎ IsOwnPlace h.typing (Name p y path u) → is_scalar (full h.typing.table (object_at h.typing x).of) ≡ false
+          → (z : ℕ) → Has (root_of (Name p y path u)) z → is_view_formal h.typing z ≡ false
+      own_root (inl plain) many z has =
+          absurd (true_false (is_scalar (full h.typing.table (object_at h.typing x).of)) (matches_scalar h.typing t (object_at h.typing x).of match plain) many)
+      own_root (inr own) many z has = own z has
+
+      direct_finds : is_scalar (full h.typing.table (object_at h.typing x).of) ≡ false → (way : List run.Step) → Goes h.typing.table (object_at h.typing y).of u path way
+          → goes_through_none path ≡ true → Finds h asks m hands facts on y way (WholeAt u)
+      direct_finds many way goes none =
+          own_finds on y u path way goes none
+          (subst (IsNamed h.typing.table) (sym type) (matches_named h.typing.table (object_at h.typing x).of t (matches_back t (object_at h.typing x).of match) (own_type kind many)))
+          (own_root which many y (inl refl)) (spared many)
+
+      kept_finds : is_scalar (full h.typing.table (object_at h.typing x).of) ≡ false → (way : List run.Step) → Goes h.typing.table (object_at h.typing y).of u path way
+          → (goes_through_none path ≡ true) ⊎ (IsReachedBack h.typing x (Name p y path u) × IsOpenActual h.typing h.frame facts (Name p y path u)) → Finds h asks m hands facts on y way (WholeAt u)
+      kept_finds many way goes (inl none) = direct_finds many way goes none
+      kept_finds many way goes (inr (inl scalar, opens)) = absurd (true_false (is_scalar (full h.typing.table (object_at h.typing x).of)) scalar many)
+      kept_finds many way goes (inr (inr back, inl none)) = direct_finds many way goes none
+      kept_finds many way goes (inr (inr back, inr (local, sees, opens))) = through_finds on y u path way goes sees (own_root which many y (inl refl)) (spared many)
+  one_same mode.InOut owning access x e is fits kind (t, never, match, which) clears direct before on takes compares allowed spared = absurd never
 
   -- ---- all of them
 
-  -- What is known after the acts of those before, as `Spares` says; or no formal is of another type than a scalar one.
+  -- What is known after the acts of those before, as `Spares` says; or all formals are of mode `in`.
   abbrev IsKnown : List Fact → List PlaceName → List ℕ → TypedTree → Type 0
-  IsKnown known done formals actuals = Spares h.typing facts known done formals actuals ⊎ ((x : ℕ) → Has formals x → is_scalar (full h.typing.table (object_at h.typing x).of) ≡ true)
+  IsKnown known done formals actuals = Spares h.typing facts known done formals actuals ⊎ ((x : ℕ) → Has formals x → (object_at h.typing x).mode ≡ mode.In)
 
   abbrev access_for : ℕ → Bool
   access_for x = procedure && is_named_access (view_of h.typing x)
@@ -186,7 +373,7 @@ module _ (h : Here) (settled : IsSettled h.typing.table) (leaks : List Leak) (ot
   is_spared mode.InOut owning access x (Name p y path u) formals rest known done is (inl spares) allowed =
       (λ many. spared_whole h.typing facts x y u p path formals rest known done owning access (λ never. (let no : mode.InOut ≡ mode.In = sym is ∙ never in cc)) spares allowed.0)
   is_spared mode.InOut owning access x (Name p y path u) formals rest known done is (inr plain) allowed =
-      (λ many. absurd (true_false (is_scalar (full h.typing.table (object_at h.typing x).of)) (plain x (inl refl)) many))
+      (λ many. absurd (let never : mode.InOut ≡ mode.In = sym is ∙ plain x (inl refl) in cc))
   is_spared mode_of owning access x e formals rest known done is spares allowed = tt
 
   is_known_on : (x : ℕ) (e : TypedTree) (formals : List ℕ) (rest : TypedTree) (known : List Fact) (done : List PlaceName) → IsKnown known done (x ∷ formals) (More e rest)
@@ -198,44 +385,43 @@ module _ (h : Here) (settled : IsSettled h.typing.table) (leaks : List Leak) (ot
 
   -- They are read under the facts before the call; the acts of those that are copied back come after them.
   pub all_same : (before on : List (List machine.Word)) (known : List Fact) (done : List PlaceName) (formals : List ℕ) (actuals : TypedTree) → IsKnown known done formals actuals
-      → ((x : ℕ) → Has formals x → Kind x) → AreActualsTo h.typing formals actuals → AreCopied h.typing formals actuals → Takes (waiting actuals) before on
+      → ((x : ℕ) → Has formals x → Kind x) → AreActualsTo h.typing formals actuals → AreOpenTo h.typing h.frame v facts formals actuals → AreOpenActuals h.typing h.frame facts formals actuals → Takes (waiting actuals) before on
       → Compares h.typing actuals → AllowsAll facts (acts (actual_values h.typing (map (way_to h.typing own_law procedure) formals) actuals))
       → AllowsAll known (acts (actual_acts (map (way_to h.typing own_law procedure) formals) actuals))
       → (n' : Now) → SameNow h.typing (record { memory = m; waits = before }) n'
       → SameTo h.typing (all_passed h (map (way_to h.typing own_law procedure) formals) formals actuals (record { memory = m; waits = before }))
       (all_passed h (map (way_to h.typing own_law procedure) formals) formals actuals n')
   unfolding Compares has_call waiting
-  all_same before on known done [] actuals spares kinds stay copied takes compares allowed copies n' same = (refl, same)
-  all_same before on known done (x ∷ formals) (More e rest) spares kinds stay copied takes compares allowed copies n' same =
+  all_same before on known done [] actuals spares kinds stay clears copied takes compares allowed copies n' same = (refl, same)
+  all_same before on known done (x ∷ formals) (More e rest) spares kinds stay clears copied takes compares allowed copies n' same =
       let mode_of : Mode = (object_at h.typing x).mode in
       let owning : Bool = is_owning h.typing.table (object_at h.typing x).of in
       let access : Bool = access_for x in
       let kind = kinds x (inl refl) in
-      let fits = in_plain h.typing own_law procedure x kind in
-      let head : List Placed = head_of h.typing own_law procedure mode_of e in
+      let head : List Placed = head_of h.typing own_law procedure mode_of owning e in
       let others : List Placed = actual_values h.typing (map (way_to h.typing own_law procedure) formals) rest in
       let copy : List Placed = actual_act (way_for x) e in
       let copies_left : List Placed = actual_acts (map (way_to h.typing own_law procedure) formals) rest in
       let two = takes_both (waiting e) (waiting rest) before on takes in
       let each = allows_both facts (acts head) (acts others)
-      (subst (AllowsAll facts) (acts_append head others) (subst (λ z. AllowsAll facts (acts z)) (head_values_are h.typing own_law procedure x kind e (map (way_to h.typing own_law procedure) formals) rest) allowed)) in
-      let still : after (acts head) facts ≡ facts = reads_keep head (head_of_reads h.typing own_law procedure x mode_of e stay.0) facts in
+      (subst (AllowsAll facts) (acts_append head others) (subst (λ z. AllowsAll facts (acts z)) (head_values_are h.typing own_law procedure x e (map (way_to h.typing own_law procedure) formals) rest) allowed)) in
+      let still : after (acts head) facts ≡ facts = reads_keep head (head_of_reads h.typing own_law procedure x mode_of owning e refl stay.0) facts in
       let each_copy = allows_both known (acts copy) (acts copies_left) (subst (AllowsAll known) (acts_append copy copies_left) copies) in
-      let first = one_same mode_of owning access x e fits kind stay.0 copied.0 before two.0 two.1 compares.0 each.0
+      let first = one_same mode_of owning access x e refl refl kind stay.0 (λ formal. (clears.0 formal).0) copied.0 before two.0 two.1 compares.0 each.0
       (is_spared mode_of owning access x e formals rest known done refl spares each_copy.0) in
-      let given = one_given h settled hands leaks m [] other facts v ready.kept ready.viewed ready.holds alone live no_formals index_law own_law parts_named procedure before two.0 mode_of owning access x e
-      fits kind stay.0 copied.0 two.1 each.0 in
+      let given = one_given h settled hands leaks m [] other facts v ready.kept ready.viewed ready.holds alone live in_formals index_law own_law parts_named formals_low procedure before two.0 mode_of owning access x e
+      refl refl kind stay.0 clears.0 copied.0 two.1 each.0 in
       let next : Passed → Now → Evaluated (List Passed) =
       (λ a now. followed_by (all_passed h (map (way_to h.typing own_law procedure) formals) formals rest now) (λ more now. Done (a ∷ more) now)) in
       then_same h.typing
-      (λ y. Quiet (at two.0) (λ a. IsGiven h settled hands leaks m [] other facts v ready.kept ready.viewed ready.holds alone live no_formals index_law own_law parts_named procedure x mode_of e a) y)
-      (passed h (way_for x) x e (at before)) (passed h (way_for x) x e n') next next given (first.0 n' same)
+      (λ y. Quiet (at two.0) (λ a. IsGiven h settled hands leaks m [] other facts v ready.kept ready.viewed ready.holds alone live in_formals index_law own_law parts_named formals_low procedure x mode_of e a) y)
+      (passed h (way_for x) x e (at before)) (passed h (way_for x) x e n') next next given (first n' same)
       (λ a n n'' q now. subst (λ z. SameTo h.typing (next a z) (next a n'')) (sym q.0)
       (simply h.typing (all_passed h (map (way_to h.typing own_law procedure) formals) formals rest (at two.0)) (all_passed h (map (way_to h.typing own_law procedure) formals) formals rest n'')
       (λ more now. Done (a ∷ more) now) (λ more now. Done (a ∷ more) now)
       (all_same two.0 on (after (acts copy) known) (done_on mode_of (written e) done) formals rest (is_known_on x e formals rest known done spares)
-      (λ y has. kinds y (inr has)) stay.1 copied.1 two.2 compares.1
+      (λ y has. kinds y (inr has)) stay.1 clears.1 copied.1 two.2 compares.1
       (subst (λ z. AllowsAll z (acts others)) still each.1) each_copy.1 n''
       (subst (λ z. SameNow h.typing z n'') q.0 now))
       (λ more k k' last. (refl, last))))
-  all_same before on known done (x ∷ formals) actuals spares kinds stay copied takes compares allowed copies n' same = (refl, same)
+  all_same before on known done (x ∷ formals) actuals spares kinds stay clears copied takes compares allowed copies n' same = (refl, same)

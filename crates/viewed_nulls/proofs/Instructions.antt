@@ -10,7 +10,7 @@ use Rattle.typed_tree.specs.Trees.{TypedTree, Name, NoMore, More}
 use Rattle.typed_tree.specs.Programs.{TypedProgram}
 use Rattle.flow_paths.specs.declared.report.Effects.{Effects}
 use Rattle.flow_paths.specs.Instructions.{Instruction, Declare, Assign, Hold, Finish}
-use Rattle.flow_paths.specs.Objects.{Typing, object_at, is_anonymous, is_observer, view_of}
+use Rattle.flow_paths.specs.Objects.{Typing, object_at, is_anonymous, is_observer, view_of, is_variable}
 use Rattle.flow_paths.specs.Names.{has_call, waiting as waits_in, name_of, first}
 use Rattle.flow_paths.specs.Acts.{acts_of, acts_in, source_acts, observe, declared_acts}
 use Rattle.flow_paths.specs.Points.{NamedPoint}
@@ -23,7 +23,7 @@ use Rattle.machine.specs.Step.{Turn, turn, start}
 use Rattle.machine.specs.Step as steps
 use Rattle.machine.specs.Owners.{waiting_in}
 use Rattle.owned_ways.specs.Ways.{Way, AllowsAll}
-use Rattle.soundness.specs.Seen.{IsNear, home, is_view_formal}
+use Rattle.soundness.specs.Seen.{IsNear, home}
 use Rattle.soundness.specs.Sound.{IsNoCall}
 use Rattle.typed_laws.specs.Needed.{IsFine, Source, FirstSource}
 use Rattle.soundness.proofs.Numbers.{index_law}
@@ -31,7 +31,7 @@ use Rattle.soundness.proofs.Points.{flow_at}
 use Rattle.soundness.proofs.Scalars.{acts, acts_append}
 use Rattle.soundness.proofs.Taking.{Takes, takes_as, takes_both, nothing_more}
 use Rattle.owned_loans.specs.Views.{Around, Views}
-use Rattle.viewed_soundness.specs.Holds.{is_fixed, IsNamed, AllKeep, sees_only}
+use Rattle.viewed_soundness.specs.Holds.{is_fixed, IsNamed, AllKeep}
 use Rattle.viewed_soundness.proofs.Names.{plain_named, true_false}
 use Rattle.viewed_soundness.proofs.Evaluated.{keep_both}
 use Rattle.viewed_soundness.proofs.Outcomes.{named_plain, not_views, assigned_acts}
@@ -46,7 +46,8 @@ use Rattle.null_places.proofs.Laws.{Premises, Values}
 use Rattle.null_places.proofs.Instructions.{SameStep, twin, declare_on, assign_on, end_scope_same}
 use Rattle.null_places.proofs.Each.{each_by}
 use Rattle.viewed_nulls.proofs.Viewed.{viewed_premises, IsReadyIn, viewed_values}
-use Rattle.viewed_nulls.proofs.Sources.{view_declared_same, view_assigned_same}
+use Rattle.viewed_nulls.proofs.Sources.{view_declared_same, view_assigned_same, call_declared_same, call_assigned_same}
+use Rattle.viewed_steps.proofs.Views.{AreAccess}
 
 module _ (table : Table) (typed : TypedProgram) (effects : Effects) (input : List ℕ) (ready : IsReady table typed effects) where
   abbrev program : FlowProgram
@@ -58,8 +59,8 @@ module _ (table : Table) (typed : TypedProgram) (effects : Effects) (input : Lis
   abbrev own : Typing
   own = typing_of table typed
 
-  abbrev pub no_formals : (x : ℕ) → is_view_formal (flow_typing (flow_program table typed)) x ≡ false
-  no_formals = standing.no_in_formals table typed effects input ready
+  abbrev pub in_formals : AreAccess (flow_typing (flow_program table typed))
+  in_formals = standing.in_formals table typed effects input ready
 
   module _ (state : State) (frame : Frame) (outer : List Frame) (named : NamedSub) (p : NamedPoint)
       (other : Around (home s (length outer))) (alone : (w : Way) → IsNear (length outer) w → other.gone w → ⊥) (v : Views) (facts : List Fact)
@@ -69,13 +70,13 @@ module _ (table : Table) (typed : TypedProgram) (effects : Effects) (input : Lis
 
     abbrev pub Ready : Memory → List Waiting → List Fact → Type 0
     Ready m hands known =
-        IsReadyIn (steps.here t) ready.accepted.settled state.leaks other alone no_formals index_law ready.owns v ready.class.parts_named m hands known
+        IsReadyIn (steps.here t) ready.accepted.settled state.leaks other alone in_formals index_law ready.owns v ready.class.parts_named m hands known
 
     abbrev pub asks : Premises (steps.here t)
     asks = viewed_premises (steps.here t) ready.class.parts_named
 
     pub laws : Values (steps.here t) asks Ready
-    laws = viewed_values (steps.here t) ready.accepted.settled state.leaks other alone no_formals index_law ready.owns v ready.class.parts_named
+    laws = viewed_values (steps.here t) ready.accepted.settled state.leaks other alone in_formals index_law ready.owns v ready.class.parts_named
 
     abbrev acts_by : Instruction → List Act
     acts_by i =
@@ -103,11 +104,11 @@ module _ (table : Table) (typed : TypedProgram) (effects : Effects) (input : Lis
           FirstSource s (object_at s x).of e → Plainly (Declare x e) → TakesIn (Declare x e) → Compares s e
           → AllowsAll facts (acts_by (Declare x e)) → Keep (acts_by (Declare x e)) → Same (Declare x e)
 
-      view_declares : (x : ℕ) (q : Pos) (y u : ℕ) (path : TypedTree) → is_anonymous (view_of s x) ≡ true → DeclaresSame x (More (Name q y path u) NoMore)
+      view_declares : (x : ℕ) (q : Pos) (y u : ℕ) (path : TypedTree) → is_anonymous (view_of s x) ≡ true → is_variable (object_at s x).kind ≡ true → DeclaresSame x (More (Name q y path u) NoMore)
       unfolding Compares has_call waits_in
-      view_declares x q y u path view text plainly takes compares allowed keep =
-          view_declared_same t ready.accepted.settled ready.owns other alone no_formals v ready.class.parts_named facts so only n agrees on q x y u path view
-          (ready.orderly.local x view).0 text.1
+      view_declares x q y u path view variable_here text plainly takes compares allowed keep =
+          view_declared_same t ready.accepted.settled ready.owns other alone in_formals v ready.class.parts_named facts so only n agrees on q x y u path view
+          variable_here text.1
           (takes_as (waits_in path + 0) (waits_in path) (start t).waits on (nothing_more (waits_in path)) takes) compares.0 allowed
 
       declares : (x : ℕ) (e : TypedTree) → p.instr ≡ Declare x e → DeclaresSame x e
@@ -116,7 +117,14 @@ module _ (table : Table) (typed : TypedProgram) (effects : Effects) (input : Lis
           by_view : (b : Bool) → is_anonymous (view_of s x) ≡ b → Same (Declare x e)
           by_view true view =
               let found = orderly.declared x e is view in
-              subst (DeclaresSame x) (sym found.4) (view_declares x found.0 found.1 found.3 found.2 view) text plainly takes compares allowed keep
+              let variable_here = orderly.variables x (inl (inl (e, is))) view in
+              elim found.6 [
+                | inl named_is ↦ subst (DeclaresSame x) (sym (found.5 ∙ ap (λ z. More z NoMore) named_is)) (view_declares x found.0 found.1 found.3 found.2 view variable_here)
+                    text plainly takes compares allowed keep
+                | inr (r, k, more, call_is, gives) ↦ subst (λ z. Same (Declare x z)) (sym (found.5 ∙ ap (λ z. More z NoMore) call_is))
+                    (call_declared_same t ready.accepted.settled ready.owns other alone in_formals v ready.class.parts_named facts so only n agrees
+                    x r k (More (Name found.0 found.1 found.2 found.3) more) view)
+              ]
           by_view false owner =
               let own_type : IsNamed s.table (object_at s x).of = plain_named s.table (object_at s x).of owner in
               let kinds = not_views s x own_type in
@@ -134,22 +142,27 @@ module _ (table : Table) (typed : TypedProgram) (effects : Effects) (input : Lis
           Plainly (Assign target e) → TakesIn (Assign target e) → ComparesIn s (Assign target e)
           → AllowsAll facts (acts_by (Assign target e)) → Keep (acts_by (Assign target e)) → Same (Assign target e)
 
-      view_assigns : (q : Pos) (x : ℕ) (r : Pos) (y w : ℕ) (path : TypedTree) → is_anonymous (view_of s x) ≡ true → (is_observer s x ≡ false → y ≡ x)
+      view_assigns : (q : Pos) (x : ℕ) (r : Pos) (y w : ℕ) (path : TypedTree) → is_anonymous (view_of s x) ≡ true → is_variable (object_at s x).kind ≡ true → (is_observer s x ≡ false → y ≡ x)
           → Source s (object_at s x).of (Name r y path w) → AssignsSame (Name q x NoMore (object_at s x).of) (Name r y path w)
       unfolding Compares has_call waits_in
-      view_assigns q x r y w path view itself source plainly takes compares allowed keep =
-          view_assigned_same t ready.accepted.settled ready.owns other alone no_formals v ready.class.parts_named facts so only n agrees on p.pos q r x y w path view
-          (ready.orderly.local x view).0 source
+      view_assigns q x r y w path view variable_here itself source plainly takes compares allowed keep =
+          view_assigned_same t ready.accepted.settled ready.owns other alone in_formals v ready.class.parts_named facts so only n agrees on p.pos q r x y w path view
+          variable_here source
           (takes_as (waits_in path + 0) (waits_in path) (start t).waits on (nothing_more (waits_in path)) takes) itself compares.1 allowed
 
       -- the whole of a view
       to_view : (q : Pos) (x : ℕ) (path : TypedTree) (u : ℕ) (e : TypedTree) → p.instr ≡ Assign (Name q x path u) e → path ≡ NoMore → (object_at s x).of ≡ u
           → Source s u e → is_anonymous (full s.table u) ≡ true → AssignsSame (Name q x path u) e
       to_view q x path u e is nothing type source view =
-          subst (λ z. AssignsSame z e) (sym target_is)
-          (subst (λ z. AssignsSame (Name q x NoMore (object_at s x).of) z) (sym found.4)
-          (view_assigns q x found.0 found.1 found.3 found.2 view_there found.6
-          (subst (Source s (object_at s x).of) found.4 (subst (λ z. Source s z e) (sym type) source))))
+          subst (λ z. AssignsSame z e) (sym target_is) (elim found.4 [
+            | inl named_is ↦ subst (λ z. AssignsSame (Name q x NoMore (object_at s x).of) z) (sym named_is)
+                (view_assigns q x found.0 found.1 found.3 found.2 view_there (orderly.variables x (inl (inr (q, (object_at s x).of, e, is ∙ ap (λ z. Assign z e) target_is))) view_there) found.6
+                (subst (Source s (object_at s x).of) named_is (subst (λ z. Source s z e) (sym type) source)))
+            | inr (r, k, more, call_is, gives) ↦ (λ plainly takes compares allowed keep.
+                subst (λ z. Same (Assign (Name q x NoMore (object_at s x).of) z)) (sym call_is)
+                (call_assigned_same t ready.accepted.settled ready.owns other alone in_formals v ready.class.parts_named facts so only n agrees
+                q x r k (More (Name found.0 found.1 found.2 found.3) more) view_there))
+          ])
         where
           target_is : Name q x path u ≡ Name q x NoMore (object_at s x).of
           target_is = (λ j. Name q x (nothing j) (sym type j))

@@ -1,4 +1,5 @@
 -- names
+pub mod Led
 pub mod Names
 pub mod Viewed
 pub mod Sources

@@ -8,7 +8,7 @@ use Rattle.place_names.specs.declared.fact.Fact.{Fact}
 use Rattle.place_names.specs.Names.{Name as PlaceName}
 use Rattle.type_definitions.specs.declared.table.Shape.TheVariants as shape
 use Rattle.type_definitions.specs.Types.{shape_of, full, is_scalar, view_of as view_of_shape}
-use Rattle.typed_tree.specs.Trees.{TypedTree, Name, NoMore, More}
+use Rattle.typed_tree.specs.Trees.{TypedTree, Name, NoMore, More, Call as CallIn}
 use Rattle.flow_paths.specs.Objects.{Typing, object_at, is_anonymous, is_borrower, is_borrowing, is_observing, is_observer, is_variable, view_of}
 use Rattle.flow_paths.specs.Names.{waiting as waits_in, name_of, source, written}
 use Rattle.flow_paths.specs.Acts.{acts_in, index_acts, source_acts, stored_acts, declared_acts, assigned_to, observe, reborrow, target_pos as acts_target_pos}
@@ -22,7 +22,7 @@ use Rattle.machine.specs.Owners.{waiting_in}
 use Rattle.owned_ways.specs.Ways.{OfVariable, Loc, Way, Object, Reaches, IsRooted, Allows, AllowsAll, number_of}
 use Rattle.owned_ways.specs.Ways as ways
 use Rattle.part_offsets.specs.Parts.{IsSettled}
-use Rattle.soundness.specs.Seen.{IsNear, content, trunk, seen, home, is_view_formal}
+use Rattle.soundness.specs.Seen.{IsNear, content, trunk, seen, home}
 use Rattle.soundness.specs.Typed.{OwnsByShape}
 use Rattle.typed_laws.specs.Needed.{Leads, Gives, Source}
 use Rattle.soundness.proofs.Walks.{way_along}
@@ -216,6 +216,23 @@ module _ (t : Turn) (settled : IsSettled (typing t).table) (own_law : OwnsByShap
   assigned_at r x e same =
       stored_same t settled own_law asks ready_in laws facts so only n agrees (Name r x NoMore (object_at s x).of) _ _
       (then_stored r x (object_at s x).of (taken_by t (object_at s x).of e at) (taken_by t (object_at s x).of e (start (twin t n))) same)
+
+  -- with what a call gave
+  call_taken : (u' : ℕ) (r : Pos) (k : ℕ) (actuals : TypedTree) → is_anonymous (full s.table u') ≡ true
+      → SameTo s (taken_by t u' (CallIn r k actuals) at) (taken_by t u' (CallIn r k actuals) (start (twin t n)))
+  unfolding evaluate
+  call_taken u' r k actuals view =
+      subst (λ b. SameTo s (if b then viewed h (CallIn r k actuals) at else followed_by (value h (CallIn r k actuals) at) (checked h u'))
+      (if b then viewed h (CallIn r k actuals) (start (twin t n)) else followed_by (value h (CallIn r k actuals) (start (twin t n))) (checked h u'))) (sym view)
+      (refl, (agrees, refl, only))
+
+  pub call_declared_same : (x : ℕ) (r : Pos) (k : ℕ) (actuals : TypedTree) → is_anonymous (view_of (typing t) x) ≡ true
+      → SameStep t (declare t x (More (CallIn r k actuals) NoMore)) (declare (twin t n) x (More (CallIn r k actuals) NoMore))
+  call_declared_same x r k actuals view = declared_at x (CallIn r k actuals) (call_taken (object_at s x).of r k actuals view)
+
+  pub call_assigned_same : (q : Pos) (x : ℕ) (r : Pos) (k : ℕ) (actuals : TypedTree) → is_anonymous (view_of (typing t) x) ≡ true
+      → SameStep t (assign t (Name q x NoMore (object_at (typing t) x).of) (CallIn r k actuals)) (assign (twin t n) (Name q x NoMore (object_at (typing t) x).of) (CallIn r k actuals))
+  call_assigned_same q x r k actuals view = assigned_at q x (CallIn r k actuals) (call_taken (object_at s x).of r k actuals view)
 
   pub view_assigned_same : (on : List (List machine.Word)) (pos r q : Pos) (x y u : ℕ) (path : TypedTree) → is_anonymous (view_of (typing t) x) ≡ true → is_variable (object_at (typing t) x).kind ≡ true
       → Source (typing t) (object_at (typing t) x).of (Name q y path u) → Takes (waits_in path) (start t).waits on

@@ -15,7 +15,7 @@ use Rattle.typed_tree.specs.Trees.{TypedTree, Name, NoMore, More, Call as CallIn
 use Rattle.typed_tree.specs.Programs.{TypedProgram}
 use Rattle.flow_paths.specs.declared.report.Effects.{Effects}
 use Rattle.flow_paths.specs.Instructions.{Instruction, Declare, Assign, Call, Hold, EndScope, Finish}
-use Rattle.flow_paths.specs.Objects.{Signature, Typing, sub_at, passings, is_anonymous, object_at}
+use Rattle.flow_paths.specs.Objects.{Typing, sub_at, passings, is_anonymous, object_at, view_of}
 use Rattle.flow_paths.specs.Names.{has_call, waiting as waits_in, name_of}
 use Rattle.flow_paths.specs.Acts as flow
 use Rattle.flow_paths.specs.Acts.{acts_in}
@@ -35,7 +35,7 @@ use Rattle.machine.specs.Step as steps
 use Rattle.machine.specs.Owners.{waiting_in}
 use Rattle.machine.specs.Run.{step}
 use Rattle.owned_ways.specs.Ways.{Way, Allows, AllowsAll}
-use Rattle.soundness.specs.Seen.{IsNear, home, is_view_formal}
+use Rattle.soundness.specs.Seen.{IsNear, home}
 use Rattle.soundness.specs.Typed.{Kept}
 use Rattle.soundness.specs.Sound.{Stage, facts_of, AreStages, IsRunnable, IsNoCall, IsPlain, InScope, IsNamedSub, IsAtPoint, view_of as view_here}
 use Rattle.typed_laws.specs.Needed.{IsFine, Source, Gives, Returns}
@@ -49,17 +49,17 @@ use Rattle.soundness.proofs.Taking.{Takes, takes_as, no_takes, nothing_more}
 use Rattle.owned_loans.specs.Views.{Around, known_gone, Views, Viewed}
 use Rattle.viewed_soundness.specs.Holds.{is_fixed, IsNamed, AllKeep, sees_only}
 use Rattle.viewed_soundness.proofs.Outcomes.{named_plain}
-use Rattle.viewed_steps.specs.Sound.{ArePast, IsScalarObject, IsResting, HoldsAt, ArePlaced, NoneAbove, ViewStage, stages_of, GoneElsewhere, AreWaiting, IsRunning, IsSound}
+use Rattle.viewed_steps.specs.Sound.{ArePast, IsResting, HoldsAt, ArePlaced, NoneAbove, ViewStage, stages_of, GoneElsewhere, AreWaiting, IsRunning, IsSound, HasTraversals}
 use Rattle.viewed_steps.specs.Ready.{IsReady}
 use Rattle.viewed_steps.proofs.Standing as standing
 use Rattle.viewed_steps.proofs.Innermost as innermost
 use Rattle.viewed_steps.proofs.EachInstruction as each
 use Rattle.viewed_steps.proofs.Calling as calling
-use Rattle.viewed_steps.proofs.Passed.{apart_or_plain}
+use Rattle.viewed_steps.proofs.CallBegins as call_begins
+use Rattle.viewed_steps.proofs.Passed.{apart_or}
 use Rattle.place_names.specs.Reports.{Report}
 use Rattle.flow_paths.specs.Aliases as alias
 use Rattle.flow_paths.specs.Aliases.{overlap_reports}
-use Rattle.soundness.proofs.Passing.{signature_is}
 use Rattle.viewed_steps.proofs.CallEnds as ends
 use Rattle.null_places.specs.Agrees.{Agrees}
 use Rattle.null_places.specs.Compares.{Compares, ComparesIn, AreCompared}
@@ -76,6 +76,11 @@ use Rattle.viewed_nulls.proofs.Passed.{passed_wholly, back_wholly}
 use Rattle.viewed_nulls.proofs.Viewed.{viewed_premises, gives_both, IsReadyIn, viewed_values}
 use Rattle.viewed_nulls.proofs.Instructions as own_instructions
 use Rattle.viewed_steps.proofs.Views.{AreAccess, all_held}
+use Rattle.viewed_steps.proofs.Shown.{same_cells}
+use Rattle.place_names.specs.declared.act.Mode.TheVariants as mode
+use Rattle.viewed_steps.proofs.Sources.{leads_or}
+use Rattle.viewed_nulls.proofs.Sources.{call_declared_same, call_assigned_same}
+use Rattle.viewed_steps.proofs.Seeing.{open_to}
 
 -- whether the scope of an object ends
 end_or : (i : Instruction) → ((x : ℕ) × (i ≡ EndScope x)) ⊎ ((x : ℕ) → i ≡ EndScope x → ⊥)
@@ -146,7 +151,7 @@ module _ (table : Table) (typed : TypedProgram) (effects : Effects) (input : Lis
         (record {
           viewed = viewed_first;
           kept = kept;
-          holds = all_held s in_formals 0 views state.memory (λ y k view at. holds.held y k (λ fading. no_end fading.0 fading.1) view at) holds.only holds.named;
+          holds = all_held s in_formals 0 views state.memory (λ y k view at. holds.held y k (λ fading. no_end fading.0 fading.1) view at) holds.only holds.owners holds.own;
         }) only n agrees p.instr refl no_call
         (λ is. (let no : Declare x v ≡ Finish = sym e ∙ is in cc)) (λ w is. absurd (let no : Declare x v ≡ Hold w = sym e ∙ is in cc))
         (standing.fine table typed effects input ready state top [] [] named p frames of_sub at_point)
@@ -176,7 +181,8 @@ module _ (table : Table) (typed : TypedProgram) (effects : Effects) (input : Lis
       (viewed_before : Viewed (home s (suc (length rest))) (sees_only s) (known_gone (home s (suc (length rest))) (GoneElsewhere program effects (below ∷ more_frames))) views
       (view_here s state) (facts_of program effects top))
       (kept : Kept s state.memory (waiting_in state)) (scope : InScope s state.memory (suc (length rest)) (lasting_of s p.scope)) (holds : HoldsAt s (suc (length rest)) views state.memory p)
-      (placed_before : ArePlaced program (suc (length rest)) (facts_of program effects top) views p.scope × ArePast s (suc (length rest)) views (below ∷ more_frames)) (above : NoneAbove s (suc (length rest)) state.memory)
+      (placed_before : ArePlaced program (suc (length rest)) (facts_of program effects top) views p.scope × ArePast s (suc (length rest)) views (below ∷ more_frames)) (above : NoneAbove s (suc (length rest)) state.memory
+      × HasTraversals table typed (view_here s state) (record { stage = top; views = views; cells = [] } ∷ (below ∷ more_frames)))
       (only : OnlyOwners s state.memory) (n : Memory) (agrees : Agrees state.memory n) where
     abbrev outer : List Frame
     outer = below.stage.frame ∷ rest
@@ -222,7 +228,7 @@ module _ (table : Table) (typed : TypedProgram) (effects : Effects) (input : Lis
       so = record {
         viewed = innermost.viewed table typed effects input ready state top below more_frames rest named p frames deep stages running awaiting of_sub at_point path views viewed_before kept scope holds placed_before above;
         kept = kept;
-        holds = all_held s in_formals (suc (length rest)) views state.memory (λ x k view at. holds.held x k (λ fading. going fading.0 fading.1) view at) holds.only holds.named;
+        holds = all_held s in_formals (suc (length rest)) views state.memory (λ x k view at. holds.held x k (λ fading. going fading.0 fading.1) view at) holds.only holds.owners holds.own;
       }
 
       abbrev asks : Premises (steps.here main_turn)
@@ -344,20 +350,25 @@ module _ (table : Table) (typed : TypedProgram) (effects : Effects) (input : Lis
             by_test ws false = refl
 
         declares_alone : (y : ℕ) → p.instr ≡ Declare y (More (CallIn by_itself.3 by_itself.4 by_itself.5) NoMore) → Goal (Declare y (More (CallIn by_itself.3 by_itself.4 by_itself.5) NoMore))
-        declares_alone y is =
-            declared_by main_turn ready.accepted.settled ready.owns asks ready_in laws facts_now so only n agrees y (More call NoMore)
-            (call_same_value (object_at s y).of
-            (alone_value.named_object table typed effects input ready state top below more_frames rest named p frames deep stages running awaiting of_sub at_point path views viewed_before kept scope holds placed_before above going no_call by_itself y is))
+        declares_alone y is = by_view (is_anonymous (view_of s y)) refl
+          where
+            by_view : (b : Bool) → is_anonymous (view_of s y) ≡ b → Goal (Declare y (More (CallIn by_itself.3 by_itself.4 by_itself.5) NoMore))
+            by_view true view =
+                call_declared_same main_turn ready.accepted.settled ready.owns other alone in_formals views ready.class.parts_named facts_now so only n agrees
+                y by_itself.3 by_itself.4 by_itself.5 view
+            by_view false owner =
+                declared_by main_turn ready.accepted.settled ready.owns asks ready_in laws facts_now so only n agrees y (More call NoMore)
+                (call_same_value (object_at s y).of (alone_value.named_object table typed effects input ready state top below more_frames rest named p frames deep stages running awaiting of_sub at_point path views viewed_before kept scope holds placed_before above going no_call by_itself y is owner))
 
         assigns_alone : (r : Pos) (y : ℕ) (path_there : TypedTree) (u : ℕ) → p.instr ≡ Assign (Name r y path_there u) (CallIn by_itself.3 by_itself.4 by_itself.5) → has_call path_there ≡ false
-            → Goal (Assign (Name r y path_there u) (CallIn by_itself.3 by_itself.4 by_itself.5))
+            → is_anonymous (full s.table u) ≡ false → Goal (Assign (Name r y path_there u) (CallIn by_itself.3 by_itself.4 by_itself.5))
         unfolding Compares
-        assigns_alone r y path_there u is calls =
+        assigns_alone r y path_there u is calls plain_target =
             let h : Here = steps.here main_turn in
             let target : TypedTree = Name r y path_there u in
-            let own_type = alone_value.named_target table typed effects input ready state top below more_frames rest named p frames deep stages running awaiting of_sub at_point path views viewed_before kept scope holds placed_before above going no_call by_itself r y path_there u is calls end in
-            let leads = alone_value.leads_there table typed effects input ready state top below more_frames rest named p frames deep stages running awaiting of_sub at_point path views viewed_before kept scope holds placed_before above going no_call by_itself r y path_there u is calls end in
-            let allowed = alone_value.allowed_steps table typed effects input ready state top below more_frames rest named p frames deep stages running awaiting of_sub at_point path views viewed_before kept scope holds placed_before above going no_call by_itself r y path_there u is calls end in
+            let own_type = alone_value.named_target table typed effects input ready state top below more_frames rest named p frames deep stages running awaiting of_sub at_point path views viewed_before kept scope holds placed_before above going no_call by_itself r y path_there u is calls end plain_target in
+            let leads = alone_value.leads_there table typed effects input ready state top below more_frames rest named p frames deep stages running awaiting of_sub at_point path views viewed_before kept scope holds placed_before above going no_call by_itself r y path_there u is calls end plain_target in
+            let allowed = alone_value.allowed_steps table typed effects input ready state top below more_frames rest named p frames deep stages running awaiting of_sub at_point path views viewed_before kept scope holds placed_before above going no_call by_itself r y path_there u is calls end plain_target in
             let left : List (List machine.Word) = drop 1 (start main_turn).waits in
             let here_now : Now = record { memory = state.memory; waits = left } in
             let each_allowed = allows_both facts_now (acts (acts_in s path_there)) (act.Write (name_of y path_there) ∷ []) allowed in
@@ -378,11 +389,29 @@ module _ (table : Table) (typed : TypedProgram) (effects : Effects) (input : Lis
             (λ way goes. law.write left y u path_there way goes writes) j (subst (λ z. SameNow s z j) quiet_there.0 now)).0
             (λ k a b last. (refl, last)))))
 
+        -- to the whole of a view
+        assigns_view : (r : Pos) (y : ℕ) (path_there : TypedTree) (u : ℕ) → path_there ≡ NoMore → (object_at s y).of ≡ u → is_anonymous (full s.table u) ≡ true
+            → Goal (Assign (Name r y path_there u) (CallIn by_itself.3 by_itself.4 by_itself.5))
+        assigns_view r y path_there u nothing type view =
+            subst (λ z. Goal (Assign z (CallIn by_itself.3 by_itself.4 by_itself.5))) (λ j. Name r y (sym nothing j) (type j))
+            (call_assigned_same main_turn ready.accepted.settled ready.owns other alone in_formals views ready.class.parts_named facts_now so only n agrees
+            r y by_itself.3 by_itself.4 by_itself.5 (ap (λ z. is_anonymous (full s.table z)) type ∙ view))
+
+        assigns_it : (r : Pos) (y : ℕ) (path_there : TypedTree) (u : ℕ) → p.instr ≡ Assign (Name r y path_there u) (CallIn by_itself.3 by_itself.4 by_itself.5) → has_call path_there ≡ false
+            → (b : Bool) → is_anonymous (full s.table u) ≡ b → Goal (Assign (Name r y path_there u) (CallIn by_itself.3 by_itself.4 by_itself.5))
+        assigns_it r y path_there u is calls false owner = assigns_alone r y path_there u is calls owner
+        assigns_it r y path_there u is calls true view =
+            let fine = subst (IsFine s named.sub.result) is text in
+            elim (leads_or s ready.class.parts_named path_there (object_at s y).of u fine.1.0) [
+              | inr own_type ↦ absurd (let no : true ≡ false = sym view ∙ named_plain s.table u own_type in cc)
+              | inl whole ↦ assigns_view r y path_there u whole.0 whole.1 view
+            ]
+
         goes_alone : Goal p.instr
         goes_alone = elim by_itself.8 [
           | inl (y, is) ↦ subst Goal (sym is) (declares_alone y is)
           | inr more ↦ elim more [
-            | inl (r, y, path_there, u, is, calls) ↦ subst Goal (sym is) (assigns_alone r y path_there u is calls)
+            | inl (r, y, path_there, u, is, calls) ↦ subst Goal (sym is) (assigns_it r y path_there u is calls (is_anonymous (full s.table u)) refl)
             | inr is ↦ subst Goal (sym is) (by_result named.sub.result is refl (subst (IsFine s named.sub.result) is text))
           ]
         ]
@@ -432,15 +461,13 @@ module _ (table : Table) (typed : TypedProgram) (effects : Effects) (input : Lis
             (sym (calling.ways_are table typed effects input ready state top below more_frames rest named p frames deep stages running awaiting of_sub at_point path views viewed_before kept scope holds placed_before above k actuals result e))
             (calling.passed_quiet table typed effects input ready state top below more_frames rest named p frames deep stages running awaiting of_sub at_point path views viewed_before kept scope holds placed_before above k actuals result e)
 
-        no_overlap : ((r : Report) → Has (overlap_reports s (alias.passed formals actuals)) r → ⊥) ⊎ ((x : ℕ) → Has formals x → IsScalarObject s x)
+        no_overlap : ((r : Report) → Has (overlap_reports s (alias.passed formals actuals)) r → ⊥) ⊎ ((x : ℕ) → Has formals x → (object_at s x).mode ≡ mode.In)
         no_overlap =
-            apart_or_plain program effects ready.accepted.no_reports (flow_sub own named)
+            apart_or program effects (λ x. (object_at s x).mode ≡ mode.In) ready.accepted.no_reports (flow_sub own named)
             (standing.in_program table typed effects input ready state top older outer named p frames of_sub at_point) main_turn.point
             (standing.in_sub table typed effects input ready state top older outer named p frames of_sub at_point) k actuals result e
             (calling.called table typed effects input ready state top below more_frames rest named p frames deep stages running awaiting of_sub at_point path views viewed_before kept scope holds placed_before above k actuals result e).answers
-            (λ of answers x has. ready.class.functions k of answers x has
-            ((calling.called table typed effects input ready state top below more_frames rest named p frames deep stages running awaiting of_sub at_point path views viewed_before kept scope holds placed_before above k actuals result e).formals x
-            (subst (λ z. Has z x) (ap (λ (z : Signature). z.formals) (signature_is program k)) has)))
+            (λ of answers x has. ready.class.modes k of answers x has)
 
         same_there : SameTo s (all_passed (steps.here main_turn) (passings s (sub_at s k)) formals actuals (start main_turn))
             (all_passed (steps.here main_turn) (passings s (sub_at s k)) formals actuals (start (twin main_turn n)))
@@ -448,10 +475,12 @@ module _ (table : Table) (typed : TypedProgram) (effects : Effects) (input : Lis
             subst (λ z. SameTo s (all_passed (steps.here main_turn) z formals actuals (start main_turn)) (all_passed (steps.here main_turn) z formals actuals (start (twin main_turn n))))
             (sym (calling.ways_are table typed effects input ready state top below more_frames rest named p frames deep stages running awaiting of_sub at_point path views viewed_before kept scope holds placed_before above k actuals result e))
             (all_same (steps.here main_turn) ready.accepted.settled state.leaks other alone in_formals index_law ready.owns views ready.class.parts_named state.memory (waiting_in easy)
-            facts_now so_easy only (not (is_some (sub_of program k).result)) (start main_turn).waits [] facts_now [] formals actuals
+            facts_now so_easy only (calling.formals_low table typed effects input ready state top below more_frames rest named p frames deep stages running awaiting of_sub at_point path views viewed_before kept scope holds placed_before above k actuals result e) (not (is_some (sub_of program k).result)) (start main_turn).waits [] facts_now [] formals actuals
             (elim no_overlap [ inl none ↦ inl (spares_first s facts_now formals actuals none) | inr plain ↦ inr plain ])
             (calling.kinds table typed effects input ready state top below more_frames rest named p frames deep stages running awaiting of_sub at_point path views viewed_before kept scope holds placed_before above k actuals result e)
             (calling.called table typed effects input ready state top below more_frames rest named p frames deep stages running awaiting of_sub at_point path views viewed_before kept scope holds placed_before above k actuals result e).actuals_stay
+            (open_to s (suc (length rest)) views facts_now formals actuals (calling.clear_there table typed effects input ready state top below more_frames rest named p frames deep stages running awaiting of_sub at_point path views viewed_before kept scope holds placed_before above k actuals result e)
+            (calling.lows_there table typed effects input ready state top below more_frames rest named p frames deep stages running awaiting of_sub at_point path views viewed_before kept scope holds placed_before above k actuals result e))
             (calling.copied_there table typed effects input ready state top below more_frames rest named p frames deep stages running awaiting of_sub at_point path views viewed_before kept scope holds placed_before above k actuals result e)
             (takes_of plain_call (Call k actuals result) e) (subst (ComparesIn s) e compares)
             (calling.values_allowed table typed effects input ready state top below more_frames rest named p frames deep stages running awaiting of_sub at_point path views viewed_before kept scope holds placed_before above k actuals result e)
@@ -461,9 +490,11 @@ module _ (table : Table) (typed : TypedProgram) (effects : Effects) (input : Lis
         whole_there : (passed : List Passed) → Given passed → AreWhollyPassed s (suc (suc (length rest))) formals passed state.memory
         whole_there passed given =
             passed_wholly s ready.accepted.settled ready.owns in_formals (waiting_in easy) (suc (length rest)) views
-            (calling.far_views table typed effects input ready state top below more_frames rest named p frames deep stages running awaiting of_sub at_point path views viewed_before kept scope holds placed_before above k actuals result e passed given)
+            (calling.far_views table typed effects input ready state top below more_frames rest named p frames deep stages running awaiting of_sub at_point path views viewed_before kept scope holds placed_before above k actuals result e passed given) holds.only
             (calling.facts_called table typed effects input ready state top below more_frames rest named p frames deep stages running awaiting of_sub at_point path views viewed_before kept scope holds placed_before above k actuals result e)
             (calling.next_there table typed effects input ready state top below more_frames rest named p frames deep stages running awaiting of_sub at_point path views viewed_before kept scope holds placed_before above k actuals result e)
+            (calling.cells table typed effects input ready state top below more_frames rest named p frames deep stages running awaiting of_sub at_point path views viewed_before kept scope holds placed_before above k actuals result e passed given)
+            (calling.cell_begins table typed effects input ready state top below more_frames rest named p frames deep stages running awaiting of_sub at_point path views viewed_before kept scope holds placed_before above k actuals result e passed given)
             (calling.other_all table typed effects input ready state top below more_frames rest named p frames deep stages running awaiting of_sub at_point path views viewed_before kept scope holds placed_before above k actuals result e passed given) state.leaks
             formals passed
             (calling.ways_taken table typed effects input ready state top below more_frames rest named p frames deep stages running awaiting of_sub at_point path views viewed_before kept scope holds placed_before above k actuals result e passed given)
@@ -471,9 +502,14 @@ module _ (table : Table) (typed : TypedProgram) (effects : Effects) (input : Lis
             state.memory state.memory
             (calling.all_passed_ways table typed effects input ready state top below more_frames rest named p frames deep stages running awaiting of_sub at_point path views viewed_before kept scope holds placed_before above k actuals result e passed given).1
             (calling.open_there table typed effects input ready state top below more_frames rest named p frames deep stages running awaiting of_sub at_point path views viewed_before kept scope holds placed_before above k actuals result e passed given)
-            so_easy.kept so_easy.kept
+            (call_begins.at_first table typed effects input ready state top below more_frames rest named p frames deep stages running awaiting of_sub at_point path views viewed_before kept scope holds placed_before above k actuals result e passed given) so_easy.kept
+            (λ c has. (
+              (calling.named_cell table typed effects input ready state top below more_frames rest named p frames deep stages running awaiting of_sub at_point path views viewed_before kept scope holds placed_before above k actuals result e passed given c has).reaches,
+              calling.cell_aside table typed effects input ready state top below more_frames rest named p frames deep stages running awaiting of_sub at_point path views viewed_before kept scope holds placed_before above k actuals result e passed given c has,
+            ))
             (calling.well_all table typed effects input ready state top below more_frames rest named p frames deep stages running awaiting of_sub at_point path views viewed_before kept scope holds placed_before above k actuals result e passed given)
-            (calling.blank_formals table typed effects input ready state top below more_frames rest named p frames deep stages running awaiting of_sub at_point path views viewed_before kept scope holds placed_before above k actuals result e passed given) (λ o has y q p' is. refl)
+            (calling.blank_formals table typed effects input ready state top below more_frames rest named p frames deep stages running awaiting of_sub at_point path views viewed_before kept scope holds placed_before above k actuals result e passed given) (λ o has. ((λ g y q p' low is. refl), (λ c q p' there is. refl)))
+            (same_cells state.memory state.memory refl)
 
         calls_it : Goal (Call k actuals result)
         calls_it =
@@ -502,12 +538,13 @@ module _ (table : Table) (typed : TypedProgram) (effects : Effects) (input : Lis
             subst (λ z. AreStages (stages_of (below ∷ (h ∷ m))) (below.stage.frame ∷ z)) (sym same) there in
             back_wholly main_turn ready.accepted.settled ready.owns in_formals (waiting_in state) state.leaks below.stage.depth
             (ends.deep_low table typed effects input ready state top below more_frames rest named p frames deep stages running awaiting of_sub at_point path views viewed_before kept scope holds placed_before above h m stages_there waiting well still is)
-            below.views (ends.far_low table typed effects input ready state top below more_frames rest named p frames deep stages running awaiting of_sub at_point path views viewed_before kept scope holds placed_before above h m stages_there waiting well still is) (facts_of program effects below.stage) (lasting_of s waiting.0.point.scope)
+            below.views (ends.far_low table typed effects input ready state top below more_frames rest named p frames deep stages running awaiting of_sub at_point path views viewed_before kept scope holds placed_before above h m stages_there waiting well still is) waiting.0.holds.only (facts_of program effects below.stage) (lasting_of s waiting.0.point.scope)
             (ends.around_low table typed effects input ready state top below more_frames rest named p frames deep stages running awaiting of_sub at_point path views viewed_before kept scope holds placed_before above h m stages_there waiting well still is)
             (ends.free_low table typed effects input ready state top below more_frames rest named p frames deep stages running awaiting of_sub at_point path views viewed_before kept scope holds placed_before above h m stages_there waiting well still is)
             (ends.whole_low table typed effects input ready state top below more_frames rest named p frames deep stages running awaiting of_sub at_point path views viewed_before kept scope holds placed_before above h m stages_there waiting well still is)
             (ends.none_kept table typed effects input ready state top below more_frames rest named p frames deep stages running awaiting of_sub at_point path views viewed_before kept scope holds placed_before above h m stages_there waiting well still is)
-            top.frame.returns below.stage.returns state.memory waiting.0.taken kept
+            below.cells (ends.begins_low table typed effects input ready state top below more_frames rest named p frames deep stages running awaiting of_sub at_point path views viewed_before kept scope holds placed_before above h m stages_there waiting well still is)
+            top.frame.returns below.stage.returns state.memory waiting.0.taken (λ c has. ((waiting.0.kept c has).reaches, (waiting.0.kept c has).aside)) kept
             (ends.viewed_low table typed effects input ready state top below more_frames rest named p frames deep stages running awaiting of_sub at_point path views viewed_before kept scope holds placed_before above h m stages_there waiting well still is)
 
     pub main_same : SameAt state n
@@ -531,22 +568,24 @@ module _ (table : Table) (typed : TypedProgram) (effects : Effects) (input : Lis
   -- ---- each step
 
   by_stages : (state : State) (top : Stage) (views : Views) (older : List ViewStage) (fs : List Frame) → state.frames ≡ fs → AreStages (top ∷ stages_of older) fs
-      → IsRunning table typed effects state (record { stage = top; views = views }) older → AreAwaited table typed None (top ∷ stages_of older)
+      → IsRunning table typed effects state (record { stage = top; views = views; cells = [] }) older → AreAwaited table typed None (top ∷ stages_of older)
       → ControlPath (path_points program effects (sub_of program top.frame.sub)) top.before top.frame.next
       → Viewed (home s top.depth) (sees_only s) (known_gone (home s top.depth) (GoneElsewhere program effects older)) views (view_here s state) (facts_of program effects top)
       → Kept s state.memory (waiting_in state)
       → (named : NamedSub) → IsNamedSub (flow_named table typed) top.frame.sub named → (p : NamedPoint) → IsAtPoint named.points top.frame.next p
-      → InScope s state.memory top.depth (lasting_of s p.scope) → HoldsAt s top.depth views state.memory p → ArePlaced program (facts_of program effects top) views p.scope
-      → NoneAbove s top.depth state.memory → OnlyOwners s state.memory → (n : Memory) → Agrees state.memory n → SameAt state n
+      → InScope s state.memory top.depth (lasting_of s p.scope) → HoldsAt s top.depth views state.memory p
+      → ArePlaced program top.depth (facts_of program effects top) views p.scope × ArePast s top.depth views older
+      → NoneAbove s top.depth state.memory × HasTraversals table typed (view_here s state) (record { stage = top; views = views; cells = [] } ∷ older) → OnlyOwners s state.memory → (n : Memory) → Agrees state.memory n → SameAt state n
   by_stages state top views [] (f ∷ []) is (frame, deep, none) running awaiting path seen_well kept named of_sub p at_point scope holds there above only n agrees =
-      package_same state top named p (is ∙ ap (λ z. z ∷ []) (sym frame)) views running of_sub at_point path
+      package_same state top named p (is ∙ ap (λ z. z ∷ []) (sym frame)) views (running.0, running.1, running.2, running.3) of_sub at_point path
       (subst (λ d. Viewed (home s d) (sees_only s) (known_gone (home s d) (GoneElsewhere program effects [])) views (view_here s state) (facts_of program effects top)) deep seen_well) kept
       (subst (λ d. HoldsAt s d views state.memory p) deep holds) only n agrees
   by_stages state top views (below ∷ more) (f ∷ (g ∷ rest)) is (frame, deep, (around_frame, deeper, others)) running awaiting path seen_well kept named of_sub p at_point scope holds there above only n agrees =
       main_same state top below more rest named p (is ∙ (λ j. sym frame j ∷ (sym around_frame j ∷ rest))) deep (refl, deeper, others) running awaiting of_sub at_point path views
       (subst (λ d. Viewed (home s d) (sees_only s) (known_gone (home s d) (GoneElsewhere program effects (below ∷ more))) views (view_here s state) (facts_of program effects top)) deep seen_well) kept
-      (subst (λ d. InScope s state.memory d (lasting_of s p.scope)) deep scope) (subst (λ d. HoldsAt s d views state.memory p) deep holds) there
-      (subst (λ d. NoneAbove s d state.memory) deep above) only n agrees
+      (subst (λ d. InScope s state.memory d (lasting_of s p.scope)) deep scope) (subst (λ d. HoldsAt s d views state.memory p) deep holds)
+      (subst (λ d. ArePlaced program d (facts_of program effects top) views p.scope × ArePast s d views (below ∷ more)) deep there)
+      (subst (λ d. NoneAbove s d state.memory) deep above.0, above.1) only n agrees
   by_stages state top views [] [] is stages running awaiting path seen_well kept named of_sub p at_point scope holds there above only n agrees = absurd stages
   by_stages state top views [] (f ∷ (g ∷ others)) is stages running awaiting path seen_well kept named of_sub p at_point scope holds there above only n agrees = absurd stages.2
   by_stages state top views (below ∷ more) [] is stages running awaiting path seen_well kept named of_sub p at_point scope holds there above only n agrees = absurd stages
@@ -556,4 +595,4 @@ module _ (table : Table) (typed : TypedProgram) (effects : Effects) (input : Lis
   pub step_same : (state : State) → IsSound table typed effects state → OnlyOwners s state.memory → (n : Memory) → Agrees state.memory n → SameAt state n
   step_same state sound only n agrees =
       by_stages state sound.top sound.views sound.older state.frames refl sound.stages sound.running sound.awaited sound.path sound.viewed sound.kept sound.named sound.of_sub
-      sound.point sound.at_point sound.scope sound.holds sound.placed sound.none_above only n agrees
+      sound.point sound.at_point sound.scope sound.holds (sound.placed, sound.past) (sound.none_above, sound.traversals) only n agrees

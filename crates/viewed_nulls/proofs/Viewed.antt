@@ -1,17 +1,17 @@
 -- Names and expressions in programs with borrowers and observers behave as instructions ask.
-use Rattle.std.proofs.Common.{◌≡◌, refl, sym, ap, ◌∙◌, subst, inl, ℕ, Bool, true, false, List, [], ◌∷◌}
+use Rattle.std.proofs.Common.{◌≡◌, refl, sym, ap, ◌∙◌, subst, inl, ℕ, Bool, true, false, List, [], ◌∷◌, length, arith}
 use Rattle.place_names.specs.declared.act.Act.TheVariants as act
 use Rattle.place_names.specs.declared.fact.Fact.{Fact}
 use Rattle.place_names.specs.declared.rule.Loan.TheVariants.{Borrowed}
 use Rattle.place_names.specs.Names.{Name as PlaceName}
 use Rattle.type_definitions.specs.declared.table.Shape.TheVariants as shape
-use Rattle.type_definitions.specs.Types.{Table, shape_of, view_of as view_of_shape, parts}
+use Rattle.type_definitions.specs.Types.{Table, shape_of, view_of as view_of_shape, parts, components_of}
 use Rattle.typed_tree.specs.Trees.{TypedTree, Parens, Aggregate, Alike, New, More}
 use Rattle.flow_paths.specs.Objects.{Typing, object_at, is_anonymous}
 use Rattle.flow_paths.specs.Names.{name_of}
 use Rattle.flow_paths.specs.Acts.{acts_in}
 use Rattle.machine.specs.Words as machine
-use Rattle.machine.specs.Memory.{Memory, Place}
+use Rattle.machine.specs.Memory.{Memory}
 use Rattle.machine.specs.Evaluate.{Here, Now, Use, AsValue, Evaluated, Done, Raises, Traps, evaluate, steps_of, variable_place, walked}
 use Rattle.machine.specs.Evaluate as run
 use Rattle.machine.specs.States.{Waiting, Leak}
@@ -23,23 +23,25 @@ use Rattle.soundness.specs.Seen.{IsNear, content, trunk, seen, home, is_view_for
 use Rattle.soundness.specs.Typed.{OwnsByShape, Spot}
 use Rattle.soundness.specs.Sound.{goes_through_none}
 use Rattle.typed_laws.specs.Needed.{IndexLaw}
-use Rattle.soundness.proofs.Walks.{way_along, past_along, Lead, walk}
+use Rattle.soundness.proofs.Walks.{way_along, past_along, Lead}
 use Rattle.soundness.proofs.Scalars.{acts, number_along}
 use Rattle.soundness.proofs.Lasting.{keeps}
 use Rattle.owned_loans.specs.Views.{Around, Views, expand, ExcusedBy}
 use Rattle.owned_loans.proofs.Safe.{Open, OpenWhole}
 use Rattle.owned_loans.proofs.Allowed.{read_open, look_open, look_whole, move_open, move_unlent, move_unmoved, write_open, free_open, free_whole}
 use Rattle.viewed_soundness.specs.Taken.{GivesPlainly}
-use Rattle.viewed_soundness.specs.Holds.{is_fixed, IsNamed, PartsAreNamed, AllKeep, sees_only, IsOwners}
-use Rattle.viewed_soundness.proofs.Names.{Starts, name_walked}
-use Rattle.viewed_soundness.proofs.Stays.{Goes, taking, steps_taking}
+use Rattle.viewed_soundness.specs.Holds.{is_fixed, IsNamed, PartsAreNamed, AllKeep, IsOwners}
+use Rattle.viewed_soundness.proofs.Names.{Starts, name_walked, free_sees, free_formal}
+use Rattle.viewed_soundness.proofs.Stays.{Goes, taking, steps_taking, no_selectors}
 use Rattle.viewed_soundness.proofs.Evaluated.{keep_both, matches_named, part_named, Ready, GivenOn, live_trunk, evaluated_on}
 use Rattle.null_places.proofs.Only.{OnlyOwners}
-use Rattle.null_places.proofs.Walks.{walk_same}
+use Rattle.viewed_nulls.proofs.Led.{owners_same}
+use Rattle.viewed_soundness.proofs.Walks.{walk}
 use Rattle.null_places.proofs.Direct.{has_deref, past_deref, selectors_direct}
-use Rattle.null_places.proofs.Laws.{Premises, LeadsSame, LeadsWhole, Behaves, GivenBy, Values}
+use Rattle.null_places.proofs.Laws.{Premises, LeadsSame, LeadsWhole, Behaves, GivenBy, Values, IsMovableAt, Finds}
 use Rattle.viewed_nulls.proofs.Names.{name_same, found_at, view_whole, access_found, owner_found}
 use Rattle.viewed_steps.proofs.Views.{AreAccess}
+use Rattle.machine.specs.Words.{count_of}
 
 -- the type of a view
 pub anonymous_access : (c : Bool) → is_anonymous (view_of_shape (shape.Access 0 c false)) ≡ true
@@ -96,7 +98,7 @@ direct_lead table t u (run.ToElement n ∷ way) w direct lead = lead
 direct_lead table t u (run.ToDesignated ∷ way) w direct lead = absurd (direct w (past_along w (All w) way (under_itself w)))
 
 module _ (h : Here) (settled : IsSettled h.typing.table) (leaks : List Leak) (other : Around (home h.typing h.frame))
-    (alone : (w : Way) → IsNear h.frame w → other.gone w → ⊥) (no_formals : (x : ℕ) → is_view_formal h.typing x ≡ false) (index_law : IndexLaw)
+    (alone : (w : Way) → IsNear h.frame w → other.gone w → ⊥) (in_formals : AreAccess h.typing) (index_law : IndexLaw)
     (own_law : OwnsByShape h.typing.table) (v : Views) (parts_named : PartsAreNamed h.typing.table) where
   abbrev pub IsReadyIn : Memory → List Waiting → List Fact → Type 0
   IsReadyIn m hands facts = Ready h settled leaks [] other alone (keeps h.typing settled own_law) index_law own_law v parts_named m hands facts
@@ -115,9 +117,6 @@ module _ (h : Here) (settled : IsSettled h.typing.table) (leaks : List Leak) (ot
     live : (w : Way) (l : Loc) → IsOwners h.typing w → Reaches (seen h.typing m hands leaks) w l → (content h.typing m hands (trunk l)).owns ≡ true
     live = live_trunk h settled leaks [] other alone (keeps h.typing settled own_law) index_law own_law v parts_named m hands ready.viewed.owned
 
-    live_rooted : (w : Way) (l : Loc) → IsRooted w → Reaches (seen h.typing m hands leaks) w l → (content h.typing m hands (trunk l)).owns ≡ true
-    live_rooted w l rooted reaches = live w l (all_owners h.typing no_formals w rooted) reaches
-
     abbrev Along : ℕ → ℕ → TypedTree → List run.Step → Type 0
     Along x t steps way = Goes h.typing.table (object_at h.typing x).of t steps way
 
@@ -135,22 +134,22 @@ module _ (h : Here) (settled : IsSettled h.typing.table) (leaks : List Leak) (ot
         → P (ways.name_of (way_along way (variable x)))
     of_way x t steps way goes P mine = subst P (sym (called x t steps way goes)) mine
 
-    leads : (on : List (List machine.Word)) (x t : ℕ) (steps : TypedTree) (way : List run.Step) → Along x t steps way → Open facts (way_along way (variable x))
+    pub leads : (on : List (List machine.Word)) (x t : ℕ) (steps : TypedTree) (way : List run.Step) → Along x t steps way → Open facts (way_along way (variable x))
         → Same on x t way
     leads on x t steps way goes opens = (
-      found_at h settled hands leaks m on other facts v ready.kept ready.viewed ready.holds alone live only no_formals (expand v (way_along way (variable x))) t
+      found_at h settled hands leaks m on other facts v ready.kept ready.viewed ready.holds alone live only in_formals (expand v (way_along way (variable x))) t
           (walked h.typing way (variable_place h x) (at on))
           (name_walked h settled hands leaks m on other facts v ready.kept ready.viewed ready.holds alone live x t way goes.lead (λ e. opens)),
-      name_same h settled hands leaks m on other facts v ready.kept ready.viewed ready.holds alone live only no_formals x t way goes.lead (λ e. opens),
+      name_same h settled hands leaks m on other facts v ready.kept ready.viewed ready.holds alone live only in_formals x t way goes.lead (λ e. opens),
     )
 
     -- an access value of a named type
-    leads_access : (on : List (List machine.Word)) (x t : ℕ) (steps : TypedTree) (way : List run.Step) → Along x t steps way → (d : ℕ) (c : Bool)
+    pub leads_access : (on : List (List machine.Word)) (x t : ℕ) (steps : TypedTree) (way : List run.Step) → Along x t steps way → (d : ℕ) (c : Bool)
         → shape_of h.typing.table t ≡ shape.Access d c true → Open facts (way_along way (variable x)) → OpenWhole facts (way_along way (variable x)) → Whole on x t way
     leads_access on x t steps way goes d c is opens whole = (
-      access_found h settled hands leaks m on other facts v ready.kept ready.viewed ready.holds alone live only no_formals index_law own_law parts_named x t d c way goes.lead is
+      access_found h settled hands leaks m on other facts v ready.kept ready.viewed ready.holds alone live only in_formals index_law own_law parts_named x t d c way goes.lead is
           (λ e. opens) (λ e. whole),
-      name_same h settled hands leaks m on other facts v ready.kept ready.viewed ready.holds alone live only no_formals x t way goes.lead (λ e. opens),
+      name_same h settled hands leaks m on other facts v ready.kept ready.viewed ready.holds alone live only in_formals x t way goes.lead (λ e. opens),
     )
 
     look_at : (on : List (List machine.Word)) (x t : ℕ) (steps : TypedTree) (way : List run.Step) → Along x t steps way → (d : ℕ) (c n : Bool)
@@ -160,9 +159,9 @@ module _ (h : Here) (settled : IsSettled h.typing.table) (leaks : List Leak) (ot
         leads_access on x t steps way goes d c is (look_open facts (way_along way (variable x)) mine) (look_whole facts (way_along way (variable x)) mine)
     look_at on x t steps way goes d c false is looks =
         let opens = look_open facts (way_along way (variable x)) (of_way x t steps way goes (λ z. Allows facts (act.Look z)) looks) in (
-          view_whole h settled hands leaks m on other facts v ready.kept ready.viewed ready.holds alone live only no_formals x t way goes.lead
+          view_whole h settled hands leaks m on other facts v ready.kept ready.viewed ready.holds alone live only in_formals x t way goes.lead
               (ap (λ z. is_anonymous (view_of_shape z)) is ∙ anonymous_access c) (λ e. opens),
-          name_same h settled hands leaks m on other facts v ready.kept ready.viewed ready.holds alone live only no_formals x t way goes.lead (λ e. opens),
+          name_same h settled hands leaks m on other facts v ready.kept ready.viewed ready.holds alone live only in_formals x t way goes.lead (λ e. opens),
         )
 
     free_at : (on : List (List machine.Word)) (x t : ℕ) (steps : TypedTree) (way : List run.Step) → Along x t steps way → (d : ℕ)
@@ -172,35 +171,53 @@ module _ (h : Here) (settled : IsSettled h.typing.table) (leaks : List Leak) (ot
         leads_access on x t steps way goes d false is (free_open facts (way_along way (variable x)) mine) (free_whole facts (way_along way (variable x)) mine)
 
     move_at : (on : List (List machine.Word)) (x t : ℕ) (steps : TypedTree) (way : List run.Step) → Along x t steps way
-        → Allows facts (act.Move (name_of x steps) (parts h.typing.table t)) → sees_only h.typing x ≡ false → Whole on x t way
-    move_at on x t steps way goes moves plain =
+        → Allows facts (act.Move (name_of x steps) (parts h.typing.table t)) → is_fixed h.typing (name_of x steps) ≡ false
+        → Finds h (viewed_premises h parts_named) m hands facts on x way (IsMovableAt h (viewed_premises h parts_named) m hands facts t)
+    move_at on x t steps way goes moves free =
         let u : Way = way_along way (variable x) in
         let mine = of_way x t steps way goes (λ z. Allows facts (act.Move z (parts h.typing.table t))) moves in
         let opens = move_open facts u (parts h.typing.table t) mine in (
-          owner_found h settled hands leaks m on other facts v ready.kept ready.viewed ready.holds alone live only no_formals index_law own_law parts_named x t way goes.lead plain
+          owner_found h settled hands leaks m on other facts v ready.kept ready.viewed ready.holds alone live only in_formals index_law own_law parts_named x t way goes.lead (free_sees h.typing (name_of x steps) free)
+              (λ formal none. free_formal h.typing (name_of x steps) free formal (no_selectors h.typing.table (object_at h.typing x).of t steps way goes none))
               (λ e. opens) (λ b n has over. move_unlent facts u (parts h.typing.table t) mine Borrowed b n has over) (move_unmoved facts u (parts h.typing.table t) mine),
-          name_same h settled hands leaks m on other facts v ready.kept ready.viewed ready.holds alone live only no_formals x t way goes.lead (λ e. opens),
+          name_same h settled hands leaks m on other facts v ready.kept ready.viewed ready.holds alone live only in_formals x t way goes.lead (λ e. opens),
         )
 
     -- one that goes through no access value
     direct_at : (on : List (List machine.Word)) (x t : ℕ) (steps : TypedTree) (way : List run.Step) → Along x t steps way → goes_through_none steps ≡ true → Same on x t way
-    direct_at on x t steps way goes direct =
-        let l : Loc = OfRoot (OfVariable (home h.typing h.frame x) x) in
-        let k : Place = variable_place h x in
-        let spot : Spot h.typing m hands k l = record { base = refl; made = tt; at = refl; there = refl; of = inl refl } in
-        let lead = direct_lead h.typing.table (object_at h.typing x).of t way (variable x) nothing_past goes.lead in
-        let moved : Way → Type 0 = ExcusedBy (home h.typing h.frame) v other facts in (
-          found_at h settled hands leaks m on other facts v ready.kept ready.viewed ready.holds alone live only no_formals (way_along way (variable x)) t (walked h.typing way k (at on))
-              (walk h.typing settled hands leaks m on moved ready.kept ready.viewed.owned ready.viewed.known live_rooted way k l (variable x) t spot tt refl lead
-              (λ z past gone. nothing_past z past)),
-          walk_same h.typing settled hands leaks m on moved ready.kept ready.viewed.owned ready.viewed.known live_rooted only way k l (variable x) t spot tt refl lead
-              (λ z past gone. nothing_past z past),
-        )
+    direct_at on x t steps way goes direct = by_kind (is_view_formal h.typing x) refl
       where
         nothing_past : (z : Way) → Past z (way_along way (variable x)) → ⊥
         nothing_past z past =
             let none : has_deref (ways.sels_of (way_along way (variable x))) ≡ false = ap has_deref (goes.sels (variable x)) ∙ selectors_direct steps direct in
             let no : true ≡ false = sym (past_deref z (way_along way (variable x)) past) ∙ none in cc
+
+        spot : Spot h.typing m hands (variable_place h x) (OfRoot (OfVariable (home h.typing h.frame x) x))
+        spot = record { base = refl; made = tt; at = refl; there = refl; of = inl refl }
+
+        -- a formal that owns nothing is of an access type, so it is the whole of it
+        itself : (way : List run.Step) → is_view_formal h.typing x ≡ true → ((z : Way) → Past z (way_along way (variable x)) → ⊥)
+            → Starts h.typing.table (object_at h.typing x).of way t → Same on x t way
+        itself [] formal nothing starts = ((refl, (OfRoot (OfVariable (home h.typing h.frame x) x), spot, starts)), λ n' same. (refl, same))
+        itself (run.ToComponent i ∷ rest) formal nothing (less, lead) =
+            (let none = ap (λ z. length (components_of z)) ((in_formals x formal).0).3 in absurd (omega (arith, none, less)))
+        itself (run.ToElement n ∷ rest) formal nothing (less, lead) = (let none = ap count_of ((in_formals x formal).0).3 in absurd (omega (arith, none, less)))
+        itself (run.ToDesignated ∷ rest) formal nothing starts = absurd (nothing (variable x) (past_along (variable x) (All (variable x)) rest (under_itself (variable x))))
+
+        moved : Way → Type 0
+        moved = ExcusedBy (home h.typing h.frame) v other facts
+
+        by_kind : (b : Bool) → is_view_formal h.typing x ≡ b → Same on x t way
+        by_kind true formal = itself way formal nothing_past goes.lead
+        by_kind false owner =
+            let lead = direct_lead h.typing.table (object_at h.typing x).of t way (variable x) nothing_past goes.lead in (
+              found_at h settled hands leaks m on other facts v ready.kept ready.viewed ready.holds alone live only in_formals (way_along way (variable x)) t
+                  (walked h.typing way (variable_place h x) (at on))
+                  (walk h.typing settled hands leaks m on moved ready.kept ready.viewed.owned ready.viewed.known live way (variable_place h x)
+                  (OfRoot (OfVariable (home h.typing h.frame x) x)) (variable x) t spot owner refl lead (λ z past gone. nothing_past z past)),
+              owners_same h.typing settled hands leaks m on moved ready.kept ready.viewed.owned ready.viewed.known live only way (variable_place h x)
+                  (OfRoot (OfVariable (home h.typing h.frame x) x)) (variable x) t spot owner refl lead (λ z past gone. nothing_past z past),
+            )
 
     -- ---- all together
 

@@ -42,6 +42,7 @@ use Rattle.viewed_steps.proofs.LaidOut.{IsValueLaid, IsOwnPut, IsPlainAt, IsPlac
 use Rattle.viewed_steps.proofs.Entered.{inside_plain, inside_named, inside_number}
 use Rattle.viewed_steps.proofs.Released.{nothing_written}
 use Rattle.viewed_steps.proofs.Called as called
+use Rattle.viewed_steps.proofs.Puts as puts
 use Rattle.viewed_steps.proofs.Called.{way_to, neither}
 
 module _ (h : Here) (settled : IsSettled h.typing.table) (hands : List Waiting) (leaks : List Leak) (m : Memory) (waits : List (List machine.Word))
@@ -61,7 +62,7 @@ module _ (h : Here) (settled : IsSettled h.typing.table) (hands : List Waiting) 
   ways_of = called.ways_of h settled hands leaks m waits other facts v kept well holds alone live in_formals index_law own_law parts_named formals_low procedure
 
   abbrev plain_type_at : (e : TypedTree) (k : Place) → IsPlainAt h.typing h.frame v (seen h.typing m hands leaks) e k → is_scalar (full h.typing.table k.of) ≡ true
-  plain_type_at = called.plain_type_at h settled hands leaks m waits other facts v kept well holds alone live in_formals index_law own_law parts_named formals_low procedure
+  plain_type_at = puts.plain_type_at h settled hands leaks m waits other facts v kept well holds alone live in_formals index_law own_law parts_named formals_low procedure
 
   abbrev IsPlaceGiven : ℕ → TypedTree → Place → Type 0
   IsPlaceGiven = called.IsPlaceGiven h settled hands leaks m waits other facts v kept well holds alone live in_formals index_law own_law parts_named formals_low procedure

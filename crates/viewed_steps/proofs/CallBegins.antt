@@ -80,7 +80,7 @@ use Rattle.viewed_steps.proofs.Packages as packages
 use Rattle.viewed_steps.proofs.Innermost as innermost
 use Rattle.viewed_steps.proofs.Views.{AreAccess, AreFar, formal_view, anonymous_view, scalar_no_view, view_cases}
 use Rattle.viewed_steps.proofs.Shown.{same_cells}
-use Rattle.viewed_steps.proofs.Exclusive.{AreLent, IsFrom, from_past, from_far, from_apart, from_place}
+use Rattle.viewed_steps.proofs.Exclusive.{second_true, AreLent, IsFrom, from_past, from_far, from_apart, from_place}
 use Rattle.viewed_steps.proofs.Opening.{Opens, all_opened, low_of, opened_from, opened_views, opened_whole, opened_lies, opened_held, opened_placed}
 use Rattle.viewed_steps.proofs.Calling as calling
 use Rattle.viewed_steps.proofs.Bared.{taken_bare}
@@ -359,7 +359,7 @@ module _ (table : Table) (typed : TypedProgram) (effects : Effects) (input : Lis
         leaks_same : leaks_then ≡ state.leaks ++ flat_map (λ (leaks : List Leak). leaks) checks_there
         leaks_same = ap (λ z. state.leaks ++ z) (sym (found_there s ready.accepted.settled depth views view_now main_turn.point.pos state.memory formals actuals passed laid))
 
-        at_first : AtFirst s ready.accepted.settled ready.owns in_formals (waiting_in easy.state) depth views far_views holds.only facts_called next_there cells cell_begins state.memory
+        pub at_first : AtFirst s ready.accepted.settled ready.owns in_formals (waiting_in easy.state) depth views far_views holds.only facts_called next_there cells cell_begins state.memory
         at_first = record { typed = (viewed_easy plain_there.0).1; leaks = state.leaks; owned = well_all.owned; there = λ c has. (named_cell c has).reaches }
 
         enters : Enter s ready.accepted.settled ready.owns in_formals (waiting_in easy.state) depth views far_views holds.only facts_called next_there cells cell_begins other_all state.leaks leaks_then formals passed ways_taken
@@ -762,10 +762,6 @@ module _ (table : Table) (typed : TypedProgram) (effects : Effects) (input : Lis
             formal_lasts : (k : ObjectKind) → is_formal_kind k ≡ true → is_temporary k ≡ false
             formal_lasts object_kind.Formal is = refl
             formal_lasts k is = cc
-
-            second_true : (a b : Bool) → a && b ≡ true → b ≡ true
-            second_true true b is = is
-            second_true false b is = cc
 
             -- no formal is of an anonymous type
             formal_only : (x : ℕ) → Has formals x → is_view s x ≡ true → is_view_formal s x ≡ true

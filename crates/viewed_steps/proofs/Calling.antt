@@ -1,8 +1,7 @@
 -- A call leads on, in the frame of what is called.
 use Rattle.place_names.specs.Facts.{adds}
 use Rattle.spark_base.proofs.Lists.{Has-map_from}
-use Rattle.std.proofs.Common.{◌≡◌, refl, sym, ap, ◌∙◌, subst, ◌⊎◌, inl, inr, ℕ, suc, ◌<◌, true, false, ◌==◌, List, [], ◌∷◌, ◌++◌, map, take, drop, length, arith, Option, Some, None, is_some, Bool, not, ◌||◌, ◌&&◌}
-use Rattle.std.specs.Prelude.{is_some}
+use Rattle.std.proofs.Common.{◌≡◌, refl, sym, ap, ◌∙◌, subst, ◌⊎◌, inl, inr, ℕ, suc, ◌<◌, true, false, ◌==◌, List, [], ◌∷◌, ◌++◌, take, drop, length, arith, Option, Some, None, Bool, ◌||◌}
 use Rattle.spark_base.specs.Lists.{Has}
 use Rattle.spark_base.proofs.Lists.{Has-map_from, Has-append_right}
 use Rattle.place_names.specs.declared.act.Act.{Act}
@@ -15,31 +14,30 @@ use Rattle.place_names.specs.declared.rule.Loan.TheVariants.{Observed}
 use Rattle.place_names.specs.Names.{Name as PlaceName, overlaps}
 use Rattle.place_names.specs.declared.act.Mode.TheVariants as mode
 use Rattle.type_definitions.specs.Types.{Table, full, is_scalar, is_owning}
-use Rattle.typed_tree.specs.Trees.{TypedTree, Name, NoMore, More}
+use Rattle.typed_tree.specs.Trees.{TypedTree}
 use Rattle.typed_tree.specs.Programs.{TypedProgram}
 use Rattle.flow_paths.specs.declared.report.Effects.{Effects}
-use Rattle.flow_paths.specs.Instructions.{Instruction, Call, EndScope, Declare, Assign, Hold}
-use Rattle.flow_paths.specs.Objects.{Typing, object_at, sub_at, is_anonymous, is_package_object, view_of, traverses, passings, Passing, Signature, passing, is_observer, is_formal}
+use Rattle.flow_paths.specs.Instructions.{Instruction, Call}
+use Rattle.flow_paths.specs.Objects.{Typing, object_at, sub_at, is_anonymous, is_package_object, view_of, traverses, passings, Passing}
 use Rattle.place_names.specs.Facts.{adds}
 use Rattle.place_names.specs.Reports.{Report}
 use Rattle.flow_paths.specs.Aliases.{overlap_reports, passed_reports, call_reports}
 use Rattle.flow_paths.specs.Aliases as alias
-use Rattle.flow_paths.specs.Acts as flow
 use Rattle.flow_paths.specs.Points.{NamedPoint}
 use Rattle.flow_paths.specs.Laid.{FlowSub, FlowProgram, NamedSub, flow_sub, typing_of, flow_typing, flow_program, flow_named}
-use Rattle.flow_paths.specs.Paths.{is_some_point, ControlPath, facts_before}
-use Rattle.flow_paths.specs.Effects.{flow_sub_at, path_points, globals_of, called_acts}
+use Rattle.flow_paths.specs.Paths.{ControlPath, facts_before}
+use Rattle.flow_paths.specs.Effects.{path_points, globals_of}
 use Rattle.flow_paths.specs.Scopes.{taken, brought, scope_behind, is_within, Leads}
 use Rattle.machine.specs.Words as machine
 use Rattle.machine.specs.Memory as memory
 use Rattle.machine.specs.Memory.{Memory, Place}
-use Rattle.machine.specs.Evaluate.{Now, Exception}
-use Rattle.machine.specs.States.{Frame, State, sub_of, Outcome}
+use Rattle.machine.specs.Evaluate.{Now}
+use Rattle.machine.specs.States.{Frame, State, sub_of}
 use Rattle.machine.specs.Step.{Turn, turn, start, led, successor}
 use Rattle.machine.specs.Step as steps
 use Rattle.machine.specs.Typed.{successors}
 use Rattle.machine.specs.Calls.{Passed, all_passed}
-use Rattle.machine.specs.Owners.{is_in_formal, waiting_in, is_in}
+use Rattle.machine.specs.Owners.{waiting_in}
 use Rattle.place_names.specs.declared.act.Mode.TheVariants as mode
 use Rattle.owned_ways.specs.Ways.{Step, Way, after, AllowsAll, Past}
 use Rattle.owned_ways.specs.Ways as ways
@@ -49,15 +47,14 @@ use Rattle.owned_ways.proofs.Named.{longer}
 use Rattle.owned_ways.proofs.Dropped.{named_base}
 use Rattle.soundness.proofs.Contents.{word_root}
 use Rattle.soundness.specs.Typed.{Kept}
-use Rattle.soundness.specs.Sound.{Stage, facts_of, AreStages, Uses, IsRunnable, returns_value, InScope, IsNamedSub, IsAtPoint, view_of as view_here}
+use Rattle.soundness.specs.Sound.{Stage, facts_of, AreStages, Uses, IsRunnable, InScope, IsNamedSub, IsAtPoint, view_of as view_here}
 use Rattle.soundness.proofs.Stays.{Quiet}
 use Rattle.soundness.proofs.Numbers.{index_law}
-use Rattle.soundness.proofs.Lasting.{keeps}
-use Rattle.soundness.proofs.Passing.{AreReads, reads_keep, TakesAll, takes_each, signature_is}
+use Rattle.soundness.proofs.Passing.{AreReads, reads_keep, TakesAll, takes_each}
 use Rattle.soundness.proofs.Scalars.{acts, acts_append, after_append, allows_both}
 use Rattle.soundness.proofs.Points.{sub_in_range, one_named, one_point}
 use Rattle.soundness.proofs.Inherited.{AreGlobal, global_after, global_allowed, global_apart}
-use Rattle.soundness.proofs.Used.{used_global, called_are, globals_are, added_after, fact_added}
+use Rattle.soundness.proofs.Used.{used_global, globals_are, added_after}
 use Rattle.soundness.proofs.Around.{IsFar}
 use Rattle.soundness.proofs.Taking.{Takes}
 use Rattle.soundness.proofs.Eased.{eased}
@@ -69,20 +66,18 @@ use Rattle.owned_loans.proofs.Meeting.{stands}
 use Rattle.owned_loans.proofs.Moves.{expand_under}
 use Rattle.owned_loans.proofs.Meeting.{stands}
 use Rattle.viewed_soundness.proofs.Names.{true_false, owner_sees}
-use Rattle.viewed_soundness.specs.Holds.{Holds, is_view, sees_only, IsOwners, is_exclusive, AllKeep, is_fixed}
-use Rattle.viewed_soundness.proofs.Given.{IsLow}
-use Rattle.viewed_soundness.proofs.Evaluated.{live_trunk, keep_both}
+use Rattle.viewed_soundness.specs.Holds.{Holds, is_view, sees_only, IsOwners}
 use Rattle.soundness.specs.Ready.{IsSupplied, Fills}
-use Rattle.viewed_steps.specs.Awaited.{AreValuesBut, temporaries_of, lasting_of, awaited, WaitsAt, AreAwaited, AreScalar, FillsTyped, TakesScalars, IsTakenBy}
+use Rattle.viewed_steps.specs.Awaited.{AreValuesBut, temporaries_of, lasting_of, awaited, WaitsAt, AreAwaited, AreScalar, FillsTyped, TakesScalars}
 use Rattle.viewed_steps.proofs.Waited.{late_scope, within_lasting, lasting_more, Shares}
-use Rattle.viewed_steps.specs.Sound.{IsCopiedBack, ArePast, HoldsAt, ArePlaced, NoneAbove, ViewStage, stages_of, GoneElsewhere, Disturbs, AreWaiting, LeadsAlong, IsResting, IsKindOfFormal, IsScalarObject, HasTraversals, LendsShared, AreShownOwn}
+use Rattle.viewed_steps.specs.Sound.{IsCopiedBack, ArePast, HoldsAt, ArePlaced, NoneAbove, ViewStage, stages_of, GoneElsewhere, Disturbs, AreWaiting, IsResting, IsKindOfFormal, IsScalarObject, HasTraversals}
 use Rattle.viewed_steps.specs.Ready.{IsReady, roots_passed, IsCalled}
 use Rattle.viewed_steps.specs.Taken.{Lodge, IsPassedOn}
-use Rattle.viewed_steps.proofs.Lent.{Spare, spare_both, loans_stay}
+use Rattle.viewed_steps.proofs.Lent.{Spare, loans_stay}
 use Rattle.viewed_steps.proofs.Placed.{within_on, lasts_more, scope_on, placed_on}
 use Rattle.viewed_steps.proofs.Waiting.{StandsBetween, gone_low, beside_them, handed}
 use Rattle.viewed_steps.proofs.Between.{gone_also, more_gone, base_along, base_under, same_variable, not_named, IsHomed, homed_apart, number_based}
-use Rattle.viewed_steps.proofs.Called.{AreGiven, all_given, values_are_read, call_adds_none, passes_to, spare_reads, spare_copies}
+use Rattle.viewed_steps.proofs.Called.{AreGiven, all_given, call_adds_none}
 use Rattle.viewed_steps.proofs.Acted.{all_laid_out, all_acted}
 use Rattle.viewed_steps.proofs.Outside.{IsSpared, gone_clear}
 use Rattle.viewed_steps.proofs.Globals.{copied_act, passed_unused}
@@ -92,21 +87,19 @@ use Rattle.viewed_steps.proofs.Aside.{names_off}
 use Rattle.viewed_steps.proofs.LaidOut.{AreLaidOut, outs_of, cells_of, AreOpenActuals}
 use Rattle.viewed_steps.proofs.Outs.{Out, IsUnderOne}
 use Rattle.viewed_steps.proofs.Entered.{ArePassedOn, IsOpen, AreBlank, not_above, passed_base, outs_taken, inside_plain, inside_named, inside_number, inside_itself, passed_one, from_taken, passed_pair}
-use Rattle.viewed_steps.proofs.Passed.{IsNamedBy, all_passed_on, apart_or, apart_there}
-use Rattle.viewed_steps.proofs.Cells.{passed_apart, passed_formal, are_kept, all_in, all_open, IsCellNamed, named_before, cells_named}
+use Rattle.viewed_steps.proofs.Passed.{IsNamedBy, all_passed_on, apart_or}
+use Rattle.viewed_steps.proofs.Cells.{passed_apart, passed_formal, IsCellNamed, named_before, cells_named}
 use Rattle.viewed_steps.proofs.Standing.{or_right}
 use Rattle.viewed_steps.proofs.Uses.{lent_spared}
 use Rattle.viewed_steps.proofs.Standing as standing
 use Rattle.viewed_steps.proofs.Packages as packages
 use Rattle.viewed_steps.proofs.Innermost as innermost
-use Rattle.viewed_steps.proofs.Views.{AreAccess, AreFar, all_held, lies_far, not_elsewhere, base_named}
-use Rattle.viewed_steps.proofs.Seeing.{AreClear, IsLowRoot, AreLowRoots, open_to}
-use Rattle.viewed_steps.proofs.Roots.{view_goes}
-use Rattle.soundness.specs.Ready.{root_of}
-use Rattle.viewed_steps.proofs.Clear.{all_clear}
-use Rattle.viewed_steps.proofs.Exclusive.{first_true, second_true, mode_in, sees_shown, AreLent, are_lent, lent_clears}
+use Rattle.viewed_steps.proofs.Views.{AreAccess, AreFar, lies_far, base_named}
+use Rattle.viewed_steps.proofs.Seeing.{AreClear, AreLowRoots, open_to}
+use Rattle.viewed_steps.proofs.Exclusive.{AreLent}
 use Rattle.owned_ways.proofs.Unique.{one_way}
 use Rattle.viewed_steps.proofs.Bared.{not_before}
+use Rattle.viewed_steps.proofs.CallActs as acting
 
 module _ (table : Table) (typed : TypedProgram) (effects : Effects) (input : List ℕ) (ready : IsReady table typed effects) where
   abbrev program : FlowProgram
@@ -126,13 +119,6 @@ module _ (table : Table) (typed : TypedProgram) (effects : Effects) (input : Lis
 
   abbrev unmoved_stage : (e : Stage) → e.frame.sub ≡ 0 → (name : PlaceName) → Has (facts_of program effects e) (Moved name) → ⊥
   unmoved_stage = packages.unmoved_stage table typed effects input ready
-
-  abbrev first_point : (k : ℕ) (named : NamedSub) → IsNamedSub (flow_named table typed) k named → (p : NamedPoint) (rest : List NamedPoint) → named.points ≡ p ∷ rest
-      → is_some_point (path_points program effects (sub_of program k))
-  first_point = packages.first_point table typed effects input ready
-
-  abbrev blank_views : Views
-  blank_views = record { way = λ x. None; loan = λ x. ways.Lost 0; up = λ x. ways.Lost 0; cell = λ x. 0 }
 
   module _ (state : State) (top : Stage) (below : ViewStage) (more_frames : List ViewStage) (rest : List Frame) (named : NamedSub) (p : NamedPoint)
       (frames : state.frames ≡ top.frame ∷ (below.stage.frame ∷ rest)) (deep : top.depth ≡ suc (length rest))
@@ -176,22 +162,6 @@ module _ (table : Table) (typed : TypedProgram) (effects : Effects) (input : Lis
     abbrev facts_now : List Fact
     facts_now = own_facts ++ handed_on
 
-    abbrev acts_of_main : Instruction → List Act
-    acts_of_main i = standing.acts_here table typed effects input ready state top older outer named p frames of_sub at_point i
-
-    abbrev sub_at_all : flow_sub_at program top.frame.sub ≡ flow_sub own named
-    sub_at_all = innermost.sub_at_all table typed effects input ready state top below more_frames rest named p frames deep stages running awaiting of_sub at_point path views viewed_before kept scope holds placed_before above
-
-    abbrev sub_less : top.frame.sub < length program.subs
-    sub_less = innermost.sub_less table typed effects input ready state top below more_frames rest named p frames deep stages running awaiting of_sub at_point path views viewed_before kept scope holds placed_before above
-
-    abbrev allowed_now : Spare s (standing.acts_by table typed effects input ready state top older outer named p frames of_sub at_point s p.instr) → AllowsAll own_facts (acts_of_main p.instr)
-        → AllowsAll facts_now (acts_of_main p.instr)
-    allowed_now = innermost.allowed_now table typed effects input ready state top below more_frames rest named p frames deep stages running awaiting of_sub at_point path views viewed_before kept scope holds placed_before above
-
-    abbrev viewed : Viewed (home s depth) (sees_only s) other views (view_here s state) facts_now
-    viewed = innermost.viewed table typed effects input ready state top below more_frames rest named p frames deep stages running awaiting of_sub at_point path views viewed_before kept scope holds placed_before above
-
     abbrev apart_from_them : (done : List Act) (v : Views) (view : ways.View) → ((x : ℕ) (w : Way) → v.way x ≡ Some w → is_view s x ≡ true)
         → Viewed (home s depth) (sees_only s) other v view (after done facts_now)
         → Viewed (home s depth) (sees_only s) (known_gone (home s depth) (GoneElsewhere program effects older)) v view (after done own_facts)
@@ -214,9 +184,6 @@ module _ (table : Table) (typed : TypedProgram) (effects : Effects) (input : Lis
 
     abbrev Plain : Type 0
     Plain = AreScalar s (temporaries_of s (take (taken p.instr) p.scope))
-
-    abbrev plain_here : ((call : TypedTree) → IsTakenBy p.instr call → ⊥) → Plain × TakesScalars s p.instr
-    plain_here = innermost.plain_here table typed effects input ready state top below more_frames rest named p frames deep stages running awaiting of_sub at_point path views viewed_before kept scope holds placed_before above
 
     abbrev named_there : Has (flow_named table typed) named
     named_there = innermost.named_there table typed effects input ready state top below more_frames rest named p frames deep stages running awaiting of_sub at_point path views viewed_before kept scope holds placed_before above
@@ -244,248 +211,87 @@ module _ (table : Table) (typed : TypedProgram) (effects : Effects) (input : Lis
     abbrev inside_left : Inside s IsOld state.memory depth (lasting_of s left_scope)
     inside_left = innermost.inside_left table typed effects input ready state top below more_frames rest named p frames deep stages running awaiting of_sub at_point path views viewed_before kept scope holds placed_before above
 
-    abbrev others_await : returns_value p.instr ≡ false → AreAwaited table typed (awaited (sub_of program top.frame.sub) (top.frame.next ∷ top.before)) (stages_of older)
-    others_await = innermost.others_await table typed effects input ready state top below more_frames rest named p frames deep stages running awaiting of_sub at_point path views viewed_before kept scope holds placed_before above
-
     abbrev successors_there : length main_turn.point.next ≡ successors p.instr
     successors_there = innermost.successors_there table typed effects input ready state top below more_frames rest named p frames deep stages running awaiting of_sub at_point path views viewed_before kept scope holds placed_before above
 
-    -- where it leads, and how the frames come from those before
-    abbrev Along : Outcome → Type 0
-    Along outcome = LeadsAlong table typed effects p.instr state.memory (record { stage = top; views = views; cells = [] }) (below ∷ more_frames) outcome
-
-    abbrev ends_raised : (how : Exception) (m : Memory) → Along (steps.raised main_turn how m)
-    ends_raised = innermost.ends_raised table typed effects input ready state top below more_frames rest named p frames deep stages running awaiting of_sub at_point path views viewed_before kept scope holds placed_before above
-
-    -- ---- a call
-
     module _ (n : ℕ) (actuals : TypedTree) (result : Option ℕ) (e : p.instr ≡ Call n actuals result) where
-      pub called : IsCalled table typed n actuals result
-      called =
-          ready.called (flow_sub own named) (standing.in_program table typed effects input ready state top older outer named p frames of_sub at_point) main_turn.point
-          (standing.in_sub table typed effects input ready state top older outer named p frames of_sub at_point) n actuals result e
+      abbrev pub called : IsCalled table typed n actuals result
+      called = acting.called table typed effects input ready state top below more_frames rest named p frames deep stages running awaiting of_sub at_point path views viewed_before kept scope holds placed_before above n actuals result e
 
       abbrev pub formals : List ℕ
-      formals = (sub_of program n).formals
+      formals = acting.formals table typed effects input ready state top below more_frames rest named p frames deep stages running awaiting of_sub at_point path views viewed_before kept scope holds placed_before above n actuals result e
 
-      pub kinds : (x : ℕ) → Has formals x → IsKindOfFormal s x
-      kinds x has = ready.class.formals x (called.formals x has)
+      abbrev pub kinds : (x : ℕ) → Has formals x → IsKindOfFormal s x
+      kinds = acting.kinds table typed effects input ready state top below more_frames rest named p frames deep stages running awaiting of_sub at_point path views viewed_before kept scope holds placed_before above n actuals result e
 
-      -- results are of no anonymous types
-      pub no_traversal : traverses s.table (sub_of program n).result ≡ false
-      no_traversal = by_result (sub_of program n).result refl
-        where
-          by_result : (r : Option ℕ) → (sub_of program n).result ≡ r → traverses s.table r ≡ false
-          by_result None is = refl
-          by_result (Some of) is =
-              ready.class.results (flow_sub own named) (standing.in_program table typed effects input ready state top older outer named p frames of_sub at_point) main_turn.point
-              (standing.in_sub table typed effects input ready state top older outer named p frames of_sub at_point) n actuals result e of is
+      abbrev pub no_traversal : traverses s.table (sub_of program n).result ≡ false
+      no_traversal = acting.no_traversal table typed effects input ready state top below more_frames rest named p frames deep stages running awaiting of_sub at_point path views viewed_before kept scope holds placed_before above n actuals result e
 
-      -- what a call takes is of scalar types
-      pub plain_there : Plain × TakesScalars s p.instr
-      plain_there = plain_here (λ call by. elim by [
-        | inl (x, is) ↦ (let never : Call n actuals result ≡ Declare x (More call NoMore) = sym e ∙ is in cc)
-        | inr (inl (q, x, steps, u, is, calls)) ↦ (let never : Call n actuals result ≡ Assign (Name q x steps u) call = sym e ∙ is in cc)
-        | inr (inr is) ↦ (let never : Call n actuals result ≡ Hold (More call NoMore) = sym e ∙ is in cc)
-      ])
+      abbrev pub plain_there : Plain × TakesScalars s p.instr
+      plain_there = acting.plain_there table typed effects input ready state top below more_frames rest named p frames deep stages running awaiting of_sub at_point path views viewed_before kept scope holds placed_before above n actuals result e
 
       abbrev pub procedure : Bool
-      procedure = not (is_some (sub_of program n).result)
+      procedure = acting.procedure table typed effects input ready state top below more_frames rest named p frames deep stages running awaiting of_sub at_point path views viewed_before kept scope holds placed_before above n actuals result e
 
       abbrev pub ways_there : List Passing
-      ways_there = map (passing s (not (is_some (sub_of program n).result))) formals
+      ways_there = acting.ways_there table typed effects input ready state top below more_frames rest named p frames deep stages running awaiting of_sub at_point path views viewed_before kept scope holds placed_before above n actuals result e
 
-      pub ways_are : passings s (sub_at s n) ≡ ways_there
-      ways_are = passes_to program n no_traversal
+      abbrev pub ways_are : passings s (sub_at s n) ≡ ways_there
+      ways_are = acting.ways_are table typed effects input ready state top below more_frames rest named p frames deep stages running awaiting of_sub at_point path views viewed_before kept scope holds placed_before above n actuals result e
 
-      -- the acts: actuals are read, or their indexes are; then come those of what is copied back, and
-      -- those on package objects
       abbrev pub values : List Placed
-      values = flow.actual_values s ways_there actuals
+      values = acting.values table typed effects input ready state top below more_frames rest named p frames deep stages running awaiting of_sub at_point path views viewed_before kept scope holds placed_before above n actuals result e
 
       abbrev pub copies : List Placed
-      copies = flow.actual_acts ways_there actuals
+      copies = acting.copies table typed effects input ready state top below more_frames rest named p frames deep stages running awaiting of_sub at_point path views viewed_before kept scope holds placed_before above n actuals result e
 
-      values_are : standing.acts_by table typed effects input ready state top older outer named p frames of_sub at_point s p.instr ≡ values ++ copies
-      values_are =
-          ap (standing.acts_by table typed effects input ready state top older outer named p frames of_sub at_point s) e
-          ∙ ap (λ z. flow.actual_values s z actuals ++ flow.actual_acts z actuals) ways_are
+      abbrev values_are : standing.acts_by table typed effects input ready state top older outer named p frames of_sub at_point s p.instr ≡ values ++ copies
+      values_are = acting.values_are table typed effects input ready state top below more_frames rest named p frames deep stages running awaiting of_sub at_point path views viewed_before kept scope holds placed_before above n actuals result e
 
-      pub reads_there : AreReads values
-      reads_there = values_are_read s ready.owns procedure formals actuals called.actuals_stay
+      abbrev pub reads_there : AreReads values
+      reads_there = acting.reads_there table typed effects input ready state top below more_frames rest named p frames deep stages running awaiting of_sub at_point path views viewed_before kept scope holds placed_before above n actuals result e
 
-      call_acts : standing.whole_acts table typed effects input ready state top older outer named p frames of_sub at_point p.instr ≡ acts (values ++ copies) ++ globals_of program effects n
-      call_acts =
-          ap (λ z. acts (z ++ called_acts program effects p.pos p.instr)) values_are
-          ∙ acts_append (values ++ copies) (called_acts program effects p.pos p.instr)
-          ∙ ap (λ i. acts (values ++ copies) ++ acts (called_acts program effects p.pos i)) e
-          ∙ ap (λ z. acts (values ++ copies) ++ z) (called_are program effects ready.accepted.effects_are p.pos n actuals result)
+      abbrev call_acts : standing.whole_acts table typed effects input ready state top older outer named p frames of_sub at_point p.instr ≡ acts (values ++ copies) ++ globals_of program effects n
+      call_acts = acting.call_acts table typed effects input ready state top below more_frames rest named p frames deep stages running awaiting of_sub at_point path views viewed_before kept scope holds placed_before above n actuals result e
 
       abbrev pub facts_called : List Fact
-      facts_called = after (acts (values ++ copies)) own_facts
+      facts_called = acting.facts_called table typed effects input ready state top below more_frames rest named p frames deep stages running awaiting of_sub at_point path views viewed_before kept scope holds placed_before above n actuals result e
 
-      pub each_allowed : AllowsAll own_facts (acts (values ++ copies)) × AllowsAll facts_called (globals_of program effects n)
-      each_allowed =
-          allows_both own_facts (acts (values ++ copies)) (globals_of program effects n)
-          (subst (AllowsAll own_facts) call_acts (standing.allowed_whole table typed effects input ready state top older outer named p frames of_sub at_point path))
+      abbrev pub each_allowed : AllowsAll own_facts (acts (values ++ copies)) × AllowsAll facts_called (globals_of program effects n)
+      each_allowed = acting.each_allowed table typed effects input ready state top below more_frames rest named p frames deep stages running awaiting of_sub at_point path views viewed_before kept scope holds placed_before above n actuals result e
 
-      spare_call : Spare s (values ++ copies)
-      spare_call = spare_both s values copies (spare_reads s values reads_there) (spare_copies s ready.owns procedure formals actuals)
+      abbrev spare_call : Spare s (values ++ copies)
+      spare_call = acting.spare_call table typed effects input ready state top below more_frames rest named p frames deep stages running awaiting of_sub at_point path views viewed_before kept scope holds placed_before above n actuals result e
 
-      both_allowed : AllowsAll facts_now (acts values) × AllowsAll (after (acts values) facts_now) (acts copies)
-      both_allowed =
-          allows_both facts_now (acts values) (acts copies) (subst (AllowsAll facts_now) (acts_append values copies)
-          (subst (λ z. AllowsAll facts_now (acts z)) values_are
-          (allowed_now (subst (Spare s) (sym values_are) spare_call) (subst (λ z. AllowsAll own_facts (acts z)) (sym values_are) each_allowed.0))))
+      abbrev pub values_allowed : AllowsAll facts_now (acts values)
+      values_allowed = acting.values_allowed table typed effects input ready state top below more_frames rest named p frames deep stages running awaiting of_sub at_point path views viewed_before kept scope holds placed_before above n actuals result e
 
-      pub values_allowed : AllowsAll facts_now (acts values)
-      values_allowed = both_allowed.0
+      abbrev pub copies_allowed : AllowsAll facts_now (acts copies)
+      copies_allowed = acting.copies_allowed table typed effects input ready state top below more_frames rest named p frames deep stages running awaiting of_sub at_point path views viewed_before kept scope holds placed_before above n actuals result e
 
-      pub copies_allowed : AllowsAll facts_now (acts copies)
-      copies_allowed = subst (λ z. AllowsAll z (acts copies)) (reads_keep values reads_there facts_now) both_allowed.1
+      abbrev pub copied_there : AreOpenActuals s depth facts_now formals actuals
+      copied_there = acting.copied_there table typed effects input ready state top below more_frames rest named p frames deep stages running awaiting of_sub at_point path views viewed_before kept scope holds placed_before above n actuals result e
 
-      -- nothing that was moved leads to what is copied back to
-      pub copied_there : AreOpenActuals s depth facts_now formals actuals
-      copied_there = elim modes_there [
-        | inr modes ↦ all_in s ready.owns depth facts_now procedure formals actuals modes
-        | inl none ↦ all_open s ready.owns depth facts_now procedure formals actuals facts_now []
-            (are_kept s formals actuals
-            (ready.class.copied (flow_sub own named) (standing.in_program table typed effects input ready state top older outer named p frames of_sub at_point) main_turn.point
-            (standing.in_sub table typed effects input ready state top older outer named p frames of_sub at_point) n actuals result e called.formals)
-            ((ready.orderly.points named named_there p point_there_now).copied n actuals result e))
-            none copies_allowed (λ f has. inl has) (λ k never. absurd never)
-      ]
-        where
-          modes_there : ((r : Report) → Has (overlap_reports s (alias.passed formals actuals)) r → ⊥) ⊎ ((x : ℕ) → Has formals x → (object_at s x).mode ≡ mode.In)
-          modes_there =
-              apart_or program effects (λ x. (object_at s x).mode ≡ mode.In) ready.accepted.no_reports (flow_sub own named)
-              (standing.in_program table typed effects input ready state top older outer named p frames of_sub at_point) main_turn.point
-              (standing.in_sub table typed effects input ready state top older outer named p frames of_sub at_point) n actuals result e called.answers
-              (λ of answers x has. ready.class.modes n of answers x has)
+      abbrev pub holds_now : Holds s depth views state.memory
+      holds_now = acting.holds_now table typed effects input ready state top below more_frames rest named p frames deep stages running awaiting of_sub at_point path views viewed_before kept scope holds placed_before above n actuals result e
 
-      not_end : (x : ℕ) → p.instr ≡ EndScope x → ⊥
-      not_end x is = (let no : Call n actuals result ≡ EndScope x = sym e ∙ is in cc)
-
-      pub holds_now : Holds s depth views state.memory
-      holds_now = all_held s in_formals depth views state.memory (λ x k view at. holds.held x k (λ fading. not_end fading.0 fading.1) view at) holds.only holds.owners holds.own
-
-      pub live_now : (w : Way) (l : ways.Loc) → IsOwners s w → ways.Reaches (seen s state.memory (waiting_in easy.state) state.leaks) w l
+      abbrev pub live_now : (w : Way) (l : ways.Loc) → IsOwners s w → ways.Reaches (seen s state.memory (waiting_in easy.state) state.leaks) w l
           → (content s state.memory (waiting_in easy.state) (trunk l)).owns ≡ true
-      live_now =
-          live_trunk (steps.here main_turn) ready.accepted.settled state.leaks [] other alone (keeps s ready.accepted.settled ready.owns) index_law
-          ready.owns views ready.class.parts_named state.memory (waiting_in easy.state) ((viewed_easy plain_there.0).0).owned
+      live_now = acting.live_now table typed effects input ready state top below more_frames rest named p frames deep stages running awaiting of_sub at_point path views viewed_before kept scope holds placed_before above n actuals result e
 
-      -- formals of the frame see what belongs to frames below
-      pub formals_low : (x : ℕ) (w : Way) → views.way x ≡ Some w → is_view_formal s x ≡ true → (foreign : IsForeign (home s depth) w) × (foreign.0 < depth) × (0 < foreign.0)
-      formals_low x w has formal = elim (viewed.views x w has) [
-        | inl view ↦ absurd (holds.passed x w has (ap (λ b. b || (is_in_formal s x && is_anonymous (view_of s x))) formal) view.named)
-        | inr passed ↦ elim (holds.lies x w has) [
-          | inl named ↦ absurd (not_elsewhere (home s depth) w named passed.foreign)
-          | inr far ↦ far
-        ]
-      ]
+      abbrev pub formals_low : (x : ℕ) (w : Way) → views.way x ≡ Some w → is_view_formal s x ≡ true → (foreign : IsForeign (home s depth) w) × (foreign.0 < depth) × (0 < foreign.0)
+      formals_low = acting.formals_low table typed effects input ready state top below more_frames rest named p frames deep stages running awaiting of_sub at_point path views viewed_before kept scope holds placed_before above n actuals result e
 
-      there_formals : (x : ℕ) → Has formals x → Has (sub_at s n).formals x
-      there_formals x has = subst (λ z. Has z x) (sym (ap (λ (z : Signature). z.formals) (signature_is program n))) has
-
-      copies_keep : AllKeep (is_fixed s) (acts copies)
-      copies_keep =
-          (keep_both (is_fixed s) (acts values) (acts copies) (subst (AllKeep (is_fixed s)) (acts_append values copies)
-          (subst (λ z. AllKeep (is_fixed s) (acts z)) values_are
-          (standing.keeps_there table typed effects input ready state top older outer named p frames of_sub at_point)))).1
-
-      -- what formals of a procedure that own nothing are lent
-      lent_there : (sub_of program n).result ≡ None → AreLent s facts_now formals actuals
-      lent_there is =
-          are_lent s facts_now formals actuals called.differ
-          (apart_there program effects ready.accepted.no_reports (flow_sub own named)
-          (standing.in_program table typed effects input ready state top older outer named p frames of_sub at_point) main_turn.point
-          (standing.in_sub table typed effects input ready state top older outer named p frames of_sub at_point) n actuals result e called.answers is)
-          (subst (λ b. AllowsAll facts_now (acts (flow.actual_acts (map (passing s b) formals) actuals))) of_procedure copies_allowed)
-          (subst (λ b. AllKeep (is_fixed s) (acts (flow.actual_acts (map (passing s b) formals) actuals))) of_procedure copies_keep)
-          (λ y has formal. record {
-            of_in = mode_in (object_at s y).mode (second_true (is_formal s y) (is_in (object_at s y).mode) (first_true (is_in_formal s y) (is_owning s.table (object_at s y).of) formal));
-            owning = second_true (is_in_formal s y) (is_owning s.table (object_at s y).of) formal;
-            access = ready.class.procedures n (ap (λ (z : Signature). z.result) (signature_is program n) ∙ is) y (there_formals y has) (called.formals y has) formal;
-          })
-        where
-          of_procedure : procedure ≡ true
-          of_procedure = ap (λ r. not (is_some r)) is
-
-      -- a function has formals of mode `in` alone
-      pub by_callee : (((x : ℕ) → Has formals x → (object_at s x).mode ≡ mode.In) × ((x : ℕ) → Has formals x → IsCopiedBack s x → ⊥)
+      abbrev pub by_callee : (((x : ℕ) → Has formals x → (object_at s x).mode ≡ mode.In) × ((x : ℕ) → Has formals x → IsCopiedBack s x → ⊥)
           × ((x : ℕ) → Has formals x → is_view_formal s x ≡ true → sees_only s x ≡ true))
           ⊎ AreLent s facts_now formals actuals
-      by_callee = by_result (sub_of program n).result refl
-        where
-          by_result : (r : Option ℕ) → (sub_of program n).result ≡ r
-              → (((x : ℕ) → Has formals x → (object_at s x).mode ≡ mode.In) × ((x : ℕ) → Has formals x → IsCopiedBack s x → ⊥)
-              × ((x : ℕ) → Has formals x → is_view_formal s x ≡ true → sees_only s x ≡ true))
-              ⊎ AreLent s facts_now formals actuals
-          by_result (Some of) is =
-              let answers : (sub_at s n).result ≡ Some of = ap (λ (z : Signature). z.result) (signature_is program n) ∙ is in
-              let modes : (x : ℕ) → Has formals x → (object_at s x).mode ≡ mode.In = (λ x has. ready.class.modes n of answers x (there_formals x has)) in
-              inl (
-                modes,
-                (λ x has back. back (modes x has)),
-                λ x has formal.
-                    sees_shown (is_observer s x) (is_view_formal s x) (is_in_formal s x && is_anonymous (view_of s x)) (is_exclusive s x) formal
-                    (ready.class.functions n of answers x (there_formals x has) (called.formals x has) formal),
-              )
-          by_result None is = inr (lent_there is)
+      by_callee = acting.by_callee table typed effects input ready state top below more_frames rest named p frames deep stages running awaiting of_sub at_point path views viewed_before kept scope holds placed_before above n actuals result e
 
-      clear_there : AreClear s facts_now formals actuals
-      clear_there = elim by_callee [
-        | inl modes ↦ all_clear s procedure formals actuals facts_now modes.0 copies_allowed
-        | inr lent ↦ lent_clears s facts_now formals actuals (λ y has formal m of. (lent y has formal m of).clear)
-      ]
+      abbrev pub clear_there : AreClear s facts_now formals actuals
+      clear_there = acting.clear_there table typed effects input ready state top below more_frames rest named p frames deep stages running awaiting of_sub at_point path views viewed_before kept scope holds placed_before above n actuals result e
 
-      -- borrowers and observers that are shown see nothing of package objects
-      lows_there : AreLowRoots s depth views formals actuals
-      lows_there =
-          all_low formals actuals
-          (ready.class.shown (flow_sub own named) (standing.in_program table typed effects input ready state top older outer named p frames of_sub at_point) main_turn.point
-          (standing.in_sub table typed effects input ready state top older outer named p frames of_sub at_point) n actuals result e)
-        where
-          Shared : Type 0
-          Shared = LendsShared s (flow_sub own named)
-
-          shared_way : (x : ℕ) (k : Way) → views.way x ≡ Some k → ways.Named (home s depth) k → is_package_object s (ways.number_of k) ≡ true → Shared
-          shared_way x k has at_home is_shared =
-              let goes = view_goes (home s depth) (sees_only s) views (view_here s state) (facts_of program effects top) viewed_before.views x k has at_home in
-              let lent = (goes.1).2 in
-              let from = fact_added program effects ready.accepted.effects_are (flow_sub own named) top.before (Lent goes.0 (goes.1).0 (ways.name_of (goes.1).1))
-              (subst (λ fs. Has fs (Lent goes.0 (goes.1).0 (ways.name_of (goes.1).1)))
-              (standing.facts_are table typed effects input ready state top older outer named p frames of_sub at_point path) lent) in (
-                from.0,
-                from.2,
-                from.1,
-                from.3,
-                goes.0,
-                (goes.1).0,
-                ways.name_of (goes.1).1,
-                from.4,
-                ap (is_package_object s) (sym (longer (goes.1).1 k (goes.1).4).root) ∙ is_shared,
-              )
-
-          low_way : (x : ℕ) (k : Way) → views.way x ≡ Some k → (Shared → ⊥) → IsLow s depth k
-          low_way x k has own_alone = elim (holds.lies x k has) [
-            | inr far ↦ inr (far.0, (let less = far.1 in omega (arith, less)), far.2)
-            | inl at_home ↦ inl (at_home, by_kind (is_package_object s (ways.number_of k)) refl at_home)
-          ]
-            where
-              by_kind : (b : Bool) → is_package_object s (ways.number_of k) ≡ b → ways.Named (home s depth) k → is_package_object s (ways.number_of k) ≡ false
-              by_kind false is at_home = is
-              by_kind true is at_home = absurd (own_alone (shared_way x k has at_home is))
-
-          one_low : (a : TypedTree) → ((y : ℕ) → Has (root_of a) y → is_anonymous (view_of s y) ≡ true → Shared → ⊥) → IsLowRoot s depth views a
-          one_low (Name q y path u) own_alone = λ k has anonymous. low_way y k has (own_alone y (inl refl) anonymous)
-          one_low a own_alone = tt
-
-          all_low : (xs : List ℕ) (es : TypedTree) → AreShownOwn s Shared xs es → AreLowRoots s depth views xs es
-          all_low [] es shown = tt
-          all_low (x ∷ xs) (More a rest) shown = ((λ formal. one_low a (shown.0 formal)), all_low xs rest shown.1)
-          all_low (x ∷ xs) es shown = tt
+      abbrev pub lows_there : AreLowRoots s depth views formals actuals
+      lows_there = acting.lows_there table typed effects input ready state top below more_frames rest named p frames deep stages running awaiting of_sub at_point path views viewed_before kept scope holds placed_before above n actuals result e
 
       abbrev pub Given : List Passed → Type 0
       Given passed =
@@ -615,6 +421,7 @@ module _ (table : Table) (typed : TypedProgram) (effects : Effects) (input : Lis
       next_there = lasting_of s (at_successor.0).scope
 
       -- the state is sound with views under the facts after the acts, and so it is beside the others
+
       module _ (passed : List Passed) (given : Given passed) where
         abbrev pub other_all : Around (home s depth)
         other_all = known_gone (home s depth) (GoneElsewhere program effects older)

@@ -42,6 +42,8 @@ pub mod LaidOut
 -- what formals are shown that own nothing
 pub mod Seeing
 pub mod Clear
+pub mod Reading
+pub mod Puts
 pub mod Called
 pub mod Acted
 -- the views of what is called
@@ -72,6 +74,7 @@ pub mod Results
 pub mod Giving
 pub mod ScopeEnds
 pub mod CallEnds
+pub mod CallActs
 pub mod Calling
 pub mod CallBegins
 pub mod Stepping

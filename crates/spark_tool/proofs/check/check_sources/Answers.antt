@@ -1,8 +1,9 @@
 use Rattle.std.proofs.Common.{List, ℕ, ap, sym, subst, map, string_bytes}
 use Rattle.run_command.specs.Answers.{Answer}
 use Rattle.spark_tool.specs.Answers.{answer_of}
-use Rattle.spark_tool.specs.Product.{Ends, Checks, too_large}
-use Rattle.spark_tool.specs.Reading.{Sources, TooLarge, sources_of}
+use Rattle.tool_answers.specs.Product.{Ends, Checks, too_large}
+use Rattle.tool_answers.specs.Reading.{Sources, TooLarge}
+use Rattle.spark_tool.specs.Reading.{sources_of}
 use Rattle.spark_tool.proofs.check.check_sources.Goals as goal
 
 pub returns-in_ok-file_refusal_answer-in-TooLarge-clause-finding : goal.returns-in_ok-file_refusal_answer-in-TooLarge-clause-finding

@@ -5,7 +5,7 @@ use Rattle.name_events.specs.Faults.{name_fault}
 use Rattle.name_resolve.specs.Inputs.{trees_of}
 use Rattle.rule_reports.specs.declared.code.Code.{Code}
 use Rattle.spark_tool.specs.Answers.{finding_of}
-use Rattle.spark_tool.specs.Parsing.{AreRead}
+use Rattle.source_trees.specs.Trees.{AreRead}
 use Rattle.spark_tool.specs.Refusals.{IsRefused}
 use Rattle.spark_tool.proofs.Resolved.{names_answer}
 use Rattle.spark_tool.proofs.check.check_trees.Goals as goal

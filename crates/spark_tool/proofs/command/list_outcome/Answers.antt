@@ -3,7 +3,7 @@ use Rattle.laid_program.specs.Programs.{program_of}
 use Rattle.run_command.specs.Answers.{Answer}
 use Rattle.spark_tool.specs.declared.finding.Finding.{Finding}
 use Rattle.spark_tool.specs.Answers.{answer_of, finding_of}
-use Rattle.spark_tool.specs.Product.{Rejects, Lists, ends, rejects}
+use Rattle.tool_answers.specs.Product.{Rejects, Lists, ends, rejects}
 use Rattle.spark_tool.proofs.CommandWords.{plan_lists}
 use Rattle.spark_tool.proofs.command.list_outcome.Goals as goal
 

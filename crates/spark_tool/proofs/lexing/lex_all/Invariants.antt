@@ -2,7 +2,8 @@ use Rattle.std.proofs.Common.{◌≡◌, ◌<◌, ◌≤◌, All, IfSome, length
 use Rattle.std.specs.List.{slice_get}
 use Rattle.spark_base.specs.declared.limits.TheConstants.{TOKENS}
 use Rattle.ada_lexer.specs.Tokens.{EndsOnce, kinds_of}
-use Rattle.spark_tool.specs.Lexing.{all_tokens, texts_of, cuts_of}
+use Rattle.source_trees.specs.Cuts.{all_tokens}
+use Rattle.spark_tool.specs.Lexing.{texts_of, cuts_of}
 use Rattle.spark_tool.proofs.AllTokens.{with_files}
 use Rattle.spark_tool.proofs.lexing.lex_all.Given as goal
 

@@ -7,7 +7,7 @@ use Rattle.std.proofs.Common.{map}
 use Rattle.ada_parser.specs.Refused.{IsRefusal}
 use Rattle.name_resolve.specs.Inputs.{trees_of}
 use Rattle.spark_tool.specs.Lexing.{cuts_of}
-use Rattle.spark_tool.specs.Parsing.{AreTreesOf}
+use Rattle.source_trees.specs.Trees.{AreTreesOf}
 use Rattle.spark_tool.specs.Refusals.{IsFirstRefusal}
 use Rattle.spark_tool.proofs.Parsed.{parsed_more, parsed_of, first_refusal}
 use Rattle.spark_tool.proofs.parsing.parse_all.Goals as goal

@@ -1,7 +1,8 @@
 use Rattle.std.proofs.Common.{◌≡◌, Ok, rules}
 use Rattle.spark_base.specs.declared.limits.TheConstants.{TOKENS}
 use Rattle.spark_tool.specs.declared.parsing.SourceRefusal.TheVariants as source
-use Rattle.spark_tool.specs.Lexing.{all_tokens, cuts_of, texts_of}
+use Rattle.source_trees.specs.Cuts.{all_tokens}
+use Rattle.spark_tool.specs.Lexing.{cuts_of, texts_of}
 use Rattle.spark_tool.specs.Refusals.{IsFirstRefusal, RefusesTexts}
 use Rattle.spark_tool.proofs.parsing.read_trees.Goals as goal
 

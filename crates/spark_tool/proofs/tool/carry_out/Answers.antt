@@ -7,8 +7,8 @@ use Rattle.run_command.specs.Runs.{run_answer}
 use Rattle.spark_tool.specs.declared.finding.Outcome.{Outcome}
 use Rattle.spark_tool.specs.declared.finding.Outcome.TheVariants as outcome
 use Rattle.spark_tool.specs.Answers.{answer_of, names_of}
-use Rattle.spark_tool.specs.Commands.{command_of, runs}
-use Rattle.spark_tool.specs.Product.{fixed_answer}
+use Rattle.tool_answers.specs.Commands.{command_of, runs}
+use Rattle.tool_answers.specs.Product.{fixed_answer}
 use Rattle.spark_tool.specs.Refusals.{IsFor, IsMade, IsReady}
 use Rattle.spark_tool.proofs.Complete.{answer_delivers_front, run_delivers_front, no_more, nothing_more, fixed_tells_front}
 use Rattle.spark_tool.proofs.Outcomes.{gives_this, ok_delivers, ok_fixed, ok_unrun, at_stop, run_ok_delivers, no_fixed, ok_no_fixed, run_reads}

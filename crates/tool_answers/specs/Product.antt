@@ -35,10 +35,11 @@ use Rattle.command_words.specs.Words.{Command, Check, Run, Leaks, Make, Selftest
 use Rattle.run_command.specs.Answers.{Answer}
 use Rattle.run_command.specs.Runs.{run_answer}
 use Rattle.self_test.specs.Summaries.{test_line}
-use Rattle.spark_tool.specs.Commands.{command_of}
-use Rattle.spark_tool.specs.Reading.{Sources, Texts, TooLarge, Missing, sources}
-use Rattle.spark_tool.specs.Lexing.{all_tokens}
-use Rattle.spark_tool.specs.Parsing.{AreTreesOf, FirstRefused}
+use Rattle.tool_answers.specs.Commands.{command_of}
+use Rattle.tool_answers.specs.Reading.{Sources, Texts, TooLarge, Missing, sources}
+use Rattle.source_trees.specs.Cuts.{all_tokens}
+use Rattle.source_trees.specs.Trees.{AreTreesOf}
+use Rattle.tool_answers.specs.Parsing.{FirstRefused}
 
 -- One refusal line.
 abbrev pub refused : List (List ℕ) → Pos → Code → Answer

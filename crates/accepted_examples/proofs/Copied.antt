@@ -1,0 +1,200 @@
+-- A text with a procedure that gets a copy of a record in a formal of mode `in`, of the class of the law on runs with
+-- borrowers and observers, and that law of it.
+use Rattle.std.specs.Prelude.{codes}
+use Rattle.std.proofs.Common.{◌≡◌, ℕ, ◌+◌, ◌⊎◌, inl, inr, Bool, true, false, not, ◌&&◌, ◌||◌, List, [], ◌∷◌, refl, sym, subst, Option, Some, None, is_some, Ok, Err, true≢false}
+use Rattle.spark_base.specs.Lists.{Has}
+use Rattle.ada_lexer.specs.Tokens.{Cut, CutResult, tokens}
+use Rattle.place_names.specs.declared.act.Mode.{Mode}
+use Rattle.place_names.specs.declared.act.Mode.TheVariants as mode
+use Rattle.ada_tree.specs.declared.declaration.Item.TheVariants as item
+use Rattle.ada_tree.specs.declared.declaration.Component.TheVariants as component
+use Rattle.ada_tree.specs.declared.declaration.Indication.TheVariants as indication
+use Rattle.ada_tree.specs.declared.expression.Arg.TheVariants as arg
+use Rattle.ada_tree.specs.declared.expression.Name.TheVariants as name
+use Rattle.ada_tree.specs.declared.expression.Suffix.TheVariants as suffix
+use Rattle.ada_tree.specs.declared.statement.Stmt.TheVariants as stmt
+use Rattle.ada_tree.specs.declared.subprogram.Decl.TheVariants as decl
+use Rattle.ada_tree.specs.declared.subprogram.Formal.TheVariants as formal
+use Rattle.ada_tree.specs.declared.subprogram.Subspec.{Subspec}
+use Rattle.ada_tree.specs.declared.subprogram.Subspec.TheVariants as subspec
+use Rattle.ada_tree.specs.declared.unit.BodyPart.TheVariants as part
+use Rattle.ada_tree.specs.declared.unit.Context.TheVariants as context
+use Rattle.ada_tree.specs.declared.unit.SourceUnit.{SourceUnit}
+use Rattle.ada_tree.specs.declared.unit.SourceUnit.TheVariants as unit
+use Rattle.ada_grammar.proofs.SmallSources.{IsTextOf, computes, source_of, at, id, mark, selected, expr_of, object, null_at, sole, formals_of, package_of, package_body_of, subprogram_of}
+use Rattle.name_events.specs.Faults.{name_fault}
+use Rattle.type_definitions.specs.Types.{full, is_owning}
+use Rattle.type_definitions.specs.Whole.{type_fault}
+use Rattle.typing_steps.specs.Programs.{program_of}
+use Rattle.typed_tree.specs.declared.object.Object.{Object}
+use Rattle.typed_tree.specs.Programs.{TypedSub, text_io}
+use Rattle.flow_paths.specs.Objects.{Typing, Signature, object_at, sub_at, is_formal_kind, is_formal, is_anonymous}
+use Rattle.flow_paths.specs.Points.{FlowPoint}
+use Rattle.flow_paths.specs.Laid.{FlowSub}
+use Rattle.flow_paths.specs.Effects.{asks_for_end, path_points}
+use Rattle.flow_paths.specs.Aliases.{alias_reports}
+use Rattle.flow_paths.specs.Views.{encloses_within}
+use Rattle.soundness.specs.Sound.{calls_procedures, goes_through_none}
+use Rattle.program_check.specs.Sources.{flow_of}
+use Rattle.file_positions.specs.Texts.{AreParsed}
+use Rattle.file_positions.proofs.Cuts.{cut_in_order}
+use Rattle.called_subs.specs.Called.{Calls, CodeCalls}
+use Rattle.order_laws.specs.Orderly.{typed_of, typing_in}
+use Rattle.sound_files.specs.Class.{CallsProcedures, IsScalarAt, IsShownAt, FormalsAreKinds, laid_in, FunctionsSee, AreFitActuals, PassFitActuals}
+use Rattle.sound_files.proofs.Results.{results_fit}
+use Rattle.viewed_files.proofs.Files.{parsed_called_sound}
+use Rattle.accepted_runs.proofs.Runs.{RunsAreSound}
+use Rattle.accepted_runs.proofs.Views.{AreInSecondViewClass}
+use Rattle.accepted_examples.proofs.Naming.{naming}
+use Rattle.accepted_examples.proofs.Typing.{typing}
+use Rattle.accepted_examples.proofs.Lowering.{lowering}
+use Rattle.accepted_examples.proofs.Quiet.{all_pass, each, at_any}
+use Rattle.accepted_examples.proofs.Unreported.{path_passes, sub_passes, nothing, no_reports, no_effects}
+
+-- "procedure Q (X : in T)", from its column on
+abbrev front : ℕ → Subspec
+front column =
+    subspec.Procedure (at column) (id (column + 10) "Q")
+    (Some (formals_of (column + 12) (formal.Moded (at (column + 13)) (id (column + 13) "X") [] (at (column + 15)) (Some (at (column + 17))) None (mark (column + 20) "T")) [] (column + 21)))
+
+abbrev pub units : List SourceUnit
+units =
+    unit.OfPackage (at 1) []
+    (package_of 1 (id 9 "A") None 11 (decl.OfItem (at 14) (item.RecordType (at 14) (id 19 "T") (at 21) (at 24)
+    (component.Fields (at 31) (id 31 "I") [] (at 33) (mark 35 "Integer") (at 42)) [] (at 44) (at 48) (at 54))
+    ∷ decl.Subprogram (at 56) (front 56) None (at 78) ∷ []) None 80 None 83)
+    ∷ unit.OfBody (at 85) []
+    (package_body_of 85 93 (id 98 "A") None 100 (part.Completed (at 103) (subprogram_of 103 (front 103) None 126 [] 129 (null_at 135) 141 None 144) ∷ []) 146 None 149)
+    ∷ unit.OfSubprogram (at 151) (context.With (at 151) (mark 156 "A") [] (at 157) ∷ [])
+    (subprogram_of 159 (subspec.Procedure (at 159) (id 169 "P") None) None 171
+    (item.Objects (at 174) (id 174 "Y") [] (at 176) None (indication.Mark (at 178) (selected 178 "A" 179 180 "T")) (at 181) ∷ []) 183
+    (sole 189 (stmt.Call (at 189) (name.Prefixed (at 189) (id 189 "A") (suffix.Selected (at 190) (id 191 "Q")
+    ∷ suffix.Applied (at 193) (arg.Positional (at 194) (expr_of 194 (object 194 "Y"))) [] (at 195) ∷ [])) (at 196))) 198 None 201)
+    ∷ []
+
+abbrev pub files : List (List SourceUnit)
+files = units ∷ []
+
+pub spelled : IsTextOf "package A is type T is record I : Integer; end record; procedure Q (X : in T); end; package body A is procedure Q (X : in T) is begin null; end; end; with A; procedure P is Y : A.T; begin A.Q (Y); end;" units
+unfolding computes
+spelled = source_of (search) (search) refl
+
+pub named : name_fault files ≡ None
+unfolding computes naming
+named = refl
+
+pub typed : type_fault (program_of files) ≡ None
+unfolding computes naming typing lowering
+typed = refl
+
+-- ---- it is of the class
+
+pub is_main : (typed_of (program_of files)).main ≡ Some 2
+unfolding computes naming typing lowering
+is_main = refl
+
+pub calls : CallsProcedures (flow_of files)
+unfolding computes naming typing lowering
+calls = λ sub has p there.
+    each (λ (p : FlowPoint). calls_procedures p.instr) sub.points
+    (each (λ (s : FlowSub). all_pass (λ (p : FlowPoint). calls_procedures p.instr) s.points) (flow_of files).subs refl sub has) p there
+
+abbrev own : Typing
+own = typing_in (program_of files)
+
+abbrev is_in : Mode → Bool
+is_in mode.In = true
+is_in m = false
+
+abbrev kind_if_formal : Object → Bool
+kind_if_formal o = not (is_formal_kind o.kind) || (is_in o.mode && (not (is_owning own.table o.of) && not (is_anonymous (full own.table o.of))))
+
+kinds : all_pass kind_if_formal own.objects ≡ true
+unfolding computes naming typing lowering
+kinds = refl
+
+pub formals : FormalsAreKinds (program_of files)
+formals x is =
+    by (is_formal own x) (object_at own x).mode (is_owning own.table (object_at own x).of) (is_anonymous (full own.table (object_at own x).of)) is
+    (at_any (λ (o : Object). kind_if_formal o ≡ true) own.objects text_io refl (each kind_if_formal own.objects kinds) x)
+  where
+    by : (f : Bool) (m : Mode) (w a : Bool) → f ≡ true → not f || (is_in m && (not w && not a)) ≡ true
+        → IsScalarAt own x ⊎ (((m ≡ mode.In → ⊥) × (a ≡ false)) ⊎ (IsShownAt own x ⊎ ((m ≡ mode.In) × (w ≡ false) × (a ≡ false))))
+    by false m w a f e = absurd (true≢false (sym f))
+    by true mode.In false false f e = inr (inr (inr (refl, refl, refl)))
+    by true mode.In false true f e = absurd (true≢false (sym e))
+    by true mode.In true a f e = absurd (true≢false (sym e))
+    by true mode.InOut w a f e = absurd (true≢false (sym e))
+    by true mode.Out w a f e = absurd (true≢false (sym e))
+
+-- Of three subprograms, the last one calls.
+of_three : (P : TypedSub → Type 0) (a b c : TypedSub) → P a → P b → P c → (sub : TypedSub) → Has (a ∷ (b ∷ (c ∷ []))) sub → P sub
+of_three P a b c x y z sub (inl is) = subst P is x
+of_three P a b c x y z sub (inr (inl is)) = subst P is y
+of_three P a b c x y z sub (inr (inr (inl is))) = subst P is z
+of_three P a b c x y z sub (inr (inr (inr none))) = absurd none
+
+abbrev laid : Typing
+laid = laid_in (program_of files)
+
+no_function : all_pass (λ (z : Signature). not (is_some z.result)) laid.subs ≡ true
+unfolding computes naming typing lowering
+no_function = refl
+
+pub seen : FunctionsSee (program_of files)
+seen n t x result has formal =
+    absurd (none (sub_at laid n).result (at_any (λ (z : Signature). not (is_some z.result) ≡ true) laid.subs _ refl (each (λ (z : Signature). not (is_some z.result)) laid.subs no_function) n) result)
+  where
+    none : (r : Option ℕ) → not (is_some r) ≡ true → r ≡ Some t → ⊥
+    none None e is = cc
+    none (Some k) e is = cc
+
+pub passed : PassFitActuals (program_of files)
+unfolding computes naming typing lowering Calls CodeCalls goes_through_none
+passed =
+    of_three (λ sub. CodeCalls (λ n actuals. AreFitActuals laid (sub_at laid n).formals actuals) sub.body) _ _ _ tt (tt, tt)
+    (tt, ((((λ is. inr (inr (refl, refl))), tt), (tt, tt)), tt))
+
+pub class : AreInSecondViewClass files
+class = record { main = 2; is_main = is_main; calls = record { results = results_fit (program_of files) (inl calls); formals = formals; seen = seen; passed = passed } }
+
+-- ---- nothing is reported of it
+
+passes : all_pass (sub_passes (flow_of files)) (flow_of files).subs ≡ true
+unfolding computes naming typing lowering asks_for_end encloses_within
+passes = refl
+
+no_aliases : alias_reports (flow_of files) (nothing (flow_of files) passes) ≡ []
+unfolding computes naming typing lowering
+no_aliases = refl
+
+paths : all_pass (λ (sub : FlowSub). path_passes 9 (path_points (flow_of files) (nothing (flow_of files) passes) sub) [] 0) (flow_of files).subs ≡ true
+unfolding computes naming typing lowering
+paths = refl
+
+-- ---- so its runs are sound
+
+abbrev found : CutResult → List Cut
+found (Ok cuts) = cuts
+found (Err fault) = []
+
+abbrev text : List ℕ
+text = codes "package A is type T is record I : Integer; end record; procedure Q (X : in T); end; package body A is procedure Q (X : in T) is begin null; end; end; with A; procedure P is Y : A.T; begin A.Q (Y); end;"
+
+abbrev cuts : List Cut
+cuts = found (tokens 0 text 1000)
+
+is_cut : tokens 0 text 1000 ≡ Ok cuts
+unfolding computes
+is_cut = refl
+
+parsed : AreParsed 0 (cuts ∷ []) files
+unfolding computes
+parsed = (cut_in_order 0 text 1000 cuts is_cut, spelled, tt)
+
+pub copied_sound : RunsAreSound files
+copied_sound input =
+    parsed_called_sound files (cuts ∷ []) parsed named typed class.main class.is_main (nothing (flow_of files) passes) (no_effects (flow_of files) passes)
+    (no_reports (flow_of files) passes no_aliases 9
+    (each (λ (sub : FlowSub). path_passes 9 (path_points (flow_of files) (nothing (flow_of files) passes) sub) [] 0) (flow_of files).subs paths))
+    class.calls input

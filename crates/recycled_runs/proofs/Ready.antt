@@ -1,0 +1,48 @@
+-- The law for programs that are ready.
+use Rattle.std.proofs.Common.{◌≡◌, refl, ap, ◌∙◌, ℕ, List, Some}
+use Rattle.type_definitions.specs.Types.{Table}
+use Rattle.typed_tree.specs.Programs.{TypedProgram}
+use Rattle.flow_paths.specs.declared.report.Effects.{Effects}
+use Rattle.flow_paths.specs.Laid.{FlowProgram, flow_typing, flow_program}
+use Rattle.machine.specs.States.{Trapped, Outcome, Goes, Ends, sub_of}
+use Rattle.machine.specs.Run.{step, ended, run, run_of, main_of}
+use Rattle.soundness.specs.Ready.{IsReady}
+use Rattle.soundness.specs.Sound.{IsSound, LeadsOn, ending_of}
+use Rattle.soundness.proofs.Beginning.{sound_start}
+use Rattle.soundness.proofs.Stepping.{sound_step}
+use Rattle.soundness.proofs.Main.{ready_sound}
+use Rattle.null_places.specs.Compares.{AreCompared}
+use Rattle.null_places.proofs.Runs.{GoesOn}
+use Rattle.null_places.proofs.Steps.{step_same}
+use Rattle.run_codes.specs.Points.{is_declaring}
+use Rattle.run_codes.specs.Programs.{Program}
+use Rattle.run_points.specs.Turns.{IsLowered, HasTypes}
+use Rattle.run_points.specs.Frames.{HasFrames}
+use Rattle.handled_steps.specs.States as handled
+use Rattle.handled_steps.specs.Runs.{NeverTraps, RunOf}
+use Rattle.recycled_runs.proofs.Runs.{GivesSame, LeaksLive, recycled}
+
+module _ (table : Table) (typed : TypedProgram) (effects : Effects) (input : List ℕ) (ready : IsReady table typed effects)
+    (compared : AreCompared (flow_program table typed)) where
+  abbrev program : FlowProgram
+  program = flow_program table typed
+
+  leads : (o : Outcome) → LeadsOn table typed effects o → GoesOn (λ state. IsSound table typed effects state) o
+  leads (Goes state) on = on
+  leads (Ends e state) on = tt
+
+  never_traps : (n : ℕ) → NeverTraps (run program input n).ending
+  unfolding run
+  never_traps n x at is = by (run_of program (main_of program.main) input n) refl is
+    where
+      by : (o : Outcome) → run_of program (main_of program.main) input n ≡ o → (ended o).ending ≡ Trapped x at → ⊥
+      by (Goes state) found is = cc
+      by (Ends e state) found is = (ready_sound table typed effects input ready).no_trap n (Trapped x at) (ap ending_of found ∙ ap Some is) tt
+
+  -- As it is lowered, its run over a heap that uses its slots again gives what the machine's run gives, or memory is out.
+  pub ready_recycled : (p : Program) → HasTypes program → IsLowered program p → HasFrames program → LeaksLive program p input (λ state. IsSound table typed effects state)
+      → (main n : ℕ) → program.main ≡ Some main → (r : handled.Outcome) → RunOf (flow_typing program).table p (is_declaring program) (sub_of program main).pos main input n r → GivesSame (run program input n) r
+  ready_recycled p has lowered frames live main n is r so =
+      recycled program p input has ready.accepted.settled lowered frames (λ state. IsSound table typed effects state) (sound_start table typed effects ready)
+      (λ state sound. leads (step program input state) (sound_step table typed effects input ready state sound))
+      (step_same table typed effects input ready compared) live main n is r so (never_traps n)

@@ -1,0 +1,10 @@
+//! Runs over a heap that uses its slots again give what runs of the machine give: laws, for readers.
+//!
+//! A lowered program's steps over such a heap are alike to its steps over numbers (`handled_steps`), and
+//! these to the machine's (`run_points`), where nothing is gone as a step begins. So beside a run of the
+//! machine goes one after each step of which null stands where it moved (`null_places`), and beside that
+//! the runs over numbers and over handles. After each step the stack has the words of the frames that
+//! there are (`proofs/Frames.antt` and `Machine.antt`, by `Subs.antt`), and with null where something was
+//! moved the states still stand for each other (`proofs/Nulls.antt`). So the next step is as the rules ask
+//! it, and whole runs give the same, or memory is out (`proofs/Runs.antt`). Nothing here runs.
+#![tactic(auto)]

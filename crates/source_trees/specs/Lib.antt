@@ -1,0 +1,3 @@
+-- what the layers above rest on
+pub mod Cuts
+pub mod Trees

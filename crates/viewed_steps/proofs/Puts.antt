@@ -1,0 +1,529 @@
+-- What an actual comes to: a value, or a place, in a variable or in a cell.
+use Rattle.std.proofs.Common.{◌≡◌, refl, sym, ap, ◌∙◌, subst, ◌⊎◌, inl, inr, ℕ, append-nil, Bool, true, false, List, [], ◌∷◌, Some, if◌then◌else◌, arith, ◌<◌}
+use Rattle.spark_base.specs.declared.position.Pos.{Pos}
+use Rattle.place_names.specs.declared.act.Act.TheVariants as act
+use Rattle.place_names.specs.declared.fact.Fact.{Fact}
+use Rattle.type_definitions.specs.Types.{shape_of, full, is_scalar, is_owning, words}
+use Rattle.typed_tree.specs.Trees.{TypedTree, Name}
+use Rattle.flow_paths.specs.Objects.{object_at, is_anonymous, is_package_object, view_of, ByValue}
+use Rattle.flow_paths.specs.Names.{waiting as waits_in, name_of}
+use Rattle.flow_paths.specs.Acts.{placed, used, acts_in, index_acts}
+use Rattle.machine.specs.Words.{access_offsets, fits_type}
+use Rattle.machine.specs.Words as machine
+use Rattle.machine.specs.Memory.{Slot, Memory, Base, Place, fresh, no_slot, variable_slots, slots_at, slots_of, words_of, gone_at, with_slots, stored, moved_out, declared}
+use Rattle.machine.specs.Memory as memory
+use Rattle.machine.specs.Evaluate.{Here, Now, AsValue, AsView, Evaluated, Done, Raises, Traps, ConstraintError, followed_by, evaluate, indexed, steps_of, walked, place_of, variable_place, component_place, element_place, checked, value, viewed, Use, held_or_taken}
+use Rattle.machine.specs.Evaluate as run
+use Rattle.machine.specs.Calls.{Passed, Value, type_of, value_passed, passed}
+use Rattle.machine.specs.States.{Waiting, Leak}
+use Rattle.owned_ways.specs.Ways.{Step, Root, Component, OfVariable, Loc, OfRoot, OfCell, Way, Object, Lost, Into, All, Empty, Named, Past, Under, IsRooted, Reaches, IsSame, AllowsAll, after, part, along, Allows}
+use Rattle.owned_ways.specs.Ways as ways
+use Rattle.owned_ways.proofs.Locations.{under_along, under_itself, reaches_along}
+use Rattle.owned_ways.proofs.Unique.{one_location}
+use Rattle.owned_ways.proofs.Dropped.{named_base}
+use Rattle.owned_loans.proofs.Ways.{lifts, lifted_root}
+use Rattle.part_offsets.specs.Parts.{type_in, offset_in, has_part, IsSettled}
+use Rattle.soundness.specs.Seen.{IsNear, content, trunk, steps_in, seen, home, is_view_formal, in_hand}
+use Rattle.soundness.specs.Typed.{Matches, OwnsByShape, Kept, Spot, IsFixed, loc_of, Points}
+use Rattle.soundness.specs.Sound.{goes_through_none}
+use Rattle.typed_laws.specs.Needed.{Stays, IndexLaw, IsPlace as IsPlaceOf}
+use Rattle.soundness.proofs.Joined.{steps_part}
+use Rattle.soundness.proofs.Steps.{matches_words, taken_slots, room}
+use Rattle.soundness.proofs.Fixed.{plain_word}
+use Rattle.soundness.proofs.Scalars.{acts, acts_append, allows_both, number_along, named_along}
+use Rattle.soundness.proofs.Stays.{One, Quiet, quiet_then}
+use Rattle.soundness.proofs.Taking.{Takes}
+use Rattle.soundness.proofs.Walks.{way_along, Walked}
+use Rattle.viewed_soundness.proofs.Walks.{walk}
+use Rattle.soundness.proofs.Passing.{IsValue}
+use Rattle.owned_loans.specs.Views.{Around, Views, expand, ExcusedBy, Viewed, IsForeign}
+use Rattle.owned_loans.proofs.Moves.{IsPlace, expand_along, reached}
+use Rattle.owned_loans.proofs.Meeting.{stands_base}
+use Rattle.viewed_soundness.specs.Holds.{IsNamed, PartsAreNamed, Holds, sees_only, IsOwners, is_view}
+use Rattle.viewed_soundness.proofs.Names.{Starts, true_false, no_parts_in, is_place, both_no}
+use Rattle.viewed_soundness.proofs.Stays.{Goes as GoesAlong, taking, steps_taking, name_quiet}
+use Rattle.viewed_steps.specs.Taken.{Lodge}
+use Rattle.viewed_steps.specs.Sound.{IsKindOfFormal, AreOwners}
+use Rattle.viewed_steps.specs.Ready.{IsOwnPlace, IsCopyOf}
+use Rattle.viewed_steps.proofs.Views.{AreAccess, formal_view, scalar_no_view}
+use Rattle.viewed_steps.proofs.Read.{scalar_named}
+use Rattle.viewed_steps.proofs.Between.{base_along, same_variable}
+use Rattle.viewed_steps.proofs.Lodged.{spot_lodged}
+use Rattle.viewed_steps.proofs.Aside.{cell_name}
+use Rattle.viewed_steps.proofs.Direct.{IsDirect, steps_direct, past_none, direct_leads, direct_itself, IsIn, walked_in, both_quiet, direct_part, part_reached}
+use Rattle.viewed_steps.proofs.LaidOut.{IsOwnPut, IsPlainAt, IsOpenActual, IsHousedPut}
+use Rattle.viewed_steps.proofs.Entered.{IsFit}
+use Rattle.soundness.proofs.Keeping.{top_points, retyped_points, scalar}
+use Rattle.soundness.proofs.Lasting.{keeps}
+use Rattle.owned_loans.proofs.Allowed.{read_open}
+use Rattle.std.proofs.lemmas.List.{length-map}
+use Rattle.soundness.proofs.Moments.{number_part}
+use Rattle.viewed_steps.proofs.Reading.{unowned, unowned_read}
+
+module _ (h : Here) (settled : IsSettled h.typing.table) (hands : List Waiting) (leaks : List Leak) (m : Memory) (waits : List (List machine.Word))
+    (other : Around (home h.typing h.frame)) (facts : List Fact) (v : Views)
+    (kept : Kept h.typing m hands)
+    (well : Viewed (home h.typing h.frame) (sees_only h.typing) other v (seen h.typing m hands leaks) facts)
+    (holds : Holds h.typing h.frame v m)
+    (alone : (w : Way) → IsNear h.frame w → other.gone w → ⊥)
+    (live : (w : Way) (l : Loc) → IsOwners h.typing w → Reaches (seen h.typing m hands leaks) w l → (content h.typing m hands (trunk l)).owns ≡ true)
+    (in_formals : AreAccess h.typing)
+    (index_law : IndexLaw)
+    (own_law : OwnsByShape h.typing.table)
+    (parts_named : PartsAreNamed h.typing.table)
+    (formals_low : (x : ℕ) (w : Way) → v.way x ≡ Some w → is_view_formal h.typing x ≡ true → (foreign : IsForeign (home h.typing h.frame) w) × (foreign.0 < h.frame) × (0 < foreign.0))
+    (procedure : Bool) where
+  abbrev pub at : List (List machine.Word) → Now
+  at ws = record { memory = m; waits = ws }
+
+  abbrev pub IsKind : ℕ → Type 0
+  IsKind x = IsKindOfFormal h.typing x
+
+  -- ---- values
+
+  if_quiet : (on : List (List machine.Word)) (b : Bool) (x y : Evaluated (List machine.Word)) → Quiet (at on) One x → Quiet (at on) One y → Quiet (at on) One (if b then x else y)
+  if_quiet on true x y p q = p
+  if_quiet on false x y p q = q
+
+  pub checked_quiet : (on : List (List machine.Word)) (P : List machine.Word → Type 0) (t : ℕ) (ws : List machine.Word) → P ws → Quiet (at on) P (checked h t ws (at on))
+  checked_quiet on P t ws is = by_test (fits_type h.typing.table t ws)
+    where
+      by_test : (b : Bool) → Quiet (at on) P (if b then Done ws (at on) else Raises ConstraintError (at on))
+      by_test true = (refl, is)
+      by_test false = refl
+
+  pub value_given : (before on : List (List machine.Word)) (x : ℕ) (e : TypedTree) → Stays h.typing e → Takes (waits_in e) before on → AllowsAll facts (acts (acts_in h.typing e))
+      → Quiet (at on) (λ a. IsValue a) (passed h ByValue x e (at before))
+  value_given before on x e stays takes allowed =
+      let by_name = taking h settled hands leaks m waits other facts v kept well holds alone live index_law own_law parts_named AsValue e stays before on takes allowed in
+      let as_view = taking h settled hands leaks m waits other facts v kept well holds alone live index_law own_law parts_named AsView e stays before on takes allowed in
+      quiet_then (at on) One (λ a. IsValue a) (if is_anonymous (view_of h.typing x) then viewed h e (at before) else value h e (at before))
+      (λ ws now. followed_by (checked h (type_of h x) ws now) value_passed)
+      (if_quiet on (is_anonymous (view_of h.typing x)) (viewed h e (at before)) (value h e (at before)) as_view.0 by_name.0)
+      (λ ws one. quiet_then (at on) One (λ a. IsValue a) (checked h (type_of h x) ws (at on)) value_passed (checked_quiet on One (type_of h x) ws one)
+      (λ us single. (refl, single)))
+
+  -- a scalar value fits
+  pub scalar_fit : (x : ℕ) (ws : List machine.Word) → is_scalar (full h.typing.table (object_at h.typing x).of) ≡ true → One ws → IsFit h.typing m (object_at h.typing x).of ws
+  scalar_fit x ws plain one =
+      let waiting : Waiting = record { of = (object_at h.typing x).of; words = ws } in (
+        one ∙ sym (plain_word h.typing settled (object_at h.typing x).of plain),
+        top_points h.typing settled m waiting hands (scalar h.typing settled m waiting hands plain kept).points,
+      )
+
+  -- and so does a copy of what a place has
+  held_fit : (on : List (List machine.Word)) (u : Use) (w : Way) (t x : ℕ) → is_owning h.typing.table t ≡ false → Matches h.typing.table t (object_at h.typing x).of → (y : Evaluated Place)
+      → Walked h.typing settled hands leaks m on w t y → Quiet (at on) (IsFit h.typing m (object_at h.typing x).of) (followed_by y (held_or_taken h u))
+  held_fit on u w t x none fits (Done k n) (l, same, spot, reaches, of) = by_use u
+    where
+      fit : IsFit h.typing m (object_at h.typing x).of (words_of h.typing m k)
+      fit = (
+        length-map (slots_of h.typing m k) (λ (z : Slot). z.word)
+            ∙ (taken_slots h.typing settled m k (room h.typing settled m hands kept k l spot)).0
+            ∙ ap (words h.typing.table) of ∙ matches_words h.typing.table settled t (object_at h.typing x).of fits,
+        retyped_points h.typing settled m t (object_at h.typing x).of (words_of h.typing m k) fits
+            (subst (λ z. Points h.typing m (in_hand (record { of = z; words = words_of h.typing m k }))) of
+            (top_points h.typing settled m (record { of = k.of; words = words_of h.typing m k }) hands ((keeps h.typing settled own_law).copied m hands k l spot kept).points)),
+      )
+
+      by_use : (u : Use) → Quiet (at on) (IsFit h.typing m (object_at h.typing x).of) (held_or_taken h u k n)
+      by_use AsView = (same, subst (λ (z : Now). IsFit h.typing m (object_at h.typing x).of (words_of h.typing z.memory k)) (sym same) fit)
+      by_use AsValue = (
+        ap (λ b. if b then record n { memory = moved_out h.typing k n.memory } else n) (ap (is_owning h.typing.table) of ∙ none) ∙ same,
+        subst (λ (z : Now). IsFit h.typing m (object_at h.typing x).of (words_of h.typing z.memory k)) (sym same) fit,
+      )
+  held_fit on u w t x none fits (Raises e n) is = is
+  held_fit on u w t x none fits (Traps e n) never = absurd never
+
+  copy_evaluated : (before on : List (List machine.Word)) (u : Use) (x : ℕ) (e : TypedTree) → is_owning h.typing.table (object_at h.typing x).of ≡ false → IsCopyOf h.typing x e
+      → Takes (waits_in e) before on → AllowsAll facts (acts (acts_in h.typing e)) → Quiet (at on) (IsFit h.typing m (object_at h.typing x).of) (evaluate h u e (at before))
+  unfolding evaluate waits_in acts_in
+  copy_evaluated before on u x (Name p y path t) plain (leads, fits) takes allowed =
+      let owns = unowned h.typing own_law t (object_at h.typing x).of fits plain in
+      let is : used h.typing (name_of y path) t ≡ act.Read (name_of y path) = unowned_read h.typing own_law (name_of y path) t (object_at h.typing x).of fits plain in
+      let each = allows_both facts (acts (acts_in h.typing path)) (used h.typing (name_of y path) t ∷ [])
+      (subst (AllowsAll facts) (acts_append (acts_in h.typing path) (placed p (used h.typing (name_of y path) t) ∷ [])) allowed) in
+      let inner = steps_taking h settled hands leaks m waits other facts v kept well holds alone live index_law own_law parts_named (object_at h.typing y).of t path leads before on takes each.0 in
+      let reads : Allows facts (act.Read (name_of y path)) = subst (Allows facts) is ((subst (λ z. AllowsAll z (used h.typing (name_of y path) t ∷ [])) inner.1 each.1).0) in
+      quiet_then (at on) (λ way. GoesAlong h.typing.table (object_at h.typing y).of t path way) (IsFit h.typing m (object_at h.typing x).of) (steps_of h path (at before))
+      (λ way now. followed_by (walked h.typing way (variable_place h y) now) (held_or_taken h u)) inner.0
+      (λ way goes. held_fit on u (expand v (way_along way (Object (OfVariable (home h.typing h.frame y) y)))) t x owns fits
+      (walked h.typing way (variable_place h y) (at on))
+      (name_quiet h settled hands leaks m on other facts v kept well holds alone live index_law own_law parts_named y path t way goes
+      (λ w named called. read_open facts w (subst (λ z. Allows facts (act.Read z)) (sym called) reads))))
+  copy_evaluated before on u x e plain never takes allowed = absurd never
+
+  -- what is passed is such a copy
+  abbrev pub IsCopied : ℕ → Passed → Type 0
+  IsCopied x (Value ws) = IsFit h.typing m (object_at h.typing x).of ws
+  IsCopied x a = ⊥
+
+  pub copy_given : (before on : List (List machine.Word)) (x : ℕ) (e : TypedTree) → is_owning h.typing.table (object_at h.typing x).of ≡ false → IsCopyOf h.typing x e → Takes (waits_in e) before on
+      → AllowsAll facts (acts (acts_in h.typing e)) → Quiet (at on) (IsCopied x) (passed h ByValue x e (at before))
+  copy_given before on x e plain copy takes allowed =
+      quiet_then (at on) Fits (IsCopied x) (if is_anonymous (view_of h.typing x) then viewed h e (at before) else value h e (at before))
+      (λ ws now. followed_by (checked h (type_of h x) ws now) value_passed)
+      (by_kind (is_anonymous (view_of h.typing x)))
+      (λ ws fit. quiet_then (at on) Fits (IsCopied x) (checked h (type_of h x) ws (at on)) value_passed (checked_quiet on Fits (type_of h x) ws fit)
+      (λ us fits. (refl, fits)))
+    where
+      Fits : List machine.Word → Type 0
+      Fits = IsFit h.typing m (object_at h.typing x).of
+
+      by_kind : (b : Bool) → Quiet (at on) Fits (if b then viewed h e (at before) else value h e (at before))
+      by_kind true = copy_evaluated before on AsView x e plain copy takes allowed
+      by_kind false = copy_evaluated before on AsValue x e plain copy takes allowed
+
+  -- ---- places
+
+  -- A name that stands for itself leads to the place.
+  abbrev Reached : TypedTree → Place → Type 0
+  Reached (Name p x path u) k =
+      (w : Way) × (l : Loc) × Named (home h.typing h.frame) w × (ways.name_of w ≡ name_of x path) × IsPlace v w
+      × Reaches (seen h.typing m hands leaks) (expand v w) l × Spot h.typing m hands k l
+  Reached e k = ⊥
+
+  abbrev pub IsPut : TypedTree → Place → Type 0
+  IsPut e k = IsPlainAt h.typing h.frame v (seen h.typing m hands leaks) e k × Reached e k
+
+  pub plain_type_at : (e : TypedTree) (k : Place) → IsPlainAt h.typing h.frame v (seen h.typing m hands leaks) e k → is_scalar (full h.typing.table k.of) ≡ true
+  plain_type_at (Name p y path u) k (inl fixed) = fixed.scalar
+  plain_type_at (Name p y path u) k (inr (c, there, plain)) = plain
+  plain_type_at e k never = absurd never
+
+  -- a scalar place in a variable
+  fixed_there : (k : Place) (l : Loc) (f x : ℕ) → Spot h.typing m hands k l → k.base ≡ memory.OfVariable f x → is_scalar (full h.typing.table k.of) ≡ true → IsFixed h.typing k
+  fixed_there k l f x spot base plain =
+      let b : trunk l ≡ OfRoot (OfVariable f x) = spot.base ∙ ap loc_of base in
+      record {
+        frame = f;
+        object = x;
+        steps = steps_in l;
+        base = base;
+        there = ap (λ z. has_part h.typing.table (content h.typing m hands z).of (steps_in l)) (sym b) ∙ spot.there;
+        at = spot.at ∙ ap (λ z. offset_in h.typing.table (content h.typing m hands z).of (steps_in l)) b;
+        of = subst (λ z. Matches h.typing.table k.of (type_in h.typing.table (content h.typing m hands z).of (steps_in l))) b spot.of;
+        scalar = plain;
+      }
+
+  -- a name that may go through access values
+  through_walked : (on : List (List machine.Word)) (p : Pos) (x u : ℕ) (path : TypedTree) (w : Way) → is_scalar (full h.typing.table u) ≡ true → Named (home h.typing h.frame) w
+      → ways.number_of w ≡ x → ways.name_of w ≡ name_of x path → IsPlace v w → is_package_object h.typing x ≡ false → sees_only h.typing x ≡ false
+      → (y : Evaluated Place) → Walked h.typing settled hands leaks m on (expand v w) u y → Quiet (at on) (λ k. IsPut (Name p x path u) k) y
+  through_walked on p x u path w plain named root called place local sees (Raises e n) is = is
+  through_walked on p x u path w plain named root called place local sees (Traps t n) never = absurd never
+  through_walked on p x u path w plain named root called place local sees (Done k n) (l, same, spot, reaches, of) =
+      (same, (by_base k.base refl, (w, l, named, called, place, reaches, spot)))
+    where
+      scalar_there : is_scalar (full h.typing.table k.of) ≡ true
+      scalar_there = ap (λ z. is_scalar (full h.typing.table z)) of ∙ plain
+
+      home_base : (f : ℕ) × (y : ℕ) × (ways.base_of (expand v w) ≡ OfRoot (OfVariable f y))
+      home_base =
+          stands_base (home h.typing h.frame) (sees_only h.typing) v (seen h.typing m hands leaks) facts well.views w (named, ap (sees_only h.typing) root ∙ sees)
+
+      by_base : (b : Base) → k.base ≡ b → IsPlainAt h.typing h.frame v (seen h.typing m hands leaks) (Name p x path u) k
+      by_base (memory.OfVariable f y) base = inl (fixed_there k l f y spot base scalar_there)
+      by_base (memory.OfCell c) base =
+          let found = cell_name v (seen h.typing m hands leaks)
+          (λ y z has. reached (home h.typing h.frame) (sees_only h.typing) other v (seen h.typing m hands leaks) facts y z (well.views y z has)) w l c reaches (spot.base ∙ ap loc_of base) in
+          let cell : Lodge = record { name = found.name; way = expand v found.name; cell = c } in
+          let stands : expand v w ≡ along (expand v found.name) found.rest = ap (expand v) found.is ∙ expand_along v found.name found.rest in
+          inr (
+            cell,
+            record {
+              lodged = (spot_lodged h.typing settled m hands leaks kept k l cell home_base.0 home_base.1 spot base
+                  (sym (base_along (expand v found.name) found.rest) ∙ ap ways.base_of (sym stands) ∙ home_base.2) found.reaches).0;
+              whole = w;
+              named = named;
+              called = called;
+              begins = subst (ways.Under found.name) (sym found.is) (under_along found.name found.name found.rest (under_itself found.name));
+              deep = found.deep;
+              own = local;
+              plain = sees;
+              leads = refl;
+              reaches = found.reaches;
+            },
+            scalar_there,
+          )
+
+  from_walked : (on : List (List machine.Word)) (p : Pos) (x u : ℕ) (path : TypedTree) (w : Way) → is_scalar (full h.typing.table u) ≡ true → Named (home h.typing h.frame) w
+      → ways.name_of w ≡ name_of x path → IsPlace v w → expand v w ≡ w → (y : Evaluated Place) → Walked h.typing settled hands leaks m on w u y
+      → IsIn (memory.OfVariable (home h.typing h.frame x) x) y → Quiet (at on) (λ k. IsPut (Name p x path u) k) y
+  from_walked on p x u path w plain named called place itself (Done k n) (l, same, spot, reaches, of) base = (
+    same,
+    (
+      inl (fixed_there k l (home h.typing h.frame x) x spot base (ap (λ z. is_scalar (full h.typing.table z)) of ∙ plain)),
+      (w, l, named, called, place, subst (λ z. Reaches (seen h.typing m hands leaks) z l) (sym itself) reaches, spot),
+    ),
+  )
+  from_walked on p x u path w plain named called place itself (Raises e n) is base = is
+  from_walked on p x u path w plain named called place itself (Traps t n) never base = absurd never
+
+  -- a name of a scalar place that goes through no access value isn't that of a formal of an access type
+  direct_owner : (x u : ℕ) (way : List run.Step) → is_scalar (full h.typing.table u) ≡ true → Starts h.typing.table (object_at h.typing x).of way u → IsDirect way
+      → is_view_formal h.typing x ≡ false
+  direct_owner x u way plain starts direct = by_kind (is_view_formal h.typing x) refl
+    where
+      by_steps : (way : List run.Step) → Starts h.typing.table (object_at h.typing x).of way u → IsDirect way → is_view_formal h.typing x ≡ true → ⊥
+      by_steps [] starts direct formal =
+          scalar_no_view h.typing in_formals x (subst (λ z. is_scalar (full h.typing.table z) ≡ true) (sym starts) plain) (formal_view h.typing x formal)
+      by_steps (run.ToComponent i ∷ way) (less, lead) direct formal =
+          let none = no_parts_in (shape_of h.typing.table (object_at h.typing x).of) (in_formals x formal).0 in absurd (omega (arith, none.0, less))
+      by_steps (run.ToElement n ∷ way) (less, lead) direct formal =
+          let none = no_parts_in (shape_of h.typing.table (object_at h.typing x).of) (in_formals x formal).0 in absurd (omega (arith, none.1, less))
+      by_steps (run.ToDesignated ∷ way) starts direct formal = direct
+
+      by_kind : (b : Bool) → is_view_formal h.typing x ≡ b → b ≡ false
+      by_kind false e = refl
+      by_kind true e = absurd (by_steps way starts direct e)
+
+  walk_given : (on : List (List machine.Word)) (p : Pos) (x u : ℕ) (path : TypedTree) (way : List run.Step) → is_scalar (full h.typing.table u) ≡ true
+      → GoesAlong h.typing.table (object_at h.typing x).of u path way → IsDirect way
+      → Quiet (at on) (λ k. IsPut (Name p x path u) k) (walked h.typing way (variable_place h x) (at on))
+  walk_given on p x u path way plain goes direct =
+      let root : Way = Object (OfVariable (home h.typing h.frame x) x) in
+      let owner = direct_owner x u way plain goes.lead direct in
+      let named : Named (home h.typing h.frame) (way_along way root) = named_along (home h.typing h.frame) way root refl in
+      from_walked on p x u path (way_along way root) plain named
+      (λ j. record { root = number_along way root j; sels = goes.sels root j })
+      (is_place h.typing v (home h.typing h.frame x) x u way goes.lead (scalar_named h.typing.table u plain)
+      (λ formal none. true_false (is_view_formal h.typing x) formal owner) holds.only)
+      (direct_itself v way direct root refl)
+      (walked h.typing way (variable_place h x) (at on))
+      (walk h.typing settled hands leaks m on (ExcusedBy (home h.typing h.frame) v other facts) kept well.owned well.known live way (variable_place h x)
+      (OfRoot (OfVariable (home h.typing h.frame x) x)) root u
+      (record { base = refl; made = tt; at = refl; there = refl; of = inl refl }) owner refl (direct_leads h.typing.table (object_at h.typing x).of u way direct goes.lead)
+      (λ z past moved. past_none way direct root (λ y never. never) z past))
+      (walked_in h.typing way direct (variable_place h x) (at on))
+
+  pub place_given : (before on : List (List machine.Word)) (e : TypedTree) (t : ℕ) → IsPlaceOf h.typing e t → is_scalar (full h.typing.table t) ≡ true → Takes (waits_in e) before on → goes_through_none e ≡ true
+      → AllowsAll facts (acts (index_acts h.typing e)) → Quiet (at on) (λ k. IsPut e k) (place_of h e (at before))
+  unfolding waits_in goes_through_none
+  place_given before on (Name p x path u) t (leads, type) plain takes direct allowed =
+      let inner = steps_taking h settled hands leaks m waits other facts v kept well holds alone live index_law own_law parts_named (object_at h.typing x).of u path leads before on takes allowed in
+      quiet_then (at on) (λ way. GoesAlong h.typing.table (object_at h.typing x).of u path way × IsDirect way) (λ k. IsPut (Name p x path u) k) (steps_of h path (at before))
+      (λ way now. walked h.typing way (variable_place h x) now)
+      (both_quiet (at on) (λ way. GoesAlong h.typing.table (object_at h.typing x).of u path way) (steps_of h path (at before)) inner.0 (steps_direct h path direct (at before)))
+      (λ way both. walk_given on p x u path way (subst (λ z. is_scalar (full h.typing.table z) ≡ true) (sym type) plain) both.0 both.1)
+  place_given before on e t place plain takes direct allowed = absurd place
+
+  pub through_given : (before on : List (List machine.Word)) (e : TypedTree) (t : ℕ) → IsPlaceOf h.typing e t → is_scalar (full h.typing.table t) ≡ true → Takes (waits_in e) before on
+      → IsOpenActual h.typing h.frame facts e → AllowsAll facts (acts (index_acts h.typing e)) → Quiet (at on) (λ k. IsPut e k) (place_of h e (at before))
+  unfolding waits_in goes_through_none
+  through_given before on (Name p x path u) t (leads, type) plain takes (inl direct) allowed = place_given before on (Name p x path u) t (leads, type) plain takes direct allowed
+  through_given before on (Name p x path u) t (leads, type) plain takes (inr (local, sees, opens)) allowed =
+      let inner = steps_taking h settled hands leaks m waits other facts v kept well holds alone live index_law own_law parts_named (object_at h.typing x).of u path leads before on takes allowed in
+      let plain_there : is_scalar (full h.typing.table u) ≡ true = subst (λ z. is_scalar (full h.typing.table z) ≡ true) (sym type) plain in
+      quiet_then (at on) (λ way. GoesAlong h.typing.table (object_at h.typing x).of u path way) (λ k. IsPut (Name p x path u) k) (steps_of h path (at before))
+      (λ way now. walked h.typing way (variable_place h x) now) inner.0
+      (λ way goes.
+      let root : Way = Object (OfVariable (home h.typing h.frame x) x) in
+      through_walked on p x u path (way_along way root) plain_there (named_along (home h.typing h.frame) way root refl) (number_along way root)
+      (λ j. record { root = number_along way root j; sels = goes.sels root j })
+      (is_place h.typing v (home h.typing h.frame x) x u way goes.lead (scalar_named h.typing.table u plain_there)
+      (λ formal none. scalar_no_view h.typing in_formals x
+      (subst (λ z. is_scalar (full h.typing.table z) ≡ true) (sym (subst (λ z. Starts h.typing.table (object_at h.typing x).of z u) none goes.lead)) plain_there)
+      (formal_view h.typing x formal)) holds.only) local sees
+      (walked h.typing way (variable_place h x) (at on))
+      (name_quiet h settled hands leaks m on other facts v kept well holds alone live index_law own_law parts_named x path u way goes opens))
+  through_given before on e t place plain takes opens allowed = absurd place
+
+  own_walked : (on : List (List machine.Word)) (p : Pos) (x y u : ℕ) (path : TypedTree) (q : List Step) (w : Way) → IsNamed h.typing.table u → Matches h.typing.table u (object_at h.typing x).of
+      → is_view_formal h.typing y ≡ false → w ≡ along (Object (OfVariable (home h.typing h.frame y) y)) q
+      → ways.name_of w ≡ name_of y path → (z : Evaluated Place) → Walked h.typing settled hands leaks m on w u z
+      → IsIn (memory.OfVariable (home h.typing h.frame y) y) z → Quiet (at on) (λ k. IsOwnPut h.typing h.frame x (Name p y path u) k) z
+  own_walked on p x y u path q w own fits owner is called (Done k n) (l, same, spot, reaches, of) base =
+      let root : Root = OfVariable (home h.typing h.frame y) y in
+      let b : trunk l ≡ OfRoot root = spot.base ∙ ap loc_of base in
+      let stands : l ≡ part (OfRoot root) q = part_reached (seen h.typing m hands leaks) root q l (subst (λ z. Reaches (seen h.typing m hands leaks) z l) is reaches) in
+      let steps_are : steps_in l ≡ q = ap steps_in stands ∙ steps_part (OfRoot root) q ∙ append-nil q in (
+        same,
+        (
+          w,
+          record {
+            object = y;
+            steps = steps_in l;
+            frame = home h.typing h.frame y;
+            at_home = refl;
+            trunk = Object (OfVariable (home h.typing h.frame y) y);
+            start = OfRoot (OfVariable (home h.typing h.frame y) y);
+            stands = inl (refl, refl, base);
+            root = refl;
+            way = is ∙ ap (along (Object (OfVariable (home h.typing h.frame y) y))) (sym steps_are);
+            owner = owner;
+            there = ap (λ z. has_part h.typing.table (content h.typing m hands z).of (steps_in l)) (sym b) ∙ spot.there;
+            at = spot.at ∙ ap (λ z. offset_in h.typing.table (content h.typing m hands z).of (steps_in l)) b;
+            of = subst (λ z. Matches h.typing.table k.of (type_in h.typing.table (content h.typing m hands z).of (steps_in l))) b spot.of;
+            named = subst (IsNamed h.typing.table) (sym of) own;
+          },
+          called,
+          refl,
+          subst (λ z. Matches h.typing.table z (object_at h.typing x).of) (sym of) fits,
+          (refl, refl, base),
+        ),
+      )
+  own_walked on p x y u path q w own fits owner is called (Raises e n) there base = there
+  own_walked on p x y u path q w own fits owner is called (Traps t n) never base = absurd never
+
+  own_given : (on : List (List machine.Word)) (x : ℕ) (p : Pos) (y u : ℕ) (path : TypedTree) (way : List run.Step) → IsNamed h.typing.table u → Matches h.typing.table u (object_at h.typing x).of
+      → is_view_formal h.typing y ≡ false → GoesAlong h.typing.table (object_at h.typing y).of u path way → IsDirect way
+      → Quiet (at on) (λ k. IsOwnPut h.typing h.frame x (Name p y path u) k) (walked h.typing way (variable_place h y) (at on))
+  own_given on x p y u path way own fits owner goes direct =
+      let root : Way = Object (OfVariable (home h.typing h.frame y) y) in
+      let flat = direct_part (OfVariable (home h.typing h.frame y) y) way direct [] in
+      own_walked on p x y u path flat.0 (way_along way root) own fits owner flat.1
+      (λ j. record { root = number_along way root j; sels = goes.sels root j })
+      (walked h.typing way (variable_place h y) (at on))
+      (walk h.typing settled hands leaks m on (ExcusedBy (home h.typing h.frame) v other facts) kept well.owned well.known live way (variable_place h y)
+      (OfRoot (OfVariable (home h.typing h.frame y) y)) root u
+      (record { base = refl; made = tt; at = refl; there = refl; of = inl refl }) owner refl (direct_leads h.typing.table (object_at h.typing y).of u way direct goes.lead)
+      (λ z past moved. past_none way direct root (λ y never. never) z past))
+      (walked_in h.typing way direct (variable_place h y) (at on))
+
+  pub own_place_given : (before on : List (List machine.Word)) (x : ℕ) (e : TypedTree) (t : ℕ) → IsPlaceOf h.typing e t → IsNamed h.typing.table t → Matches h.typing.table t (object_at h.typing x).of
+      → IsOwnPlace h.typing e → Takes (waits_in e) before on → goes_through_none e ≡ true
+      → AllowsAll facts (acts (index_acts h.typing e)) → Quiet (at on) (λ k. IsOwnPut h.typing h.frame x e k) (place_of h e (at before))
+  unfolding waits_in goes_through_none
+  own_place_given before on x (Name p y path u) t (leads, type) own fits owner takes direct allowed =
+      let inner = steps_taking h settled hands leaks m waits other facts v kept well holds alone live index_law own_law parts_named (object_at h.typing y).of u path leads before on takes allowed in
+      quiet_then (at on) (λ way. GoesAlong h.typing.table (object_at h.typing y).of u path way × IsDirect way) (λ k. IsOwnPut h.typing h.frame x (Name p y path u) k) (steps_of h path (at before))
+      (λ way now. walked h.typing way (variable_place h y) now)
+      (both_quiet (at on) (λ way. GoesAlong h.typing.table (object_at h.typing y).of u path way) (steps_of h path (at before)) inner.0 (steps_direct h path direct (at before)))
+      (λ way both. own_given on x p y u path way (subst (IsNamed h.typing.table) (sym type) own) (subst (λ z. Matches h.typing.table z (object_at h.typing x).of) (sym type) fits)
+      (owner y (inl refl)) both.0 both.1)
+  own_place_given before on x e t place own fits owner takes direct allowed = absurd place
+
+  pub quiet_on : (on : List (List machine.Word)) (P Q : Place → Type 0) → ((k : Place) → P k → Q k) → (y : Evaluated Place) → Quiet (at on) P y → Quiet (at on) Q y
+  quiet_on on P Q each (Done k n) is = (is.0, each k is.1)
+  quiet_on on P Q each (Raises e n) is = is
+  quiet_on on P Q each (Traps e n) is = is
+
+  -- A place in a variable, or in a cell that an owner leads to.
+  abbrev pub IsKeptPut : ℕ → TypedTree → Place → Type 0
+  IsKeptPut x e k = IsOwnPut h.typing h.frame x e k ⊎ IsHousedPut h.typing h.frame v (seen h.typing m hands leaks) x e k
+
+  -- a way to a part of a variable
+  root_part : (w : Way) (l : Loc) (r : Root) → Reaches (seen h.typing m hands leaks) w l → trunk l ≡ OfRoot r → w ≡ along (Object r) (steps_in l)
+  root_part (Object b) l r reach is =
+      (let same : OfRoot b ≡ OfRoot r = ap trunk (sym reach) ∙ is in let one : b ≡ r = cc in ap Object one ∙ ap (along (Object r)) (ap steps_in (sym reach)))
+  root_part (Lost n) l r reach is = (let never : OfCell n ≡ OfRoot r = ap trunk (sym reach.1) ∙ is in cc)
+  root_part (Into w i) l r (k, reach, at) is =
+      ap (λ z. Into z i) (root_part w k r reach (ap trunk (sym at) ∙ is)) ∙ ap (along (Object r)) (ap steps_in (sym at))
+  root_part (All w) l r (k, n, reach, held, at) is = (let never : OfCell n ≡ OfRoot r = ap trunk (sym at) ∙ is in cc)
+
+  -- a name that may go through access values, of an owner
+  housed_walked : (on : List (List machine.Word)) (p : Pos) (x y u : ℕ) (path : TypedTree) (w : Way) → IsNamed h.typing.table u → Matches h.typing.table u (object_at h.typing x).of
+      → is_view_formal h.typing y ≡ false → is_anonymous (view_of h.typing y) ≡ false → Named (home h.typing h.frame) w → ways.number_of w ≡ y → ways.name_of w ≡ name_of y path
+      → is_package_object h.typing y ≡ false → sees_only h.typing y ≡ false
+      → (z : Evaluated Place) → Walked h.typing settled hands leaks m on (expand v w) u z → Quiet (at on) (λ k. IsKeptPut x (Name p y path u) k) z
+  housed_walked on p x y u path w own fits owner plain named root called local sees (Raises e n) is = is
+  housed_walked on p x y u path w own fits owner plain named root called local sees (Traps t n) never = absurd never
+  housed_walked on p x y u path w own fits owner plain named root called local sees (Done k n) (l, same, spot, reaches, of) = (same, by_base k.base refl)
+    where
+      owned_one : (u : Way) → ways.number_of u ≡ y → expand v u ≡ u
+      owned_one u number = elim (lifts v u) [
+        | inl itself ↦ itself
+        | inr lift ↦ absurd (true_false (is_view h.typing lift.object) (holds.only lift.object lift.way lift.has)
+            (ap (is_view h.typing) (sym (lifted_root v u lift) ∙ number)
+            ∙ both_no (is_anonymous (view_of h.typing y)) (is_view_formal h.typing y) plain owner))
+      ]
+
+      reach : Reaches (seen h.typing m hands leaks) w l
+      reach = subst (λ z. Reaches (seen h.typing m hands leaks) z l) (owned_one w root) reaches
+
+      base_there : ways.base_of w ≡ OfRoot (OfVariable (home h.typing h.frame y) y)
+      base_there = named_base (home h.typing h.frame) w named ∙ ap (λ z. OfRoot (OfVariable (home h.typing h.frame z) z)) root
+
+      by_base : (b : Base) → k.base ≡ b → IsKeptPut x (Name p y path u) k
+      by_base (memory.OfVariable f z) base =
+          let b : trunk l ≡ OfRoot (OfVariable f z) = spot.base ∙ ap loc_of base in
+          let is : w ≡ along (Object (OfVariable f z)) (steps_in l) = root_part w l (OfVariable f z) reach b in
+          let both = same_variable f z (home h.typing h.frame y) y (sym (base_along (Object (OfVariable f z)) (steps_in l)) ∙ ap ways.base_of (sym is) ∙ base_there) in
+          inl (
+            w,
+            record {
+              object = z;
+              steps = steps_in l;
+              frame = f;
+              at_home = both.0 ∙ ap (home h.typing h.frame) (sym both.1);
+              trunk = Object (OfVariable f z);
+              start = OfRoot (OfVariable f z);
+              stands = inl (refl, refl, base);
+              root = refl;
+              way = is;
+              owner = ap (is_view_formal h.typing) both.1 ∙ owner;
+              there = ap (λ c. has_part h.typing.table (content h.typing m hands c).of (steps_in l)) (sym b) ∙ spot.there;
+              at = spot.at ∙ ap (λ c. offset_in h.typing.table (content h.typing m hands c).of (steps_in l)) b;
+              of = subst (λ c. Matches h.typing.table k.of (type_in h.typing.table (content h.typing m hands c).of (steps_in l))) b spot.of;
+              named = subst (IsNamed h.typing.table) (sym of) own;
+            },
+            called,
+            both.1,
+            subst (λ c. Matches h.typing.table c (object_at h.typing x).of) (sym of) fits,
+            (refl, refl, base),
+          )
+      by_base (memory.OfCell c) base =
+          let view = seen h.typing m hands leaks in
+          let found = cell_name v view
+          (λ b z has. reached (home h.typing h.frame) (sees_only h.typing) other v view facts b z (well.views b z has)) w l c reaches (spot.base ∙ ap loc_of base) in
+          let number : ways.number_of found.name ≡ y = sym (ap ways.number_of found.is ∙ number_part found.name found.rest) ∙ root in
+          let itself : expand v found.name ≡ found.name = owned_one found.name number in
+          let reach_cell : Reaches view found.name (OfCell c) = subst (λ z. Reaches view z (OfCell c)) itself found.reaches in
+          let base_name : ways.base_of found.name ≡ OfRoot (OfVariable (home h.typing h.frame y) y) = sym (ap ways.base_of found.is ∙ base_along found.name found.rest) ∙ base_there in
+          let cell : Lodge = record { name = found.name; way = found.name; cell = c } in
+          let in_cell = spot_lodged h.typing settled m hands leaks kept k l cell (home h.typing h.frame y) y spot base base_name reach_cell in
+          let lodged = in_cell.0 in
+          let stands : l ≡ part (OfCell c) found.rest =
+          one_location view w l (part (OfCell c) found.rest) reach (subst (λ z. Reaches view z (part (OfCell c) found.rest)) (sym found.is) (reaches_along view found.name (OfCell c) found.rest reach_cell)) in
+          let steps_are : found.rest ≡ lodged.steps = sym (in_cell.1 ∙ ap steps_in stands ∙ steps_part (OfCell c) found.rest ∙ append-nil found.rest) in
+          inr (record {
+            to = w;
+            inside = record {
+              object = y;
+              steps = lodged.steps;
+              frame = home h.typing h.frame y;
+              at_home = refl;
+              trunk = found.name;
+              start = OfCell c;
+              stands = inr ((c, refl, base), plain);
+              root = base_name;
+              way = found.is ∙ ap (along found.name) steps_are;
+              owner = owner;
+              there = lodged.there;
+              at = lodged.at;
+              of = lodged.of;
+              named = subst (IsNamed h.typing.table) (sym of) own;
+            };
+            called = called;
+            object = refl;
+            fits = subst (λ z. Matches h.typing.table z (object_at h.typing x).of) (sym of) fits;
+            cell = c;
+            start = refl;
+            own = local;
+            plain = sees;
+            deep = found.deep;
+            leads = itself;
+            reaches = reach_cell;
+          })
+
+  pub housed_given : (before on : List (List machine.Word)) (x : ℕ) (e : TypedTree) (t : ℕ) → IsPlaceOf h.typing e t → IsNamed h.typing.table t → Matches h.typing.table t (object_at h.typing x).of
+      → AreOwners h.typing e → Takes (waits_in e) before on → IsOpenActual h.typing h.frame facts e
+      → AllowsAll facts (acts (index_acts h.typing e)) → Quiet (at on) (λ k. IsKeptPut x e k) (place_of h e (at before))
+  unfolding waits_in goes_through_none
+  housed_given before on x (Name p y path u) t (leads, type) own fits owner takes (inl direct) allowed =
+      quiet_on on (λ k. IsOwnPut h.typing h.frame x (Name p y path u) k) (λ k. IsKeptPut x (Name p y path u) k) (λ k put. inl put) (place_of h (Name p y path u) (at before))
+      (own_place_given before on x (Name p y path u) t (leads, type) own fits (λ z has. (owner z has).1) takes direct allowed)
+  housed_given before on x (Name p y path u) t (leads, type) own fits owner takes (inr (local, sees, opens)) allowed =
+      let inner = steps_taking h settled hands leaks m waits other facts v kept well holds alone live index_law own_law parts_named (object_at h.typing y).of u path leads before on takes allowed in
+      quiet_then (at on) (λ way. GoesAlong h.typing.table (object_at h.typing y).of u path way) (λ k. IsKeptPut x (Name p y path u) k) (steps_of h path (at before))
+      (λ way now. walked h.typing way (variable_place h y) now) inner.0
+      (λ way goes.
+      let root : Way = Object (OfVariable (home h.typing h.frame y) y) in
+      housed_walked on p x y u path (way_along way root) (subst (IsNamed h.typing.table) (sym type) own) (subst (λ z. Matches h.typing.table z (object_at h.typing x).of) (sym type) fits)
+      (owner y (inl refl)).1 (owner y (inl refl)).0 (named_along (home h.typing h.frame) way root refl) (number_along way root)
+      (λ j. record { root = number_along way root j; sels = goes.sels root j }) local sees
+      (walked h.typing way (variable_place h y) (at on))
+      (name_quiet h settled hands leaks m on other facts v kept well holds alone live index_law own_law parts_named y path u way goes opens))
+  housed_given before on x e t place own fits owner takes opens allowed = absurd place
+  -- ---- all of them
