@@ -22,7 +22,8 @@ use Rattle.viewed_soundness.specs.Holds.{PartsAreNamed, is_view, sees_only, IsOw
 use Rattle.viewed_soundness.proofs.Sources.{Shows, source_on}
 use Rattle.viewed_steps.specs.Awaited.{IsTakenBy}
 use Rattle.viewed_steps.specs.Traversals.{call_in, traversed_name, SeesFirst}
-use Rattle.viewed_steps.proofs.Called.{values_are_read, index_reads, both_reads, AreGiven, all_given}
+use Rattle.viewed_steps.proofs.Called.{values_are_read, AreGiven, all_given}
+use Rattle.viewed_steps.proofs.Reading.{index_reads, both_reads}
 use Rattle.viewed_steps.proofs.LaidOut.{AreOpenActuals}
 use Rattle.viewed_steps.proofs.Seeing.{AreOpenTo}
 use Rattle.viewed_steps.proofs.Views.{AreAccess}
