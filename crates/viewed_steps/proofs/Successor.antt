@@ -1,10 +1,10 @@
 -- Where a call of a traversal function leads, its result is taken. So nothing of what the first actual names is moved or
 -- borrowed there; and if the call changes no fact, nothing of it is where the call stands.
 use Rattle.viewed_steps.proofs.Standing as standing
-use Rattle.viewed_steps.proofs.Taker.{IsViewTaker, taker_clears}
+use Rattle.viewed_steps.proofs.Taker.{taker_clears}
 use Rattle.viewed_steps.specs.Ready.{IsReady}
 use Rattle.viewed_steps.specs.Sound.{ViewStage}
-use Rattle.viewed_steps.specs.Traversals.{TraversalCall, call_in, traversed_name}
+use Rattle.viewed_steps.specs.Traversals.{IsViewTaker, TraversalCall, call_in, traversed_name}
 use Rattle.soundness.proofs.Points.{flow_at, path_there}
 use Rattle.soundness.specs.Sound.{IsNoCall, Stage, IsNamedSub, IsAtPoint}
 use Rattle.std.proofs.Common.{◌≡◌, refl, sym, ◌∙◌, subst, inl, inr, ℕ, Option, List, ◌∷◌}

@@ -16,20 +16,11 @@ use Rattle.flow_paths.specs.Objects.{Typing, is_anonymous, view_of, object_at, i
 use Rattle.place_names.specs.declared.fact.Fact.{Fact}
 use Rattle.owned_ways.specs.Ways.{Way, AllowsAll, Allows, name_of, number_of}
 use Rattle.owned_loans.proofs.Allowed.{Cleared, borrow_clears, observe_clears, reborrow_clears, give_clears}
-use Rattle.viewed_steps.specs.Traversals.{TraversalCall, call_in, traversed_name}
+use Rattle.viewed_steps.specs.Traversals.{IsSeer, IsViewTaker, TraversalCall, call_in, traversed_name}
 
 module _ (s : Typing) (n : ℕ) (c : TraversalCall) where
-  -- An object that sees is declared with it or assigned, a borrower from a name that is rooted in it; or a traversal
-  -- function returns it.
-  abbrev pub Sees : ℕ → Type 0
-  Sees x = (is_variable (object_at s x).kind ≡ true) × (is_anonymous (view_of s x) ≡ true)
-
-  abbrev pub IsViewTaker : Option ℕ → Instruction → Type 0
-  IsViewTaker result i =
-      ((x : ℕ) × (i ≡ Declare x (More (call_in n c) NoMore)) × Sees x)
-      ⊎ (((p : Pos) × (x : ℕ) × (u : ℕ) × (i ≡ Assign (Name p x NoMore u) (call_in n c)) × Sees x
-      × (is_observer s x ≡ false → c.root ≡ x))
-      ⊎ ((i ≡ Hold (More (call_in n c) NoMore)) × (traverses s.table result ≡ true)))
+  abbrev Sees : ℕ → Type 0
+  Sees x = IsSeer s x
 
   kind_of : (x : ℕ) → Sees x → (is_borrower s x ≡ true) ⊎ ((is_borrower s x ≡ false) × (is_observer s x ≡ true))
   kind_of x (variable, view) = elim (bool_cases (is_borrower s x)) [
@@ -87,7 +78,7 @@ module _ (s : Typing) (n : ℕ) (c : TraversalCall) where
         by_kind false false (inr (none, never)) own only allowed = cc
 
     -- by the acts of its point
-    pub taker_clears : (i : Instruction) → IsViewTaker f.result i → AllowsAll facts (acts (acts_of f p i)) → Cleared facts u
+    pub taker_clears : (i : Instruction) → IsViewTaker s n c f.result i → AllowsAll facts (acts (acts_of f p i)) → Cleared facts u
     taker_clears i (inl (x, is, view)) allowed =
         by_declared x view (subst (λ (t : Typing). AllowsAll facts (acts (if is_borrower t x then source_acts t (call_in n c) (act.Borrow x)
         else (if is_observer t x then source_acts t (call_in n c) (observe t x) else acts_in t (More (call_in n c) NoMore))))) of_frame
