@@ -70,6 +70,7 @@ pub mod Taker
 pub mod Traversing
 pub mod Successor
 pub mod Begun
+pub mod Followed
 pub mod Results
 pub mod Giving
 pub mod ScopeEnds
