@@ -1,17 +1,17 @@
 -- At the call of a traversal function nothing of what the first actual names is moved or borrowed.
 use Rattle.viewed_steps.proofs.Standing as standing
 use Rattle.viewed_steps.proofs.Successor as next
-use Rattle.viewed_steps.proofs.Traversing.{ways_to, first_actual, traversal_keeps}
+use Rattle.viewed_steps.proofs.Traversing.{first_actual, traversal_keeps}
 use Rattle.viewed_steps.specs.Ready.{IsReady, IsTraversalCall, AreActualsTo}
 use Rattle.viewed_steps.specs.Sound.{ViewStage}
-use Rattle.viewed_steps.specs.Traversals.{traversed_name}
+use Rattle.viewed_steps.specs.Traversals.{traversed_name, IsBorrowTaker}
 use Rattle.soundness.proofs.Points.{flow_at}
 use Rattle.soundness.proofs.Scalars.{acts, acts_append, after_append}
 use Rattle.soundness.proofs.Inherited.{global_after}
 use Rattle.soundness.proofs.Used.{globals_are, called_are}
 use Rattle.soundness.proofs.Passing.{signature_is}
 use Rattle.soundness.specs.Sound.{Stage, IsNamedSub, IsAtPoint}
-use Rattle.std.proofs.Common.{◌≡◌, refl, sym, ap, ◌∙◌, subst, inl, inr, ℕ, Bool, true, false, List, [], ◌∷◌, ◌++◌, map, not, is_some, Option, Some, None, if◌then◌else◌}
+use Rattle.std.proofs.Common.{◌≡◌, refl, sym, ap, ◌∙◌, subst, inr, ℕ, Bool, true, false, List, [], ◌∷◌, ◌++◌, map, Option, Some, None, if◌then◌else◌}
 use Rattle.spark_base.specs.Lists.{Has}
 use Rattle.place_names.specs.declared.act.Mode.TheVariants as mode
 use Rattle.place_names.specs.declared.act.Placed.{Placed}
@@ -24,8 +24,8 @@ use Rattle.flow_paths.specs.declared.report.Effects.{Effects}
 use Rattle.flow_paths.specs.Acts.{actual_values, actual_acts}
 use Rattle.flow_paths.specs.Effects.{path_points, globals_of, called_acts}
 use Rattle.flow_paths.specs.Instructions.{Call}
-use Rattle.flow_paths.specs.Laid.{NamedSub, FlowProgram, FlowSub, flow_program, flow_named, typing_of, flow_typing}
-use Rattle.flow_paths.specs.Objects.{Typing, Passing, passing, passings, first_traversed, traverses, sub_at, object_at}
+use Rattle.flow_paths.specs.Laid.{NamedSub, FlowProgram, flow_program, flow_named, typing_of, flow_typing}
+use Rattle.flow_paths.specs.Objects.{Typing, passing, passings, first_traversed, traverses, sub_at, object_at}
 use Rattle.flow_paths.specs.Paths.{ControlPath, facts_before}
 use Rattle.flow_paths.specs.Points.{NamedPoint}
 use Rattle.flow_paths.specs.Views.{traversed_formal, traversed_of}
@@ -33,6 +33,7 @@ use Rattle.machine.specs.States.{State, Frame, sub_of}
 use Rattle.owned_ways.specs.Ways.{Way, after}
 use Rattle.owned_ways.specs.Ways as ways
 use Rattle.owned_loans.proofs.Allowed.{Cleared}
+use Rattle.owned_loans.proofs.Safe.{Unlent}
 
 -- The formals of a traversal function, its result, and how its actuals are passed.
 pub record IsTraversing (program : FlowProgram) (n f : ℕ) : Type 0 where
@@ -135,3 +136,10 @@ module _ (table : Table) (typed : TypedProgram) (effects : Effects) (input : Lis
   clear_at_call k has q at_q u called =
       next.clear_here table typed effects input ready state top older outer named p frames of_sub at_point path k has q at_q own_facts facts_stay n made.call
       (made.taker k has q at_q) u called
+
+  -- nor is it lent where the taker borrows
+  pub unlent_at_call : (k : ℕ) (has : Has (flow_at (typing_of table typed) named p).next k) (q : NamedPoint) (at_q : IsAtPoint named.points k q)
+      → IsBorrowTaker s n made.call named.sub.result q.instr → (u : Way) → ways.name_of u ≡ traversed_name made.call → Unlent own_facts u
+  unlent_at_call k has q at_q borrows u called =
+      next.unlent_here table typed effects input ready state top older outer named p frames of_sub at_point path k has q at_q own_facts facts_stay n made.call
+      (made.taker k has q at_q) borrows u called

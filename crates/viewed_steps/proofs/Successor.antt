@@ -1,10 +1,10 @@
 -- Where a call of a traversal function leads, its result is taken. So nothing of what the first actual names is moved or
 -- borrowed there; and if the call changes no fact, nothing of it is where the call stands.
 use Rattle.viewed_steps.proofs.Standing as standing
-use Rattle.viewed_steps.proofs.Taker.{taker_clears}
+use Rattle.viewed_steps.proofs.Taker.{taker_clears, taker_unlent}
 use Rattle.viewed_steps.specs.Ready.{IsReady}
 use Rattle.viewed_steps.specs.Sound.{ViewStage}
-use Rattle.viewed_steps.specs.Traversals.{IsViewTaker, TraversalCall, call_in, traversed_name}
+use Rattle.viewed_steps.specs.Traversals.{IsViewTaker, IsBorrowTaker, TraversalCall, call_in, traversed_name}
 use Rattle.soundness.proofs.Points.{flow_at, path_there}
 use Rattle.soundness.specs.Sound.{IsNoCall, Stage, IsNamedSub, IsAtPoint}
 use Rattle.std.proofs.Common.{◌≡◌, refl, sym, ◌∙◌, subst, inl, inr, ℕ, Option, List, ◌∷◌}
@@ -24,6 +24,7 @@ use Rattle.machine.specs.States.{State, Frame, sub_of}
 use Rattle.owned_ways.specs.Ways.{Way, AllowsAll}
 use Rattle.owned_ways.specs.Ways as ways
 use Rattle.owned_loans.proofs.Allowed.{Cleared}
+use Rattle.owned_loans.proofs.Safe.{Unlent}
 
 -- what takes it isn't a call
 pub takes_no_call : (table : Table) (typed : TypedProgram) (n : ℕ) (c : TraversalCall) (result : Option ℕ) (i : Instruction)
@@ -73,3 +74,13 @@ module _ (table : Table) (typed : TypedProgram) (effects : Effects) (input : Lis
   pub clear_here : (facts : List Fact) → facts_there ≡ facts → (n : ℕ) (c : TraversalCall) → IsViewTaker (flow_typing (flow_program table typed)) n c named.sub.result q.instr
       → (u : Way) → ways.name_of u ≡ traversed_name c → Cleared facts u
   clear_here facts same n c taker u called = subst (λ z. Cleared z u) same (clear_next n c taker u called)
+
+  -- nor is it lent where that is borrowed
+  pub unlent_here : (facts : List Fact) → facts_there ≡ facts → (n : ℕ) (c : TraversalCall) → IsViewTaker (flow_typing (flow_program table typed)) n c named.sub.result q.instr
+      → IsBorrowTaker (flow_typing (flow_program table typed)) n c named.sub.result q.instr → (u : Way) → ways.name_of u ≡ traversed_name c → Unlent facts u
+  unlent_here facts same n c taker borrows u called =
+      subst (λ z. Unlent z u) same
+      (taker_unlent (flow_typing (flow_program table typed)) n c
+      (record { typing = flow_typing (flow_program table typed); result = named.sub.result; roots = standing.roots table typed effects input ready state_there there older outer named q refl of_sub at_q })
+      refl q.pos facts_there u called q.instr borrows
+      (allowed_next (takes_no_call table typed n c named.sub.result q.instr taker)))
