@@ -40,11 +40,11 @@ use Rattle.file_positions.specs.Texts.{AreParsed}
 use Rattle.file_positions.proofs.Cuts.{cut_in_order}
 use Rattle.called_subs.specs.Called.{Calls, CodeCalls}
 use Rattle.order_laws.specs.Orderly.{typed_of, typing_in}
-use Rattle.sound_files.specs.Class.{CallsProcedures, IsScalarAt, IsShownAt, FormalsAreKinds, laid_in, FunctionsSee, AreFitActuals, PassFitActuals}
+use Rattle.sound_files.specs.Class.{CallsProcedures, IsScalarAt, IsShownAt, FormalsAreKinds, laid_in, FunctionsSee, AreFitActuals, PassFitActuals, AreOwnersShown, ShowOwners}
 use Rattle.sound_files.proofs.Results.{results_fit}
 use Rattle.viewed_files.proofs.Files.{parsed_called_sound}
 use Rattle.accepted_runs.proofs.Runs.{RunsAreSound}
-use Rattle.accepted_runs.proofs.Views.{AreInSecondViewClass}
+use Rattle.accepted_runs.specs.Classes.{AreInSecondViewClass}
 use Rattle.accepted_examples.proofs.Naming.{naming}
 use Rattle.accepted_examples.proofs.Typing.{typing}
 use Rattle.accepted_examples.proofs.Lowering.{lowering}
@@ -155,8 +155,14 @@ passed =
     of_three (λ sub. CodeCalls (λ n actuals. AreFitActuals laid (sub_at laid n).formals actuals) sub.body) _ _ _ tt (tt, tt)
     (tt, ((((λ is. inr (inr (refl, refl))), tt), (tt, tt)), tt))
 
+pub shown : ShowOwners (program_of files)
+unfolding computes naming typing lowering Calls CodeCalls
+shown =
+    of_three (λ sub. CodeCalls (λ n actuals. AreOwnersShown laid (sub_at laid n).formals actuals) sub.body) _ _ _ tt (tt, tt)
+    (tt, ((((λ view y has. absurd (true≢false (sym view))), tt), (tt, tt)), tt))
+
 pub class : AreInSecondViewClass files
-class = record { main = 2; is_main = is_main; calls = record { results = results_fit (program_of files) (inl calls); formals = formals; seen = seen; passed = passed } }
+class = record { main = 2; is_main = is_main; calls = record { results = results_fit (program_of files) (inl calls); formals = formals; seen = seen; passed = passed; shown = inl shown } }
 
 -- ---- nothing is reported of it
 

@@ -9,3 +9,4 @@ pub mod Observed
 pub mod Lent
 pub mod Handed
 pub mod Copied
+pub mod Shown

@@ -15,11 +15,11 @@ use Rattle.place_names.specs.Rules.{Forbidden, forbids}
 use Rattle.place_names.specs.Reports.{Report}
 use Rattle.flow_paths.specs.declared.report.Effects.{Effects}
 use Rattle.flow_paths.specs.Instructions.{Instruction}
-use Rattle.flow_paths.specs.Objects.{Typing, is_observer, is_formal}
+use Rattle.flow_paths.specs.Objects.{Typing, object_at, view_of, is_observer, is_formal, is_named_access}
 use Rattle.flow_paths.specs.Points.{FlowPoint}
 use Rattle.flow_paths.specs.Laid.{FlowSub, FlowProgram, flow_typing}
 use Rattle.flow_paths.specs.Paths.{PathPoint, PathReport, ControlPath, begins, goes_on, path_point, acts_at, acts_along}
-use Rattle.flow_paths.specs.Views.{ViewReport, changed, lent, given, called, text_io, shorter, elsewhere, other_root, ConstantView, of_observer, of_formal, in_function, of_borrower, is_function, has_selector, is_assignment, encloses, scope_of, changes, lends}
+use Rattle.flow_paths.specs.Views.{is_in_mode, ViewReport, changed, lent, given, called, text_io, shorter, elsewhere, other_root, ConstantView, of_observer, of_formal, in_function, of_borrower, is_function, has_selector, is_assignment, encloses, scope_of, changes, lends}
 use Rattle.flow_paths.specs.Aliases.{alias_reports}
 use Rattle.flow_paths.specs.Effects.{AreEffects, Reads, Writes, Ascends, path_points, point_reads, point_writes, is_global, reads_text, writes_text, flow_sub_at, act_reads, act_writes}
 use Rattle.flow_paths.specs.Reports.{AreReports, ProgramReport, on_actuals, on_views, on_paths}
@@ -91,7 +91,9 @@ module _ (points : List PathPoint) where
 -- In a procedure.
 abbrev is_constant : Typing → Option Name → Bool
 is_constant s None = false
-is_constant s (Some m) = (is_observer s m.root && has_selector m) || is_formal s m.root
+is_constant s (Some m) =
+    (is_observer s m.root && has_selector m)
+    || (is_formal s m.root && (is_in_mode (object_at s m.root).mode && (not (is_named_access (view_of s m.root)) || not (has_selector m))))
 
 abbrev designated_name : Option Name → Option Name
 designated_name None = None
@@ -216,9 +218,13 @@ module _ (program : FlowProgram) (passes : all_pass (sub_passes program) program
   and_second false b e = absurd (true≢false (sym e))
 
   view_constant : (sub : FlowSub) → Has program.subs sub → (m : Name) → ConstantView s sub m → is_constant s (Some m) ≡ true
-  view_constant sub has m (of_observer is) = or_left (is_observer s m.root && has_selector m) (is_formal s m.root) is
+  view_constant sub has m (of_observer is) =
+      or_left (is_observer s m.root && has_selector m)
+      (is_formal s m.root && (is_in_mode (object_at s m.root).mode && (not (is_named_access (view_of s m.root)) || not (has_selector m)))) is
   view_constant sub has m (of_formal is) =
-      or_right (is_observer s m.root && has_selector m) (is_formal s m.root) (and_first (is_formal s m.root) _ (and_second (not (is_function sub)) _ is))
+      or_right (is_observer s m.root && has_selector m)
+      (is_formal s m.root && (is_in_mode (object_at s m.root).mode && (not (is_named_access (view_of s m.root)) || not (has_selector m))))
+      (and_second (not (is_function sub)) _ is)
   view_constant sub has m (in_function is) = absurd (true≢false (sym (and_first (is_function sub) _ is) ∙ no_function sub has))
   view_constant sub has m (of_borrower r is roots outer) = absurd (true≢false (sym (and_first (is_function sub) _ is) ∙ no_function sub has))
 

@@ -10,9 +10,15 @@ pub mod Subs
 pub mod Clear
 -- null where something was moved
 pub mod Nulls
+-- points that make no leak check
+pub mod Quiet
+-- what names of what owns are
+pub mod Leaked
 -- before the first step
 pub mod Starts
 -- whole runs
 pub mod Runs
+-- what leak checks tell of
+pub mod Checks
 -- those of programs that are ready
 pub mod Ready

@@ -71,9 +71,9 @@ module _ (t : Turn) where
   goes_stays m k = behind_same (waiting t) m k
 
   evaluated_in : {A : Type 0} (P : Outcome → Type 0) → ((e : _) (s : State) → P (Ends e s)) → (x : Evaluated A) (f : A → Memory → Outcome) → ((a : A) (m : Memory) → P (f a m)) → P (evaluated t x f)
-  evaluated_in P ends (Done a now) f on = on a now.memory
-  evaluated_in P ends (Raises e now) f on = ends _ _
-  evaluated_in P ends (Traps e now) f on = ends _ _
+  evaluated_in P ends (Done a n) f on = on a n.memory
+  evaluated_in P ends (Raises e n) f on = ends _ _
+  evaluated_in P ends (Traps e n) f on = ends _ _
 
   evaluated_stays : {A : Type 0} (x : Evaluated A) (f : A → Memory → Outcome) → ((a : A) (m : Memory) → Stays (f a m)) → Stays (evaluated t x f)
   evaluated_stays = evaluated_in Stays (λ e s. tt)

@@ -20,7 +20,8 @@ use Rattle.run_points.specs.Turns.{IsLowered, HasTypes}
 use Rattle.run_points.specs.Frames.{HasFrames}
 use Rattle.handled_steps.specs.States as handled
 use Rattle.handled_steps.specs.Runs.{NeverTraps, RunOf}
-use Rattle.recycled_runs.proofs.Runs.{GivesSame, LeaksLive, recycled}
+use Rattle.recycled_runs.proofs.Runs.{GivesSame, recycled}
+use Rattle.recycled_runs.proofs.Checks.{EndsOwn, ChecksLive, leaks_live}
 
 module _ (table : Table) (typed : TypedProgram) (effects : Effects) (input : List ℕ) (ready : IsReady table typed effects)
     (compared : AreCompared (flow_program table typed)) where
@@ -40,9 +41,10 @@ module _ (table : Table) (typed : TypedProgram) (effects : Effects) (input : Lis
       by (Ends e state) found is = (ready_sound table typed effects input ready).no_trap n (Trapped x at) (ap ending_of found ∙ ap Some is) tt
 
   -- As it is lowered, its run over a heap that uses its slots again gives what the machine's run gives, or memory is out.
-  pub ready_recycled : (p : Program) → HasTypes program → IsLowered program p → HasFrames program → LeaksLive program p input (λ state. IsSound table typed effects state)
+  pub ready_recycled : (p : Program) → HasTypes program → IsLowered program p → HasFrames program → EndsOwn program → ChecksLive program p input (λ state. IsSound table typed effects state)
       → (main n : ℕ) → program.main ≡ Some main → (r : handled.Outcome) → RunOf (flow_typing program).table p (is_declaring program) (sub_of program main).pos main input n r → GivesSame (run program input n) r
-  ready_recycled p has lowered frames live main n is r so =
+  ready_recycled p has lowered frames ends checks main n is r so =
       recycled program p input has ready.accepted.settled lowered frames (λ state. IsSound table typed effects state) (sound_start table typed effects ready)
       (λ state sound. leads (step program input state) (sound_step table typed effects input ready state sound))
-      (step_same table typed effects input ready compared) live main n is r so (never_traps n)
+      (step_same table typed effects input ready compared)
+      (leaks_live program p input lowered has.laws ready.accepted.settled (λ state. IsSound table typed effects state) (λ state sound. sound.sound.owned) ends checks) main n is r so (never_traps n)

@@ -6,5 +6,6 @@
 //! the runs over numbers and over handles. After each step the stack has the words of the frames that
 //! there are (`proofs/Frames.antt` and `Machine.antt`, by `Subs.antt`), and with null where something was
 //! moved the states still stand for each other (`proofs/Nulls.antt`). So the next step is as the rules ask
-//! it, and whole runs give the same, or memory is out (`proofs/Runs.antt`). Nothing here runs.
+//! it, and whole runs give the same, or memory is out (`proofs/Runs.antt`), where what leak checks tell of
+//! is there (`proofs/Leaked.antt`, `Checks.antt`). Nothing here runs.
 #![tactic(auto)]

@@ -48,7 +48,8 @@ use Rattle.viewed_steps.specs.Sound.{IsScalarObject, IsKindOfFormal, IsReachedBa
 use Rattle.viewed_steps.specs.Ready.{IsOwnPlace, IsSeen, IsCopyOf, IsActualTo, AreActualsTo}
 use Rattle.viewed_steps.proofs.Seeing.{IsClear, AreOpenTo}
 use Rattle.viewed_steps.proofs.LaidOut.{IsOpenActual, AreOpenActuals}
-use Rattle.viewed_steps.proofs.Called.{way_to, unowned, unowned_read, head_of, head_values_are, head_of_reads, IsGiven, one_given}
+use Rattle.viewed_steps.proofs.Called.{way_to, head_of, head_values_are, head_of_reads, IsGiven, one_given}
+use Rattle.viewed_steps.proofs.Reading.{unowned, unowned_read}
 use Rattle.viewed_nulls.proofs.Spared.{Spares, done_on, spares_on, spared_whole}
 use Rattle.owned_loans.proofs.Safe.{Unlent, Unmoved}
 use Rattle.null_places.specs.Compares.{Compares}

@@ -1,0 +1,201 @@
+-- A text with a procedure that writes through a formal of mode `in` of an access type, of the class of the law on runs
+-- with borrowers and observers, and that law of it.
+use Rattle.std.specs.Prelude.{codes}
+use Rattle.ada_tree.specs.declared.expression.Primary.TheVariants as primary
+use Rattle.machine.specs.Owners.{is_in}
+use Rattle.std.proofs.Common.{◌≡◌, ℕ, ◌+◌, inl, inr, Bool, true, false, not, ◌&&◌, ◌||◌, List, [], ◌∷◌, refl, sym, subst, Option, Some, None, is_some, Ok, Err, true≢false}
+use Rattle.spark_base.specs.Lists.{Has}
+use Rattle.ada_lexer.specs.Tokens.{Cut, CutResult, tokens}
+use Rattle.ada_tree.specs.declared.declaration.Item.TheVariants as item
+use Rattle.ada_tree.specs.declared.declaration.Indication.TheVariants as indication
+use Rattle.ada_tree.specs.declared.expression.Arg.TheVariants as arg
+use Rattle.ada_tree.specs.declared.expression.Name.TheVariants as name
+use Rattle.ada_tree.specs.declared.expression.Suffix.TheVariants as suffix
+use Rattle.ada_tree.specs.declared.statement.Stmt.TheVariants as stmt
+use Rattle.ada_tree.specs.declared.subprogram.Decl.TheVariants as decl
+use Rattle.ada_tree.specs.declared.subprogram.Formal.TheVariants as formal
+use Rattle.ada_tree.specs.declared.subprogram.Subspec.{Subspec}
+use Rattle.ada_tree.specs.declared.subprogram.Subspec.TheVariants as subspec
+use Rattle.ada_tree.specs.declared.unit.BodyPart.TheVariants as part
+use Rattle.ada_tree.specs.declared.unit.Context.TheVariants as context
+use Rattle.ada_tree.specs.declared.unit.SourceUnit.{SourceUnit}
+use Rattle.ada_tree.specs.declared.unit.SourceUnit.TheVariants as unit
+use Rattle.ada_grammar.proofs.SmallSources.{IsTextOf, computes, source_of, at, id, mark, selected, expr_of, object, sole, formals_of, package_of, package_body_of, subprogram_of}
+use Rattle.name_events.specs.Faults.{name_fault}
+use Rattle.type_definitions.specs.Types.{is_owning, full}
+use Rattle.type_definitions.specs.Whole.{type_fault}
+use Rattle.typing_steps.specs.Programs.{program_of}
+use Rattle.typed_tree.specs.declared.object.Object.{Object}
+use Rattle.typed_tree.specs.Programs.{TypedSub, text_io}
+use Rattle.flow_paths.specs.Objects.{is_named_access, is_anonymous, view_of, Typing, Signature, object_at, sub_at, is_formal_kind, is_formal}
+use Rattle.flow_paths.specs.Points.{FlowPoint}
+use Rattle.flow_paths.specs.Laid.{FlowSub}
+use Rattle.flow_paths.specs.Effects.{asks_for_end, path_points}
+use Rattle.flow_paths.specs.Aliases.{alias_reports}
+use Rattle.flow_paths.specs.Views.{encloses_within}
+use Rattle.soundness.specs.Sound.{calls_procedures}
+use Rattle.program_check.specs.Sources.{flow_of}
+use Rattle.file_positions.specs.Texts.{AreParsed}
+use Rattle.file_positions.proofs.Cuts.{cut_in_order}
+use Rattle.called_subs.specs.Called.{Calls, CodeCalls}
+use Rattle.order_laws.specs.Orderly.{typed_of, typing_in}
+use Rattle.sound_files.specs.Class.{CallsProcedures, FormalsAreKinds, laid_in, FunctionsSee, AreFitActuals, PassFitActuals, AreOwnersShown, ShowOwners}
+use Rattle.sound_files.proofs.Results.{results_fit}
+use Rattle.viewed_files.proofs.Files.{parsed_called_sound}
+use Rattle.accepted_runs.proofs.Runs.{RunsAreSound}
+use Rattle.accepted_runs.specs.Classes.{AreInSecondViewClass}
+use Rattle.accepted_examples.proofs.Naming.{naming}
+use Rattle.accepted_examples.proofs.Typing.{typing}
+use Rattle.accepted_examples.proofs.Lowering.{lowering}
+use Rattle.accepted_examples.proofs.Quiet.{all_pass, each, at_any}
+use Rattle.accepted_examples.proofs.Unreported.{path_passes, sub_passes, nothing, no_reports, no_effects}
+
+-- "procedure Q (X : in T)", from its column on
+abbrev front : ℕ → Subspec
+front column =
+    subspec.Procedure (at column) (id (column + 10) "Q")
+    (Some (formals_of (column + 12) (formal.Moded (at (column + 13)) (id (column + 13) "X") [] (at (column + 15)) (Some (at (column + 17))) None (mark (column + 20) "T")) []
+    (column + 21)))
+
+abbrev pub units : List SourceUnit
+units =
+    unit.OfPackage (at 1) []
+    (package_of 1 (id 9 "A") None 11 (decl.OfItem (at 14) (item.AccessType (at 14) (id 19 "T") (at 21) (at 24) (mark 31 "Integer") (at 38))
+    ∷ decl.Subprogram (at 40) (front 40) None (at 62) ∷ []) None 64 None 67)
+    ∷ unit.OfBody (at 69) []
+    (package_body_of 69 77 (id 82 "A") None 84 (part.Completed (at 87) (subprogram_of 87 (front 87) None 110 [] 113
+    (sole 119 (stmt.Assign (at 119) (name.Prefixed (at 119) (id 119 "X") (suffix.Dereferenced (at 120) (at 121) ∷ [])) (at 125)
+    (expr_of 128 (primary.Number (at 128) 1)) (at 129))) 131 None 134) ∷ []) 136 None 139)
+    ∷ unit.OfSubprogram (at 141) (context.With (at 141) (mark 146 "A") [] (at 147) ∷ [])
+    (subprogram_of 149 (subspec.Procedure (at 149) (id 159 "P") None) None 161
+    (item.Objects (at 164) (id 164 "Y") [] (at 166) None (indication.Mark (at 168) (selected 168 "A" 169 170 "T")) (at 171) ∷ []) 173
+    (sole 179 (stmt.Call (at 179) (name.Prefixed (at 179) (id 179 "A") (suffix.Selected (at 180) (id 181 "Q")
+    ∷ suffix.Applied (at 183) (arg.Positional (at 184) (expr_of 184 (object 184 "Y"))) [] (at 185) ∷ [])) (at 186))) 188 None 191)
+    ∷ []
+
+abbrev pub files : List (List SourceUnit)
+files = units ∷ []
+
+pub spelled : IsTextOf "package A is type T is access Integer; procedure Q (X : in T); end; package body A is procedure Q (X : in T) is begin X.all := 1; end; end; with A; procedure P is Y : A.T; begin A.Q (Y); end;" units
+unfolding computes
+spelled = source_of (search) (search) refl
+
+pub named : name_fault files ≡ None
+unfolding computes naming
+named = refl
+
+pub typed : type_fault (program_of files) ≡ None
+unfolding computes naming typing lowering
+typed = refl
+
+-- ---- it is of the class
+
+pub is_main : (typed_of (program_of files)).main ≡ Some 2
+unfolding computes naming typing lowering
+is_main = refl
+
+pub calls : CallsProcedures (flow_of files)
+unfolding computes naming typing lowering
+calls = λ sub has p there.
+    each (λ (p : FlowPoint). calls_procedures p.instr) sub.points
+    (each (λ (s : FlowSub). all_pass (λ (p : FlowPoint). calls_procedures p.instr) s.points) (flow_of files).subs refl sub has) p there
+
+abbrev own : Typing
+own = typing_in (program_of files)
+
+abbrev laid : Typing
+laid = laid_in (program_of files)
+
+abbrev kind_if_formal : Object → Bool
+kind_if_formal o = not (is_formal_kind o.kind) || (is_in o.mode && (is_owning own.table o.of && is_named_access (full own.table o.of)))
+
+kinds : all_pass kind_if_formal own.objects ≡ true
+unfolding computes naming typing lowering
+kinds = refl
+
+pub formals : FormalsAreKinds (program_of files)
+formals x is =
+    inr (inr (inl (by (is_formal own x) (is_in (object_at own x).mode) (is_owning own.table (object_at own x).of) (is_named_access (full own.table (object_at own x).of)) is
+    (at_any (λ (o : Object). kind_if_formal o ≡ true) own.objects text_io refl (each kind_if_formal own.objects kinds) x))))
+  where
+    by : (f i o a : Bool) → f ≡ true → not f || (i && (o && a)) ≡ true → ((f && i) && o ≡ true) × (a ≡ true)
+    by false i o a f e = absurd (true≢false (sym f))
+    by true true true true f e = (refl, refl)
+    by true true true false f e = absurd (true≢false (sym e))
+    by true true false a f e = absurd (true≢false (sym e))
+    by true false o a f e = absurd (true≢false (sym e))
+
+-- Of three subprograms, the last one calls.
+of_three : (P : TypedSub → Type 0) (a b c : TypedSub) → P a → P b → P c → (sub : TypedSub) → Has (a ∷ (b ∷ (c ∷ []))) sub → P sub
+of_three P a b c x y z sub (inl is) = subst P is x
+of_three P a b c x y z sub (inr (inl is)) = subst P is y
+of_three P a b c x y z sub (inr (inr (inl is))) = subst P is z
+of_three P a b c x y z sub (inr (inr (inr none))) = absurd none
+
+no_function : all_pass (λ (z : Signature). not (is_some z.result)) laid.subs ≡ true
+unfolding computes naming typing lowering
+no_function = refl
+
+pub seen : FunctionsSee (program_of files)
+seen n t x result has formal =
+    absurd (none (sub_at laid n).result (at_any (λ (z : Signature). not (is_some z.result) ≡ true) laid.subs _ refl (each (λ (z : Signature). not (is_some z.result)) laid.subs no_function) n) result)
+  where
+    none : (r : Option ℕ) → not (is_some r) ≡ true → r ≡ Some t → ⊥
+    none None e is = cc
+    none (Some k) e is = cc
+
+pub passed : PassFitActuals (program_of files)
+unfolding computes naming typing lowering Calls CodeCalls
+passed =
+    of_three (λ sub. CodeCalls (λ n actuals. AreFitActuals laid (sub_at laid n).formals actuals) sub.body) _ _ _ tt ((tt, tt), tt)
+    (tt, ((((λ is. inr (inl (refl, (refl, refl)))), tt), (tt, tt)), tt))
+
+pub shown : ShowOwners (program_of files)
+unfolding computes naming typing lowering Calls CodeCalls
+shown =
+    of_three (λ sub. CodeCalls (λ n actuals. AreOwnersShown laid (sub_at laid n).formals actuals) sub.body) _ _ _ tt ((tt, tt), tt)
+    (tt, ((((λ view y has. elim has [ inl same ↦ subst (λ z. is_anonymous (view_of laid z) ≡ false) same refl | inr none ↦ absurd none ]), tt), (tt, tt)), tt))
+
+pub class : AreInSecondViewClass files
+class = record { main = 2; is_main = is_main; calls = record { results = results_fit (program_of files) (inl calls); formals = formals; seen = seen; passed = passed; shown = inl shown } }
+
+-- ---- nothing is reported of it
+
+passes : all_pass (sub_passes (flow_of files)) (flow_of files).subs ≡ true
+unfolding computes naming typing lowering asks_for_end encloses_within
+passes = refl
+
+no_aliases : alias_reports (flow_of files) (nothing (flow_of files) passes) ≡ []
+unfolding computes naming typing lowering
+no_aliases = refl
+
+paths : all_pass (λ (sub : FlowSub). path_passes 9 (path_points (flow_of files) (nothing (flow_of files) passes) sub) [] 0) (flow_of files).subs ≡ true
+unfolding computes naming typing lowering
+paths = refl
+
+-- ---- so its runs are sound
+
+abbrev found : CutResult → List Cut
+found (Ok cuts) = cuts
+found (Err fault) = []
+
+abbrev text : List ℕ
+text = codes "package A is type T is access Integer; procedure Q (X : in T); end; package body A is procedure Q (X : in T) is begin X.all := 1; end; end; with A; procedure P is Y : A.T; begin A.Q (Y); end;"
+
+abbrev cuts : List Cut
+cuts = found (tokens 0 text 1000)
+
+is_cut : tokens 0 text 1000 ≡ Ok cuts
+unfolding computes
+is_cut = refl
+
+parsed : AreParsed 0 (cuts ∷ []) files
+unfolding computes
+parsed = (cut_in_order 0 text 1000 cuts is_cut, spelled, tt)
+
+pub shown_sound : RunsAreSound files
+shown_sound input =
+    parsed_called_sound files (cuts ∷ []) parsed named typed class.main class.is_main (nothing (flow_of files) passes) (no_effects (flow_of files) passes)
+    (no_reports (flow_of files) passes no_aliases 9
+    (each (λ (sub : FlowSub). path_passes 9 (path_points (flow_of files) (nothing (flow_of files) passes) sub) [] 0) (flow_of files).subs paths))
+    class.calls input
