@@ -47,7 +47,7 @@ module _ (s : Typing) (procedure : Bool) where
   naming_sees (Some w) access facts = read_effect w.name facts
 
   -- those of mode `in` change no fact
-  head_keeps : (owning access : Bool) (e : TypedTree) (facts : List Fact) → after (acts (actual_act (passing_by mode.In owning access) e)) facts ≡ facts
+  pub head_keeps : (owning access : Bool) (e : TypedTree) (facts : List Fact) → after (acts (actual_act (passing_by mode.In owning access) e)) facts ≡ facts
   head_keeps false access e facts = refl
   head_keeps true access e facts = naming_sees (written e) access facts
 

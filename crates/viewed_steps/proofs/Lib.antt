@@ -66,6 +66,11 @@ pub mod Turned
 pub mod Operands
 pub mod Alone
 pub mod Taking
+pub mod Taker
+pub mod Traversing
+pub mod Successor
+pub mod Begun
+pub mod Followed
 pub mod Results
 pub mod Giving
 pub mod ScopeEnds

@@ -31,7 +31,9 @@ use Rattle.typed_laws.specs.Needed.{Matches, Leads, Stays, IsPlace}
 use Rattle.soundness.specs.Seen.{is_view_formal}
 use Rattle.viewed_soundness.specs.Holds.{sees_only, is_fixed, AllKeep, IsNamed, is_given}
 use Rattle.viewed_steps.specs.Awaited.{is_held, IsTaken, FillsTyped, TakesAlone}
-use Rattle.viewed_steps.specs.Traversals.{IsSourceName}
+use Rattle.viewed_steps.specs.Traversals.{IsSourceName, TraversalCall, IsViewTaker}
+use Rattle.type_definitions.specs.declared.table.Shape.TheVariants as shape
+use Rattle.type_definitions.specs.Types.{shape_of}
 use Rattle.viewed_steps.specs.Sound.{IsScalarObject, IsViewClass, Lasts, IsStoredAt}
 
 -- ---- calls
@@ -195,6 +197,20 @@ pub record ViewsAreOrderly (table : Table) (typed : TypedProgram) : Type 0 where
 
 -- ---- traversal functions
 
+-- The call of one: its first actual is a name of an access value, rooted in no package object, of the type that the
+-- first formal has; and the point that it leads to takes the result.
+pub record IsTraversalCall (s : Typing) (sub : NamedSub) (next : List ℕ) (n f : ℕ) (actuals : TypedTree) : Type 0 where
+  pub call : TraversalCall
+  pub actuals_are : actuals ≡ More (Name call.name_pos call.root call.path call.of) call.others
+  pub own : is_package_object s call.root ≡ false
+  pub leads : Leads s (object_at s call.root).of call.path call.of
+  pub d : ℕ
+  pub c : Bool
+  pub m : Bool
+  pub access : shape_of s.table call.of ≡ shape.Access d c m
+  pub fits : Matches s.table call.of (object_at s f).of
+  pub taker : (k : ℕ) → Has next k → (q : NamedPoint) → IsAtPoint sub.points k q → IsViewTaker s n call sub.sub.result q.instr
+
 -- What is asked of them. A call of one leads to the point that takes its result, and gives it what that
 -- designates; its first formal sees; what one returns by a name has no other root than that, or none that isn't
 -- refuted; and after a return only ends of scopes and the end of the call follow.
@@ -212,6 +228,10 @@ pub record AreTraversing (table : Table) (typed : TypedProgram) (effects : Effec
       → (e last : TypedTree) → p.instr ≡ Hold (More e last)
       → (of : ℕ) → sub.sub.result ≡ Some of → is_anonymous (full (flow_program table typed).table of) ≡ true
       → (e ≡ Null) ⊎ ((q : Pos) × (y : ℕ) × (path : TypedTree) × (u : ℕ) × IsSourceName (flow_typing (flow_program table typed)) of e q y path u)
+  -- what is called is taken
+  pub followed : (sub : NamedSub) → Has (flow_named table typed) sub → (p : NamedPoint) → Has sub.points p → (n : ℕ) (actuals : TypedTree) (result : Option ℕ)
+      → p.instr ≡ Call n actuals result → (f : ℕ) → traversed_formal (flow_typing (flow_program table typed)) (sub_of (flow_program table typed) n) ≡ Some f
+      → IsTraversalCall (flow_typing (flow_program table typed)) sub (map (number_in sub.points) p.next) n f actuals
   pub ending : (k : ℕ) → IsEntered (flow_program table typed) k → is_some (sub_of (flow_program table typed) k).result ≡ true → (before : List ℕ) (last : ℕ)
       → ControlPath (path_points (flow_program table typed) effects (sub_of (flow_program table typed) k)) before last
       → has_returned (sub_of (flow_program table typed) k) before ≡ true
