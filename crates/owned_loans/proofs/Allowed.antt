@@ -190,14 +190,3 @@ give_clears facts false u allowed = (
   λ h n has over. refused (moved_or_borrowed (name_of u) (Lent Borrowed h n)) O6 (name_of u) (Lent Borrowed h n) over (allowed (Lent Borrowed h n) has),
   λ n has over. refused (moved_or_borrowed (name_of u) (Moved n)) O6 (name_of u) (Moved n) over (allowed (Moved n) has),
 )
-
--- What borrows wants nothing lent, either.
-pub borrow_unlent : (facts : List Fact) (x : ℕ) (u : Way) → Allows facts (Borrow x (name_of u)) → Unlent facts u
-borrow_unlent facts x u allowed = λ l h n has over. refused (moved_or_lent (name_of u) (Lent l h n)) O5 (name_of u) (Lent l h n) over (allowed (Lent l h n) has)
-
-pub reborrow_unlent : (facts : List Fact) (b : ℕ) (u : Way) → number_of u ≡ b → Allows facts (Reborrow b (name_of u)) → Unlent facts u
-reborrow_unlent facts b u root allowed =
-    λ l h n has over. refused (moved_or_lent (object b) (Lent l h n)) O7 (object b) (Lent l h n) (overlaps_object n (name_of u) b root over) (allowed (Lent l h n) has)
-
-pub give_unlent : (facts : List Fact) (u : Way) → Allows facts (Give (name_of u) true) → Unlent facts u
-give_unlent facts u allowed = λ l h n has over. refused (moved_or_lent (name_of u) (Lent l h n)) O5 (name_of u) (Lent l h n) over (allowed (Lent l h n) has)

@@ -1,37 +1,48 @@
--- A traversal function begins: its first formal has the way of what the first actual designates, and so it is rooted in
--- itself.
-use Rattle.viewed_steps.proofs.Rooted.{formal_root}
+-- A traversal function begins: its first formal has the way of what the first actual designates.
 use Rattle.viewed_steps.specs.Sound.{ViewStage, IsTraversal}
-use Rattle.viewed_steps.specs.Traversals.{IsRootedIn, AreRooted, SeesFirst}
+use Rattle.viewed_steps.specs.Awaited.{IsTakenBy}
+use Rattle.viewed_steps.specs.Traversals.{TraversalCall, call_in, IsViewTaker, AreRooted, SeesFirst}
+use Rattle.viewed_steps.proofs.LaidOut.{IsLaidOne, AreLaidOut}
 use Rattle.soundness.proofs.Points.{one_named, one_point}
 use Rattle.soundness.specs.Sound.{IsNamedSub, IsAtPoint}
-use Rattle.std.proofs.Common.{◌≡◌, refl, sym, ap, ◌∙◌, subst, ℕ, ◌==◌, Bool, true, false, List, [], Option, Some, if◌then◌else◌, eqb-true, eq-eqb}
-use Rattle.place_names.specs.declared.act.Act.{Act}
+use Rattle.std.proofs.Common.{◌≡◌, refl, sym, ap, ◌∙◌, subst, inl, inr, ℕ, List, [], ◌∷◌, ◌++◌, Option, Some}
+use Rattle.spark_base.specs.Lists.{Has}
+use Rattle.place_names.specs.declared.act.Mode.TheVariants as mode
+use Rattle.typed_tree.specs.Trees.{TypedTree, NoMore, More}
 use Rattle.typed_tree.specs.Programs.{TypedProgram}
 use Rattle.type_definitions.specs.Types.{Table}
 use Rattle.flow_paths.specs.Laid.{NamedSub, flow_program, flow_named, flow_typing}
-use Rattle.flow_paths.specs.Objects.{Typing, object_at, is_variable}
+use Rattle.flow_paths.specs.Instructions.{Instruction}
+use Rattle.flow_paths.specs.Names.{has_call}
+use Rattle.flow_paths.specs.Objects.{Typing, object_at}
 use Rattle.flow_paths.specs.Points.{NamedPoint}
 use Rattle.flow_paths.specs.Views.{traversed_formal, sub_acts}
+use Rattle.machine.specs.Calls.{Passed, Value, From, To, return_of, returns_of}
+use Rattle.machine.specs.Memory.{Memory}
 use Rattle.machine.specs.States.{sub_of}
-use Rattle.owned_ways.specs.Ways.{Way, Lost}
-use Rattle.owned_ways.proofs.Locations.{under_itself}
-use Rattle.owned_loans.specs.Views.{Views, with_view}
+use Rattle.owned_ways.specs.Ways.{Way, View}
+use Rattle.owned_loans.specs.Views.{Views}
 
--- The views of the others, and the one of the first formal.
-abbrev pub with_first : Views → ℕ → Option Way → ℕ → Views
-with_first t f first cell = with_view t f first (Lost 0) (Lost 0) cell
+-- what takes the result takes the call
+pub taker_takes : (s : Typing) (n : ℕ) (c : TraversalCall) (result : Option ℕ) (i : Instruction) → IsViewTaker s n c result i → IsTakenBy i (call_in n c)
+unfolding has_call
+taker_takes s n c result i (inl (x, is, sees)) = inl (x, is)
+taker_takes s n c result i (inr (inl (p, x, u, is, sees, itself))) = inr (inl (p, x, NoMore, u, is, refl))
+taker_takes s n c result i (inr (inr (is, gives))) = inr (inr is)
 
-pub first_rooted : (s : Typing) (acts : List Act) (f : ℕ) (first : Option Way) (t : Views) (cell : ℕ) → is_variable (object_at s f).kind ≡ false
-    → ((x : ℕ) (w : Way) → t.way x ≡ Some w → is_variable (object_at s x).kind ≡ false) → AreRooted s acts f first (with_first t f first cell)
-first_rooted s acts f first t cell formal others x w has = by_object (x == f) refl has
+-- formals of mode `in` aren't copied back
+pub no_returns : (s : Typing) (m : Memory) (depth : ℕ) (v : Views) (view : View) (formals : List ℕ) (actuals : TypedTree) (passed : List Passed)
+    → AreLaidOut s m depth v view formals actuals passed → ((x : ℕ) → Has formals x → (object_at s x).mode ≡ mode.In) → returns_of formals passed ≡ []
+no_returns s m depth v view [] actuals passed laid modes = refl
+no_returns s m depth v view (x ∷ formals) (More e rest) (a ∷ passed) laid modes =
+    by_value a (subst (λ how. IsLaidOne s m depth v view x how e a) (modes x (inl refl)) laid.0) ∙ no_returns s m depth v view formals rest passed laid.1 (λ y has. modes y (inr has))
   where
-    by_object : (b : Bool) → (x == f) ≡ b → (if b then first else t.way x) ≡ Some w → IsRootedIn s acts f first x w
-    by_object true same is =
-        let number : x ≡ f = eqb-true x f same in
-        (x, formal_root s acts f first x (ap (λ z. is_variable (object_at s z).kind) number ∙ formal), λ itself. (w, is, under_itself w))
-    by_object false same is =
-        (x, formal_root s acts f first x (others x w is), λ itself. (let no = eq-eqb x f itself in let never : true ≡ false = sym no ∙ same in cc))
+    by_value : (a : Passed) → IsLaidOne s m depth v view x mode.In e a → return_of x a ++ returns_of formals passed ≡ returns_of formals passed
+    by_value (Value ws) there = refl
+    by_value (From k) never = absurd never
+    by_value (To k) never = absurd never
+no_returns s m depth v view (x ∷ formals) (More e rest) [] laid modes = refl
+no_returns s m depth v view (x ∷ formals) actuals passed laid modes = ap (returns_of (x ∷ formals)) laid
 
 -- So its frame is that of a traversal function, over the frame that calls it.
 pub begins_traversal : (table : Table) (typed : TypedProgram) (inner g : ViewStage) (f : ℕ) (first : Option Way)

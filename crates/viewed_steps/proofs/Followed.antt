@@ -2,7 +2,10 @@
 use Rattle.viewed_steps.proofs.Standing as standing
 use Rattle.viewed_steps.proofs.Successor as next
 use Rattle.viewed_steps.proofs.Traversing.{first_actual, traversal_keeps}
-use Rattle.viewed_steps.specs.Ready.{IsReady, IsTraversalCall, AreActualsTo}
+use Rattle.viewed_soundness.specs.Holds.{is_given, IsAccess}
+use Rattle.viewed_soundness.proofs.Names.{given_view}
+use Rattle.viewed_steps.proofs.Views.{AreUnseen, given_type, view_access}
+use Rattle.viewed_steps.specs.Ready.{IsReady, IsCalled, IsTraversalCall, IsSeen, IsActualTo, AreActualsTo, AreDifferent, is_shown_type}
 use Rattle.viewed_steps.specs.Sound.{ViewStage}
 use Rattle.viewed_steps.specs.Traversals.{traversed_name, IsBorrowTaker}
 use Rattle.soundness.proofs.Points.{flow_at}
@@ -11,7 +14,7 @@ use Rattle.soundness.proofs.Inherited.{global_after}
 use Rattle.soundness.proofs.Used.{globals_are, called_are}
 use Rattle.soundness.proofs.Passing.{signature_is}
 use Rattle.soundness.specs.Sound.{Stage, IsNamedSub, IsAtPoint}
-use Rattle.std.proofs.Common.{◌≡◌, refl, sym, ap, ◌∙◌, subst, inr, ℕ, Bool, true, false, List, [], ◌∷◌, ◌++◌, map, Option, Some, None, if◌then◌else◌}
+use Rattle.std.proofs.Common.{◌≡◌, refl, sym, ap, ◌∙◌, subst, inl, inr, ℕ, Bool, true, false, List, [], ◌∷◌, ◌++◌, map, Option, Some, None, if◌then◌else◌}
 use Rattle.spark_base.specs.Lists.{Has}
 use Rattle.place_names.specs.declared.act.Mode.TheVariants as mode
 use Rattle.place_names.specs.declared.act.Placed.{Placed}
@@ -25,7 +28,7 @@ use Rattle.flow_paths.specs.Acts.{actual_values, actual_acts}
 use Rattle.flow_paths.specs.Effects.{path_points, globals_of, called_acts}
 use Rattle.flow_paths.specs.Instructions.{Call}
 use Rattle.flow_paths.specs.Laid.{NamedSub, FlowProgram, flow_program, flow_named, typing_of, flow_typing}
-use Rattle.flow_paths.specs.Objects.{Typing, passing, passings, first_traversed, traverses, sub_at, object_at}
+use Rattle.flow_paths.specs.Objects.{Typing, passing, passings, first_traversed, traverses, sub_at, object_at, is_anonymous, view_of}
 use Rattle.flow_paths.specs.Paths.{ControlPath, facts_before}
 use Rattle.flow_paths.specs.Points.{NamedPoint}
 use Rattle.flow_paths.specs.Views.{traversed_formal, traversed_of}
@@ -84,26 +87,65 @@ module _ (table : Table) (typed : TypedProgram) (effects : Effects) (input : Lis
   abbrev s : Typing
   s = flow_typing program
 
-  pub made : IsTraversalCall s named (flow_at (typing_of table typed) named p).next n f actuals
+  pub made : IsTraversalCall s named (flow_at (typing_of table typed) named p).next n actuals
   made = ready.traversing.followed named (standing.named_in table typed effects input ready state top older outer named p frames of_sub at_point) p
       (standing.point_in_named table typed effects input ready state top older outer named p frames of_sub at_point) n actuals result is f traversed
 
   pub ways_are : IsTraversing program n f
   ways_are = is_traversing program n f traversed
 
-  actuals_stay : AreActualsTo s (sub_of program n).formals actuals
-  actuals_stay = (ready.called (standing.sub table typed effects input ready state top older outer named p frames of_sub at_point)
+  called : IsCalled table typed n actuals result
+  called = ready.called (standing.sub table typed effects input ready state top older outer named p frames of_sub at_point)
       (standing.in_program table typed effects input ready state top older outer named p frames of_sub at_point)
       (standing.here table typed effects input ready state top older outer named p frames of_sub at_point)
-      (standing.in_sub table typed effects input ready state top older outer named p frames of_sub at_point) n actuals result is).actuals_stay
+      (standing.in_sub table typed effects input ready state top older outer named p frames of_sub at_point) n actuals result is
 
-  pub others_stay : AreActualsTo s ways_are.rest made.call.others
-  others_stay = (subst (λ z. AreActualsTo s z (More (first_actual s ready.owns made.call) made.call.others)) ways_are.formals
-      (subst (AreActualsTo s (sub_of program n).formals) made.actuals_are actuals_stay)).1
+  -- the formals are of mode `in`; the first one sees, and no other one is of an anonymous access type
+  pub modes_there : (x : ℕ) → Has (f ∷ ways_are.rest) x → (object_at s x).mode ≡ mode.In
+  modes_there x has = ready.class.modes n ways_are.of (ap (λ (z : Signature). z.result) (signature_is program n) ∙ ways_are.result) x
+      (subst (λ (z : Signature). Has z.formals x) (sym (signature_is program n)) (subst (λ z. Has z x) (sym ways_are.formals) has))
 
   pub modes : (x : ℕ) → Has ways_are.rest x → (object_at s x).mode ≡ mode.In
-  modes x has = ready.class.modes n ways_are.of (ap (λ (z : Signature). z.result) (signature_is program n) ∙ ways_are.result) x
-      (subst (λ (z : Signature). Has z.formals x) (sym (signature_is program n)) (subst (λ z. Has z x) (sym ways_are.formals) (inr has)))
+  modes x has = modes_there x (inr has)
+
+  pub first_mode : (object_at s f).mode ≡ mode.In
+  first_mode = modes_there f (inl refl)
+
+  pub given : is_given s f ≡ true
+  given = (ready.traversing.first n f (called.runs).entered traversed).1
+
+  pub shown : is_shown_type s f ≡ true
+  shown = given_type s f given
+
+  pub access : IsAccess s f
+  access = view_access s (standing.in_formals table typed effects input ready) f (given_view s f given)
+
+  pub differ : AreDifferent (f ∷ ways_are.rest)
+  differ = subst AreDifferent ways_are.formals called.differ
+
+  pub unseen : AreUnseen s ways_are.rest
+  unseen x has = by_kind (is_anonymous (view_of s x)) refl
+    where
+      same_formal : (a b : ℕ) → Some a ≡ Some b → b ≡ a
+      same_formal a b e = cc
+
+      by_kind : (b : Bool) → is_anonymous (view_of s x) ≡ b → b ≡ false
+      by_kind false e = refl
+      by_kind true e =
+          absurd (differ.0 x has (same_formal f x (sym traversed ∙ ready.traversing.firsts n (called.runs).entered x (subst (λ z. Has z x) (sym ways_are.formals) (inr has)) e)))
+
+  -- their actuals
+  abbrev pub first : TypedTree
+  first = first_actual s ready.owns made.call
+
+  stays : AreActualsTo s (f ∷ ways_are.rest) (More first made.call.others)
+  stays = subst (λ z. AreActualsTo s z (More first made.call.others)) ways_are.formals (subst (AreActualsTo s (sub_of program n).formals) made.actuals_are called.actuals_stay)
+
+  pub seen_first : IsSeen s f first
+  seen_first = (subst (λ z. IsActualTo s f z first) first_mode stays.0).1 shown
+
+  pub others_stay : AreActualsTo s ways_are.rest made.call.others
+  others_stay = stays.1
 
   abbrev own_facts : List Fact
   own_facts = standing.facts table typed effects input ready state top older outer named p frames of_sub at_point path
@@ -117,7 +159,7 @@ module _ (table : Table) (typed : TypedProgram) (effects : Effects) (input : Lis
   call_keeps : after (acts (values ++ copies)) own_facts ≡ own_facts
   call_keeps =
       (λ i. after (acts (actual_values s (ways_are.ways i) (made.actuals_are i) ++ actual_acts (ways_are.ways i) (made.actuals_are i))) own_facts)
-      ∙ traversal_keeps s ready.owns f ways_are.rest made.call made.leads others_stay modes own_facts
+      ∙ traversal_keeps s ready.owns f ways_are.rest made.call seen_first.0 unseen others_stay modes own_facts
 
   -- the call changes no fact
   pub facts_stay : facts_before (standing.points table typed effects input ready state top older outer named p frames of_sub at_point) (top.frame.next ∷ top.before) ≡ own_facts

@@ -16,7 +16,8 @@ use Rattle.flow_paths.specs.Objects.{Typing, view_of, is_borrowing, is_observing
 use Rattle.place_names.specs.declared.fact.Fact.{Fact}
 use Rattle.owned_ways.specs.Ways.{Way, AllowsAll, Allows, name_of, number_of}
 use Rattle.owned_loans.proofs.Safe.{Unlent}
-use Rattle.owned_loans.proofs.Allowed.{borrow_unlent, reborrow_unlent, give_unlent, Cleared, borrow_clears, observe_clears, reborrow_clears, give_clears}
+use Rattle.viewed_steps.proofs.Unlent.{borrow_unlent, reborrow_unlent, give_unlent}
+use Rattle.owned_loans.proofs.Allowed.{Cleared, borrow_clears, observe_clears, reborrow_clears, give_clears}
 use Rattle.viewed_steps.specs.Traversals.{IsSeer, IsViewTaker, IsBorrowTaker, TraversalCall, call_in, traversed_name}
 
 module _ (s : Typing) (n : ℕ) (c : TraversalCall) where
