@@ -1,68 +1,43 @@
 -- An expression takes the one value that waits for its calls, and is of any type: within an aggregate or an
 -- allocator, too. Meanwhile the value is in a hand below those of the expression.
-use Rattle.std.proofs.Common.{◌≡◌, refl, sym, ap, ◌∙◌, subst, inl, inr, ℕ, suc, ◌+◌, ◌<◌, Bool, true, false, not, ◌||◌, List, [], ◌∷◌, ◌++◌, length, get_or, drop, arith, append-nil, append_assoc, length-append, if◌then◌else◌}
-use Rattle.std.proofs.lemmas.List.{length-map}
-use Rattle.spark_base.specs.declared.position.Pos.{Pos}
-use Rattle.std.specs.Prelude.{nat_le}
-use Rattle.place_names.specs.declared.act.Act.{Act}
-use Rattle.place_names.specs.declared.act.Act.TheVariants as act
+use Rattle.std.proofs.Common.{◌≡◌, refl, sym, ap, ◌∙◌, subst, inl, inr, ℕ, suc, ◌+◌, ◌<◌, true, false, ◌||◌, List, [], ◌∷◌, ◌++◌, length, drop, arith, append-nil, length-append, if◌then◌else◌}
 use Rattle.place_names.specs.declared.fact.Fact.{Fact}
-use Rattle.place_names.specs.Names.{Name as PlaceName}
-use Rattle.place_names.specs.Facts.{effect}
 use Rattle.type_definitions.specs.declared.table.Shape.{Shape}
-use Rattle.type_definitions.specs.declared.table.Shape.TheVariants as shape
-use Rattle.type_definitions.specs.Types.{Table, shape_of, components_of, view_of as view_shape, words, words_of as shape_words, full, is_owning, is_scalar, owns_of, parts}
-use Rattle.typed_tree.specs.Trees.{TypedTree, Number, Literal, Name, Call, EndOfFile, Parens, Unary, Binary, Short, IsNull, Aggregate, Alike, New, NoMore, More}
-use Rattle.typed_tree.specs.Trees as typed
-use Rattle.flow_paths.specs.Objects.{Typing, object_at}
-use Rattle.flow_paths.specs.Names.{has_call, waiting, name_of}
-use Rattle.flow_paths.specs.Acts.{used, acts_in}
+use Rattle.type_definitions.specs.Types.{shape_of, words}
+use Rattle.typed_tree.specs.Trees.{TypedTree, Call, Parens, Aggregate, New, NoMore, More}
+use Rattle.flow_paths.specs.Objects.{Typing}
+use Rattle.flow_paths.specs.Names.{has_call}
+use Rattle.flow_paths.specs.Acts.{acts_in}
 use Rattle.machine.specs.Words.{default, fits_type}
 use Rattle.machine.specs.Words as machine
-use Rattle.machine.specs.Memory.{Slot, Memory, Place, fresh, no_slot, slots_of, words_of, moved_out, with_new_cell, live_words}
-use Rattle.machine.specs.Evaluate.{Here, Now, AsValue, part_type, parts_of, Evaluated, Done, Raises, Traps, followed_by, evaluate, steps_of, initial, checked, allocated, variable_place, walked, held_or_taken, taken, heap_words, StorageError}
-use Rattle.machine.specs.Evaluate as run
+use Rattle.machine.specs.Memory.{Memory}
+use Rattle.machine.specs.Evaluate.{Here, Now, AsValue, part_type, parts_of, Evaluated, Done, Raises, Traps, followed_by, evaluate, initial, checked, allocated}
 use Rattle.machine.specs.Typed.{tree_count, field_count, is_record, is_array}
 use Rattle.machine.specs.States.{Waiting, Leak}
 use Rattle.owned_ways.specs.Ways.{Step, OfVariable, OfHand, Loc, OfRoot, OfCell, Inside, Way, Object, Lost, Into, All, Word, Empty, Reaches, IsRooted, Under, Named, Spares, Allows, after, AllowsAll, Owned, IsSame, number_of}
 use Rattle.owned_ways.specs.Ways as ways
-use Rattle.part_offsets.specs.Parts.{type_in, offset_in, has_part, owns_one, is_leaf, IsSettled}
-use Rattle.soundness.specs.Seen.{IsNear, in_hand, owner_word, content, trunk, word_in, seen, home}
-use Rattle.soundness.specs.Changes.{Alike as AlikeTypes}
-use Rattle.soundness.specs.Typed.{Matches, OwnsByShape, Kept, Spot}
-use Rattle.typed_laws.specs.Needed.{Stays, Gives, GivesParts, GivesFirst, IndexLaw}
-use Rattle.soundness.proofs.Near.{near_under}
-use Rattle.soundness.proofs.Contents.{bool_cases, word_yes, word_no}
-use Rattle.soundness.proofs.Steps.{no_leaf, plain_shape, matches_words, room, taken_slots, alike}
-use Rattle.soundness.proofs.Defaults.{NoCell, none_default, none_repeated, blank_word}
-use Rattle.soundness.proofs.Joining.{joined_sound}
-use Rattle.soundness.proofs.Keeping.{joined, repeated, repeated_long}
-use Rattle.soundness.proofs.Filling.{nth_part, words_to, words_none, words_next, words_whole, part_there, part_is, part_offset}
-use Rattle.soundness.proofs.Fresh.{made_sound}
-use Rattle.soundness.proofs.Walks.{way_along, Walked}
-use Rattle.soundness.proofs.Scalars.{after_append, allows_both, acts, acts_append, read_effect, number_along, named_along}
-use Rattle.soundness.proofs.Stays.{Quiet, One}
-use Rattle.soundness.proofs.Taking.{Takes, takes_as, takes_both, takes_zero, no_takes, TakesPlainly, both_plainly, nothing_more}
-use Rattle.soundness.proofs.Fading.{Fades, FadesTo, fades}
-use Rattle.soundness.proofs.Evaluated.{regrouped, changed_hand, blank_hand, Keeps}
-use Rattle.owned_loans.specs.Views.{Around, Views, expand, ExcusedBy, Viewed}
-use Rattle.owned_loans.proofs.Allowed.{read_open, move_open}
+use Rattle.part_offsets.specs.Parts.{IsSettled}
+use Rattle.soundness.specs.Seen.{IsNear, in_hand, content, trunk, word_in, seen, home}
+use Rattle.soundness.specs.Typed.{Matches, OwnsByShape, Kept}
+use Rattle.typed_laws.specs.Needed.{Gives, GivesParts, GivesFirst, IndexLaw}
+use Rattle.soundness.proofs.Defaults.{NoCell, blank_word}
+use Rattle.soundness.proofs.Filling.{nth_part, words_to, words_none, words_next, part_there, part_is, part_offset}
+use Rattle.soundness.proofs.Scalars.{after_append, allows_both, acts, acts_append}
+use Rattle.soundness.proofs.Taking.{no_takes}
+use Rattle.soundness.proofs.Evaluated.{regrouped, blank_hand, Keeps}
+use Rattle.owned_loans.specs.Views.{Around, Views, ExcusedBy, Viewed}
 use Rattle.owned_loans.proofs.Moves.{as_sound, same_viewed}
-use Rattle.viewed_soundness.specs.Holds.{IsNamed, PartsAreNamed, sees_only, is_fixed, IsOwners, Holds, KeepsObserved, AllKeep}
-use Rattle.viewed_soundness.proofs.Spared.{gone_off}
-use Rattle.viewed_soundness.proofs.Names.{free_sees, free_formal, changed_owners}
+use Rattle.viewed_soundness.specs.Holds.{IsNamed, PartsAreNamed, sees_only, is_fixed, AllKeep}
 use Rattle.soundness.proofs.Waits.{drop_none}
-use Rattle.viewed_soundness.specs.Taken.{GivesPlainly}
-use Rattle.viewed_soundness.proofs.Moments.{from_sound, hands_spared, other_hands, with_cell, taken_viewed}
-use Rattle.viewed_soundness.proofs.Stays.{Goes, no_selectors, taking, steps_taking, name_on, waited_quiet}
+use Rattle.viewed_soundness.proofs.Moments.{from_sound, hands_spared, other_hands}
 use Rattle.flow_paths.specs.Objects.{sub_at}
-use Rattle.std.proofs.Common.{Some, ◌⊎◌, ◌≤◌, ◌==◌}
+use Rattle.std.proofs.Common.{Some, ◌⊎◌, ◌==◌}
 use Rattle.machine.specs.Owners.{no_value, waiting_at}
 use Rattle.soundness.specs.Changes.{hand}
 use Rattle.soundness.specs.Typed.{Points}
 use Rattle.soundness.specs.Seen.{steps_in}
 use Rattle.soundness.proofs.Around.{same_or_not}
-use Rattle.soundness.proofs.Steps.{hand_top, hand_below, hand_past}
+use Rattle.soundness.proofs.Steps.{hand_top, hand_below}
 use Rattle.soundness.proofs.Taking.{no_takes}
 use Rattle.soundness.proofs.Keeping.{less}
 use Rattle.soundness.proofs.Defaults.{blank_word}
@@ -133,6 +108,82 @@ module _ (h : Here) (settled : IsSettled h.typing.table) (leaks : List Leak) (wa
         kept = lifted_kept h.typing settled m leaks a b (length rest) (length before) x differ from left free to others long blanked.kept;
         holds = ready.holds;
       }
+
+  -- the hand that it left falls from below the result
+  dropped : (m : Memory) (x : Waiting) (rest : List Waiting) (facts : List Fact) → length x.words ≡ words h.typing.table x.of
+      → Ready m (x ∷ no_value ∷ rest) facts → Ready m (x ∷ rest) facts
+  dropped m x rest facts long ready =
+      let blank : Waiting = record { of = x.of; words = [] } in
+      let a : List Waiting = x ∷ blank ∷ rest in
+      let b : List Waiting = no_value ∷ x ∷ rest in
+      let well : Viewed (home h.typing h.frame) (sees_only h.typing) other v (seen h.typing m a leaks) facts =
+      same_viewed (home h.typing h.frame) (sees_only h.typing) other v (seen h.typing m (x ∷ no_value ∷ rest) leaks) (seen h.typing m a leaks) facts
+      (other_blank m x no_value blank rest (λ p. blank_word h.typing.table (in_hand no_value) [] refl (λ c has. has) p)
+      (λ p. blank_word h.typing.table (in_hand blank) [] refl (λ c has. has) p)) ready.viewed in
+      let kept : Kept h.typing m a = blank_kept m x no_value blank rest (λ c has. has) ready.kept in
+      let differ : length rest ≡ suc (length rest) → ⊥ = (λ e. omega (arith, e)) in
+      let from : waiting_at a (suc (length rest)) ≡ x = hand_top x (blank ∷ rest) in
+      let left : waiting_at b (suc (length rest)) ≡ no_value = hand_top no_value (x ∷ rest) in
+      let free : waiting_at a (length rest) ≡ blank = hand_below x (blank ∷ rest) (length rest) differ ∙ hand_top blank rest in
+      let to : waiting_at b (length rest) ≡ x = hand_below no_value (x ∷ rest) (length rest) differ ∙ hand_top x rest in
+      let others : (j : ℕ) → (j ≡ suc (length rest) → ⊥) → (j ≡ length rest → ⊥) → waiting_at b j ≡ waiting_at a j =
+      (λ j off top. hand_below no_value (x ∷ rest) j off ∙ hand_below x rest j top ∙ sym (hand_below x (blank ∷ rest) j off ∙ hand_below blank rest j top)) in
+      let moved : Viewed (home h.typing h.frame) (sees_only h.typing) other v (seen h.typing m b leaks) facts =
+      from_sound (home h.typing h.frame) (sees_only h.typing) other v (seen h.typing m a leaks) (seen h.typing m b leaks) facts well
+      (lifted_sound h.typing settled m leaks a b (suc (length rest)) (length rest) x differ from left free to others long (home h.typing h.frame)
+      (ExcusedBy (home h.typing h.frame) v other facts) []
+      (hands_spared (home h.typing h.frame) (sees_only h.typing) other v (seen h.typing m a leaks) facts well (evaluating.spared_hand h settled leaks waits other alone keeps index_law own_law v parts_named))
+      (as_sound (home h.typing h.frame) (sees_only h.typing) other v (seen h.typing m a leaks) facts well))
+      (other_hands h.typing m a b leaks) in
+      let kept_then : Kept h.typing m b =
+      lifted_kept h.typing settled m leaks a b (suc (length rest)) (length rest) x differ from left free to others long kept in record {
+        viewed = same_viewed (home h.typing h.frame) (sees_only h.typing) other v (seen h.typing m b leaks) (seen h.typing m (x ∷ rest) leaks) facts
+            (flipped (seen h.typing m (x ∷ rest) leaks) (seen h.typing m b leaks)
+            (blank_hand h.typing m leaks no_value (x ∷ rest) (λ p. blank_word h.typing.table (in_hand no_value) [] refl (λ c has. has) p))) moved;
+        kept = record { variables = kept_then.variables; cells = kept_then.cells; points = less h.typing settled m no_value (x ∷ rest) kept_then.points };
+        holds = ready.holds;
+      }
+    where
+      flipped : (one two : ways.View) → IsSame one two → IsSame two one
+      flipped one two e = record { word = λ l. sym (e.word l); made = sym e.made; freed = λ n. sym (e.freed n); leaked = λ n. sym (e.leaked n) }
+
+      -- another hand that shows nothing
+      other_blank : (m : Memory) (x y z : Waiting) (rest : List Waiting) → ((p : List Step) → word_in h.typing.table (in_hand y) p ≡ Empty)
+          → ((p : List Step) → word_in h.typing.table (in_hand z) p ≡ Empty) → IsSame (seen h.typing m (x ∷ y ∷ rest) leaks) (seen h.typing m (x ∷ z ∷ rest) leaks)
+      other_blank m x y z rest none_y none_z = record { word = λ l. by_trunk l (steps_in l); made = refl; freed = λ n. refl; leaked = λ n. refl }
+        where
+          by_trunk : (l : Loc) (p : List Step)
+              → word_in h.typing.table (content h.typing m (x ∷ z ∷ rest) (trunk l)) p ≡ word_in h.typing.table (content h.typing m (x ∷ y ∷ rest) (trunk l)) p
+          by_trunk (OfRoot (OfVariable f i)) p = refl
+          by_trunk (OfRoot (OfHand j)) p = elim (same_or_not j (length rest)) [
+            | inr off ↦ ap (λ w. word_in h.typing.table (in_hand w) p) (elsewhere (x ∷ []) z y rest j off)
+            | inl e ↦ ap (λ w. word_in h.typing.table (in_hand w) p) (ap (waiting_at (x ∷ z ∷ rest)) e ∙ deep (x ∷ []) z rest) ∙ none_z p
+                ∙ sym (ap (λ w. word_in h.typing.table (in_hand w) p) (ap (waiting_at (x ∷ y ∷ rest)) e ∙ deep (x ∷ []) y rest) ∙ none_y p)
+          ]
+          by_trunk (OfCell c) p = refl
+          by_trunk (Inside l i) p = by_trunk l p
+
+      blank_kept : (m : Memory) (x y z : Waiting) (rest : List Waiting) → NoCell z.words → Kept h.typing m (x ∷ y ∷ rest) → Kept h.typing m (x ∷ z ∷ rest)
+      blank_kept m x y z rest none kept = record { variables = kept.variables; cells = kept.cells; points = points }
+        where
+          below : Kept h.typing m (z ∷ rest)
+          below = keeps.plain m z rest none (record {
+            variables = kept.variables;
+            cells = kept.cells;
+            points = less h.typing settled m y rest (less h.typing settled m x (y ∷ rest) kept.points);
+          })
+
+          in_hands : (j : ℕ) → Points h.typing m (in_hand (waiting_at (x ∷ z ∷ rest) j))
+          in_hands j = elim (same_or_not j (suc (length rest))) [
+            | inl e ↦ subst (λ w. Points h.typing m (in_hand w)) (hand_top x (y ∷ rest) ∙ sym (ap (waiting_at (x ∷ z ∷ rest)) e ∙ hand_top x (z ∷ rest))) (kept.points (hand (suc (length rest))))
+            | inr off ↦ subst (λ w. Points h.typing m (in_hand w)) (sym (hand_below x (z ∷ rest) j off)) (below.points (hand j))
+          ]
+
+          points : (l : Loc) → Points h.typing m (content h.typing m (x ∷ z ∷ rest) l)
+          points (OfRoot (OfVariable f i)) = kept.points (OfRoot (OfVariable f i))
+          points (OfRoot (OfHand j)) = in_hands j
+          points (OfCell c) = kept.points (OfCell c)
+          points (Inside l i) = points l
 
   then_fed : (mid on : List (List machine.Word)) (u t : ℕ) (acc : List machine.Word) (above below : List Waiting) (facts facts' : List Fact) (x : Evaluated (List machine.Word))
       (f : List machine.Word → Now → Evaluated (List machine.Word)) → GivenOn mid u above facts x
@@ -239,7 +290,7 @@ module _ (h : Here) (settled : IsSettled h.typing.table) (leaks : List Leak) (wa
               → (length (acc ++ w) ≡ words_to (words h.typing.table) sh (suc i)) × Ready n.memory (record { of = t; words = acc ++ w } ∷ hands) between
           grows w n hands mid given = (
             (let size : length (acc ++ w) ≡ length acc + length w = length-append acc w in let step = words_next (words h.typing.table) sh i lt in let own = given.1 in
-            omega (arith, size, step, fills, own)),
+                omega (arith, size, step, fills, own)),
             evaluating.part_joined h settled leaks waits other alone keeps index_law own_law v parts_named n.memory hands between t u acc w (nth_part sh i) (part_there h.typing.table t sh refl i lt)
                 (part_offset h.typing.table t sh refl i lt ∙ sym fills) (part_is h.typing.table t sh refl i lt) given.1 given.0,
           )
@@ -260,3 +311,17 @@ module _ (h : Here) (settled : IsSettled h.typing.table) (leaks : List Leak) (wa
               (go w n given)))))
       parts_fed NoMore t i gives mine count made K m acc facts fills ready allowed keep = absurd mine
       parts_fed es t i gives mine count made K m acc facts fills ready allowed keep = absurd gives
+
+    -- the result alone is in hand then
+    pub fed_alone : (e : TypedTree) (want : ℕ) → Gives h.typing want e → IsFed h.typing of e → (m : Memory) (facts : List Fact)
+        → Ready m (value ∷ rest) facts → AllowsAll facts (acts (acts_in h.typing e)) → IsNamed h.typing.table want
+        → AllKeep (is_fixed h.typing) (acts (acts_in h.typing e))
+        → GivenOn on want rest (after (acts (acts_in h.typing e)) facts) (evaluate h AsValue e (record { memory = m; waits = ws ∷ on }))
+    fed_alone e want gives mine m facts ready allowed own keep =
+        falls (evaluate h AsValue e (record { memory = m; waits = ws ∷ on })) (fed e want gives mine [] m facts ready allowed own keep)
+      where
+        falls : (x : Evaluated (List machine.Word)) → GivenOn on want (no_value ∷ rest) (after (acts (acts_in h.typing e)) facts) x
+            → GivenOn on want rest (after (acts (acts_in h.typing e)) facts) x
+        falls (Done w n) (well, size, same) = (dropped n.memory (record { of = want; words = w }) rest (after (acts (acts_in h.typing e)) facts) size well, size, same)
+        falls (Raises k n) given = tt
+        falls (Traps k n) none = none

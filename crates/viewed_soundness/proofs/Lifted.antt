@@ -1,17 +1,17 @@
 -- A value goes from one hand to another one.
-use Rattle.std.proofs.Common.{◌≡◌, refl, sym, ap, ◌∙◌, subst, ◌⊎◌, inl, inr, ℕ, ◌+◌, ◌<◌, ◌≤◌, List, [], ◌∷◌, ◌++◌, length, get_or, arith}
-use Rattle.std.proofs.lemmas.List.{length-map, get_or_past}
+use Rattle.std.proofs.Common.{◌≡◌, refl, sym, ap, ◌∙◌, subst, inl, inr, ℕ, ◌+◌, List, [], ◌++◌, length, get_or, arith}
+use Rattle.std.proofs.lemmas.List.{get_or_past}
 use Rattle.place_names.specs.declared.fact.Fact.{Fact}
 use Rattle.type_definitions.specs.Types.{shape_of, words}
 use Rattle.flow_paths.specs.Objects.{Typing}
 use Rattle.machine.specs.Words as machine
-use Rattle.machine.specs.Memory.{Memory, Slot, cell, fresh, no_slot}
+use Rattle.machine.specs.Memory.{Memory, cell, fresh, no_slot}
 use Rattle.machine.specs.Owners.{no_value, waiting_at}
 use Rattle.machine.specs.States.{Waiting, Leak}
 use Rattle.owned_ways.specs.Ways.{Step, OfVariable, OfHand, Loc, OfRoot, OfCell, Inside, Way, Object, Empty, Held, Sound, Spares}
 use Rattle.owned_ways.proofs.Assigned.{handed}
 use Rattle.part_offsets.specs.Parts.{IsSettled}
-use Rattle.soundness.specs.Seen.{Content, in_hand, content, trunk, word_in, seen}
+use Rattle.soundness.specs.Seen.{in_hand, content, trunk, word_in, seen}
 use Rattle.soundness.specs.Changes.{Put, hand, Checks, Stores}
 use Rattle.soundness.specs.Typed.{Kept, Points}
 use Rattle.soundness.proofs.Around.{same_or_not}
