@@ -41,18 +41,10 @@ use Rattle.soundness.proofs.Steps.{hand_top, hand_below}
 use Rattle.soundness.proofs.Taking.{no_takes}
 use Rattle.soundness.proofs.Keeping.{less}
 use Rattle.soundness.proofs.Defaults.{blank_word}
+use Rattle.viewed_soundness.specs.Taken.{IsFed}
 use Rattle.viewed_soundness.proofs.Lifted.{lifted_sound, lifted_kept}
 use Rattle.viewed_soundness.proofs.Evaluated.{gives_plainly, keep_both, matches_named, part_named}
 use Rattle.viewed_soundness.proofs.Evaluated as evaluating
-
--- One call, which gives the value, and no other.
-unfoldable pub IsFed : Typing → ℕ → TypedTree → Type 0
-IsFed s of (Call p sub actuals) = (sub_at s sub).result ≡ Some of
-IsFed s of (Parens e) = IsFed s of e
-IsFed s of (New t (More e rest)) = IsFed s of e
-IsFed s of (Aggregate t es) = IsFed s of es
-IsFed s of (More e rest) = (IsFed s of e × (has_call rest ≡ false)) ⊎ ((has_call e ≡ false) × IsFed s of rest)
-IsFed s of e = ⊥
 
 -- ---- hands
 
@@ -218,7 +210,7 @@ module _ (h : Here) (settled : IsSettled h.typing.table) (leaks : List Leak) (wa
           let now : Now = record { memory = m; waits = ws ∷ on } in
           let acts_same : acts_in h.typing e ++ acts_in h.typing more ≡ acts_in h.typing e = ap (λ z. acts_in h.typing e ++ acts_in h.typing z) none ∙ append-nil (acts_in h.typing e) in
           let blank : Waiting = record { of = want; words = [] } in
-          let inner = fed e t gives mine (blank ∷ K) m facts (evaluating.blank_ready h settled leaks waits other alone keeps index_law own_law v parts_named m (K ++ value ∷ rest) facts want [] (λ k h. h) ready)
+          let inner = fed e t gives mine.0 (blank ∷ K) m facts (evaluating.blank_ready h settled leaks waits other alone keeps index_law own_law v parts_named m (K ++ value ∷ rest) facts want [] (λ k h. h) ready)
           (subst (λ z. AllowsAll facts (acts z)) acts_same allowed) (matches_named h.typing.table d t fits (parts_named.designated want d c n is))
           (subst (λ z. AllKeep (is_fixed h.typing) (acts z)) acts_same keep) in
           subst (λ z. GivenOn on want (K ++ no_value ∷ rest) (after (acts z) facts) (followed_by (followed_by (evaluate h AsValue e now) (checked h t)) (allocated t))) (sym acts_same)

@@ -15,7 +15,7 @@ use Rattle.flow_paths.specs.Laid.{FlowSub, FlowProgram, NamedSub, flow_typing, f
 use Rattle.flow_paths.specs.Scopes.{taken}
 use Rattle.machine.specs.States.{Waiting, sub_of}
 use Rattle.soundness.specs.Sound.{is_temporary_object, has_returned, IsNamedSub, IsAtPoint, Stage}
-use Rattle.viewed_soundness.specs.Taken.{GivesPlainly}
+use Rattle.viewed_soundness.specs.Taken.{GivesPlainly, IsFed}
 
 -- ---- values
 
@@ -106,6 +106,12 @@ TakesAlone s p =
     (x : ℕ) × (rest : List ℕ) × (p.scope ≡ x ∷ rest) × (q : Pos) × (n : ℕ) × (actuals : TypedTree) × ((sub_at s n).result ≡ Some (object_at s x).of)
     × (is_scalar (full s.table (object_at s x).of) ≡ false)
     × IsTakenBy p.instr (CallIn q n actuals)
+
+-- Or what it gave is within an aggregate or an allocator, which takes no other value.
+abbrev pub TakesWithin : Typing → NamedPoint → Type 0
+TakesWithin s p =
+    (x : ℕ) × (rest : List ℕ) × (p.scope ≡ x ∷ rest) × (e : TypedTree) × IsFed s (object_at s x).of e
+    × (is_scalar (full s.table (object_at s x).of) ≡ false) × IsTakenBy p.instr e
 
 abbrev pub IsTaken : Typing → NamedPoint → Type 0
 IsTaken s p = (AreScalar s (filter (is_temporary_object s) (take (taken p.instr) p.scope)) × TakesScalars s p.instr) ⊎ TakesAlone s p
