@@ -8,7 +8,7 @@ use Rattle.viewed_steps.specs.Traversals.{IsSourceIn}
 use Rattle.machine.specs.Calls.{checks_at}
 use Rattle.spark_base.specs.declared.position.Pos.{Pos}
 use Rattle.viewed_soundness.proofs.Names.{plain_named, true_false}
-use Rattle.std.proofs.Common.{◌≡◌, refl, sym, ap, ◌∙◌, subst, ◌⊎◌, inl, inr, ℕ, suc, ◌+◌, ◌<◌, Bool, true, false, List, [], ◌∷◌, ◌++◌, drop, length, arith, Some, None, if◌then◌else◌, take, map}
+use Rattle.std.proofs.Common.{◌≡◌, refl, sym, ap, ◌∙◌, subst, ◌⊎◌, inl, inr, ℕ, suc, ◌+◌, ◌<◌, Bool, true, false, List, [], ◌∷◌, ◌++◌, drop, length, arith, None, if◌then◌else◌, take, map}
 use Rattle.spark_base.specs.Lists.{Has}
 use Rattle.place_names.specs.declared.act.Act.{Act}
 use Rattle.place_names.specs.declared.act.Act.TheVariants as act
@@ -40,8 +40,8 @@ use Rattle.machine.specs.Step as steps
 use Rattle.machine.specs.Owners.{waiting_in}
 use Rattle.owned_ways.specs.Ways.{Step, OfVariable, OfRoot, Way, Held, after, AllowsAll}
 use Rattle.soundness.specs.Seen.{IsNear, content, word_in, home, seen}
-use Rattle.soundness.specs.Typed.{Kept, Matches}
-use Rattle.typed_laws.specs.Needed.{IsFine, Source, Gives, Leads}
+use Rattle.soundness.specs.Typed.{Kept}
+use Rattle.typed_laws.specs.Needed.{IsFine, Source, Leads}
 use Rattle.soundness.specs.Sound.{IsNoCall, Stage, facts_of, AreStages, IsRunnable, InScope, IsNamedSub, IsAtPoint, view_of as view_here, is_temporary_object, temporaries_in}
 use Rattle.soundness.proofs.Scalars.{acts, acts_append, after_append}
 use Rattle.soundness.proofs.Scoped.{Inside}
@@ -62,7 +62,33 @@ use Rattle.viewed_steps.proofs.Placed.{MayBe}
 use Rattle.viewed_steps.proofs.Waiting.{StandsBetween, beside_them, handed, apart_elsewhere}
 use Rattle.viewed_steps.proofs.Standing.{or_right}
 use Rattle.viewed_steps.proofs.Standing as standing
-use Rattle.std.proofs.Common.{append-nil, append_assoc, zero}
+use Rattle.viewed_steps.specs.Awaited.{IsMade}
+use Rattle.viewed_steps.specs.Traversals.{IsSourceIn}
+use Rattle.viewed_steps.proofs.Sources.{leads_or}
+use Rattle.soundness.proofs.Following.{Each}
+use Rattle.viewed_soundness.proofs.Names.{true_false}
+use Rattle.std.proofs.Common.{◌≡◌, refl, sym, ap, ◌∙◌, subst, ◌⊎◌, inl, inr, ℕ, suc, ◌<◌, Bool, true, false, List, [], ◌∷◌, ◌++◌, drop, length, None, map}
+use Rattle.flow_paths.specs.Names.{has_call}
+use Rattle.flow_paths.specs.Scopes.{taken, brought, scope_behind}
+use Rattle.machine.specs.Memory.{declared}
+use Rattle.machine.specs.Evaluate.{Done, followed_by, place_of}
+use Rattle.soundness.specs.Typed.{Kept}
+use Rattle.typed_laws.specs.Needed.{IsFine}
+use Rattle.soundness.specs.Sound.{IsNoCall, Stage, facts_of, AreStages, IsRunnable, returns_value, InScope, IsNamedSub, IsAtPoint, view_of as view_here}
+use Rattle.soundness.proofs.Eased.{eased}
+use Rattle.soundness.proofs.Successors.{below_one}
+use Rattle.viewed_soundness.specs.Holds.{is_view, sees_only}
+use Rattle.viewed_soundness.proofs.Outcomes.{named_plain, Leads_on}
+use Rattle.viewed_steps.specs.Awaited.{AreValues, lasting_of, AreAwaited}
+use Rattle.viewed_steps.proofs.Waited.{Shares}
+use Rattle.viewed_steps.proofs.Beside.{IsOther, others_keep}
+use Rattle.viewed_steps.proofs.Waiting.{StandsBetween, beside_them, handed}
+use Rattle.soundness.specs.Ready.{IsSupplied, Fills}
+use Rattle.soundness.proofs.Onward.{GoesOn, declare_follows, assign_follows}
+use Rattle.viewed_steps.proofs.Turned as turned
+use Rattle.owned_loans.specs.Views.{on}
+use Rattle.viewed_steps.specs.Ready.{IsSource, IsNewSource}
+use Rattle.std.proofs.Common.{append-nil, append_assoc}
 use Rattle.soundness.proofs.Scalars.{allows_both}
 use Rattle.typed_tree.specs.Trees.{Parens, New, Aggregate}
 use Rattle.viewed_soundness.specs.Taken.{IsFed}
@@ -79,7 +105,7 @@ use Rattle.soundness.specs.Ready.{IsSupplied}
 use Rattle.soundness.proofs.Waits.{take_none, waits_of}
 use Rattle.soundness.proofs.Numbers.{index_law}
 use Rattle.soundness.proofs.Lasting.{keeps}
-use Rattle.viewed_soundness.proofs.Evaluated.{Given, Ready, checked_given, call_given, keep_both}
+use Rattle.viewed_soundness.proofs.Evaluated.{Given, Ready, checked_given, keep_both}
 use Rattle.viewed_steps.proofs.Declared.{declared_goes, first_fades}
 use Rattle.viewed_steps.proofs.EachInstruction as each
 use Rattle.viewed_steps.proofs.Views.{AreAccess, all_held}
@@ -456,3 +482,76 @@ module _ (table : Table) (typed : TypedProgram) (effects : Effects) (input : Lis
             ready.class.parts_named [] [] r y u path_there (waiting_in easy.state) (after first_acts facts_now) named_target plain_root leads_there (no_takes path_there calls [])
             each_allowed.1 (steps.taken_by main_turn u held (start main_turn))
             (source_within going taken_within u named_target source_there each_allowed.0 each_kept.0)))
+
+      -- ---- what follows
+
+      made_name : (r : Pos) (b : ℕ) (w : TypedTree) (o : ℕ) → ◌≡◌ {A = TypedTree} held (Name r b w o) → ⊥
+      made_name r b w o e = subst IsMade e taken_within.7
+
+      made_call : (r : Pos) (b : ℕ) (actuals : TypedTree) → ◌≡◌ {A = TypedTree} held (CallIn r b actuals) → ⊥
+      made_call r b actuals e = subst IsMade e taken_within.7
+
+      same_first : (a b : TypedTree) → ◌≡◌ {A = TypedTree} (More a NoMore) (More b NoMore) → a ≡ b
+      same_first a b e = cc
+
+      -- a view is declared with a name or a call
+      declares : (y : ℕ) → p.instr ≡ Declare y (More held NoMore) → (p.instr ≡ Finish → ⊥) → LeadsFrom (Declare y (More held NoMore)) (turn main_turn (Declare y (More held NoMore)))
+      declares y is end = by_kind (is_anonymous (view_of s y)) refl
+        where
+          by_kind : (b : Bool) → is_anonymous (view_of s y) ≡ b → LeadsFrom (Declare y (More held NoMore)) (turn main_turn (Declare y (More held NoMore)))
+          by_kind false owner = declares_within y is owner
+          by_kind true view =
+              let found : IsSource program p.scope y (More held NoMore) = orderly.declared y (More held NoMore) is view in
+              let tree_is : held ≡ found.4 = same_first held found.4 found.5 in
+              absurd (elim found.6 [
+                | inl name ↦ made_name found.0 found.1 found.2 found.3 (tree_is ∙ name)
+                | inr (r, n, others, call, gives) ↦ made_call r n (More (Name found.0 found.1 found.2 found.3) others) (tree_is ∙ call)
+              ])
+
+      assigns : (r : Pos) (y : ℕ) (steps_there : TypedTree) (u : ℕ) → p.instr ≡ Assign (Name r y steps_there u) held → has_call steps_there ≡ false → (p.instr ≡ Finish → ⊥)
+          → LeadsFrom (Assign (Name r y steps_there u) held) (turn main_turn (Assign (Name r y steps_there u) held))
+      assigns r y steps_there u is calls end = by_kind (is_anonymous (full s.table u)) refl
+        where
+          text_there : IsFine s named.sub.result (Assign (Name r y steps_there u) held)
+          text_there = subst (IsFine s named.sub.result) is (standing.fine table typed effects input ready state top older outer named p frames of_sub at_point)
+
+          by_kind : (b : Bool) → is_anonymous (full s.table u) ≡ b → LeadsFrom (Assign (Name r y steps_there u) held) (turn main_turn (Assign (Name r y steps_there u) held))
+          by_kind false place = assigns_within r y steps_there u is calls end place
+          by_kind true view = elim (leads_or s ready.class.parts_named steps_there (object_at s y).of u text_there.1.0) [
+            | inr own_type ↦ absurd (true_false (is_anonymous (full s.table u)) view (named_plain s.table u own_type))
+            | inl whole ↦ (
+                let target_is : Name r y steps_there u ≡ Name r y NoMore (object_at s y).of = (λ j. Name r y (whole.0 j) (sym whole.1 j)) in
+                let found : IsNewSource program p.scope y held =
+                orderly.assigned r y (object_at s y).of held (is ∙ ap (λ z. Assign z held) target_is) (ap (λ z. is_anonymous (full s.table z)) whole.1 ∙ view) in
+                absurd (elim found.4 [
+                  | inl name ↦ made_name found.0 found.1 found.2 found.3 name
+                  | inr (q, n, others, call, gives) ↦ made_call q n (More (Name found.0 found.1 found.2 found.3) others) call
+                ]))
+          ]
+
+      pub goes_within : IsOther p.instr → FillsNone s p.instr → (p.instr ≡ Finish → ⊥) → returns_value p.instr ≡ false → Along (turn main_turn p.instr)
+      goes_within other_one fills end none = elim taken_within.6 [
+        | inl (y, is) ↦ finish (Declare y (More held NoMore)) is (declares y is end)
+            (declare_follows main_turn Left left IsOld (lasting_of s left_scope) (lasting_of s (y ∷ left_scope)) inside_left
+            (innermost.one_more table typed effects input ready state top below more_frames rest named p frames deep stages running awaiting of_sub at_point path views viewed_before kept scope holds placed_before above y) y (More held NoMore)
+            (innermost.new_one table typed effects input ready state top below more_frames rest named p frames deep stages running awaiting of_sub at_point path views viewed_before kept scope holds placed_before above y
+            (subst (λ i. Fills s i left_scope) is supplied_here.1))
+            (innermost.with_successors table typed effects input ready state top below more_frames rest named p frames deep stages running awaiting of_sub at_point path views viewed_before kept scope holds placed_before above (Declare y (More held NoMore)) 0 is below_one))
+        | inr (inl (r, y, steps, u, is, calls)) ↦ finish (Assign (Name r y steps u) held) is (assigns r y steps u is calls end)
+            (assign_follows main_turn Left left IsOld (lasting_of s left_scope) (lasting_of s left_scope) inside_left (λ x within. within) r y u steps held
+            (innermost.stored_there table typed effects input ready state top below more_frames rest named p frames deep stages running awaiting of_sub at_point path views viewed_before kept scope holds placed_before above (Assign (Name r y steps u) held) is y (inl refl))
+            (innermost.with_successors table typed effects input ready state top below more_frames rest named p frames deep stages running awaiting of_sub at_point path views viewed_before kept scope holds placed_before above (Assign (Name r y steps u) held) 0 is below_one))
+        | inr (inr is) ↦ absurd (subst IsOther is other_one)
+      ]
+        where
+          left : Left (steps.waiting main_turn)
+          left = left_after fills
+
+          finish : (i : Instruction) → p.instr ≡ i → LeadsFrom i (turn main_turn i)
+              → Each (GoesOn main_turn Left left IsOld (lasting_of s left_scope) (lasting_of s (brought i left_scope)) inside_left) (turn main_turn i) → Along (turn main_turn p.instr)
+          finish i is leads on =
+              turned.then_on table typed effects input ready state top below more_frames rest named p frames deep stages running awaiting of_sub at_point path views viewed_before kept scope holds placed_before above going no_calls left
+              (each.spares table typed effects input ready state top below more_frames rest named p frames deep stages running awaiting of_sub at_point path views viewed_before kept scope holds placed_before above going no_calls end) end none
+              (turn main_turn p.instr) (subst (λ z. LeadsFrom z (turn main_turn z)) (sym is) leads)
+              (subst (λ z. Each (GoesOn main_turn Left left IsOld (lasting_of s left_scope) (lasting_of s (brought z left_scope)) inside_left) (turn main_turn z)) (sym is) on)
+              (others_keep main_turn named.sub.result p.instr (standing.fine table typed effects input ready state top older outer named p frames of_sub at_point) other_one)
