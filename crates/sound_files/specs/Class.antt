@@ -128,11 +128,16 @@ IsCopiedActual s x (Name p y path u) = shape_of s.table u ≡ shape_of s.table (
 IsCopiedActual s x e = ⊥
 
 -- One that is copied back to goes through no access value, and isn't rooted in a formal of mode `in` that owns; or the formal
--- is of a scalar type, and it is rooted in an object that belongs to no package, or goes through none.
+-- is of a scalar type, and it is rooted in an object that belongs to no package, or goes through none; or the formal is of
+-- mode `in out`, and it is rooted in an owner that belongs to no package.
+abbrev pub IsOwnedActual : Typing → ℕ → TypedTree → Type 0
+IsOwnedActual s x e =
+    ((object_at s x).mode ≡ mode.InOut) × ((y : ℕ) → Has (root_of e) y → (is_package_object s y ≡ false) × (is_anonymous (view_of s y) ≡ false))
+
 abbrev pub IsKeptActual : Typing → ℕ → TypedTree → Type 0
 IsKeptActual s x e =
     (IsScalarAt s x × ((goes_through_none e ≡ true) ⊎ ((y : ℕ) → Has (root_of e) y → is_package_object s y ≡ false)))
-    ⊎ ((goes_through_none e ≡ true) × ((y : ℕ) → Has (root_of e) y → is_view_formal s y ≡ false))
+    ⊎ (((goes_through_none e ≡ true) ⊎ IsOwnedActual s x e) × ((y : ℕ) → Has (root_of e) y → is_view_formal s y ≡ false))
 
 abbrev pub IsFitActual : Typing → ℕ → Mode → TypedTree → Type 0
 IsFitActual s x mode.In e =

@@ -23,7 +23,7 @@ use Rattle.soundness.specs.Ready.{root_of}
 use Rattle.soundness.proofs.Passing.{plain_type, signature_there}
 use Rattle.ready_laws.proofs.Actuals.{taken_stays, scalar_back}
 use Rattle.sound_files.specs.Class.{IsShownActual, IsCopiedActual, IsKeptActual, IsFitActual, AreFitActuals}
-use Rattle.viewed_steps.specs.Sound.{IsScalarObject, IsKindOfFormal, AreKeptPlaces}
+use Rattle.viewed_steps.specs.Sound.{IsScalarObject, IsReachedBack, IsKindOfFormal, AreKeptPlaces}
 use Rattle.viewed_steps.specs.Ready.{IsSeen, IsCopyOf, IsValueTo, IsActualTo, AreActualsTo}
 use Rattle.view_laws.specs.Program.{PassActuals}
 
@@ -106,15 +106,18 @@ module _ (y : Typing) (whole : counts (shape_of y.table integer) ≡ true) (list
     actuals_to (x ∷ formals) actuals known kinds fit taken = absurd taken
 
 -- Where places are that are copied back to.
+back_kept : (s : Typing) (x : ℕ) (e : TypedTree) → IsKeptActual s x e
+    → (goes_through_none e ≡ true) ⊎ (IsReachedBack s x e × ((z : ℕ) → Holds (root_of e) z → is_package_object s z ≡ false))
+back_kept s x e (inl (plain, inl none)) = inl none
+back_kept s x e (inl (plain, inr roots)) = inr (inl plain, roots)
+back_kept s x e (inr (inl none, roots)) = inl none
+back_kept s x e (inr (inr (is, owned), roots)) = inr (inr (is, λ y has. ((owned y has).1, roots y has)), λ y has. (owned y has).0)
+
 kept_one : (s : Typing) (x : ℕ) (e : TypedTree) (m : Mode) → is_in m ≡ false → IsFitActual s x m e
-    → (goes_through_none e ≡ true) ⊎ (IsScalarObject s x × ((z : ℕ) → Holds (root_of e) z → is_package_object s z ≡ false))
+    → (goes_through_none e ≡ true) ⊎ (IsReachedBack s x e × ((z : ℕ) → Holds (root_of e) z → is_package_object s z ≡ false))
 kept_one s x e mode.In back fit = cc
-kept_one s x e mode.Out back (inl (plain, inl none)) = inl none
-kept_one s x e mode.Out back (inl (plain, inr roots)) = inr (plain, roots)
-kept_one s x e mode.Out back (inr (none, roots)) = inl none
-kept_one s x e mode.InOut back (inl (plain, inl none)) = inl none
-kept_one s x e mode.InOut back (inl (plain, inr roots)) = inr (plain, roots)
-kept_one s x e mode.InOut back (inr (none, roots)) = inl none
+kept_one s x e mode.Out back fit = back_kept s x e fit
+kept_one s x e mode.InOut back fit = back_kept s x e fit
 
 pub kept_places : (s : Typing) (formals : List ℕ) (actuals : TypedTree) → ((x : ℕ) → Holds formals x → is_formal s x ≡ true) → AreFitActuals s formals actuals
     → AreKeptPlaces s formals actuals

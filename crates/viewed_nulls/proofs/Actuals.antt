@@ -44,9 +44,9 @@ use Rattle.viewed_soundness.specs.Holds.{IsNamed, PartsAreNamed, sees_only, IsOw
 use Rattle.viewed_soundness.proofs.Names.{Starts, true_false, view_access, not_view, plain_observer, plain_sees, both_no, plain_named}
 use Rattle.viewed_soundness.proofs.Stays.{Goes}
 use Rattle.viewed_soundness.proofs.Evaluated.{matches_named, live_trunk}
-use Rattle.viewed_steps.specs.Sound.{IsScalarObject, IsKindOfFormal}
+use Rattle.viewed_steps.specs.Sound.{IsScalarObject, IsKindOfFormal, IsReachedBack}
 use Rattle.viewed_steps.specs.Ready.{IsOwnPlace, IsSeen, IsCopyOf, IsActualTo, AreActualsTo}
-use Rattle.viewed_steps.proofs.Seeing.{IsClear, AreClear}
+use Rattle.viewed_steps.proofs.Seeing.{IsClear, AreOpenTo}
 use Rattle.viewed_steps.proofs.LaidOut.{IsOpenActual, AreOpenActuals}
 use Rattle.viewed_steps.proofs.Called.{way_to, head_of, head_values_are, head_of_reads, IsGiven, one_given}
 use Rattle.viewed_steps.proofs.Reading.{unowned, unowned_read}
@@ -150,6 +150,24 @@ module _ (h : Here) (settled : IsSettled h.typing.table) (leaks : List Leak) (ot
           ap has_deref (goes.sels (Object (OfVariable (home h.typing h.frame y) y))) ∙ selectors_direct path direct in
           let no : true ≡ false = sym (past_deref z (way_along way (Object (OfVariable (home h.typing h.frame y) y))) past) ∙ none in cc
 
+  -- and one that an owner leads to, through access values
+  through_finds : (on : List (List machine.Word)) (y u : ℕ) (path : TypedTree) (way : List run.Step)
+      → Goes h.typing.table (object_at h.typing y).of u path way → sees_only h.typing y ≡ false → is_view_formal h.typing y ≡ false
+      → ((w : Way) → ways.name_of w ≡ name_of y path → Unlent facts w × Unmoved facts w) → Finds h asks m hands facts on y way (WholeAt u)
+  through_finds on y u path way goes plain owner spared =
+      let w : Way = way_along way (Object (OfVariable (home h.typing h.frame y) y)) in
+      let called : ways.name_of w ≡ name_of y path =
+      (λ j. record { root = number_along way (Object (OfVariable (home h.typing h.frame y) y)) j; sels = goes.sels (Object (OfVariable (home h.typing h.frame y) y)) j }) in
+      let unlent = (spared w called).0 in
+      let unmoved = (spared w called).1 in (
+        whole_of on u (walked h.typing way (variable_place h y) (at on))
+            (owner_found h settled hands leaks m on other facts v ready.kept ready.viewed ready.holds alone live only in_formals index_law own_law parts_named y u way goes.lead plain
+            (λ formal none. true_false (is_view_formal h.typing y) formal owner)
+            (λ e. cleared_open facts w ((λ b n has over. unlent Borrowed b n has over), unmoved)) (λ b n has over. unlent Borrowed b n has over) unmoved),
+        name_same h settled hands leaks m on other facts v ready.kept ready.viewed ready.holds alone live only in_formals y u way goes.lead
+            (λ e. cleared_open facts w ((λ b n has over. unlent Borrowed b n has over), unmoved)),
+      )
+
   -- ---- one actual
 
   scalar_type : (t u : ℕ) → Matches h.typing.table t u → is_scalar (full h.typing.table u) ≡ true → is_scalar (full h.typing.table t) ≡ true
@@ -168,7 +186,7 @@ module _ (h : Here) (settled : IsSettled h.typing.table) (leaks : List Leak) (ot
 
   -- a place of a scalar type, that a name leads to
   place_finds : (on : List (List machine.Word)) (x : ℕ) (p : Pos) (y u : ℕ) (path : TypedTree)
-      → (goes_through_none path ≡ true) ⊎ (IsScalarObject h.typing x × IsOpenActual h.typing h.frame facts (Name p y path u)) → (way : List run.Step)
+      → (goes_through_none path ≡ true) ⊎ (IsReachedBack h.typing x (Name p y path u) × IsOpenActual h.typing h.frame facts (Name p y path u)) → (way : List run.Step)
       → Goes h.typing.table (object_at h.typing y).of u path way → Finds h asks m hands facts on y way (IsAt h asks m hands facts u)
   place_finds on x p y u path (inl direct) way goes = law.direct on y u path way goes direct
   place_finds on x p y u path (inr (scalar, inl direct)) way goes = law.direct on y u path way goes direct
@@ -279,7 +297,7 @@ module _ (h : Here) (settled : IsSettled h.typing.table) (leaks : List Leak) (ot
 
   one_same : (mode_of : Mode) (owning access : Bool) (x : ℕ) (e : TypedTree) → (object_at h.typing x).mode ≡ mode_of → is_owning h.typing.table (object_at h.typing x).of ≡ owning → Kind x
       → IsActualTo h.typing x mode_of e → (is_view_formal h.typing x ≡ true → IsClear h.typing facts e)
-      → (is_in mode_of ≡ false → (goes_through_none e ≡ true) ⊎ (IsScalarObject h.typing x × IsOpenActual h.typing h.frame facts e))
+      → (is_in mode_of ≡ false → (goes_through_none e ≡ true) ⊎ (IsReachedBack h.typing x e × IsOpenActual h.typing h.frame facts e))
       → (before on : List (List machine.Word)) → Takes (waiting e) before on
       → Compares h.typing e → AllowsAll facts (acts (head_of h.typing own_law procedure mode_of owning e))
       → IsSpared x mode_of e → SameFor before on (passing_by mode_of owning access) x e
@@ -308,9 +326,7 @@ module _ (h : Here) (settled : IsSettled h.typing.table) (leaks : List Leak) (ot
             (place_finds on x p y u path (direct refl))).0
         | inr many ↦ (from_passed_same h settled own_law asks m hands facts law before on owning access x p y u path lead takes tt compares allowed (WholeAt u)
             (λ k there. there.3)
-            (λ way goes. own_finds on y u path way goes (direct_there (direct refl) many)
-            (subst (IsNamed h.typing.table) (sym type) (matches_named h.typing.table (object_at h.typing x).of t (matches_back t (object_at h.typing x).of match) (own_type kind many)))
-            (own_root which many y (inl refl)) (spared many))).0
+            (λ way goes. kept_finds many way goes (direct refl))).0
       ]
     where
       own_type : Kind x → is_scalar (full h.typing.table (object_at h.typing x).of) ≡ false → IsNamed h.typing.table (object_at h.typing x).of
@@ -323,16 +339,25 @@ module _ (h : Here) (settled : IsSettled h.typing.table) (leaks : List Leak) (ot
           not_anonymous false e = e
           not_anonymous true e = absurd ((in_formals x shown.0).1 e)
 
-      direct_there : (goes_through_none path ≡ true) ⊎ (IsScalarObject h.typing x × IsOpenActual h.typing h.frame facts (Name p y path u))
-          → is_scalar (full h.typing.table (object_at h.typing x).of) ≡ false → goes_through_none path ≡ true
-      direct_there (inl none) many = none
-      direct_there (inr (scalar, opens)) many = absurd (true_false (is_scalar (full h.typing.table (object_at h.typing x).of)) scalar many)
-
       own_root : (is_scalar (full h.typing.table t) ≡ true) ⊎ IsOwnPlace h.typing (Name p y path u) → is_scalar (full h.typing.table (object_at h.typing x).of) ≡ false
           → (z : ℕ) → Has (root_of (Name p y path u)) z → is_view_formal h.typing z ≡ false
       own_root (inl plain) many z has =
           absurd (true_false (is_scalar (full h.typing.table (object_at h.typing x).of)) (matches_scalar h.typing t (object_at h.typing x).of match plain) many)
       own_root (inr own) many z has = own z has
+
+      direct_finds : is_scalar (full h.typing.table (object_at h.typing x).of) ≡ false → (way : List run.Step) → Goes h.typing.table (object_at h.typing y).of u path way
+          → goes_through_none path ≡ true → Finds h asks m hands facts on y way (WholeAt u)
+      direct_finds many way goes none =
+          own_finds on y u path way goes none
+          (subst (IsNamed h.typing.table) (sym type) (matches_named h.typing.table (object_at h.typing x).of t (matches_back t (object_at h.typing x).of match) (own_type kind many)))
+          (own_root which many y (inl refl)) (spared many)
+
+      kept_finds : is_scalar (full h.typing.table (object_at h.typing x).of) ≡ false → (way : List run.Step) → Goes h.typing.table (object_at h.typing y).of u path way
+          → (goes_through_none path ≡ true) ⊎ (IsReachedBack h.typing x (Name p y path u) × IsOpenActual h.typing h.frame facts (Name p y path u)) → Finds h asks m hands facts on y way (WholeAt u)
+      kept_finds many way goes (inl none) = direct_finds many way goes none
+      kept_finds many way goes (inr (inl scalar, opens)) = absurd (true_false (is_scalar (full h.typing.table (object_at h.typing x).of)) scalar many)
+      kept_finds many way goes (inr (inr back, inl none)) = direct_finds many way goes none
+      kept_finds many way goes (inr (inr back, inr (local, sees, opens))) = through_finds on y u path way goes sees (own_root which many y (inl refl)) (spared many)
   one_same mode.InOut owning access x e is fits kind (t, never, match, which) clears direct before on takes compares allowed spared = absurd never
 
   -- ---- all of them
@@ -361,7 +386,7 @@ module _ (h : Here) (settled : IsSettled h.typing.table) (leaks : List Leak) (ot
 
   -- They are read under the facts before the call; the acts of those that are copied back come after them.
   pub all_same : (before on : List (List machine.Word)) (known : List Fact) (done : List PlaceName) (formals : List ℕ) (actuals : TypedTree) → IsKnown known done formals actuals
-      → ((x : ℕ) → Has formals x → Kind x) → AreActualsTo h.typing formals actuals → AreClear h.typing facts formals actuals → AreOpenActuals h.typing h.frame facts formals actuals → Takes (waiting actuals) before on
+      → ((x : ℕ) → Has formals x → Kind x) → AreActualsTo h.typing formals actuals → AreOpenTo h.typing h.frame v facts formals actuals → AreOpenActuals h.typing h.frame facts formals actuals → Takes (waiting actuals) before on
       → Compares h.typing actuals → AllowsAll facts (acts (actual_values h.typing (map (way_to h.typing own_law procedure) formals) actuals))
       → AllowsAll known (acts (actual_acts (map (way_to h.typing own_law procedure) formals) actuals))
       → (n' : Now) → SameNow h.typing (record { memory = m; waits = before }) n'
@@ -383,7 +408,7 @@ module _ (h : Here) (settled : IsSettled h.typing.table) (leaks : List Leak) (ot
       (subst (AllowsAll facts) (acts_append head others) (subst (λ z. AllowsAll facts (acts z)) (head_values_are h.typing own_law procedure x e (map (way_to h.typing own_law procedure) formals) rest) allowed)) in
       let still : after (acts head) facts ≡ facts = reads_keep head (head_of_reads h.typing own_law procedure x mode_of owning e refl stay.0) facts in
       let each_copy = allows_both known (acts copy) (acts copies_left) (subst (AllowsAll known) (acts_append copy copies_left) copies) in
-      let first = one_same mode_of owning access x e refl refl kind stay.0 clears.0 copied.0 before two.0 two.1 compares.0 each.0
+      let first = one_same mode_of owning access x e refl refl kind stay.0 (λ formal. (clears.0 formal).0) copied.0 before two.0 two.1 compares.0 each.0
       (is_spared mode_of owning access x e formals rest known done refl spares each_copy.0) in
       let given = one_given h settled hands leaks m [] other facts v ready.kept ready.viewed ready.holds alone live in_formals index_law own_law parts_named formals_low procedure before two.0 mode_of owning access x e
       refl refl kind stay.0 clears.0 copied.0 two.1 each.0 in

@@ -17,7 +17,7 @@ use Rattle.machine.specs.Memory as memory
 use Rattle.machine.specs.Evaluate.{Now, Evaluated, followed_by, variable_place, checked}
 use Rattle.machine.specs.States.{Waiting, Leak, Return}
 use Rattle.machine.specs.Step.{Turn, typing, here, copied_back}
-use Rattle.owned_ways.specs.Ways.{Step, OfVariable, OfHand, Loc, OfRoot, OfCell, Inside, Way, Object, Empty, Held, Under, Past, Named, Owned, Reaches, part, along, base_of, number_of, name_of}
+use Rattle.owned_ways.specs.Ways.{Step, OfVariable, OfHand, Loc, OfRoot, OfCell, Inside, Way, Object, Empty, Held, Under, Past, Named, Owned, Reaches, part, along, base_of, number_of, name_of, View}
 use Rattle.owned_ways.proofs.Moving.{parts_apart}
 use Rattle.owned_ways.proofs.Unique.{one_way}
 use Rattle.owned_ways.proofs.Locations.{reaches_along}
@@ -175,6 +175,10 @@ module _ (t : Turn) (settled : IsSettled (typing t).table) (own_law : OwnsByShap
       of = inl refl;
       named = matches_named s.table r.to.of (object_at s r.formal).of passed.fits inside.named;
     }
+
+    pub formal_there : (view : View) → Reaches view formal_inside.trunk formal_inside.start
+    unfolding formal_inside
+    formal_there view = refl
 
     spot : Spot s m hands formal (OfRoot (OfVariable (suc depth) r.formal))
     unfolding formal_inside
@@ -572,7 +576,7 @@ module _ (t : Turn) (settled : IsSettled (typing t).table) (own_law : OwnsByShap
   ]
 
   -- where a place stands
-  start_same : (m n : Memory) (k : Place) (w : Way) (there : IsInside s depth k w)
+  pub start_same : (m n : Memory) (k : Place) (w : Way) (there : IsInside s depth k w)
       → ((f x : ℕ) (p : List Step) → word_in s.table (content s n [] (OfRoot (OfVariable f x))) p ≡ word_in s.table (content s m [] (OfRoot (OfVariable f x))) p)
       → ((c : ℕ) (p : List Step) → word_in s.table (content s n [] (OfCell c)) p ≡ word_in s.table (content s m [] (OfCell c)) p)
       → (q : List Step) → word_in s.table (content s n [] there.start) q ≡ word_in s.table (content s m [] there.start) q

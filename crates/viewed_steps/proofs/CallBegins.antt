@@ -359,7 +359,7 @@ module _ (table : Table) (typed : TypedProgram) (effects : Effects) (input : Lis
         leaks_same : leaks_then ≡ state.leaks ++ flat_map (λ (leaks : List Leak). leaks) checks_there
         leaks_same = ap (λ z. state.leaks ++ z) (sym (found_there s ready.accepted.settled depth views view_now main_turn.point.pos state.memory formals actuals passed laid))
 
-        at_first : AtFirst s ready.accepted.settled ready.owns in_formals (waiting_in easy.state) depth views far_views holds.only facts_called next_there cells cell_begins state.memory
+        pub at_first : AtFirst s ready.accepted.settled ready.owns in_formals (waiting_in easy.state) depth views far_views holds.only facts_called next_there cells cell_begins state.memory
         at_first = record { typed = (viewed_easy plain_there.0).1; leaks = state.leaks; owned = well_all.owned; there = λ c has. (named_cell c has).reaches }
 
         enters : Enter s ready.accepted.settled ready.owns in_formals (waiting_in easy.state) depth views far_views holds.only facts_called next_there cells cell_begins other_all state.leaks leaks_then formals passed ways_taken

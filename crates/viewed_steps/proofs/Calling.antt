@@ -290,7 +290,7 @@ module _ (table : Table) (typed : TypedProgram) (effects : Effects) (input : Lis
       abbrev pub clear_there : AreClear s facts_now formals actuals
       clear_there = acting.clear_there table typed effects input ready state top below more_frames rest named p frames deep stages running awaiting of_sub at_point path views viewed_before kept scope holds placed_before above n actuals result e
 
-      abbrev lows_there : AreLowRoots s depth views formals actuals
+      abbrev pub lows_there : AreLowRoots s depth views formals actuals
       lows_there = acting.lows_there table typed effects input ready state top below more_frames rest named p frames deep stages running awaiting of_sub at_point path views viewed_before kept scope holds placed_before above n actuals result e
 
       abbrev pub Given : List Passed → Type 0
