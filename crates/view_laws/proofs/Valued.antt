@@ -309,7 +309,7 @@ module _ (table : Table) (typed : TypedProgram) (effects : Effects) (given : IsV
                   scalars (take (taken p.instr) p.scope) (λ x more. first_good scalar x (taken_has (taken p.instr) p.scope x more)),
                   call_scalars p.instr q n a takes (λ k is. ap (λ m. is_scalar (full s.table m)) (let both : Some k ≡ Some (object_at s u).of = sym is ∙ answer in let same : k ≡ (object_at s u).of = cc in same) ∙ scalar),
                 )
-            by false others_are answer = inr (u, others, also, q, n, a, answer, others_are, takes)
+            by false others_are answer = inr (inl (u, others, also, q, n, a, answer, others_are, takes))
 
     -- ---- what is filled
 
