@@ -18,7 +18,7 @@ use Rattle.scope_laws.specs.Alone.{ResultsFit}
 use Rattle.ready_laws.specs.InOrder.{IsInOrder, AreAnswered, AreStill, ArePassed}
 use Rattle.soundness.specs.Seen.{is_view_formal}
 use Rattle.viewed_soundness.specs.Holds.{PartsAreNamed, is_exclusive}
-use Rattle.viewed_steps.specs.Sound.{IsScalarObject, IsKindOfFormal, AreKeptPlaces}
+use Rattle.viewed_steps.specs.Sound.{IsScalarObject, IsKindOfFormal, AreKeptPlaces, LendsShared, AreShownOwn}
 use Rattle.viewed_steps.specs.Ready.{AreActualsTo}
 use Rattle.view_laws.specs.InOrder.{AreViewsInOrder}
 
@@ -52,6 +52,9 @@ pub record IsViewProgram (table : Table) (typed : TypedProgram) (effects : Effec
       (result : Option ℕ) → p.instr ≡ Call n actuals result
       → ((x : ℕ) → Has (sub_of (flow_program table typed) n).formals x → is_formal (flow_typing (flow_program table typed)) x ≡ true)
       → AreKeptPlaces (flow_typing (flow_program table typed)) (sub_of (flow_program table typed) n).formals actuals
+  pub shown : (sub : FlowSub) → Has (flow_program table typed).subs sub → (p : FlowPoint) → Has sub.points p → (n : ℕ) (actuals : TypedTree)
+      (result : Option ℕ) → p.instr ≡ Call n actuals result
+      → AreShownOwn (flow_typing (flow_program table typed)) (LendsShared (flow_typing (flow_program table typed)) sub) (sub_of (flow_program table typed) n).formals actuals
   pub order : IsInOrder table typed
   pub results : (sub : TypedSub) → Has order.rest sub → ResultsFit (typing_of table typed) sub.body
   pub answered : AreAnswered table typed order.rest
