@@ -433,7 +433,8 @@ module _ (table : Table) (typed : TypedProgram) (effects : Effects) (input : Lis
     pub plain_here : ((call : TypedTree) → IsTakenBy p.instr call → ⊥) → Plain × TakesScalars s p.instr
     plain_here none = elim taken_there [
       | inl plain ↦ plain
-      | inr (x, rest_scope, is, q, n, actuals, result, large, by) ↦ absurd (none (CallIn q n actuals) by)
+      | inr (inl (x, rest_scope, is, q, n, actuals, result, large, by)) ↦ absurd (none (CallIn q n actuals) by)
+      | inr (inr within) ↦ absurd (none within.3 within.6)
     ]
 
     -- what has an end of its own is there still

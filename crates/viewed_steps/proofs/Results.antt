@@ -54,7 +54,7 @@ use Rattle.soundness.proofs.Successors.{below_one}
 use Rattle.owned_loans.specs.Views.{Around, known_gone, Views, Viewed}
 use Rattle.viewed_soundness.specs.Holds.{IsNamed, AllKeep, is_view, sees_only, is_fixed}
 use Rattle.viewed_soundness.proofs.Outcomes.{IsGood, Leads_on}
-use Rattle.viewed_steps.specs.Awaited.{AreFor, AreValues, AreValuesBut, temporaries_of, lasting_of, awaited, AreAwaited, AreScalar, FillsTyped, TakesScalars, IsTakenBy, TakesAlone}
+use Rattle.viewed_steps.specs.Awaited.{AreFor, AreValues, AreValuesBut, temporaries_of, lasting_of, awaited, AreAwaited, AreScalar, FillsTyped, TakesScalars, IsTakenBy, TakesAlone, TakesWithin}
 use Rattle.viewed_steps.proofs.Waited.{temporary_first, lasting_more, Shares}
 use Rattle.viewed_steps.specs.Sound.{IsWayOf, ArePast, HoldsAt, ArePlaced, NoneAbove, ViewStage, stages_of, GoneElsewhere, AreWaiting, IsStoredAt, returns_one, LeadsAlong, IsResting, HasTraversals, NoneGiven, IsGivenBelow}
 use Rattle.viewed_steps.specs.Taken.{TakenBy}
@@ -68,6 +68,7 @@ use Rattle.viewed_steps.proofs.Standing as standing
 use Rattle.viewed_steps.proofs.Packages as packages
 use Rattle.viewed_steps.proofs.Innermost as innermost
 use Rattle.viewed_steps.proofs.Alone as alone_value
+use Rattle.viewed_steps.proofs.Within as holding
 use Rattle.std.specs.Prelude.{is_some, flat_map}
 use Rattle.type_definitions.specs.Entries.{boolean}
 use Rattle.type_definitions.specs.Types.{words}
@@ -737,6 +738,21 @@ module _ (table : Table) (typed : TypedProgram) (effects : Effects) (input : Lis
             source_given easy ready.accepted.settled ready.owns other alone in_formals views ready.class.parts_named may refl refl given_words of e named_result source
             (plainly_value plain.1) (takes_value plain.0) facts_now
             (each.good table typed effects input ready state top below more_frames rest named p frames deep stages running awaiting of_sub at_point path views viewed_before kept scope holds placed_before above going_then no_call_then plain.0) (allowed_value plain_result) (keeps_value plain_result)
+
+        -- or within an aggregate or an allocator
+        pub within_given : TakesWithin s p → IsGivenValue
+        within_given within = elim within.6 [
+          | inl (x, other_instr) ↦ (let never : Hold (More e last) ≡ Declare x (More within.3 NoMore) = sym is ∙ other_instr in cc)
+          | inr (inl (q, x, steps, u, other_instr, calls)) ↦ (let never : Hold (More e last) ≡ Assign (Name q x steps u) within.3 = sym is ∙ other_instr in cc)
+          | inr (inr same_instr) ↦ (
+              let both : Hold (More e last) ≡ Hold (More within.3 NoMore) = sym is ∙ same_instr in
+              let same_tree : e ≡ within.3 = cc in
+              subst (λ z. Source s of z → AllowsAll facts_now (acts (acts_in s z)) → AllKeep (is_fixed s) (acts (acts_in s z))
+              → Given (steps.here main_turn) ready.accepted.settled state.leaks [] other alone (keeps s ready.accepted.settled ready.owns)
+              index_law ready.owns views ready.class.parts_named of (waiting_in easy.state) (after (acts (acts_in s z)) facts_now) (steps.taken_by main_turn of z (start main_turn)))
+              (sym same_tree)
+              (λ source_tree allows keeps_it. holding.source_within table typed effects input ready state top below more_frames rest named p frames deep stages running awaiting of_sub at_point path views viewed_before kept scope holds placed_before above going_then within of named_result source_tree allows keeps_it) source (allowed_value plain_result) (keeps_value plain_result))
+        ]
 
         -- what was given alone
         pub alone_given : TakesAlone s p → IsGivenValue

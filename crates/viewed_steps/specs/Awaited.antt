@@ -4,7 +4,7 @@ use Rattle.std.specs.List.{AllByRecursion}
 use Rattle.spark_base.specs.Lists.{Has}
 use Rattle.type_definitions.specs.Entries.{boolean}
 use Rattle.type_definitions.specs.Types.{Table, words, full, is_scalar}
-use Rattle.typed_tree.specs.Trees.{TypedTree, Name, Call as CallIn, NoMore, More}
+use Rattle.typed_tree.specs.Trees.{TypedTree, Name, Call as CallIn, Parens, Aggregate, New, NoMore, More}
 use Rattle.typed_tree.specs.Programs.{TypedProgram}
 use Rattle.spark_base.specs.declared.position.Pos.{Pos}
 use Rattle.flow_paths.specs.Instructions.{Instruction, Declare, Assign, Call, Evaluate, Hold}
@@ -15,7 +15,7 @@ use Rattle.flow_paths.specs.Laid.{FlowSub, FlowProgram, NamedSub, flow_typing, f
 use Rattle.flow_paths.specs.Scopes.{taken}
 use Rattle.machine.specs.States.{Waiting, sub_of}
 use Rattle.soundness.specs.Sound.{is_temporary_object, has_returned, IsNamedSub, IsAtPoint, Stage}
-use Rattle.viewed_soundness.specs.Taken.{GivesPlainly}
+use Rattle.viewed_soundness.specs.Taken.{GivesPlainly, IsFed}
 
 -- ---- values
 
@@ -107,8 +107,21 @@ TakesAlone s p =
     × (is_scalar (full s.table (object_at s x).of) ≡ false)
     × IsTakenBy p.instr (CallIn q n actuals)
 
+-- An aggregate or an allocator.
+abbrev pub IsMade : TypedTree → Type 0
+IsMade (Parens e) = IsMade e
+IsMade (Aggregate t es) = Unit {0}
+IsMade (New t v) = Unit {0}
+IsMade e = ⊥
+
+-- Or what it gave is within an aggregate or an allocator, which takes no other value.
+abbrev pub TakesWithin : Typing → NamedPoint → Type 0
+TakesWithin s p =
+    (x : ℕ) × (rest : List ℕ) × (p.scope ≡ x ∷ rest) × (e : TypedTree) × IsFed s (object_at s x).of e
+    × (is_scalar (full s.table (object_at s x).of) ≡ false) × IsTakenBy p.instr e × IsMade e
+
 abbrev pub IsTaken : Typing → NamedPoint → Type 0
-IsTaken s p = (AreScalar s (filter (is_temporary_object s) (take (taken p.instr) p.scope)) × TakesScalars s p.instr) ⊎ TakesAlone s p
+IsTaken s p = (AreScalar s (filter (is_temporary_object s) (take (taken p.instr) p.scope)) × TakesScalars s p.instr) ⊎ (TakesAlone s p ⊎ TakesWithin s p)
 
 -- Functions that are called have no results of anonymous types.
 abbrev pub AreNamedResults : FlowProgram → Type 0
