@@ -1,14 +1,13 @@
 -- An expression takes the values that wait for its calls, of any types: each is in a hand below those of the
 -- expression until it is taken.
-use Rattle.std.proofs.Common.{◌≡◌, refl, sym, ap, ◌∙◌, subst, inl, inr, ℕ, suc, ◌+◌, ◌<◌, Bool, true, false, ◌||◌, List, [], ◌∷◌, ◌++◌, length, drop, arith, append-nil, append_assoc, length-append, Some, if◌then◌else◌}
+use Rattle.std.proofs.Common.{◌≡◌, refl, sym, ap, ◌∙◌, subst, inl, inr, ℕ, suc, ◌+◌, ◌<◌, Bool, true, false, ◌||◌, List, [], ◌∷◌, ◌++◌, length, drop, arith, append-nil, append_assoc, length-append, if◌then◌else◌}
 use Rattle.std.specs.List.{AllByRecursion}
 use Rattle.place_names.specs.declared.fact.Fact.{Fact}
 use Rattle.type_definitions.specs.declared.table.Shape.{Shape}
 use Rattle.type_definitions.specs.Entries.{boolean}
 use Rattle.type_definitions.specs.Types.{shape_of, words, full, is_scalar}
-use Rattle.typed_tree.specs.Trees.{TypedTree, Number, Literal, Text, Name, Component as IntoComponent, Designated, Element, Call, EndOfFile, Parens, Image, Unary, Binary, Short, IsNull, Aggregate, Alike, New, NoMore, More}
-use Rattle.typed_tree.specs.Trees as typed
-use Rattle.flow_paths.specs.Objects.{Typing, sub_at}
+use Rattle.typed_tree.specs.Trees.{TypedTree, Name, Component as IntoComponent, Designated, Element, Call, Parens, Image, Unary, Binary, Short, IsNull, Aggregate, Alike, New, NoMore, More}
+use Rattle.flow_paths.specs.Objects.{Typing}
 use Rattle.flow_paths.specs.Names.{has_call, waiting}
 use Rattle.flow_paths.specs.Acts.{acts_in}
 use Rattle.machine.specs.Words.{default, fits_type}
@@ -30,7 +29,7 @@ use Rattle.soundness.proofs.Steps.{plain_shape}
 use Rattle.soundness.proofs.Taking.{IsWord, Takes, takes_none}
 use Rattle.soundness.proofs.Waits.{drop_none}
 use Rattle.owned_loans.specs.Views.{Around, Views}
-use Rattle.viewed_soundness.specs.Holds.{IsNamed, PartsAreNamed, sees_only, is_fixed, AllKeep}
+use Rattle.viewed_soundness.specs.Holds.{IsNamed, PartsAreNamed, is_fixed, AllKeep}
 use Rattle.viewed_soundness.specs.Taken.{GivesPlainly, type_given, types_taken, AreScalarTypes, TakesFit, IsOfType, AreOfTypes, AreScalarValues}
 use Rattle.viewed_soundness.proofs.Evaluated.{keep_both, matches_named, part_named}
 use Rattle.viewed_soundness.proofs.Evaluated as evaluating
@@ -69,16 +68,16 @@ types_count s (More e rest) = both_count (types_taken s e) (types_taken s rest) 
 types_count s _ = refl
 
 -- values of two lists of types
-pub split_values : (s : Typing) (as bs : List ℕ) (values : List Waiting) → AreOfTypes s (as ++ bs) values
-    → (xs : List Waiting) × (ys : List Waiting) × (values ≡ xs ++ ys) × AreOfTypes s as xs × AreOfTypes s bs ys
-split_values s [] bs values fit = ([], values, refl, tt, fit)
-split_values s (a ∷ as) bs [] fit = absurd fit
-split_values s (a ∷ as) bs (v ∷ values) fit =
-    let more = split_values s as bs values fit.1 in (v ∷ more.0, more.1, ap (λ z. v ∷ z) more.2, (fit.0, more.3), more.4)
+pub split_values : (s : Typing) (ts us : List ℕ) (values : List Waiting) → AreOfTypes s (ts ++ us) values
+    → (xs : List Waiting) × (ys : List Waiting) × (values ≡ xs ++ ys) × AreOfTypes s ts xs × AreOfTypes s us ys
+split_values s [] us values fit = ([], values, refl, tt, fit)
+split_values s (t ∷ ts) us [] fit = absurd fit
+split_values s (t ∷ ts) us (v ∷ values) fit =
+    let more = split_values s ts us values fit.1 in (v ∷ more.0, more.1, ap (λ z. v ∷ z) more.2, (fit.0, more.3), more.4)
 
-pub scalar_both : (s : Typing) (as bs : List ℕ) → AreScalarTypes s (as ++ bs) → AreScalarTypes s as × AreScalarTypes s bs
-scalar_both s [] bs scalar = (tt, scalar)
-scalar_both s (a ∷ as) bs scalar = let more = scalar_both s as bs scalar.1 in ((scalar.0, more.0), more.1)
+pub scalar_both : (s : Typing) (ts us : List ℕ) → AreScalarTypes s (ts ++ us) → AreScalarTypes s ts × AreScalarTypes s us
+scalar_both s [] us scalar = (tt, scalar)
+scalar_both s (t ∷ ts) us scalar = let more = scalar_both s ts us scalar.1 in ((scalar.0, more.0), more.1)
 
 -- values of scalar types are scalar
 pub scalar_values : (s : Typing) (types : List ℕ) (values : List Waiting) → AreOfTypes s types values → AreScalarTypes s types → AreScalarValues s values
@@ -202,7 +201,7 @@ module _ (h : Here) (settled : IsSettled h.typing.table) (leaks : List Leak) (wa
         (sym (words_none (words h.typing.table) (shape_of h.typing.table t)))
         (evaluating.blank_ready h settled leaks waits other alone keeps index_law own_law v parts_named m (K ++ (front ++ below)) facts t [] (λ k h. h) ready) allowed keep))
     fed (Alike t e) want (fits, array, plain, gives) takes front fit K below on m facts ready allowed own keep = elim plain [
-      | inr null ↦ plainly (Alike t e) want (fits, array, plain, gives) (subst (GivesPlainly h.typing) (sym null) tt)
+      | inr null ↦ plainly (Alike t e) want (fits, array, inr null, gives) (subst (GivesPlainly h.typing) (sym null) tt)
           (subst (λ z. AreScalarTypes h.typing (types_taken h.typing z)) (sym null) tt) front fit K below on m facts ready allowed own keep
       | inl none ↦ (
           let now : Now = record { memory = m; waits = first_words front on } in
@@ -230,7 +229,11 @@ module _ (h : Here) (settled : IsSettled h.typing.table) (leaks : List Leak) (wa
         let two = split_values h.typing (types_taken h.typing more) (types_taken h.typing e) front fit in
         subst (λ z. Grows on t acc (K ++ (blanks z ++ below)) (after (acts (acts_in h.typing e ++ acts_in h.typing more)) facts) (parts_of h t i (More e more) (record { memory = m; waits = first_words z on })))
         (sym two.2)
-        (both two.0 two.1 two.3 two.4 (subst (λ z. Ready m (record { of = t; words = acc } ∷ (K ++ (z ++ below))) facts) two.2 ready))
+        (both two.0 two.1
+        (fed e u gives.0 takes.0 two.1 two.4 (part ∷ (K ++ two.0)) below (first_words two.0 on) m facts
+        (subst (λ z. Ready m (part ∷ z) facts) (two_fronts K two.0 two.1 below) (subst (λ z. Ready m (part ∷ (K ++ (z ++ below))) facts) two.2 ready))
+        each.0 (part_named h.typing.table parts_named t i sh refl made) names.0)
+        (λ w n long well. parts_fed more t (suc i) gives.1 takes.1 two.0 two.3 (omega (arith, count)) made K (blanks two.1 ++ below) on n.memory (acc ++ w) between long well each.1 names.1))
       where
         sh : Shape
         sh = shape_of h.typing.table t
@@ -270,11 +273,15 @@ module _ (h : Here) (settled : IsSettled h.typing.table) (leaks : List Leak) (wa
               (part_offset h.typing.table t sh refl i lt ∙ sym fills) (part_is h.typing.table t sh refl i lt) given.1 given.0,
         )
 
-        both : (later first : List Waiting) → AreOfTypes h.typing (types_taken h.typing more) later → AreOfTypes h.typing (types_taken h.typing e) first
-            → Ready m (part ∷ (K ++ ((later ++ first) ++ below))) facts
+        both : (later first : List Waiting)
+            → GivenOn (first_words later on) u (part ∷ ((K ++ later) ++ (blanks first ++ below))) between
+            (evaluate h AsValue e (record { memory = m; waits = first_words first (first_words later on) }))
+            → ((w : List machine.Word) (n : Now) → length (acc ++ w) ≡ words_to (words h.typing.table) sh (suc i)
+            → Ready n.memory (record { of = t; words = acc ++ w } ∷ (K ++ (later ++ (blanks first ++ below)))) between
+            → Grows on t (acc ++ w) (K ++ (blanks later ++ (blanks first ++ below))) behind (parts_of h t (suc i) more (record { memory = n.memory; waits = first_words later on })))
             → Grows on t acc (K ++ (blanks (later ++ first) ++ below)) (after (acts (acts_in h.typing e ++ acts_in h.typing more)) facts)
             (parts_of h t i (More e more) (record { memory = m; waits = first_words (later ++ first) on }))
-        both later first fit_later fit_first start =
+        both later first value_there others =
             subst (λ z. Grows on t acc (K ++ (blanks (later ++ first) ++ below)) z (followed_by (evaluate h AsValue e now) (λ w k. followed_by (checked h u w k) next)))
             (sym (ap (λ z. after z facts) (acts_append (acts_in h.typing e) (acts_in h.typing more))
             ∙ after_append (acts (acts_in h.typing e)) (acts (acts_in h.typing more)) facts))
@@ -285,8 +292,7 @@ module _ (h : Here) (settled : IsSettled h.typing.table) (leaks : List Leak) (wa
             (λ w n given. evaluating.grown h settled leaks waits other alone keeps index_law own_law v parts_named on t acc w (K ++ (blanks (later ++ first) ++ below)) behind (parts_of h t (suc i) more n)
             (subst (λ z. Grows on t (acc ++ w) (K ++ (blanks (later ++ first) ++ below)) behind (parts_of h t (suc i) more (record { memory = n.memory; waits = z }))) (sym given.2)
             (subst (λ z. Grows on t (acc ++ w) z behind (parts_of h t (suc i) more (record { memory = n.memory; waits = mid }))) (then_blank K later first below)
-            (parts_fed more t (suc i) gives.1 takes.1 later fit_later (omega (arith, count)) made K (blanks first ++ below) on n.memory (acc ++ w) between
-            (grows w n (K ++ (later ++ (blanks first ++ below))) mid given).0 (grows w n (K ++ (later ++ (blanks first ++ below))) mid given).1 each.1 names.1))))))
+            (others w n (grows w n (K ++ (later ++ (blanks first ++ below))) mid given).0 (grows w n (K ++ (later ++ (blanks first ++ below))) mid given).1))))))
           where
             mid : List (List machine.Word)
             mid = first_words later on
@@ -298,8 +304,7 @@ module _ (h : Here) (settled : IsSettled h.typing.table) (leaks : List Leak) (wa
             value_first =
                 subst (λ z. GivenOn mid u (part ∷ z) between (evaluate h AsValue e now)) (append_assoc K later (blanks first ++ below))
                 (subst (λ z. GivenOn mid u (part ∷ ((K ++ later) ++ (blanks first ++ below))) between (evaluate h AsValue e (record { memory = m; waits = z }))) (sym (first_both later first on))
-                (fed e u gives.0 takes.0 first fit_first (part ∷ (K ++ later)) below mid m facts
-                (subst (λ z. Ready m (part ∷ z) facts) (two_fronts K later first below) start) each.0 (part_named h.typing.table parts_named t i sh refl made) names.0))
+                value_there)
     parts_fed NoMore t i gives takes [] fit count made K below on m acc facts fills ready allowed keep =
         let sh : Shape = shape_of h.typing.table t in
         let end : i ≡ field_count sh = omega (arith, count) in (

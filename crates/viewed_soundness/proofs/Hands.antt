@@ -1,10 +1,9 @@
 -- Values that wait are hands below those of an expression. They go to a new hand where they are taken; those that
 -- show no cell fall empty, and empty hands fall from below a value.
-use Rattle.std.proofs.Common.{◌≡◌, refl, sym, ap, ◌∙◌, subst, inl, inr, ℕ, suc, ◌+◌, ◌==◌, List, [], ◌∷◌, ◌++◌, length, reverse, map, arith, append_assoc, length-append, if◌then◌else◌}
+use Rattle.std.proofs.Common.{◌≡◌, refl, sym, ap, ◌∙◌, subst, inl, inr, ℕ, suc, ◌==◌, true, List, [], ◌∷◌, ◌++◌, length, reverse, map, arith, append_assoc, length-append, if◌then◌else◌}
 use mathlib.Core.List.{reverse_aux}
 use Rattle.place_names.specs.declared.fact.Fact.{Fact}
 use Rattle.type_definitions.specs.Types.{words}
-use Rattle.flow_paths.specs.Objects.{Typing}
 use Rattle.machine.specs.Words as machine
 use Rattle.machine.specs.Memory.{Memory}
 use Rattle.machine.specs.Evaluate.{Here}

@@ -18,7 +18,7 @@ use Rattle.flow_paths.specs.Views.{sub_acts, traversed_formal, IsOnlyRoot}
 use Rattle.viewed_steps.specs.Traversals.{GivesView, IsSourceIn, SeesFirst, IsSourceName, AreGiven, traversed_name}
 use Rattle.viewed_steps.proofs.Sources.{view_shape}
 use Rattle.spark_base.specs.declared.position.Pos.{Pos}
-use Rattle.viewed_soundness.proofs.Names.{given_view}
+use Rattle.viewed_soundness.proofs.Names.{given_view, true_false}
 use Rattle.std.proofs.Common.{◌≡◌, refl, sym, ap, ◌∙◌, subst, ◌⊎◌, inl, inr, ℕ, suc, ◌<◌, Bool, true, false, List, [], ◌∷◌, ◌++◌, drop, length, Some, None, map, Option, ◌||◌, append-nil, not, take, if◌then◌else◌}
 use Rattle.spark_base.specs.Lists.{Has}
 use Rattle.place_names.specs.declared.act.Act.{Act}

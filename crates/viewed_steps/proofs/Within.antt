@@ -7,20 +7,20 @@ use Rattle.viewed_steps.specs.Traversals.{IsSourceIn}
 use Rattle.machine.specs.Calls.{checks_at}
 use Rattle.spark_base.specs.declared.position.Pos.{Pos}
 use Rattle.viewed_soundness.proofs.Names.{plain_named, true_false}
-use Rattle.std.proofs.Common.{◌≡◌, refl, sym, ap, ◌∙◌, subst, ◌⊎◌, inl, inr, ℕ, suc, ◌+◌, ◌<◌, Bool, true, false, List, [], ◌∷◌, ◌++◌, drop, length, arith, None, if◌then◌else◌, take, map}
+use Rattle.std.proofs.Common.{◌≡◌, refl, sym, ap, ◌∙◌, subst, ◌⊎◌, inl, inr, ℕ, suc, ◌<◌, true, false, List, [], ◌∷◌, ◌++◌, drop, length, None, if◌then◌else◌, take, map}
 use Rattle.spark_base.specs.Lists.{Has}
 use Rattle.place_names.specs.declared.act.Act.{Act}
 use Rattle.place_names.specs.declared.act.Act.TheVariants as act
 use Rattle.place_names.specs.declared.fact.Fact.{Fact}
 use Rattle.place_names.specs.declared.fact.Fact.TheVariants.{Moved}
 use Rattle.place_names.specs.Names.{Name as PlaceName}
-use Rattle.type_definitions.specs.Types.{Table, full}
-use Rattle.typed_tree.specs.Trees.{TypedTree, NoMore, More, Name, Call as CallIn}
+use Rattle.type_definitions.specs.Types.{Table, full, is_scalar}
+use Rattle.typed_tree.specs.Trees.{TypedTree, NoMore, More, Name}
 use Rattle.typed_tree.specs.Programs.{TypedProgram}
 use Rattle.flow_paths.specs.declared.report.Effects.{Effects}
 use Rattle.flow_paths.specs.Instructions.{Instruction, EndScope, Finish, Declare, Assign}
 use Rattle.flow_paths.specs.Objects.{Typing, is_anonymous, is_package_object, is_observer, view_of, object_at}
-use Rattle.flow_paths.specs.Names.{has_call, waiting as waits_in, name_of}
+use Rattle.flow_paths.specs.Names.{waiting as waits_in, name_of}
 use Rattle.flow_paths.specs.Acts as flow
 use Rattle.flow_paths.specs.Acts.{acts_in}
 use Rattle.flow_paths.specs.Points.{NamedPoint}
@@ -41,19 +41,18 @@ use Rattle.owned_ways.specs.Ways.{Step, OfVariable, OfRoot, Way, Held, after, Al
 use Rattle.soundness.specs.Seen.{IsNear, content, word_in, home, seen}
 use Rattle.soundness.specs.Typed.{Kept}
 use Rattle.typed_laws.specs.Needed.{IsFine, Source, Leads}
-use Rattle.soundness.specs.Sound.{IsNoCall, Stage, facts_of, AreStages, IsRunnable, InScope, IsNamedSub, IsAtPoint, view_of as view_here, is_temporary_object, temporaries_in}
+use Rattle.soundness.specs.Sound.{IsNoCall, Stage, facts_of, AreStages, IsRunnable, InScope, IsNamedSub, IsAtPoint, view_of as view_here}
 use Rattle.soundness.proofs.Scalars.{acts, acts_append, after_append}
 use Rattle.soundness.proofs.Scoped.{Inside}
 use Rattle.soundness.proofs.Around.{IsFar}
-use Rattle.soundness.proofs.Waits.{drop_none, no_waits, take_none, waits_of}
-use Rattle.soundness.proofs.Taking.{no_takes}
+use Rattle.soundness.proofs.Waits.{waits_of}
 use Rattle.soundness.proofs.Waited.{FillsNone}
 use Rattle.soundness.proofs.Eased.{eased, goes_same}
 use Rattle.owned_loans.specs.Views.{Around, known_gone, Views, Viewed}
 use Rattle.viewed_soundness.specs.Holds.{IsNamed, AllKeep, is_view, sees_only, is_fixed}
 use Rattle.viewed_soundness.proofs.Outcomes.{named_plain, Leads_on, stored_goes, not_views, assigned_acts}
 use Rattle.viewed_steps.specs.Awaited.{Fits, AreFor, AreValues, temporaries_of, lasting_of, AreAwaited, types_for, AreFilled, TakesTogether}
-use Rattle.viewed_steps.proofs.Waited.{temporary_first, Shares, others_only}
+use Rattle.viewed_steps.proofs.Waited.{Shares, split_list}
 use Rattle.viewed_steps.specs.Sound.{ArePast, IsResting, HoldsAt, ArePlaced, NoneAbove, ViewStage, stages_of, GoneElsewhere, AreWaiting, IsStoredAt, LeadsAlong, HasTraversals}
 use Rattle.viewed_steps.specs.Ready.{IsReady, AreOrderly}
 use Rattle.viewed_steps.proofs.Lent.{Spare}
@@ -64,8 +63,7 @@ use Rattle.viewed_steps.proofs.Standing as standing
 use Rattle.viewed_steps.specs.Traversals.{IsSourceIn}
 use Rattle.soundness.proofs.Following.{Each}
 use Rattle.viewed_soundness.proofs.Names.{true_false}
-use Rattle.std.proofs.Common.{◌≡◌, refl, sym, ap, ◌∙◌, subst, ◌⊎◌, inl, inr, ℕ, suc, ◌<◌, Bool, true, false, List, [], ◌∷◌, ◌++◌, drop, length, None, map}
-use Rattle.flow_paths.specs.Names.{has_call}
+use Rattle.std.proofs.Common.{◌≡◌, refl, sym, ap, ◌∙◌, subst, ◌⊎◌, inl, inr, ℕ, suc, ◌<◌, true, false, List, [], ◌∷◌, ◌++◌, drop, length, None, map}
 use Rattle.flow_paths.specs.Scopes.{taken, brought, scope_behind}
 use Rattle.machine.specs.Memory.{declared}
 use Rattle.machine.specs.Evaluate.{Done, followed_by, place_of}
@@ -84,22 +82,18 @@ use Rattle.soundness.proofs.Onward.{GoesOn, declare_follows, assign_follows}
 use Rattle.viewed_steps.proofs.Turned as turned
 use Rattle.std.proofs.Common.{append-nil, append_assoc}
 use Rattle.soundness.proofs.Scalars.{allows_both}
-use Rattle.typed_tree.specs.Trees.{Parens, New, Aggregate}
 use Rattle.viewed_soundness.specs.Taken.{types_taken, AreScalarTypes, AreOfTypes, AreScalarValues}
 use Rattle.viewed_soundness.proofs.Fed.{split_values, scalar_values, takes_values, types_count, fed_alone}
 use Rattle.viewed_soundness.proofs.Hands.{first_words, words_first}
-use Rattle.soundness.proofs.Waited.{split_list}
 use Rattle.soundness.proofs.Taking.{Takes}
 use Rattle.viewed_steps.proofs.Packages as packages
 use Rattle.viewed_steps.proofs.Innermost as innermost
-use Rattle.std.specs.Prelude.{flat_map, reverse}
-use Rattle.type_definitions.specs.Types.{words}
+use Rattle.std.specs.Prelude.{flat_map}
 use Rattle.machine.specs.Step.{led}
 use Rattle.machine.specs.Evaluate.{Raises, Traps}
 use Rattle.soundness.specs.Seen.{seen}
-use Rattle.soundness.specs.Sound.{is_temporary_object, temporaries_in}
 use Rattle.soundness.specs.Ready.{IsSupplied}
-use Rattle.soundness.proofs.Waits.{take_none, waits_of}
+use Rattle.soundness.proofs.Waits.{waits_of}
 use Rattle.soundness.proofs.Numbers.{index_law}
 use Rattle.soundness.proofs.Lasting.{keeps}
 use Rattle.viewed_soundness.proofs.Evaluated.{Given, GivenOn, Ready, checked_on, keep_both}
