@@ -3,15 +3,12 @@
 use Rattle.std.proofs.Common.{◌≡◌, refl, sym, ap, ◌∙◌, subst, ◌⊎◌, inl, inr, ℕ, ◌<◌, Bool, true, false, ◌&&◌, ◌==◌, eqb-true, List, [], ◌∷◌, ◌++◌, length, arith}
 use Rattle.std.specs.Prelude.{map}
 use Rattle.spark_base.specs.Lists.{Has}
-use Rattle.spark_base.proofs.Lists.{Has-append_cases, Has-map_from}
 use Rattle.place_names.specs.Facts.{place}
-use Rattle.place_names.proofs.Names.{overlaps-sym}
-use Rattle.owned_ways.specs.Ways.{Way, name_of}
 use Rattle.place_names.specs.declared.fact.Fact.{Fact}
 use Rattle.place_names.specs.declared.fact.Fact.TheVariants.{Moved, Lent}
 use Rattle.place_names.specs.declared.rule.Loan.{Loan}
 use Rattle.place_names.specs.declared.rule.Loan.TheVariants.{Borrowed, Observed}
-use Rattle.place_names.specs.Names.{Name, agree_along, overlaps}
+use Rattle.place_names.specs.Names.{Name, agree_along, overlaps, object}
 use Rattle.type_definitions.specs.Types.{Table}
 use Rattle.typed_tree.specs.Programs.{TypedProgram}
 use Rattle.flow_paths.specs.declared.report.Effects.{Effects}
@@ -24,17 +21,19 @@ use Rattle.soundness.specs.Sound.{Stage, facts_of, Uses, IsNamedSub}
 use Rattle.soundness.proofs.Points.{sub_there, sub_at_number, sub_in_range}
 use Rattle.soundness.proofs.Used.{writes_used, reads_used, fact_added}
 use Rattle.viewed_steps.specs.Awaited.{lasting_of}
-use Rattle.viewed_steps.specs.Sound.{loan_by, withheld, ViewStage, Disturbs, IsWaiting, AreWaiting, shown_at}
+use Rattle.viewed_steps.specs.Sound.{loan_by, withheld, ViewStage, Disturbs, IsWaiting, AreWaiting, shown_at, passed_roots, known_at}
 use Rattle.viewed_steps.proofs.Between.{taken_unlent}
 use Rattle.viewed_steps.proofs.Inherited.{lending_uses}
 use Rattle.viewed_steps.proofs.Uses.{writes_there, borrowing_writes, moving_writes}
 use Rattle.viewed_steps.proofs.Showing.{none_moved}
+use Rattle.viewed_steps.proofs.Withheld.{kept_cases, kept_loan}
+use Rattle.spark_base.proofs.Lists.{Has-append_cases}
 
 both_first : (a b : Bool) → a && b ≡ true → a ≡ true
 both_first true b e = refl
 both_first false b e = cc
 
-same_root : (n m : Name) → overlaps n m ≡ true → n.root ≡ m.root
+pub same_root : (n m : Name) → overlaps n m ≡ true → n.root ≡ m.root
 same_root n m over = eqb-true n.root m.root (both_first (n.root == m.root) (agree_along n.sels m.sels) over)
 
 pub moved_same : (n m : Name) → Moved n ≡ Moved m → n ≡ m
@@ -99,7 +98,7 @@ module _ (table : Table) (typed : TypedProgram) (effects : Effects) (are : AreEf
 
   -- none of what they lend is disturbed by the innermost one
   pub spared_there : (state : State) (callee : ℕ) (backs : List Return) (older : List ViewStage) → AreWaiting table typed effects state callee backs older → (g : ViewStage) → Has older g
-      → 0 < g.stage.depth → (l : Loan) (h : ℕ) (n : Name) → Has (withheld program effects g.stage) (Lent l h n) → is_package_object s n.root ≡ true
+      → 0 < g.stage.depth → (l : Loan) (h : ℕ) (n : Name) → Has (known_at program effects g.stage) (Lent l h n) → is_package_object s n.root ≡ true
       → Disturbs effects l callee n.root → ⊥
   spared_there state callee backs [] waiting g has some l h n lent shared disturbs = absurd has
   spared_there state callee backs (e ∷ []) waiting g (inl same) some l h n lent shared disturbs =
@@ -108,72 +107,73 @@ module _ (table : Table) (typed : TypedProgram) (effects : Effects) (are : AreEf
       omega (arith, some, first, depths)
   spared_there state callee backs (e ∷ []) waiting g (inr never) some l h n lent shared disturbs = absurd never
   spared_there state callee backs (k ∷ (j ∷ older)) waiting g (inl same) some l h n lent shared disturbs =
-      (waiting.0).lends l h n (subst (λ (z : ViewStage). Has (withheld program effects z.stage) (Lent l h n)) (sym same) lent) shared disturbs
+      (waiting.0).lends l h n (subst (λ (z : ViewStage). Has (known_at program effects z.stage) (Lent l h n)) (sym same) lent) shared disturbs
   spared_there state callee backs (k ∷ (j ∷ older)) waiting g (inr has) some l h n lent shared disturbs =
       spared_there state k.stage.frame.sub k.stage.frame.returns (j ∷ older) waiting.1 g has some l h n lent shared
       (disturbs_on l callee k.stage.frame.sub n.root ((waiting.0).uses n.root) ((waiting.0).writes n.root) disturbs)
 
   -- ---- what a frame keeps
 
-  -- What is kept was taken, is shown, or is a fact.
-  abbrev pub IsKeptAs : Stage → Fact → Type 0
-  IsKeptAs e f = Has (facts_of program effects e) f ⊎ (((to : Way) × Has e.returns to × (Moved (name_of to) ≡ f)) ⊎ Has (shown_at program e) f)
-
-  pub kept_as : (e : Stage) (f : Fact) → Has (withheld program effects e) f → IsKeptAs e f
-  kept_as e f has = elim (Has-append_cases (facts_of program effects e) (map (λ (to : Way). Moved (name_of to)) e.returns ++ shown_at program e) f has) [
-    | inl fact ↦ inl fact
-    | inr more ↦ inr (elim (Has-append_cases (map (λ (to : Way). Moved (name_of to)) e.returns) (shown_at program e) f more) [
-      | inl taken ↦ (let from = Has-map_from (λ (to : Way). Moved (name_of to)) e.returns f taken in inl (from.0, from.1, from.2))
-      | inr shown ↦ inr shown
-    ])
-  ]
-
   module _ (state : State) (callee : ℕ) (backs : List Return) (g : ViewStage) (waits : IsWaiting table typed effects state callee backs g) where
-    -- what was moved or taken is written
-    taken_written : (f : Fact) → (to : Way) × Has g.stage.returns to × (Moved (name_of to) ≡ f) → is_package_object s (place f).root ≡ true
+    -- what is passed is written
+    root_written : (f : Fact) (y : ℕ) → Has (passed_roots g) y → f ≡ Moved (object y) → is_package_object s (place f).root ≡ true
         → Has (written_by effects g.stage.frame.sub) (place f).root
-    taken_written f (to, has, same) shared =
-        subst (λ (z : Fact). Has (written_by effects g.stage.frame.sub) (place z).root) same
-        (waits.written to has (subst (λ (z : Fact). is_package_object s (place z).root ≡ true) (sym same) shared))
+    root_written f y passed is shared =
+        let root : (place f).root ≡ y = ap (λ z. (place z).root) is in
+        subst (Has (written_by effects g.stage.frame.sub)) (sym root) (waits.written y passed (ap (is_package_object s) (sym root) ∙ shared))
 
-    -- and so is what is kept as borrowed
-    kept_written : (f : Fact) → Has (withheld program effects g.stage) f → loan_by f ≡ Borrowed → is_package_object s (place f).root ≡ true
+    -- and so is what is known as moved or borrowed
+    known_written : (f : Fact) → Has (known_at program effects g.stage) f → loan_by f ≡ Borrowed → is_package_object s (place f).root ≡ true
         → Has (written_by effects g.stage.frame.sub) (place f).root
-    kept_written (Moved n) has borrowed shared = elim (kept_as g.stage (Moved n) has) [
+    known_written (Moved n) has borrowed shared = elim (Has-append_cases (facts_of program effects g.stage) (shown_at program g.stage) (Moved n) has) [
       | inl fact ↦ moved_written g.stage waits.named waits.of_sub n fact shared
-      | inr (inl taken) ↦ taken_written (Moved n) taken shared
-      | inr (inr shown) ↦ absurd (none_moved program (sub_of program g.stage.frame.sub) g.stage.before n shown)
+      | inr shown ↦ absurd (none_moved program (sub_of program g.stage.frame.sub) g.stage.before n shown)
     ]
-    kept_written (Lent l h n) has borrowed shared = elim (kept_as g.stage (Lent l h n) has) [
+    known_written (Lent l h n) has borrowed shared = elim (Has-append_cases (facts_of program effects g.stage) (shown_at program g.stage) (Lent l h n) has) [
       | inl fact ↦ lent_written g.stage waits.named waits.of_sub h n (subst (λ z. Has (facts_of program effects g.stage) (Lent z h n)) borrowed fact) shared
-      | inr (inl taken) ↦ taken_written (Lent l h n) taken shared
-      | inr (inr shown) ↦ (waits.shown l h n shown shared).1 borrowed
+      | inr shown ↦ (waits.shown l h n shown shared).1 borrowed
+    ]
+
+    kept_written : (f : Fact) → Has (withheld program effects g) f → loan_by f ≡ Borrowed → is_package_object s (place f).root ≡ true
+        → Has (written_by effects g.stage.frame.sub) (place f).root
+    kept_written f has borrowed shared = elim (kept_cases program effects g f has) [
+      | inl known ↦ known_written f known.0 borrowed shared
+      | inr (y, passed, is) ↦ root_written f y passed is shared
     ]
 
     -- what is kept is used
-    kept_used : (f : Fact) → Has (withheld program effects g.stage) f → is_package_object s (place f).root ≡ true → Uses effects g.stage.frame.sub (place f).root
+    kept_used : (f : Fact) → Has (withheld program effects g) f → is_package_object s (place f).root ≡ true → Uses effects g.stage.frame.sub (place f).root
     kept_used (Moved n) has shared = inr (kept_written (Moved n) has refl shared)
-    kept_used (Lent l h n) has shared = elim (kept_as g.stage (Lent l h n) has) [
+    kept_used (Lent l h n) has shared = elim (Has-append_cases (facts_of program effects g.stage) (shown_at program g.stage) (Lent l h n) (kept_loan program effects g l h n has).0) [
       | inl fact ↦ lent_used g.stage waits.named waits.of_sub l h n fact shared
-      | inr (inl taken) ↦ inr (taken_written (Lent l h n) taken shared)
-      | inr (inr shown) ↦ (waits.shown l h n shown shared).0
+      | inr shown ↦ (waits.shown l h n shown shared).0
     ]
 
+    -- what is kept as borrowed isn't observed
+    kept_apart : (f : Fact) (h : ℕ) (m : Name) → Has (withheld program effects g) f → loan_by f ≡ Borrowed → Has (withheld program effects g) (Lent Observed h m)
+        → overlaps (place f) m ≡ true → ⊥
+    kept_apart f h m has borrowed seen over =
+        let own = kept_loan program effects g Observed h m seen in
+        elim (kept_cases program effects g f has) [
+          | inl known ↦ waits.apart f h m known.0 borrowed own.0 over
+          | inr (y, passed, is) ↦ own.1 (subst (Has (passed_roots g)) (sym (ap (λ z. (place z).root) is) ∙ same_root (place f) m over) passed)
+        ]
+
   module _ (unused : (state : State) (callee : ℕ) (backs : List Return) (older : List ViewStage) → AreWaiting table typed effects state callee backs older → (g : ViewStage) → Has older g
-      → (name : Name) → Has (withheld (flow_program table typed) effects g.stage) (Moved name)
+      → (name : Name) → Has (withheld (flow_program table typed) effects g) (Moved name)
       → is_package_object (flow_typing (flow_program table typed)) name.root ≡ true → Uses effects callee name.root → ⊥) where
     -- none of what they keep is disturbed by the innermost one
     pub kept_there : (state : State) (callee : ℕ) (backs : List Return) (older : List ViewStage) → AreWaiting table typed effects state callee backs older → (g : ViewStage) → Has older g
-        → 0 < g.stage.depth → (f : Fact) → Has (withheld program effects g.stage) f → is_package_object s (place f).root ≡ true
+        → 0 < g.stage.depth → (f : Fact) → Has (withheld program effects g) f → is_package_object s (place f).root ≡ true
         → Disturbs effects (loan_by f) callee (place f).root → ⊥
     kept_there state callee backs older waiting g has some (Moved n) there shared disturbs = unused state callee backs older waiting g has n there shared disturbs
     kept_there state callee backs older waiting g has some (Lent l h n) there shared disturbs =
-        spared_there state callee backs older waiting g has some l h n there shared disturbs
+        spared_there state callee backs older waiting g has some l h n (kept_loan program effects g l h n there).0 shared disturbs
 
     -- what one keeps as borrowed isn't observed by another
     seen_apart : (state : State) (callee : ℕ) (backs : List Return) (older : List ViewStage) → AreWaiting table typed effects state callee backs older → (g k : ViewStage) → Has older g → Has older k
-        → 0 < g.stage.depth → 0 < k.stage.depth → (f : Fact) (h : ℕ) (m : Name) → Has (withheld program effects g.stage) f
-        → Has (withheld program effects k.stage) (Lent Observed h m)
+        → 0 < g.stage.depth → 0 < k.stage.depth → (f : Fact) (h : ℕ) (m : Name) → Has (withheld program effects g) f
+        → Has (withheld program effects k) (Lent Observed h m)
         → loan_by f ≡ Borrowed → is_package_object s (place f).root ≡ true → overlaps (place f) m ≡ true → ⊥
     seen_apart state callee backs [] waiting g k has rests deep some f h m kept seen borrowed shared over = absurd has
     seen_apart state callee backs (e ∷ []) waiting g k (inl same) rests deep some f h m kept seen borrowed shared over =
@@ -182,16 +182,16 @@ module _ (table : Table) (typed : TypedProgram) (effects : Effects) (are : AreEf
         omega (arith, deep, first, depths)
     seen_apart state callee backs (e ∷ []) waiting g k (inr never) rests deep some f h m kept seen borrowed shared over = absurd never
     seen_apart state callee backs (e ∷ (j ∷ older)) waiting g k (inl same) (inl also) deep some f h m kept seen borrowed shared over =
-        (waiting.0).apart f h m (subst (λ (z : ViewStage). Has (withheld program effects z.stage) f) (sym same) kept) borrowed
-        (subst (λ (z : ViewStage). Has (withheld program effects z.stage) (Lent Observed h m)) (sym also) seen) over
+        kept_apart state callee backs e waiting.0 f h m (subst (λ (z : ViewStage). Has (withheld program effects z) f) (sym same) kept) borrowed
+        (subst (λ (z : ViewStage). Has (withheld program effects z) (Lent Observed h m)) (sym also) seen) over
     seen_apart state callee backs (e ∷ (j ∷ older)) waiting g k (inl same) (inr rests) deep some f h m kept seen borrowed shared over =
         let root = same_root (place f) m over in
-        let here = subst (λ (z : ViewStage). Has (withheld program effects z.stage) f) (sym same) kept in
+        let here = subst (λ (z : ViewStage). Has (withheld program effects z) f) (sym same) kept in
         kept_there state e.stage.frame.sub e.stage.frame.returns (j ∷ older) waiting.1 k rests some (Lent Observed h m) seen (ap (is_package_object s) (sym root) ∙ shared)
         (subst (Has (written_by effects e.stage.frame.sub)) root (kept_written state callee backs e waiting.0 f here borrowed shared))
     seen_apart state callee backs (e ∷ (j ∷ older)) waiting g k (inr has) (inl also) deep some f h m kept seen borrowed shared over =
         let root = same_root (place f) m over in
-        let here = subst (λ (z : ViewStage). Has (withheld program effects z.stage) (Lent Observed h m)) (sym also) seen in
+        let here = subst (λ (z : ViewStage). Has (withheld program effects z) (Lent Observed h m)) (sym also) seen in
         kept_there state e.stage.frame.sub e.stage.frame.returns (j ∷ older) waiting.1 g has deep f kept shared
         (subst (λ l. Disturbs effects l e.stage.frame.sub (place f).root) (sym borrowed)
         (subst (Uses effects e.stage.frame.sub) (sym root) (kept_used state callee backs e waiting.0 (Lent Observed h m) here (ap (is_package_object s) (sym root) ∙ shared))))
@@ -199,9 +199,9 @@ module _ (table : Table) (typed : TypedProgram) (effects : Effects) (are : AreEf
         seen_apart state e.stage.frame.sub e.stage.frame.returns (j ∷ older) waiting.1 g k has rests deep some f h m kept seen borrowed shared over
 
     pub held_apart : (state : State) (callee : ℕ) (backs : List Return) (older : List ViewStage) → AreWaiting table typed effects state callee backs older → (g k : ViewStage) → Has older g → Has older k
-        → 0 < g.stage.depth → 0 < k.stage.depth → (f o : Fact) → Has (withheld program effects g.stage) f → Has (withheld program effects k.stage) o
+        → 0 < g.stage.depth → 0 < k.stage.depth → (f o : Fact) → Has (withheld program effects g) f → Has (withheld program effects k) o
         → loan_by f ≡ Borrowed → loan_by o ≡ Observed → is_package_object s (place f).root ≡ true → overlaps (place f) (place o) ≡ true → ⊥
     held_apart state callee backs older waiting g k has rests deep some f (Moved m) kept seen borrowed observed shared over = cc
     held_apart state callee backs older waiting g k has rests deep some f (Lent l h m) kept seen borrowed observed shared over =
         seen_apart state callee backs older waiting g k has rests deep some f h m kept
-        (subst (λ z. Has (withheld program effects k.stage) (Lent z h m)) observed seen) borrowed shared over
+        (subst (λ z. Has (withheld program effects k) (Lent z h m)) observed seen) borrowed shared over
