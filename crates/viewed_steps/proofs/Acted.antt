@@ -1,5 +1,5 @@
 -- Where what is passed for actuals is laid out, and what the acts of the call do there.
-use Rattle.std.proofs.Common.{◌≡◌, refl, ◌&&◌, sym, ap, ◌∙◌, subst, ◌⊎◌, inl, inr, ℕ, Bool, true, false, List, [], ◌∷◌, ◌++◌, Option, Some, None, ◌<◌}
+use Rattle.std.proofs.Common.{◌≡◌, refl, ◌&&◌, sym, ap, ◌∙◌, subst, ◌⊎◌, inl, inr, ℕ, Bool, true, false, List, [], ◌∷◌, ◌++◌, Option, Some, None}
 use Rattle.spark_base.proofs.Lists.{Has-append_left, Has-append_right}
 use Rattle.spark_base.specs.declared.position.Pos.{Pos}
 use Rattle.place_names.specs.declared.act.Act.TheVariants as act
@@ -30,7 +30,7 @@ use Rattle.soundness.proofs.Joined.{leaf_join}
 use Rattle.soundness.proofs.Steps.{no_leaf}
 use Rattle.soundness.proofs.Fixed.{matches_scalar}
 use Rattle.soundness.proofs.Scalars.{acts, acts_append, after_append, read_effect}
-use Rattle.owned_loans.specs.Views.{Around, Views, Viewed, IsForeign, IsOuter}
+use Rattle.owned_loans.specs.Views.{Around, Views, Viewed, IsOuter}
 use Rattle.owned_loans.proofs.Ended.{stands_itself}
 use Rattle.viewed_soundness.specs.Holds.{PartsAreNamed, Holds, sees_only, is_view, IsOwners}
 use Rattle.viewed_soundness.proofs.Names.{true_false}

@@ -1,7 +1,6 @@
 -- What the frames around the innermost one say of package objects: places that one of them has moved or
 -- lent meet none that another one has lent, and the innermost frame disturbs none of them.
-use Rattle.std.proofs.Common.{◌≡◌, refl, sym, ap, ◌∙◌, subst, ◌⊎◌, inl, inr, ℕ, ◌<◌, Bool, true, false, ◌&&◌, ◌==◌, eqb-true, List, [], ◌∷◌, ◌++◌, length, arith}
-use Rattle.std.specs.Prelude.{map}
+use Rattle.std.proofs.Common.{◌≡◌, refl, sym, ap, ◌∙◌, subst, inl, inr, ℕ, ◌<◌, Bool, true, false, ◌&&◌, ◌==◌, eqb-true, List, [], ◌∷◌, length, arith}
 use Rattle.spark_base.specs.Lists.{Has}
 use Rattle.place_names.specs.Facts.{place}
 use Rattle.place_names.specs.declared.fact.Fact.{Fact}
@@ -20,9 +19,7 @@ use Rattle.machine.specs.States.{Return, State, sub_of}
 use Rattle.soundness.specs.Sound.{Stage, facts_of, Uses, IsNamedSub}
 use Rattle.soundness.proofs.Points.{sub_there, sub_at_number, sub_in_range}
 use Rattle.soundness.proofs.Used.{writes_used, reads_used, fact_added}
-use Rattle.viewed_steps.specs.Awaited.{lasting_of}
 use Rattle.viewed_steps.specs.Sound.{loan_by, withheld, ViewStage, Disturbs, IsWaiting, AreWaiting, shown_at, passed_roots, known_at}
-use Rattle.viewed_steps.proofs.Between.{taken_unlent}
 use Rattle.viewed_steps.proofs.Inherited.{lending_uses}
 use Rattle.viewed_steps.proofs.Uses.{writes_there, borrowing_writes, moving_writes}
 use Rattle.viewed_steps.proofs.Showing.{none_moved}

@@ -1,15 +1,13 @@
 -- Names of places that are passed: one of them isn't above another one that doesn't overlap it, where
 -- neither is lent. And the name of the cell that such a place is in.
-use Rattle.std.proofs.Common.{◌≡◌, refl, sym, ap, ◌∙◌, subst, inl, inr, ℕ, Bool, true, List, [], ◌∷◌, Option, Some, None}
+use Rattle.std.proofs.Common.{◌≡◌, refl, sym, ap, ◌∙◌, subst, inl, ℕ, Bool, true, List, [], ◌∷◌, Option, Some, None}
 use Rattle.place_names.specs.declared.rule.Loan.TheVariants.{Borrowed}
 use Rattle.place_names.specs.declared.fact.Fact.{Fact}
 use Rattle.place_names.specs.Names.{overlaps}
 use Rattle.owned_ways.specs.Ways.{Step, Root, OfVariable, OfHand, Loc, OfRoot, OfCell, Way, Object, Lost, Into, All, View, Reaches, Under, along, name_of}
-use Rattle.owned_ways.proofs.Named.{under_front}
 use Rattle.owned_ways.proofs.Unique.{one_location}
 use Rattle.soundness.specs.Seen.{trunk}
 use Rattle.owned_loans.specs.Views.{Around, Views, way_at, expand, expand_root, Viewed}
-use Rattle.owned_loans.proofs.Ways.{under_on, meet_overlaps}
 use Rattle.owned_loans.proofs.Meeting.{IsPlain}
 use Rattle.owned_loans.proofs.Safe.{Unlent, apart_names}
 

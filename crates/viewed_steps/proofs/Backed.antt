@@ -29,7 +29,7 @@ use Rattle.soundness.proofs.Contents.{word_no}
 use Rattle.soundness.proofs.Steps.{matches_words, no_leaf, taken_slots, room}
 use Rattle.soundness.proofs.Lasting.{keeps, put_away}
 use Rattle.soundness.proofs.Returning.{Backs, formal_fixed}
-use Rattle.owned_loans.specs.Views.{Around, Views, ExcusedBy, Viewed, IsForeign, expand, IsOuter}
+use Rattle.owned_loans.specs.Views.{Around, Views, ExcusedBy, Viewed, expand, IsOuter}
 use Rattle.owned_loans.proofs.Safe.{off_view}
 use Rattle.owned_loans.proofs.Moves.{same_viewed}
 use Rattle.owned_loans.proofs.Meeting.{stands}
@@ -43,7 +43,7 @@ use Rattle.viewed_steps.proofs.Beside.{put_beside}
 use Rattle.viewed_steps.proofs.Alike.{Enters, moved_there, stored_there, one_then, if_back, backs_on, IsPlainSpot, fixed_plain, plain_place, one_there}
 use Rattle.viewed_steps.proofs.Entered.{matches_back, inside_plain, inside_named, inside_number, inside_itself}
 use Rattle.viewed_steps.proofs.Lodged.{cell_live}
-use Rattle.viewed_steps.proofs.Views.{AreAccess, AreFar, apart_by_base}
+use Rattle.viewed_steps.proofs.Views.{AreAccess, AreFar}
 
 same_names : {f x g y : ℕ} → memory.OfVariable f x ≡ memory.OfVariable g y → (f ≡ g) × (x ≡ y)
 same_names e = (cc, cc)

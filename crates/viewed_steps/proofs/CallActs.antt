@@ -1,9 +1,10 @@
 -- The acts of a call: its actuals are read, moved or lent, and what is copied back may be.
-use Rattle.std.proofs.Common.{◌≡◌, refl, sym, ap, ◌∙◌, subst, ◌⊎◌, inl, inr, ℕ, suc, ◌<◌, true, false, List, [], ◌∷◌, ◌++◌, map, take, length, arith, Option, Some, None, is_some, Bool, not, ◌||◌, ◌&&◌, eq-eqb}
+use Rattle.std.proofs.Common.{◌≡◌, refl, sym, ap, ◌∙◌, subst, ◌⊎◌, inl, inr, ℕ, suc, ◌<◌, true, false, List, [], ◌∷◌, ◌++◌, map, take, length, arith, Option, Some, None, is_some, Bool, not, ◌||◌, ◌&&◌, eq-eqb, eqb-true}
 use Rattle.std.specs.Prelude.{is_some}
 use Rattle.spark_base.specs.Lists.{Has}
 use Rattle.spark_base.proofs.Lists.{Has-append_cases, Has-append_right, Has-map_from}
 use Rattle.place_names.specs.declared.act.Act.{Act}
+use Rattle.place_names.specs.declared.act.Act.TheVariants as act
 use Rattle.place_names.specs.declared.act.Placed.{Placed}
 use Rattle.place_names.specs.declared.fact.Fact.{Fact}
 use Rattle.place_names.specs.declared.fact.Fact.TheVariants.{Moved, Lent}
@@ -14,11 +15,11 @@ use Rattle.place_names.specs.declared.rule.Loan.{Loan}
 use Rattle.place_names.specs.declared.rule.Loan.TheVariants.{Borrowed}
 use Rattle.place_names.specs.declared.act.Mode.TheVariants as mode
 use Rattle.type_definitions.specs.Types.{Table, full, is_owning}
-use Rattle.typed_tree.specs.Trees.{TypedTree, Name, NoMore, More}
+use Rattle.typed_tree.specs.Trees.{TypedTree, More}
 use Rattle.typed_tree.specs.Programs.{TypedProgram}
 use Rattle.flow_paths.specs.declared.report.Effects.{Effects}
-use Rattle.flow_paths.specs.Instructions.{Instruction, Call, EndScope, Declare, Assign, Hold}
-use Rattle.flow_paths.specs.Objects.{Typing, object_at, sub_at, is_anonymous, is_package_object, view_of, traverses, passings, Passing, Signature, passing, is_observer, is_observing, is_formal}
+use Rattle.flow_paths.specs.Instructions.{Instruction, Call, EndScope}
+use Rattle.flow_paths.specs.Objects.{Typing, object_at, sub_at, is_anonymous, is_package_object, view_of, traverses, passings, Passing, Signature, passing, is_observer, is_observing, is_formal, is_named_access}
 use Rattle.place_names.specs.Reports.{Report}
 use Rattle.flow_paths.specs.Aliases.{overlap_reports, passed_reports, call_reports}
 use Rattle.flow_paths.specs.Aliases as alias
@@ -26,7 +27,7 @@ use Rattle.flow_paths.specs.Acts.{gives_variable}
 use Rattle.flow_paths.specs.Acts as flow
 use Rattle.flow_paths.specs.Points.{NamedPoint}
 use Rattle.flow_paths.specs.Laid.{FlowProgram, NamedSub, flow_sub, typing_of, flow_typing, flow_program, flow_named}
-use Rattle.flow_paths.specs.Names.{written}
+use Rattle.flow_paths.specs.Names.{Written, written}
 use Rattle.flow_paths.specs.Paths.{ControlPath, facts_before}
 use Rattle.flow_paths.specs.Effects.{path_points, globals_of, called_acts}
 use Rattle.flow_paths.specs.Scopes.{taken, scope_behind, Leads}
@@ -40,7 +41,6 @@ use Rattle.place_names.specs.declared.act.Mode.TheVariants as mode
 use Rattle.owned_ways.specs.Ways.{Step, Way, after, AllowsAll, Past}
 use Rattle.owned_ways.specs.Ways as ways
 use Rattle.soundness.specs.Seen.{is_view_formal, IsNear, content, seen, home, trunk}
-use Rattle.owned_ways.proofs.Named.{longer}
 use Rattle.soundness.specs.Typed.{Kept}
 use Rattle.soundness.specs.Sound.{Stage, facts_of, AreStages, IsRunnable, InScope, IsNamedSub, IsAtPoint, view_of as view_here}
 use Rattle.soundness.proofs.Numbers.{index_law}
@@ -51,14 +51,14 @@ use Rattle.soundness.proofs.Inherited.{global_after}
 use Rattle.soundness.proofs.Points.{flow_at}
 use Rattle.soundness.proofs.Scalars.{acts, acts_append, after_append, allows_both}
 use Rattle.soundness.proofs.Successors.{below_one, successor_there}
-use Rattle.soundness.proofs.Used.{called_are, fact_added, added_after, globals_are}
+use Rattle.soundness.proofs.Used.{called_are, added_after, globals_are}
 use Rattle.soundness.proofs.Around.{IsFar}
 use Rattle.soundness.proofs.Eased.{eased}
-use Rattle.owned_loans.specs.Views.{Around, known_gone, Views, IsForeign, Viewed, ViewedAlone}
+use Rattle.owned_loans.specs.Views.{Around, known_gone, Views, Viewed, ViewedAlone}
 use Rattle.viewed_soundness.specs.Holds.{Holds, is_view, sees_only, IsOwners, is_exclusive, AllKeep, is_fixed, is_given, lends_first, is_first}
 use Rattle.viewed_soundness.proofs.Given.{IsLow}
 use Rattle.viewed_soundness.proofs.Evaluated.{live_trunk, keep_both}
-use Rattle.viewed_steps.specs.Awaited.{temporaries_of, lasting_of, AreAwaited, AreScalar, TakesScalars, IsTakenBy, StoresNone}
+use Rattle.viewed_steps.specs.Awaited.{temporaries_of, lasting_of, AreAwaited, AreScalar, TakesScalars, StoresNone}
 use Rattle.viewed_steps.specs.Sound.{IsCopiedBack, IsBeyond, HoldsAt, ArePlaced, NoneAbove, ViewStage, stages_of, GoneElsewhere, AreWaiting, IsResting, IsKindOfFormal, HasTraversals}
 use Rattle.viewed_steps.specs.Ready.{IsReady, IsCalled, IsTraversalCall, IsSeen, AreActualsTo}
 use Rattle.owned_loans.proofs.Allowed.{Cleared}
@@ -75,10 +75,8 @@ use Rattle.viewed_steps.proofs.Standing.{or_right}
 use Rattle.viewed_steps.proofs.Standing as standing
 use Rattle.viewed_steps.proofs.Packages as packages
 use Rattle.viewed_steps.proofs.Innermost as innermost
-use Rattle.viewed_steps.proofs.Views.{AreAccess, all_held, not_elsewhere, AreUnseen, given_cases}
+use Rattle.viewed_steps.proofs.Views.{AreAccess, all_held, AreUnseen, given_cases}
 use Rattle.viewed_steps.proofs.Seeing.{AreClear}
-use Rattle.viewed_steps.proofs.Roots.{view_goes}
-use Rattle.soundness.specs.Ready.{root_of}
 use Rattle.viewed_steps.proofs.Clear.{all_clear}
 use Rattle.viewed_steps.proofs.First.{way_named, first_allowed, first_keeps}
 use Rattle.viewed_steps.proofs.Followed as followed
@@ -87,6 +85,7 @@ use Rattle.viewed_steps.proofs.Lending.{named_has}
 use Rattle.viewed_steps.proofs.Traversing.{first_actual, first_reads}
 use Rattle.viewed_soundness.proofs.Names.{true_false}
 use Rattle.viewed_steps.proofs.Exclusive.{first_true, second_true, mode_in, sees_shown, AreLent, are_lent, lent_clears}
+use Rattle.viewed_steps.proofs.Globals.{shown_act}
 
 module _ (table : Table) (typed : TypedProgram) (effects : Effects) (input : List ℕ) (ready : IsReady table typed effects) where
   abbrev program : FlowProgram
@@ -447,6 +446,91 @@ module _ (table : Table) (typed : TypedProgram) (effects : Effects) (input : Lis
         | inr same ↦ subst (λ z. Has z a) (sym values_are) (Has-append_right values true_copies a (subst (λ z. Has z a) same there))
       ]
 
+      -- a formal of mode `in` of a named access type is one that owns by its type
+      view_formal_in : (x : ℕ) → is_view_formal s x ≡ true → ((object_at s x).mode ≡ mode.In) × (is_owning s.table (object_at s x).of ≡ true)
+      view_formal_in x formal = (
+        mode_in (object_at s x).mode (second_true (is_formal s x) (is_in (object_at s x).mode) (first_true (is_in_formal s x) (is_owning s.table (object_at s x).of) formal)),
+        second_true (is_in_formal s x) (is_owning s.table (object_at s x).of) formal,
+      )
+
+      -- what the first formal of a traversal function is shown belongs to no package
+      pub first_own : (f : ℕ) → traversed_formal s (sub_of program n) ≡ Some f → (b : alias.Passed) → Has (alias.passed formals actuals) b → b.formal ≡ f
+          → is_package_object s b.actual.name.root ≡ false
+      first_own f traversed b has only =
+          elim (Has-append_cases (alias.passed_as f (written (first f traversed))) (alias.passed (traversing f traversed).rest ((made f traversed).call).others) b
+          (subst (λ z. Has z b) (λ j. alias.passed ((traversing f traversed).formals j) ((made f traversed).actuals_are j)) has)) [
+            | inl here ↦ by_place here
+            | inr later ↦ absurd ((followed.differ table typed effects input ready state top older outer named p frames of_sub at_point path n actuals result e f traversed).0
+                b.formal (named_has (traversing f traversed).rest ((made f traversed).call).others b later) only)
+          ]
+        where
+          by_place : Has (alias.passed_as f (written (first f traversed))) b → is_package_object s b.actual.name.root ≡ false
+          by_place (inl same) = ap (λ (z : alias.Passed). is_package_object s z.actual.name.root) (sym same) ∙ (made f traversed).own
+          by_place (inr none) = absurd none
+
+      -- what is shown of a package object isn't shown to such a formal
+      pub plainly_shown : (b : alias.Passed) → Has (alias.passed formals actuals) b → is_given s b.formal ≡ true → is_package_object s b.actual.name.root ≡ true
+          → (is_view_formal s b.formal ≡ true) × (lends_first s b.formal (sub_at s n) ≡ false)
+      plainly_shown b has given shared = (
+        elim (given_cases s b.formal given) [
+          | inl formal ↦ formal
+          | inr anonymous ↦ absurd (not_first b.formal (ready.traversing.firsts n (called.runs).entered b.formal (named_has formals actuals b has) anonymous) refl)
+        ],
+        elim (bool_cases (lends_first s b.formal (sub_at s n))) [
+          | inr none ↦ none
+          | inl lends ↦ elim traverses_or [
+            | inl none ↦ absurd (no_borrower (sub_at s n).result (ap (λ z. traverses s.table z) (ap (λ (z : Signature). z.result) (signature_is program n)) ∙ none)
+                (first_true (gives_variable s (sub_at s n).result) (is_first b.formal (sub_at s n).formals) lends))
+            | inr (f, traversed) ↦ absurd (not_first f traversed (first_is (sub_at s n).formals b.formal f
+                (ap (λ (z : Signature). z.formals) (signature_is program n) ∙ (traversing f traversed).formals)
+                (second_true (gives_variable s (sub_at s n).result) (is_first b.formal (sub_at s n).formals) lends)))
+          ]
+        ],
+      )
+        where
+          not_first : (f : ℕ) → traversed_formal s (sub_of program n) ≡ Some f → b.formal ≡ f → ⊥
+          not_first f traversed only = true_false (is_package_object s b.actual.name.root) shared (first_own f traversed b has only)
+
+          no_borrower : (r : Option ℕ) → traverses s.table r ≡ false → gives_variable s r ≡ true → ⊥
+          no_borrower None none borrows = cc
+          no_borrower (Some t) none borrows = true_false (traverses s.table (Some t)) (ap (λ b. b || is_observing (full s.table t)) borrows) none
+
+          first_is : (xs : List ℕ) (x f : ℕ) {rest : List ℕ} → xs ≡ f ∷ rest → is_first x xs ≡ true → x ≡ f
+          first_is (y ∷ xs) x f same first_one = (let is : y ≡ f = cc in sym (eqb-true y x first_one) ∙ is)
+          first_is [] x f same first_one = cc
+
+      -- the act of what is shown is one of the call
+      pub shown_there : (b : alias.Passed) → Has (alias.passed formals actuals) b → is_view_formal s b.formal ≡ true → is_package_object s b.actual.name.root ≡ true
+          → (a : Placed) × Has (standing.acts_by table typed effects input ready state top older outer named p frames of_sub at_point s p.instr) a
+          × (a.act ≡ act.Actual b.actual.name mode.In true (procedure && is_named_access (view_of s b.formal)))
+      shown_there b has formal shared =
+          let shape = view_formal_in b.formal formal in
+          elim traverses_or [
+            | inl none ↦ (
+                let one = shown_act s procedure formals actuals b has shape.0 shape.1 in (
+                  one.0,
+                  subst (λ z. Has z one.0) (sym values_are) (Has-append_right values true_copies one.0
+                      (subst (λ z. Has (flow.actual_acts z actuals) one.0) (sym (passes_to program n none)) one.1)),
+                  one.2,
+                ))
+            | inr (f, traversed) ↦ elim (Has-append_cases (alias.passed_as f (written (first f traversed))) (alias.passed (traversing f traversed).rest ((made f traversed).call).others) b
+                (subst (λ z. Has z b) (λ j. alias.passed ((traversing f traversed).formals j) ((made f traversed).actuals_are j)) has)) [
+                  | inl here ↦ absurd (true_false (is_package_object s b.actual.name.root) shared (first_own f traversed b has (first_formal (written (first f traversed)) here)))
+                  | inr later ↦ (
+                      let one = shown_act s false (traversing f traversed).rest ((made f traversed).call).others b later shape.0 shape.1 in (
+                        one.0,
+                        subst (λ z. Has z one.0) (sym values_are) (Has-append_right values true_copies one.0
+                            (subst (λ z. Has z one.0) (sym (true_are f traversed)) one.1)),
+                        one.2 ∙ ap (λ z. act.Actual b.actual.name mode.In true (z && is_named_access (view_of s b.formal))) (sym (no_procedure f traversed)),
+                      ))
+                ]
+          ]
+        where
+          first_formal : {f : ℕ} (w : Option Written) → Has (alias.passed_as f w) b → b.formal ≡ f
+          first_formal None none = absurd none
+          first_formal (Some w) (inl same) = ap (λ (z : alias.Passed). z.formal) (sym same)
+          first_formal (Some w) (inr none) = absurd none
+
       -- the call adds no fact
       pub adds_none : (f : Fact) → Has facts_called f → Has own_facts f
       adds_none f has = elim traverses_or [
@@ -517,7 +601,7 @@ module _ (table : Table) (typed : TypedProgram) (effects : Effects) (input : Lis
       given_owns x unseen given = elim (given_cases s x given) [ inl formal ↦ formal | inr anonymous ↦ absurd (true_false (is_anonymous (view_of s x)) anonymous unseen) ]
 
       -- what formals of a procedure that own nothing are lent
-      lent_there : (sub_of program n).result ≡ None → AreLent s facts_now formals actuals
+      pub lent_there : (sub_of program n).result ≡ None → AreLent s facts_now formals actuals
       lent_there is =
           are_lent s facts_now formals actuals called.differ
           (apart_there program effects ready.accepted.no_reports (flow_sub own named)

@@ -20,7 +20,7 @@ use Rattle.soundness.specs.Typed.{Matches, Kept, Spot, IsMade, loc_of}
 use Rattle.soundness.proofs.Joined.{trunk_part, steps_part}
 use Rattle.soundness.proofs.Contents.{bool_cases, word_yes, word_part, word_root, stored_step, stored_whole, taken_step}
 use Rattle.soundness.proofs.Steps.{put_count, put_freed, stores, takes}
-use Rattle.owned_loans.specs.Views.{Around, Views, ExcusedBy, Viewed, IsForeign, IsOuter}
+use Rattle.owned_loans.specs.Views.{Around, Views, ExcusedBy, Viewed, IsOuter}
 use Rattle.owned_loans.proofs.Moves.{no_hand, view_rooted}
 use Rattle.viewed_steps.specs.Taken.{IsVariableAt, IsCellAt, IsInside, trunk_type}
 use Rattle.viewed_steps.proofs.Lodged.{lodged_spot, cell_live}

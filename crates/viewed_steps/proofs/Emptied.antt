@@ -19,7 +19,7 @@ use Rattle.place_names.specs.declared.act.Mode.TheVariants as mode
 use Rattle.spark_base.proofs.Lists.{Has-append_cases, Has-filter}
 use Rattle.soundness.proofs.Contents.{bool_cases}
 use Rattle.std.specs.List.{filter}
-use Rattle.owned_loans.specs.Views.{Around, Views, AreClear, expand, Viewed, IsForeign, IsOuter}
+use Rattle.owned_loans.specs.Views.{Around, Views, AreClear, expand, Viewed, IsOuter}
 use Rattle.owned_loans.proofs.Moves.{view_on, reached, own_loan, lends_on}
 use Rattle.viewed_steps.proofs.Between.{gone_also, IsClearOf}
 

@@ -17,7 +17,7 @@ use Rattle.soundness.proofs.Contents.{word_part, word_root}
 use Rattle.soundness.proofs.Defaults.{none_default}
 use Rattle.soundness.proofs.Memories.{put_other}
 use Rattle.soundness.proofs.Lasting.{keeps, lengths, less_kept, declared_kept}
-use Rattle.owned_loans.specs.Views.{Around, Views, expand, Viewed, IsForeign, IsOuter}
+use Rattle.owned_loans.specs.Views.{Around, Views, expand, Viewed, IsOuter}
 use Rattle.owned_loans.proofs.Safe.{off_view}
 use Rattle.owned_loans.proofs.Moves.{same_viewed}
 use Rattle.viewed_soundness.specs.Holds.{is_view, sees_only}

@@ -28,7 +28,7 @@ use Rattle.soundness.proofs.Moments.{number_part}
 use Rattle.soundness.proofs.Steps.{matches_words, plain_end, alike, taken_slots, room}
 use Rattle.soundness.proofs.Lasting.{keeps, declared_kept}
 use Rattle.soundness.proofs.Stays.{One}
-use Rattle.owned_loans.specs.Views.{Around, Views, expand, ExcusedBy, Viewed, IsForeign, IsOuter}
+use Rattle.owned_loans.specs.Views.{Around, Views, expand, ExcusedBy, Viewed, IsOuter}
 use Rattle.owned_loans.proofs.Safe.{off_view}
 use Rattle.owned_loans.proofs.Others.{clean_away}
 use Rattle.owned_loans.proofs.Ways.{lifts, lifted_root, flip, meet_overlaps}
@@ -327,7 +327,7 @@ module _ (s : Typing) (settled : IsSettled s.table) (own_law : OwnsByShape s.tab
     with_apart y w z has foreign (inl gone) meets = viewed.whole y w z has foreign gone meets
     with_apart y w z has outer (inr (p, is)) meets =
         homed_outer s depth (sees_only s) other.lent v to (inside_homed s depth k to passed.inside) viewed.shown
-        (λ l at lent over. passed.unlent l (number_of at) (name_of at) (viewed.lends l (name_of at) lent).has (meet_overlaps at to (flip to at over)))
+        (λ l at at_home lent over. passed.unlent l (number_of at) (name_of at) (viewed.lends l (name_of at) lent).has (meet_overlaps at to (flip to at over)))
         y w z has outer (subst (Under to) (sym is) (under_along to to p (under_itself to))) meets
 
     spot : Spot s m hands k at

@@ -18,7 +18,7 @@ use Rattle.soundness.proofs.Lasting.{keeps}
 use Rattle.soundness.specs.Seen.{content, trunk, steps_in, word_in, seen, home}
 use Rattle.soundness.specs.Changes.{Checks, leaks_at}
 use Rattle.soundness.specs.Typed.{OwnsByShape, Kept}
-use Rattle.owned_loans.specs.Views.{Around, Views, Viewed, IsForeign, IsOuter}
+use Rattle.owned_loans.specs.Views.{Around, Views, Viewed, IsOuter}
 use Rattle.owned_loans.proofs.Ways.{beginnings}
 use Rattle.owned_loans.proofs.Moves.{same_viewed}
 use Rattle.viewed_soundness.specs.Holds.{sees_only, is_view}

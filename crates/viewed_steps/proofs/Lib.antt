@@ -53,6 +53,8 @@ pub mod Exclusive
 pub mod Opening
 -- what a call shows
 pub mod Showing
+pub mod Handed
+pub mod Written
 pub mod Backed
 pub mod Whole
 pub mod Passed
@@ -84,6 +86,7 @@ pub mod Followed
 pub mod Begun
 pub mod CallActs
 pub mod Calling
+pub mod CallShows
 pub mod CallBegins
 pub mod Stepping
 pub mod Main

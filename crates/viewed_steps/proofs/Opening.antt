@@ -23,10 +23,10 @@ use Rattle.owned_ways.specs.Ways.{Loc, OfCell, Way, Lost, View, Reaches, Under, 
 use Rattle.owned_ways.specs.Ways as ways
 use Rattle.owned_ways.proofs.Locations.{under_itself}
 use Rattle.part_offsets.specs.Parts.{IsSettled}
-use Rattle.soundness.specs.Seen.{IsNear, content, trunk, seen, home, is_view_formal}
+use Rattle.soundness.specs.Seen.{IsNear, content, trunk, seen, home}
 use Rattle.soundness.specs.Typed.{OwnsByShape, Kept}
 use Rattle.typed_laws.specs.Needed.{IndexLaw}
-use Rattle.owned_loans.specs.Views.{Around, Views, IsForeign, AreViews, ExcusedBy, Viewed, with_view}
+use Rattle.owned_loans.specs.Views.{Around, Views, AreViews, ExcusedBy, Viewed, with_view}
 use Rattle.viewed_soundness.specs.Holds.{PartsAreNamed, is_view, sees_only, IsOwners, Holds, is_given}
 use Rattle.viewed_soundness.proofs.Given.{IsLow, low_begins, low_there}
 use Rattle.viewed_soundness.proofs.Names.{true_false}

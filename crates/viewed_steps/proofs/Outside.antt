@@ -39,7 +39,7 @@ module _ (table : Table) (typed : TypedProgram) (effects : Effects)
   IsSpared y = (l : Loan) (n : Name) → LentElsewhere table typed effects unmoved local older l n → n.root ≡ y → ⊥
 
   module _ (to : Way) (from : IsHomed s depth to) (spared : IsSpared from.1) where
-    lent_clear : (w : Way) → base_of w ≡ base_of to → (l : Loan) → IsLentFor table typed effects unmoved local state depth older between l w → ⊥
+    pub lent_clear : (w : Way) → base_of w ≡ base_of to → (l : Loan) → IsLentFor table typed effects unmoved local state depth older between l w → ⊥
     lent_clear w same l (k, named, under, lent) =
         spared l (name_of k) lent
         (same_variable (home s depth (number_of k)) (number_of k) from.0 from.1

@@ -282,7 +282,7 @@ module _ (table : Table) (typed : TypedProgram) (effects : Effects) (input : Lis
     abbrev acts_first : Instruction → List Act
     acts_first i = standing.acts_here table typed effects input ready state top [] [] named p frames of_sub at_point i
 
-    viewed_first : ViewedAlone (home s 0) (sees_only s) (known_gone (home s 0) (GoneElsewhere program effects [])) views (view_here s state) facts_first
+    viewed_first : Viewed (home s 0) (sees_only s) nowhere views (view_here s state) facts_first
     viewed_first =
         alone_viewed (home s 0) (sees_only s) views (view_here s state) facts_first (GoneElsewhere program effects []) (λ x w has. none_some w (sym (running.2 x) ∙ has))
         (subst (ViewedAlone (home s 0) (sees_only s) (known_gone (home s 0) (GoneElsewhere program effects [])) views (view_here s state)) (standing.facts_are table typed effects input ready state top [] [] named p frames of_sub at_point path) viewed_before)

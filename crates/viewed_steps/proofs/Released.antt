@@ -6,10 +6,7 @@ use Rattle.place_names.specs.declared.act.Act.{Act}
 use Rattle.place_names.specs.declared.act.Act.TheVariants as act
 use Rattle.place_names.specs.declared.fact.Fact.{Fact}
 use Rattle.place_names.specs.declared.fact.Fact.TheVariants.{Moved}
-use Rattle.place_names.specs.declared.rule.Loan.TheVariants.{Borrowed}
-use Rattle.place_names.specs.declared.rule.Rule.TheVariants.{O14}
-use Rattle.place_names.specs.Names.{leads_to, covers}
-use Rattle.place_names.specs.Rules.{breaks_O14}
+use Rattle.place_names.specs.Names.{covers}
 use Rattle.place_names.specs.Facts.{effect}
 use Rattle.type_definitions.specs.declared.table.Shape.TheVariants as shape
 use Rattle.type_definitions.specs.Types.{Table, shape_of, words, words_of as words_of_shape, view_of as view_of_shape}
@@ -30,8 +27,8 @@ use Rattle.machine.specs.Owners.{waiting_in}
 use Rattle.owned_ways.specs.Ways.{OfVariable, Loc, OfCell, Inside, Way, Object, Lost, Into, All, Empty, Gone, Held, View, Reaches, Below, IsRooted, Under, Named, IsMoved, Allows, part, after, AllowsAll, number_of}
 use Rattle.owned_ways.specs.Ways as ways
 use Rattle.owned_ways.proofs.Locations.{under_itself, depth as depth_of}
-use Rattle.owned_ways.proofs.Named.{under_leads, covered_under}
-use Rattle.owned_ways.proofs.Assigned.{either_left, kept_fact, is_false}
+use Rattle.owned_ways.proofs.Named.{covered_under}
+use Rattle.owned_ways.proofs.Assigned.{kept_fact, is_false}
 use Rattle.part_offsets.specs.Parts.{type_in, offset_in, has_part, owns_one, is_leaf, IsSettled}
 use Rattle.part_offsets.proofs.Ranges.{leaf_end, leaf_part}
 use Rattle.soundness.specs.Seen.{IsNear, is_view_formal, Content, content, trunk, steps_in, owner_at, owner_word, seen, home}
@@ -53,11 +50,8 @@ use Rattle.soundness.proofs.Numbers.{index_law}
 use Rattle.soundness.proofs.Lasting.{keeps, stored_kept, freed_kept}
 use Rattle.owned_ways.proofs.Unique.{one_way, one_location}
 use Rattle.owned_loans.specs.Views.{Around, Views, expand, ExcusedBy, IsAway, Viewed}
-use Rattle.owned_loans.proofs.Ways.{meet_overlaps, under_on}
-use Rattle.owned_loans.proofs.Meeting.{meeting}
-use Rattle.owned_loans.proofs.Clear.{refused, clear_same}
-use Rattle.owned_loans.proofs.Safe.{loan_of}
-use Rattle.owned_loans.proofs.Allowed.{loan_kept, free_open, free_whole, free_unlent}
+use Rattle.owned_loans.proofs.Clear.{clear_same}
+use Rattle.owned_loans.proofs.Allowed.{loan_kept, free_open, free_whole}
 use Rattle.owned_loans.proofs.Others.{itself_away}
 use Rattle.owned_loans.proofs.Moves.{IsPlace, view_on, own_loan, lends_on, expand_under, reached}
 use Rattle.owned_loans.proofs.Freed as view

@@ -51,12 +51,12 @@ use Rattle.soundness.proofs.Taking.{Takes, takes_as, nothing_more}
 use Rattle.soundness.proofs.Waited.{FillsNone}
 use Rattle.soundness.proofs.Eased.{eased, waits_same}
 use Rattle.soundness.proofs.Successors.{below_one}
-use Rattle.owned_loans.specs.Views.{Around, known_gone, Views, Viewed, ViewedAlone}
+use Rattle.owned_loans.specs.Views.{Around, known_gone, Views, Viewed, ViewedAlone, IsShared}
 use Rattle.viewed_soundness.specs.Holds.{IsNamed, AllKeep, is_view, sees_only, is_fixed}
 use Rattle.viewed_soundness.proofs.Outcomes.{IsGood, Leads_on}
 use Rattle.viewed_steps.specs.Awaited.{AreFor, AreValues, AreValuesBut, temporaries_of, lasting_of, awaited, AreAwaited, AreScalar, FillsTyped, TakesScalars, StoresNone, TakesAlone, TakesTogether}
 use Rattle.viewed_steps.proofs.Waited.{temporary_first, lasting_more, Shares}
-use Rattle.viewed_steps.specs.Sound.{IsWayOf, IsBeyond, HoldsAt, ArePlaced, NoneAbove, ViewStage, stages_of, GoneElsewhere, AreWaiting, IsStoredAt, returns_one, LeadsAlong, IsResting, HasTraversals, NoneGiven, IsGivenBelow}
+use Rattle.viewed_steps.specs.Sound.{IsWayOf, IsBeyond, HoldsAt, ArePlaced, NoneAbove, ViewStage, stages_of, GoneElsewhere, AreWaiting, IsStoredAt, returns_one, LeadsAlong, IsResting, HasTraversals, NoneGiven, IsGivenBelow, LentBy, KeptBy, withheld, loan_by}
 use Rattle.viewed_steps.specs.Taken.{TakenBy}
 use Rattle.viewed_steps.specs.Ready.{IsReady}
 use Rattle.viewed_steps.proofs.Lent.{Spare, loans_stay}
@@ -99,6 +99,8 @@ use Rattle.viewed_steps.proofs.Operands.{left_operand_on, right_operand_on}
 use Rattle.viewed_steps.proofs.EachInstruction as each
 use Rattle.viewed_steps.proofs.Turned as turned
 use Rattle.viewed_steps.proofs.Views.{AreAccess}
+use Rattle.place_names.specs.Facts.{place}
+use Rattle.place_names.specs.declared.rule.Loan.{Loan}
 
 none_some : (n : ℕ) → None ≡ Some n → ⊥
 none_some n e = cc
@@ -531,6 +533,8 @@ module _ (table : Table) (typed : TypedProgram) (effects : Effects) (input : Lis
               lends = was.lends;
               writes = was.writes;
               unmoved = was.unmoved;
+              shown = was.shown;
+              apart = was.apart;
               written = was.written;
               uses = was.uses;
               clear = was.clear;
@@ -552,12 +556,30 @@ module _ (table : Table) (typed : TypedProgram) (effects : Effects) (input : Lis
           )
 
       past_with : (v : Waiting) → IsBeyond program effects depth views (below ∷ more_frames) → IsBeyond program effects depth views (below_with v ∷ more_frames)
-      past_with v past x w has given sees k n (g, inr there, way) goes = past x w has given sees k n (g, inr there, way) goes
-      past_with v past x w has given sees k n (g, inl same, way) goes =
-          past x w has given sees k n (below, inl refl, way_from way) goes
+      past_with v past = (λ x w has given sees k n kept goes. past_one x w has given sees k n kept goes, λ x w has given named_there. shared_one (sees_only s x) w (past.1 x w has given named_there))
         where
-          way_from : IsWayOf g k n → IsWayOf below k n
-          way_from way = subst (λ (z : ViewStage). IsWayOf z k n → IsWayOf below k n) same (λ there. there) way
+          way_from : (g : ViewStage) (k : Way) (n : ℕ) → below_with v ≡ g → IsWayOf g k n → IsWayOf below k n
+          way_from g k n same way = subst (λ (z : ViewStage). IsWayOf z k n → IsWayOf below k n) same (λ there. there) way
+
+          past_one : (x : ℕ) (w : Way) → views.way x ≡ Some w → (ways.Named (home s depth) (views.up x) → ⊥) → sees_only s x ≡ false → (k : Way) (n : ℕ)
+              → KeptBy (below_with v ∷ more_frames) k n → ways.Past w k → ⊥
+          past_one x w has given sees k n (g, inr there, way) goes = past.0 x w has given sees k n (g, inr there, way) goes
+          past_one x w has given sees k n (g, inl same, way) goes = past.0 x w has given sees k n (below, inl refl, way_from g k n same way) goes
+
+          lent_with : (l : Loan) (name : PlaceName) → LentBy program effects (below ∷ more_frames) l name → LentBy program effects (below_with v ∷ more_frames) l name
+          lent_with l name lent = elim lent.1 [
+            | inr there ↦ (lent.0, inr there, lent.2, lent.3, lent.4, lent.5, lent.6, lent.7)
+            | inl same ↦ (
+                let there =
+                subst (λ (z : ViewStage). (0 < z.stage.depth) × (f : Fact) × Has (withheld program effects z) f × (is_package_object s name.root ≡ true) × (loan_by f ≡ l) × (place f ≡ name)) (sym same)
+                (lent.2, lent.3, lent.4, lent.5, lent.6, lent.7) in
+                (below_with v, inl refl, there.0, there.1, there.2, there.3, there.4, there.5)
+                )
+          ]
+
+          shared_one : (sees : Bool) (w : Way) → IsShared (home s depth) (LentBy program effects (below ∷ more_frames)) sees w
+              → IsShared (home s depth) (LentBy program effects (below_with v ∷ more_frames)) sees w
+          shared_one sees w (l, through, changed) = (l, (through.0, through.1, through.2, lent_with l (ways.name_of through.0) through.3), changed)
 
       elsewhere_from : (v : Waiting) (w : Way) → GoneElsewhere program effects (below_with v ∷ more_frames) w → GoneElsewhere program effects (below ∷ more_frames) w
       elsewhere_from v w (g, inr has, what) = (g, inr has, what)
@@ -656,10 +678,6 @@ module _ (table : Table) (typed : TypedProgram) (effects : Effects) (input : Lis
                     clear = well.clear;
                     views = well.views;
                     whole = λ x w z has foreign gone meets. well.whole x w z has foreign (elsewhere_from v z gone) meets;
-                    past = λ x w has given plain k n none. absurd none;
-                    lends = well.lends;
-                    far = λ w n none. absurd none;
-                    bare = λ w n p none. absurd none;
                   })));
               kept = subst (Kept s m) (sym (hands_then ws m)) kept_then;
               named = named;

@@ -356,7 +356,7 @@ module _ (table : Table) (typed : TypedProgram) (effects : Effects) (input : Lis
                 p at_next_point.0 y is (home_frame y not_shared) not_shared (orderly.over y is) (ready_there (EndScope y) is) (orderly.variables y (inr is)) (λ x within off. orderly.ended y x is within off)
                 (λ x within sees region. orderly.followed y x is at_next_point.0 (next_point.0, next_point.2, at_next_point.1) within sees region)
                 lead facts_now end_allowed.0 viewed kept holds placed (not_lent y not_shared)))),
-            still_viewed.past,
+            (still_viewed.past, still_viewed.shown),
           ) (still_above after_step.memory stay, traversals_left after_step memory on.waits on.loops on.are) views
           (leaves_scope y is (refl, refl, refl) were_left refl)
 

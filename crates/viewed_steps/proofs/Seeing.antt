@@ -1,6 +1,6 @@
 -- What is passed for a formal that owns nothing: null, or the number of a cell that a way of the caller leads
 -- to. Nothing that is gone meets that way, and it is foreign in what is called.
-use Rattle.std.proofs.Common.{◌≡◌, refl, sym, ap, ◌∙◌, subst, ◌⊎◌, inl, inr, ℕ, ◌<◌, Bool, true, false, List, [], ◌∷◌, Option, Some, None, arith}
+use Rattle.std.proofs.Common.{◌≡◌, refl, sym, ap, ◌∙◌, subst, ◌⊎◌, inl, inr, ℕ, Bool, true, false, List, [], ◌∷◌, Option, Some, None}
 use Rattle.spark_base.specs.declared.position.Pos.{Pos}
 use Rattle.place_names.specs.declared.fact.Fact.{Fact}
 use Rattle.place_names.specs.Names.{Name as PlaceName}
@@ -8,7 +8,7 @@ use Rattle.type_definitions.specs.declared.table.Shape.TheVariants as shape
 use Rattle.type_definitions.specs.Types.{shape_of, is_scalar, view_of as view_of_shape}
 use Rattle.typed_tree.specs.Trees.{TypedTree, Number, Literal, Text, Name, Component as IntoComponent, Designated, Element, Call, EndOfFile, Parens, Image, Unary, Binary, Short, IsNull, Aggregate, Alike, New, NoMore, More}
 use Rattle.typed_tree.specs.Trees as typed
-use Rattle.flow_paths.specs.Objects.{Typing, object_at, is_anonymous, is_package_object, view_of}
+use Rattle.flow_paths.specs.Objects.{Typing, object_at, is_anonymous, view_of}
 use Rattle.flow_paths.specs.Names.{Written, written, waiting as waits_in, name_of}
 use Rattle.flow_paths.specs.Acts.{index_acts}
 use Rattle.machine.specs.Words as machine
@@ -24,12 +24,11 @@ use Rattle.typed_laws.specs.Needed.{IndexLaw, Matches}
 use Rattle.soundness.proofs.Scalars.{acts}
 use Rattle.soundness.proofs.Stays.{Quiet}
 use Rattle.soundness.proofs.Taking.{Takes, takes_zero}
-use Rattle.owned_loans.specs.Views.{Around, Views, expand, ExcusedBy, IsForeign, Viewed}
+use Rattle.owned_loans.specs.Views.{Around, Views, expand, ExcusedBy, Viewed}
 use Rattle.owned_loans.proofs.Allowed.{Cleared}
 use Rattle.owned_loans.proofs.Ended.{stands_itself}
 use Rattle.owned_loans.specs.Views.{on}
-use Rattle.owned_ways.proofs.Named.{longer}
-use Rattle.owned_loans.proofs.Ways.{on_under, Lifted, lifted_way, base_on, named_on}
+use Rattle.owned_loans.proofs.Ways.{Lifted, lifted_way, base_on, named_on}
 use Rattle.viewed_soundness.specs.Holds.{PartsAreNamed, is_view, sees_only, IsOwners, Holds, IsAccess, is_given}
 use Rattle.viewed_soundness.proofs.Given.{IsLow, lent_whole, seen_whole}
 use Rattle.viewed_soundness.proofs.Names.{true_false, neither, plain_sees, stands_owners}
@@ -37,7 +36,6 @@ use Rattle.viewed_soundness.proofs.Sources.{Shows, source_on}
 use Rattle.viewed_steps.specs.Ready.{IsSeen, IsAccessAs}
 use Rattle.viewed_soundness.proofs.Lends.{matches_on}
 use Rattle.viewed_steps.proofs.Entered.{IsTyped}
-use Rattle.viewed_steps.proofs.Views.{view_cases}
 
 -- Nothing of a name was moved or is borrowed, unless it is looked at through an observer or a formal.
 abbrev pub IsClear : Typing → List Fact → TypedTree → Type 0

@@ -1,5 +1,5 @@
 -- What a call shows of package objects to formals that own nothing is lent to these.
-use Rattle.std.proofs.Common.{◌≡◌, refl, sym, ap, ◌∙◌, subst, ◌⊎◌, inl, inr, ℕ, Bool, true, false, ◌&&◌, List, [], ◌∷◌, get_or, Option, Some, None, if◌then◌else◌}
+use Rattle.std.proofs.Common.{◌≡◌, refl, sym, subst, inl, inr, ℕ, Bool, true, false, ◌&&◌, List, [], ◌∷◌, get_or, if◌then◌else◌}
 use Rattle.std.specs.Prelude.{flat_map}
 use Rattle.spark_base.specs.Lists.{Has}
 use Rattle.spark_base.proofs.Lists.{Has-append_cases}
@@ -7,14 +7,13 @@ use Rattle.place_names.specs.declared.fact.Fact.{Fact}
 use Rattle.place_names.specs.declared.fact.Fact.TheVariants.{Moved, Lent}
 use Rattle.place_names.specs.declared.rule.Loan.{Loan}
 use Rattle.place_names.specs.Names.{Name as PlaceName}
-use Rattle.typed_tree.specs.Trees.{TypedTree}
 use Rattle.flow_paths.specs.Instructions.{Instruction, Call}
 use Rattle.flow_paths.specs.Objects.{Typing, is_package_object}
 use Rattle.flow_paths.specs.Laid.{FlowSub, FlowProgram, flow_typing}
 use Rattle.flow_paths.specs.Aliases as alias
 use Rattle.machine.specs.States.{sub_of}
 use Rattle.machine.specs.Run.{no_point}
-use Rattle.viewed_soundness.specs.Holds.{is_given}
+use Rattle.soundness.specs.Seen.{is_view_formal}
 use Rattle.viewed_steps.specs.Sound.{lent_to, shown_one, shown_by, shown_after}
 use Rattle.viewed_steps.proofs.Whole.{flat_has}
 
@@ -26,29 +25,29 @@ both false b e = cc
 pub record IsShownOf (s : Typing) (l : Loan) (all : List alias.Passed) (f : Fact) : Type 0 where
   pub passed : alias.Passed
   pub has : Has all passed
-  pub formal : is_given s passed.formal ≡ true
+  pub formal : is_view_formal s passed.formal ≡ true
   pub shared : is_package_object s passed.actual.name.root ≡ true
   pub is : f ≡ Lent l passed.formal passed.actual.name
 
-pub one_shown : (s : Typing) (l : Loan) (b : alias.Passed) → is_given s b.formal ≡ true → is_package_object s b.actual.name.root ≡ true
+pub one_shown : (s : Typing) (l : Loan) (b : alias.Passed) → is_view_formal s b.formal ≡ true → is_package_object s b.actual.name.root ≡ true
     → Has (shown_one s l b) (Lent l b.formal b.actual.name)
 unfolding shown_one
 one_shown s l b formal shared =
     subst (λ z. Has (if z then Lent l b.formal b.actual.name ∷ [] else []) (Lent l b.formal b.actual.name)) (sym (λ j. formal j && shared j)) (inl refl)
 
 pub one_is : (s : Typing) (l : Loan) (b : alias.Passed) (f : Fact) → Has (shown_one s l b) f
-    → (is_given s b.formal ≡ true) × (is_package_object s b.actual.name.root ≡ true) × (f ≡ Lent l b.formal b.actual.name)
+    → (is_view_formal s b.formal ≡ true) × (is_package_object s b.actual.name.root ≡ true) × (f ≡ Lent l b.formal b.actual.name)
 unfolding shown_one
-one_is s l b f has = by_test (is_given s b.formal && is_package_object s b.actual.name.root) refl has
+one_is s l b f has = by_test (is_view_formal s b.formal && is_package_object s b.actual.name.root) refl has
   where
-    by_test : (z : Bool) → is_given s b.formal && is_package_object s b.actual.name.root ≡ z
+    by_test : (z : Bool) → is_view_formal s b.formal && is_package_object s b.actual.name.root ≡ z
         → Has (if z then Lent l b.formal b.actual.name ∷ [] else []) f
-        → (is_given s b.formal ≡ true) × (is_package_object s b.actual.name.root ≡ true) × (f ≡ Lent l b.formal b.actual.name)
-    by_test true e (inl same) = (let parts = both (is_given s b.formal) (is_package_object s b.actual.name.root) e in (parts.0, parts.1, sym same))
+        → (is_view_formal s b.formal ≡ true) × (is_package_object s b.actual.name.root ≡ true) × (f ≡ Lent l b.formal b.actual.name)
+    by_test true e (inl same) = (let parts = both (is_view_formal s b.formal) (is_package_object s b.actual.name.root) e in (parts.0, parts.1, sym same))
     by_test true e (inr none) = absurd none
     by_test false e none = absurd none
 
-pub all_shown : (s : Typing) (l : Loan) (all : List alias.Passed) (b : alias.Passed) → Has all b → is_given s b.formal ≡ true
+pub all_shown : (s : Typing) (l : Loan) (all : List alias.Passed) (b : alias.Passed) → Has all b → is_view_formal s b.formal ≡ true
     → is_package_object s b.actual.name.root ≡ true → Has (flat_map (shown_one s l) all) (Lent l b.formal b.actual.name)
 all_shown s l all b has formal shared = flat_has (shown_one s l) all b (Lent l b.formal b.actual.name) has (one_shown s l b formal shared)
 

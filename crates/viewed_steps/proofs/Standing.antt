@@ -38,7 +38,7 @@ use Rattle.soundness.proofs.Typings.{Agree, flow_agrees, instruction_same}
 use Rattle.soundness.proofs.Scalars.{acts}
 use Rattle.soundness.proofs.Paths.{accepted_point, facts_next}
 use Rattle.soundness.proofs.Points.{flow_at, named_has, point_has, sub_there, sub_has, point_there, point_in, path_there, IsLaid, next_there, one_named, one_point}
-use Rattle.owned_loans.specs.Views.{known_gone, Views, Viewed, ViewedAlone}
+use Rattle.owned_loans.specs.Views.{known_gone, Views, ViewedAlone}
 use Rattle.viewed_soundness.specs.Holds.{is_view, IsAccess, AllKeep, sees_only, is_fixed}
 use Rattle.viewed_steps.specs.Awaited.{AreFor, AreValues, temporaries_of, lasting_of, WaitsAt, AreAwaited}
 use Rattle.viewed_steps.proofs.Waited.{leads_temporaries}

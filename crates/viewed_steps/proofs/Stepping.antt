@@ -20,7 +20,7 @@ use Rattle.soundness.specs.Seen.{home}
 use Rattle.soundness.specs.Typed.{Kept}
 use Rattle.soundness.specs.Sound.{Stage, facts_of, AreStages, IsRunnable, returns_value, InScope, IsNamedSub, IsAtPoint, view_of as view_here, IsNoCall}
 use Rattle.soundness.proofs.Waited.{FillsNone}
-use Rattle.owned_loans.specs.Views.{known_gone, Views, Viewed, ViewedAlone}
+use Rattle.owned_loans.specs.Views.{known_gone, Views, ViewedAlone}
 use Rattle.viewed_steps.specs.Awaited.{lasting_of, AreAwaited, IsTaken}
 use Rattle.viewed_steps.specs.Sound.{IsBeyond, HoldsAt, ArePlaced, NoneAbove, ViewStage, stages_of, GoneElsewhere, AreWaiting, IsRunning, LeadsAlong, StepsLeadAlong, LeadsOn, StepsLeadOn, IsResting, HasTraversals}
 use Rattle.viewed_steps.specs.Ready.{IsReady}

@@ -1,5 +1,5 @@
 -- The call of a traversal function changes no fact; and its first formal is shown what the first actual designates.
-use Rattle.std.proofs.Common.{◌≡◌, refl, sym, ap, ◌∙◌, subst, inl, inr, ℕ, ◌<◌, Bool, true, false, List, [], ◌∷◌, ◌++◌, map, Some, ◌&&◌}
+use Rattle.std.proofs.Common.{◌≡◌, refl, sym, ap, ◌∙◌, subst, inl, inr, ℕ, Bool, true, false, List, [], ◌∷◌, ◌++◌, map, Some, ◌&&◌}
 use Rattle.spark_base.specs.Lists.{Has}
 use Rattle.place_names.specs.declared.act.Mode.{Mode}
 use Rattle.place_names.specs.declared.act.Mode.TheVariants as mode
@@ -16,13 +16,13 @@ use Rattle.machine.specs.Evaluate.{Here, Done, followed_by}
 use Rattle.machine.specs.States.{Waiting, Leak}
 use Rattle.owned_ways.specs.Ways.{Loc, Way, Reaches, AllowsAll, after}
 use Rattle.part_offsets.specs.Parts.{IsSettled}
-use Rattle.soundness.specs.Seen.{IsNear, content, trunk, seen, home, is_view_formal}
+use Rattle.soundness.specs.Seen.{IsNear, content, trunk, seen, home}
 use Rattle.soundness.specs.Typed.{Kept, OwnsByShape}
 use Rattle.typed_laws.specs.Needed.{Leads, IndexLaw}
 use Rattle.soundness.proofs.Passing.{AreReads, reads_keep, TakesAll}
 use Rattle.soundness.proofs.Scalars.{acts, acts_append, after_append, allows_both}
 use Rattle.soundness.proofs.Stays.{Quiet, quiet_then, quiet_from}
-use Rattle.owned_loans.specs.Views.{Around, Views, IsForeign, Viewed}
+use Rattle.owned_loans.specs.Views.{Around, Views, Viewed}
 use Rattle.viewed_soundness.specs.Holds.{PartsAreNamed, sees_only, IsAccess, IsOwners, Holds}
 use Rattle.viewed_steps.specs.Ready.{is_shown_type, IsSeen, AreActualsTo}
 use Rattle.viewed_steps.specs.Sound.{IsKindOfFormal}

@@ -37,7 +37,7 @@ use Rattle.soundness.proofs.Following.{Each}
 use Rattle.soundness.proofs.Waited.{FillsNone}
 use Rattle.soundness.proofs.Eased.{eased}
 use Rattle.soundness.proofs.Successors.{successor_there}
-use Rattle.owned_loans.specs.Views.{Around, known_gone, Views, Viewed, ViewedAlone}
+use Rattle.owned_loans.specs.Views.{Around, known_gone, Views, ViewedAlone}
 use Rattle.viewed_soundness.specs.Holds.{AllKeep, is_view, sees_only, is_fixed, is_given}
 use Rattle.viewed_soundness.proofs.Names.{true_false, given_view}
 use Rattle.viewed_soundness.proofs.Outcomes.{Turned}
@@ -283,7 +283,7 @@ module _ (table : Table) (typed : TypedProgram) (effects : Effects) (input : Lis
             passed = passed_then turned_views (after (acts_of_main p.instr) facts_now) turned;
             own = well.holds.own;
           })
-          (((innermost.placed_by table typed effects input ready state top below more_frames rest named p frames deep stages running awaiting of_sub at_point path views viewed_before kept scope holds placed_before above) (after (acts_of_main p.instr) facts_now) (after (acts_of_main p.instr) own_facts) turned_views (q.0).scope ((innermost.own_loans table typed effects input ready state top below more_frames rest named p frames deep stages running awaiting of_sub at_point path views viewed_before kept scope holds placed_before above) (acts_of_main p.instr)) placed_next), well.viewed.past)
+          (((innermost.placed_by table typed effects input ready state top below more_frames rest named p frames deep stages running awaiting of_sub at_point path views viewed_before kept scope holds placed_before above) (after (acts_of_main p.instr) facts_now) (after (acts_of_main p.instr) own_facts) turned_views (q.0).scope ((innermost.own_loans table typed effects input ready state top below more_frames rest named p frames deep stages running awaiting of_sub at_point path views viewed_before kept scope holds placed_before above) (acts_of_main p.instr)) placed_next), (well.viewed.past, well.viewed.shown))
           (still_above after_step.memory stay, traversals_on after_step waits loops next.0 none end are turned_views (after (acts_of_main p.instr) facts_now) turned) views
           (steps_on no_calls end going (refl, refl, refl) (turned_so turned_views turned) refl)
 

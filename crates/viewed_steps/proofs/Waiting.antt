@@ -1,15 +1,15 @@
 -- Frames that wait for a call to end, with views: what they keep concerns the innermost frame as ways
 -- of others, and they wait still after its steps.
 use Rattle.viewed_soundness.specs.Holds.{is_view, sees_only}
-use Rattle.std.proofs.Common.{◌≡◌, refl, sym, ap, ◌∙◌, subst, ◌⊎◌, inl, inr, ℕ, ◌<◌, ◌≤◌, Bool, true, false, ◌&&◌, ◌==◌, eqb-true, nat_lt, ltb-true, lt-ltb, List, [], ◌∷◌, ◌++◌, length, arith, Option, Some, None, if◌then◌else◌, append-nil}
+use Rattle.std.proofs.Common.{◌≡◌, refl, sym, ap, ◌∙◌, subst, ◌⊎◌, inl, inr, ℕ, ◌<◌, ◌≤◌, Bool, true, false, ◌&&◌, nat_lt, ltb-true, lt-ltb, List, [], ◌∷◌, ◌++◌, length, arith, Option, Some, None, if◌then◌else◌, append-nil}
 use Rattle.std.specs.Prelude.{flat_map}
 use Rattle.spark_base.specs.Lists.{Has}
-use Rattle.spark_base.proofs.Lists.{Has-append_left, Has-append_right, Has-append_cases}
+use Rattle.spark_base.proofs.Lists.{Has-append_left, Has-append_cases}
 use Rattle.place_names.specs.declared.fact.Fact.{Fact}
 use Rattle.place_names.specs.declared.fact.Fact.TheVariants.{Moved, Lent}
 use Rattle.place_names.specs.declared.rule.Loan.{Loan}
-use Rattle.place_names.specs.declared.rule.Loan.TheVariants.{Borrowed, Observed}
-use Rattle.place_names.specs.Names.{Name, object, overlaps}
+use Rattle.place_names.specs.declared.rule.Loan.TheVariants.{Borrowed}
+use Rattle.place_names.specs.Names.{Name, object}
 use Rattle.place_names.specs.Facts.{place}
 use Rattle.type_definitions.specs.Types.{Table}
 use Rattle.typed_tree.specs.Programs.{TypedProgram}
@@ -25,11 +25,10 @@ use Rattle.soundness.specs.Seen.{IsNear, content, word_in, home}
 use Rattle.soundness.specs.Sound.{Stage, facts_of, AreStages, Uses, view_of as view_here}
 use Rattle.soundness.proofs.Around.{near_or_far, IsFar, near_package, package_named}
 use Rattle.soundness.proofs.Contents.{bool_cases, word_part, word_root}
-use Rattle.soundness.proofs.Inherited.{Splits}
-use Rattle.owned_loans.specs.Views.{on, Around, known_gone, Views, expand, IsThrough, ExcusedBy, HasLoan, IsForeign, Viewed, Go, ViewedAlone, AreShared, AreViews}
+use Rattle.owned_loans.specs.Views.{on, Around, known_gone, Views, expand, IsThrough, IsForeign, Go, AreShared, AreViews}
 use Rattle.owned_loans.proofs.Ways.{under_on, on_under, on_named, lifts, lifted_root, lifted_way, base_on, root_on}
 use Rattle.owned_loans.proofs.Meeting.{stands}
-use Rattle.owned_loans.proofs.Moves.{view_on, own_loan, reached}
+use Rattle.owned_loans.proofs.Moves.{reached}
 use Rattle.viewed_steps.specs.Taken.{TakenBy, Lodge}
 use Rattle.owned_loans.proofs.Meeting.{stands}
 use Rattle.viewed_steps.proofs.Between.{base_along as along_base, number_based, home_low, taken_from as words_taken, taken_base, near_base}
@@ -37,7 +36,7 @@ use Rattle.viewed_steps.proofs.Roots.{GoesOn, borrower_goes, view_goes}
 use Rattle.viewed_steps.proofs.Showing.{none_moved as shown_unmoved}
 use Rattle.viewed_steps.specs.Awaited.{lasting_of}
 use Rattle.viewed_steps.proofs.Whole.{flat_has}
-use Rattle.viewed_steps.specs.Sound.{loan_by, withheld, KeptBy, IsBeyond, ViewStage, stages_of, Lies, GoneElsewhere, IsWaiting, IsFirst, AreWaiting, IsWayOf, IsBareOf, shown_at, LentBy, passed_roots}
+use Rattle.viewed_steps.specs.Sound.{loan_by, withheld, KeptBy, ViewStage, stages_of, Lies, GoneElsewhere, IsWaiting, IsFirst, AreWaiting, IsWayOf, IsBareOf, shown_at, LentBy, passed_roots}
 use Rattle.viewed_steps.proofs.Withheld.{kept_cases, kept_root, kept_fact, taken_passed, cell_passed, passed_from}
 use Rattle.viewed_steps.proofs.Views.{base_named, same_lies}
 use Rattle.machine.specs.Owners.{waiting_in}
@@ -101,7 +100,7 @@ along_both w [] p = refl
 along_both w (i ∷ q) p = ap (λ z. Into z i) (along_both w q p)
 
 -- a way goes on from the object that it begins at
-root_under : (f y : ℕ) (w : Way) → base_of w ≡ OfRoot (OfVariable f y) → Under (Object (OfVariable f y)) w
+pub root_under : (f y : ℕ) (w : Way) → base_of w ≡ OfRoot (OfVariable f y) → Under (Object (OfVariable f y)) w
 root_under f y (Object r) base = sym (one_root r base)
   where
     one_root : (r : Root) → OfRoot r ≡ OfRoot (OfVariable f y) → Object r ≡ Object (OfVariable f y)
@@ -277,7 +276,7 @@ module _ (table : Table) (typed : TypedProgram) (effects : Effects)
           (loan_by found.0, place found.0, one.0, (g, there, ltb-true 0 g.stage.depth some, found.0, found.1, one.1, refl, refl))
       by_depth g there false none has = absurd has
 
-  loans_has : (older : List ViewStage) (l : Loan) (n : Name) → LentElsewhere older l n → Has (loans_there older) (Lent l n.root n)
+  pub loans_has : (older : List ViewStage) (l : Loan) (n : Name) → LentElsewhere older l n → Has (loans_there older) (Lent l n.root n)
   unfolding loans_in
   loans_has older l n (g, has, some, f, there, shared, kind, is) =
       subst (λ z. Has (loans_there older) (Lent z n.root n)) kind
@@ -689,147 +688,3 @@ module _ (table : Table) (typed : TypedProgram) (effects : Effects)
           is.1 ∙ sym (ap (λ (z : Name). z.root) is.2),
           subst (λ z. LentElsewhere older l z) (sym is.2) (subst (λ z. LentElsewhere older z found.1) (sym is.0) found.3),
         )
-
-    -- Their facts on package objects don't meet, nor do those of the innermost frame meet them.
-    pub record AreApart (facts : List Fact) : Type 0 where
-      pub seen : (n m : Name) → LentElsewhere older Borrowed n → LentElsewhere older Observed m → overlaps n m ≡ true → ⊥
-      pub own_moved : (n : Name) → Has facts (Moved n) → (l : Loan) (m : Name) → LentElsewhere older l m → n.root ≡ m.root → ⊥
-      pub own_borrowed : (b : ℕ) (n : Name) → Has facts (Lent Borrowed b n) → (l : Loan) (m : Name) → LentElsewhere older l m → n.root ≡ m.root → ⊥
-      pub own_seen : (h : ℕ) (m : Name) → Has facts (Lent Observed h m) → (n : Name) → LentElsewhere older Borrowed n → n.root ≡ m.root → ⊥
-
-    -- what is gone for them is excused by their facts on package objects, and by what concerns the innermost frame of them
-    pub elsewhere_excused : (v : Views) (facts : List Fact) (w : Way) → GoneElsewhere program effects older w → ExcusedBy (home s depth) v beside_them (facts ++ handed) w
-    elsewhere_excused v facts w away = elim (near_or_far depth w) [
-      | inr far ↦ inr (far, away)
-      | inl near ↦ inl (inr (near_lent w near away, away))
-    ]
-
-    -- with them
-    pub with_them : (v : Views) (view : View) (facts : List Fact) → ((x : ℕ) (w : Way) → v.way x ≡ Some w → is_package_object s x ≡ false)
-        → ((x : ℕ) → is_package_object s x ≡ true → sees_only s x ≡ false) → AreApart facts
-        → AreTheirs older view → IsBeyond program effects depth v older
-        → ViewedAlone (home s depth) (sees_only s) (known_gone (home s depth) (GoneElsewhere program effects older)) v view facts
-        → Viewed (home s depth) (sees_only s) beside_them v view (facts ++ handed)
-    with_them v view facts only plain apart reach past well = record {
-      owned = well.owned;
-      covered = well.covered;
-      known = λ w l rooted r gone. elim (well.known w l rooted r gone) [
-        | inl (inr none) ↦ absurd none
-        | inl (inl (u, moved, leads)) ↦ inl (inl (u, (moved.0, Has-append_left facts handed (Moved (name_of u)) moved.1), leads))
-        | inr away ↦ elsewhere_excused v facts w away
-      ];
-      clear = record {
-        moved = λ l h n m has lends over. elim (cases (Moved n) has) [
-          | inl own ↦ elim (cases (Lent l h m) lends) [
-            | inl mine ↦ well.clear.moved l h n m own mine over
-            | inr there ↦ apart.own_moved n own l m (lent_handed l h m there).1 (same_root n m over)
-          ]
-          | inr away ↦ none_moved n away
-        ];
-        lent = λ b h n m one two off over. elim (cases (Lent Borrowed b n) one) [
-          | inl own ↦ elim (cases (Lent Borrowed h m) two) [
-            | inl mine ↦ well.clear.lent b h n m own mine off over
-            | inr there ↦ apart.own_borrowed b n own Borrowed m (lent_handed Borrowed h m there).1 (same_root n m over)
-          ]
-          | inr away ↦ elim (cases (Lent Borrowed h m) two) [
-            | inl mine ↦ apart.own_borrowed h m mine Borrowed n (lent_handed Borrowed b n away).1 (sym (same_root n m over))
-            | inr there ↦ off ((lent_handed Borrowed b n away).0 ∙ same_root n m over ∙ sym (lent_handed Borrowed h m there).0)
-          ]
-        ];
-        seen = λ b h n m one two over. elim (cases (Lent Borrowed b n) one) [
-          | inl own ↦ elim (cases (Lent Observed h m) two) [
-            | inl mine ↦ well.clear.seen b h n m own mine over
-            | inr there ↦ apart.own_borrowed b n own Observed m (lent_handed Observed h m there).1 (same_root n m over)
-          ]
-          | inr away ↦ elim (cases (Lent Observed h m) two) [
-            | inl mine ↦ apart.own_seen h m mine n (lent_handed Borrowed b n away).1 (same_root n m over)
-            | inr there ↦ apart.seen n m (lent_handed Borrowed b n away).1 (lent_handed Observed h m there).1 over
-          ]
-        ];
-        owned = λ n has. elim (cases (Moved n) has) [
-          | inl own ↦ well.clear.owned n own
-          | inr there ↦ absurd (none_moved n there)
-        ];
-      };
-      views = λ x w has.
-          view_on (home s depth) (sees_only s) (known_gone (home s depth) (GoneElsewhere program effects older)) v view view facts (facts ++ handed) x w
-          (well.views x w has)
-          (λ b n loan. own_loan (sees_only s) facts (facts ++ handed) (λ l h m own. Has-append_left facts handed (Lent l h m) own) b x n loan)
-          (reached (home s depth) (sees_only s) beside_them v view facts x w (well.views x w has));
-      whole = λ x w z has outer gone meets. well.whole x w z has outer gone.1 meets;
-      whole_away = λ x w z has given away meets. well.whole x w z has (inr given) away.1 meets;
-      shown = past.1;
-      past = past.0;
-      lends = λ l n lent. record {
-        has = Has-append_right facts handed (Lent l n.root n) (loans_has older l n lent);
-        none = none_there n.root lent.5;
-        plain = plain n.root lent.5;
-      };
-      far = reach.far;
-      bare = reach.bare;
-    }
-      where
-        cases : (f : Fact) → Has (facts ++ handed) f → Has facts f ⊎ Has handed f
-        cases f has = Has-append_cases facts handed f has
-
-        same_root : (n m : Name) → overlaps n m ≡ true → n.root ≡ m.root
-        same_root n m over = eqb-true n.root m.root (both_first (n.root == m.root) _ over)
-
-        none_there : (x : ℕ) → is_package_object s x ≡ true → v.way x ≡ None
-        none_there x shared = by_way (v.way x) refl
-          where
-            by_way : (o : Option Way) → v.way x ≡ o → v.way x ≡ None
-            by_way None is = is
-            by_way (Some w) is = (let no : true ≡ false = sym shared ∙ only x w is in cc)
-
-    -- and without them
-    pub without_them : (v : Views) (view : View) (all facts : List Fact) → ((x : ℕ) (w : Way) → v.way x ≡ Some w → is_package_object s x ≡ false)
-        → ((x : ℕ) → is_package_object s x ≡ true → sees_only s x ≡ false)
-        → ((f : Fact) → Has facts f → Has all f) → Splits all facts handed
-        → Viewed (home s depth) (sees_only s) beside_them v view all
-        → ViewedAlone (home s depth) (sees_only s) (known_gone (home s depth) (GoneElsewhere program effects older)) v view facts
-    without_them v view all facts only plain part from well = record {
-      owned = well.owned;
-      covered = well.covered;
-      known = λ w l rooted r gone. elim (well.known w l rooted r gone) [
-        | inr away ↦ inr away.1
-        | inl (inr away) ↦ inr away.1
-        | inl (inl (u, moved, leads)) ↦ elim (from (Moved (name_of u)) moved.1) [
-          | inl mine ↦ inl (inl (u, (moved.0, mine), leads))
-          | inr there ↦ absurd (none_moved (name_of u) there)
-        ]
-      ];
-      clear = record {
-        moved = λ l h n m has lends over. well.clear.moved l h n m (part (Moved n) has) (part (Lent l h m) lends) over;
-        lent = λ b h n m one two off over. well.clear.lent b h n m (part (Lent Borrowed b n) one) (part (Lent Borrowed h m) two) off over;
-        seen = λ b h n m one two over. well.clear.seen b h n m (part (Lent Borrowed b n) one) (part (Lent Observed h m) two) over;
-        owned = λ n has. well.clear.owned n (part (Moved n) has);
-      };
-      whole = λ x w z has outer gone meets. elim (near_or_far depth z) [
-        | inr far ↦ well.whole x w z has outer (far, gone) meets
-        | inl near ↦ elim outer [
-          | inr given ↦ well.whole_away x w z has given (near_lent z near gone, gone) meets
-          | inl foreign ↦ (far_met w z foreign gone meets).0 near
-        ]
-      ];
-      views = λ x w has.
-          view_on (home s depth) (sees_only s) beside_them v view view all facts x w (well.views x w has) (λ b n loan. loan_kept x w has b n loan)
-          (reached (home s depth) (sees_only s) beside_them v view all x w (well.views x w has));
-    }
-      where
-        not_both : (b : Bool) → b ≡ true → b ≡ false → ⊥
-        not_both true e h = cc
-        not_both false e h = cc
-
-        -- the frame's own loans are held by its own objects
-        loan_kept : (x : ℕ) (w : Way) → v.way x ≡ Some w → (b : Bool) (n : Name) → HasLoan (sees_only s) b x all n → HasLoan (sees_only s) b x facts n
-        loan_kept x w has true n (h, lent, sees) = elim (from (Lent Observed h n) lent) [
-          | inl mine ↦ (h, mine, sees)
-          | inr there ↦ absurd (let away = lent_handed Observed h n there in
-              not_both (sees_only s h) sees (plain h (ap (is_package_object s) away.0 ∙ (away.1).5)))
-        ]
-        loan_kept x w has false n lent = elim (from (Lent Borrowed x n) lent) [
-          | inl mine ↦ mine
-          | inr there ↦ absurd (let away = lent_handed Borrowed x n there in
-              not_both (is_package_object s x) (ap (is_package_object s) away.0 ∙ (away.1).5) (only x w has))
-        ]

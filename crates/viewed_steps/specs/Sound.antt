@@ -9,8 +9,7 @@ use Rattle.spark_base.specs.Lists.{Has}
 use Rattle.spark_base.specs.declared.position.Pos.{Pos}
 use Rattle.place_names.specs.declared.act.Mode.TheVariants as mode
 use Rattle.place_names.specs.declared.fact.Fact.{Fact}
-use Rattle.place_names.specs.declared.act.Placed.{Placed}
-use Rattle.place_names.specs.Facts.{adds, place}
+use Rattle.place_names.specs.Facts.{place}
 use Rattle.place_names.specs.declared.fact.Fact.TheVariants.{Moved, Lent}
 use Rattle.place_names.specs.declared.rule.Loan.{Loan}
 use Rattle.place_names.specs.declared.rule.Loan.TheVariants.{Borrowed, Observed}
@@ -199,7 +198,7 @@ lent_to result = if is_some result then Observed else Borrowed
 
 unfoldable pub shown_one : Typing → Loan → alias.Passed → List Fact
 shown_one s l b =
-    if is_given s b.formal && is_package_object s b.actual.name.root then Lent l b.formal b.actual.name ∷ [] else []
+    if is_view_formal s b.formal && is_package_object s b.actual.name.root then Lent l b.formal b.actual.name ∷ [] else []
 
 abbrev pub shown_by : FlowProgram → Instruction → List Fact
 shown_by program (Call n actuals result) = flat_map (shown_one (flow_typing program) (lent_to result)) (alias.passed (sub_of program n).formals actuals)
