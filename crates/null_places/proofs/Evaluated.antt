@@ -48,7 +48,7 @@ module _ (h : Here) (settled : IsSettled h.typing.table) (own_law : OwnsByShape 
       by_test ws n n' now true = (refl, now)
       by_test ws n n' now false = (refl, now)
 
-  allocated_same : (t : ℕ) (x y : Evaluated (List machine.Word)) → Same x y → Same (followed_by x (allocated t)) (followed_by y (allocated t))
+  pub allocated_same : (t : ℕ) (x y : Evaluated (List machine.Word)) → Same x y → Same (followed_by x (allocated t)) (followed_by y (allocated t))
   allocated_same t x y same =
       simply h.typing x y (allocated t) (allocated t) same (λ ws n n' now.
       subst (λ k. SameTo h.typing (allocated t ws n)
@@ -193,7 +193,7 @@ module _ (h : Here) (settled : IsSettled h.typing.table) (own_law : OwnsByShape 
     value_on e want gives calls own_calls before on takes compares m hands facts so allowed only own keep n' same = absurd gives
 
     -- the parts of an aggregate from the i-th on
-    parts_same : (es : TypedTree) (t i : ℕ) → GivesParts h.typing t i es → asks.calls (has_call es) → asks.gives es → (before on : List (List machine.Word))
+    pub parts_same : (es : TypedTree) (t i : ℕ) → GivesParts h.typing t i es → asks.calls (has_call es) → asks.gives es → (before on : List (List machine.Word))
         → Takes (waiting es) before on → Compares h.typing es
         → (m : Memory) (hands : List Waiting) (facts : List Fact) → ready m hands facts → AllowsAll facts (acts (acts_in h.typing es)) → OnlyOwners h.typing m
         → is_record (shape_of h.typing.table t) || is_array (shape_of h.typing.table t) ≡ true → asks.keeps (acts (acts_in h.typing es)) → (n' : Now) → SameNow h.typing (record { memory = m; waits = before }) n'

@@ -1,6 +1,6 @@
 -- Facts without an element stay exact where an expression takes the one value that waits for its calls, within
 -- an aggregate or an allocator, too.
-use Rattle.std.proofs.Common.{◌≡◌, refl, sym, ap, ◌∙◌, subst, inl, inr, ℕ, suc, true, ◌||◌, List, [], ◌∷◌, ◌++◌, length, append-nil}
+use Rattle.std.proofs.Common.{◌≡◌, refl, sym, ap, ◌∙◌, subst, inl, inr, ℕ, suc, true, ◌||◌, List, ◌∷◌, ◌++◌, length, append-nil}
 use Rattle.place_names.specs.declared.fact.Fact.{Fact}
 use Rattle.type_definitions.specs.declared.table.Shape.{Shape}
 use Rattle.type_definitions.specs.Types.{shape_of, words}
@@ -8,7 +8,7 @@ use Rattle.typed_tree.specs.Trees.{TypedTree, Call, Parens, Aggregate, New, NoMo
 use Rattle.flow_paths.specs.Names.{has_call}
 use Rattle.flow_paths.specs.Acts.{acts_in}
 use Rattle.machine.specs.Words as machine
-use Rattle.machine.specs.Typed.{tree_count, field_count, is_record, is_array}
+use Rattle.machine.specs.Typed.{is_record, is_array}
 use Rattle.machine.specs.Memory.{Memory}
 use Rattle.machine.specs.Evaluate.{Here, Now, AsValue, part_type, parts_of, Evaluated, Done, followed_by, evaluate, initial, checked, allocated}
 use Rattle.machine.specs.Owners.{no_value}
@@ -24,7 +24,7 @@ use Rattle.soundness.proofs.Evaluated.{Keeps, regrouped}
 use Rattle.owned_loans.specs.Views.{Around, Views}
 use Rattle.viewed_soundness.specs.Holds.{is_fixed, IsNamed, PartsAreNamed, AllKeep}
 use Rattle.viewed_soundness.specs.Taken.{IsFed}
-use Rattle.viewed_soundness.proofs.Evaluated.{keep_both, matches_named, gives_plainly, Ready, GivenOn, checked_on, blank_ready, evaluated_on, part_named}
+use Rattle.viewed_soundness.proofs.Evaluated.{keep_both, matches_named, gives_plainly, Ready, GivenOn, checked_on, evaluated_on, part_named}
 use Rattle.viewed_soundness.proofs.Fed.{fed}
 use Rattle.viewed_facts.specs.Exact.{IsExact}
 use Rattle.viewed_facts.proofs.Evaluated.{ExactTo, checked_exact, done_exact, allocated_exact, then_parts, exact_on, parts_exact}

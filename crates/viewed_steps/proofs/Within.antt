@@ -29,13 +29,12 @@ use Rattle.flow_paths.specs.Laid.{FlowProgram, NamedSub, typing_of, flow_typing,
 use Rattle.flow_paths.specs.Paths.{ControlPath}
 use Rattle.flow_paths.specs.Effects.{path_points}
 use Rattle.flow_paths.specs.Scopes.{taken, scope_behind}
-use Rattle.machine.specs.Words.{fits_type}
 use Rattle.machine.specs.Words as machine
 use Rattle.machine.specs.Memory.{declared, stored}
-use Rattle.machine.specs.Evaluate.{Exception, ConstraintError, ProgramError, Evaluated, Done, followed_by, value, place_of, text_of, Now, checked, initial}
+use Rattle.machine.specs.Evaluate.{Evaluated, Done, followed_by, value, place_of, Now, checked, initial}
 use Rattle.machine.specs.Evaluate as run
 use Rattle.machine.specs.States.{Waiting, Frame, State, Outcome, sub_of}
-use Rattle.machine.specs.Step.{Turn, turn, start, successor}
+use Rattle.machine.specs.Step.{Turn, turn, start}
 use Rattle.machine.specs.Step as steps
 use Rattle.machine.specs.Owners.{waiting_in}
 use Rattle.owned_ways.specs.Ways.{Step, OfVariable, OfRoot, Way, Held, after, AllowsAll}
@@ -60,29 +59,14 @@ use Rattle.viewed_steps.specs.Ready.{IsReady, AreOrderly}
 use Rattle.viewed_steps.proofs.Lent.{Spare}
 use Rattle.viewed_steps.proofs.Placed.{MayBe}
 use Rattle.viewed_steps.proofs.Waiting.{StandsBetween, beside_them, handed, apart_elsewhere}
-use Rattle.viewed_steps.proofs.Standing.{or_right}
 use Rattle.viewed_steps.proofs.Standing as standing
 use Rattle.viewed_steps.specs.Awaited.{IsMade}
-use Rattle.viewed_steps.specs.Traversals.{IsSourceIn}
 use Rattle.viewed_steps.proofs.Sources.{leads_or}
 use Rattle.soundness.proofs.Following.{Each}
-use Rattle.viewed_soundness.proofs.Names.{true_false}
-use Rattle.std.proofs.Common.{◌≡◌, refl, sym, ap, ◌∙◌, subst, ◌⊎◌, inl, inr, ℕ, suc, ◌<◌, Bool, true, false, List, [], ◌∷◌, ◌++◌, drop, length, None, map}
-use Rattle.flow_paths.specs.Names.{has_call}
-use Rattle.flow_paths.specs.Scopes.{taken, brought, scope_behind}
-use Rattle.machine.specs.Memory.{declared}
-use Rattle.machine.specs.Evaluate.{Done, followed_by, place_of}
-use Rattle.soundness.specs.Typed.{Kept}
-use Rattle.typed_laws.specs.Needed.{IsFine}
-use Rattle.soundness.specs.Sound.{IsNoCall, Stage, facts_of, AreStages, IsRunnable, returns_value, InScope, IsNamedSub, IsAtPoint, view_of as view_here}
-use Rattle.soundness.proofs.Eased.{eased}
+use Rattle.flow_paths.specs.Scopes.{brought}
+use Rattle.soundness.specs.Sound.{returns_value}
 use Rattle.soundness.proofs.Successors.{below_one}
-use Rattle.viewed_soundness.specs.Holds.{is_view, sees_only}
-use Rattle.viewed_soundness.proofs.Outcomes.{named_plain, Leads_on}
-use Rattle.viewed_steps.specs.Awaited.{AreValues, lasting_of, AreAwaited}
-use Rattle.viewed_steps.proofs.Waited.{Shares}
 use Rattle.viewed_steps.proofs.Beside.{IsOther, others_keep}
-use Rattle.viewed_steps.proofs.Waiting.{StandsBetween, beside_them, handed}
 use Rattle.soundness.specs.Ready.{IsSupplied, Fills}
 use Rattle.soundness.proofs.Onward.{GoesOn, declare_follows, assign_follows}
 use Rattle.viewed_steps.proofs.Turned as turned
@@ -97,12 +81,7 @@ use Rattle.viewed_steps.proofs.Packages as packages
 use Rattle.viewed_steps.proofs.Innermost as innermost
 use Rattle.std.specs.Prelude.{flat_map, reverse}
 use Rattle.type_definitions.specs.Types.{words}
-use Rattle.machine.specs.Step.{led}
 use Rattle.machine.specs.Evaluate.{Raises, Traps}
-use Rattle.soundness.specs.Seen.{seen}
-use Rattle.soundness.specs.Sound.{is_temporary_object, temporaries_in}
-use Rattle.soundness.specs.Ready.{IsSupplied}
-use Rattle.soundness.proofs.Waits.{take_none, waits_of}
 use Rattle.soundness.proofs.Numbers.{index_law}
 use Rattle.soundness.proofs.Lasting.{keeps}
 use Rattle.viewed_soundness.proofs.Evaluated.{Given, Ready, checked_given, keep_both}
@@ -306,7 +285,7 @@ module _ (table : Table) (typed : TypedProgram) (effects : Effects) (input : Lis
                 ),
               )
 
-      ready_value : Ready (steps.here main_turn) ready.accepted.settled state.leaks [] other alone (keeps s ready.accepted.settled ready.owns) index_law ready.owns views
+      pub ready_value : Ready (steps.here main_turn) ready.accepted.settled state.leaks [] other alone (keeps s ready.accepted.settled ready.owns) index_law ready.owns views
           ready.class.parts_named state.memory (first_value.0 ∷ waiting_in easy.state) facts_now
       ready_value = record {
         viewed = subst (λ z. Viewed (home s depth) (sees_only s) other views (seen s state.memory z state.leaks) facts_now) first_value.1.2 viewed;
@@ -364,18 +343,18 @@ module _ (table : Table) (typed : TypedProgram) (effects : Effects) (input : Lis
             ∙ ap (λ b. if b then flow.source_acts s held (flow.observe s y) else acts_in s v) kinds.1)
             ∙ ap acts (append-nil (acts_in s held))
 
-        allowed_here : AllowsAll facts_now (acts (acts_in s held))
+        pub allowed_here : AllowsAll facts_now (acts (acts_in s held))
         allowed_here =
             subst (AllowsAll facts_now) acts_same (subst (λ i. AllowsAll facts_now (acts_of_main i)) is
             (allowed_there (λ finish. (let never : Finish ≡ Declare y v = sym finish ∙ is in cc))))
 
-        keeps_here : AllKeep (is_fixed s) (acts (acts_in s held))
+        pub keeps_here : AllKeep (is_fixed s) (acts (acts_in s held))
         keeps_here = subst (AllKeep (is_fixed s)) acts_same (subst (λ i. AllKeep (is_fixed s) (acts_of_main i)) is keeps_there)
 
         pub source_here : Source s (object_at s y).of held
         source_here = (subst (IsFine s named.sub.result) is (standing.fine table typed effects input ready state top older outer named p frames of_sub at_point)).1
 
-        facts_same : after (acts (acts_in s held)) facts_now ≡ after (acts_of_main (Declare y v)) facts_now
+        pub facts_same : after (acts (acts_in s held)) facts_now ≡ after (acts_of_main (Declare y v)) facts_now
         facts_same = ap (λ z. after z facts_now) (sym acts_same)
 
         declared_value : (z : Evaluated (List machine.Word))
@@ -430,28 +409,28 @@ module _ (table : Table) (typed : TypedProgram) (effects : Effects) (input : Lis
         abbrev last_acts : List Act
         last_acts = acts (acts_in s path_there) ++ act.Write (name_of y path_there) ∷ []
 
-        acts_there : acts_of_main (Assign target held) ≡ first_acts ++ last_acts
+        pub acts_there : acts_of_main (Assign target held) ≡ first_acts ++ last_acts
         acts_there =
             ap acts (assigned_acts s p.pos y u target path_there held named_target leads_there)
             ∙ acts_append (acts_in s held ++ acts_in s path_there) (record { pos = r; act = act.Write (name_of y path_there) } ∷ [])
             ∙ ap (λ z. z ++ (act.Write (name_of y path_there) ∷ [])) (acts_append (acts_in s held) (acts_in s path_there))
             ∙ append_assoc first_acts (acts (acts_in s path_there)) (act.Write (name_of y path_there) ∷ [])
 
-        each_allowed : AllowsAll facts_now first_acts × AllowsAll (after first_acts facts_now) last_acts
+        pub each_allowed : AllowsAll facts_now first_acts × AllowsAll (after first_acts facts_now) last_acts
         each_allowed =
             allows_both facts_now first_acts last_acts (subst (AllowsAll facts_now) acts_there (subst (λ i. AllowsAll facts_now (acts_of_main i)) is (allowed_there end)))
 
-        each_kept : AllKeep (is_fixed s) first_acts × AllKeep (is_fixed s) last_acts
+        pub each_kept : AllKeep (is_fixed s) first_acts × AllKeep (is_fixed s) last_acts
         each_kept =
             keep_both (is_fixed s) first_acts last_acts (subst (AllKeep (is_fixed s)) acts_there (subst (λ i. AllKeep (is_fixed s) (acts_of_main i)) is keeps_there))
 
-        plain_root : is_fixed s (name_of y path_there) ≡ false
+        pub plain_root : is_fixed s (name_of y path_there) ≡ false
         plain_root = (keep_both (is_fixed s) (acts (acts_in s path_there)) (act.Write (name_of y path_there) ∷ []) each_kept.1).1.0
 
         abbrev facts_then : List Fact
         facts_then = effect (act.Write (name_of y path_there)) (after (acts (acts_in s path_there)) (after first_acts facts_now))
 
-        facts_there : facts_then ≡ after (acts_of_main (Assign target held)) facts_now
+        pub facts_there : facts_then ≡ after (acts_of_main (Assign target held)) facts_now
         facts_there =
             sym (ap (λ z. after z facts_now) acts_there ∙ after_append first_acts last_acts facts_now
             ∙ after_append (acts (acts_in s path_there)) (act.Write (name_of y path_there) ∷ []) (after first_acts facts_now))
