@@ -439,10 +439,10 @@ module _ (h : Here) (settled : IsSettled h.typing.table) (leaks : List Leak) (wa
   elements_plain t (shape.Fields cs) e is none = cc
   elements_plain t (shape.Same of) e is none = cc
 
-  abbrev repeats : ℕ → List machine.Word → Now → Evaluated (List machine.Word)
+  abbrev pub repeats : ℕ → List machine.Word → Now → Evaluated (List machine.Word)
   repeats t ws now = Done (machine.repeated (machine.element_count h.typing.table t) ws) now
 
-  repeated_given : (on : List (List machine.Word)) (t : ℕ) (hands : List Waiting) (facts : List Fact) → is_array (shape_of h.typing.table t) ≡ true
+  pub repeated_given : (on : List (List machine.Word)) (t : ℕ) (hands : List Waiting) (facts : List Fact) → is_array (shape_of h.typing.table t) ≡ true
       → is_owning h.typing.table (machine.element_type h.typing.table t) ≡ false → (x : Evaluated (List machine.Word))
       → GivenOn on (machine.element_type h.typing.table t) hands facts x → GivenOn on t hands facts (followed_by x (repeats t))
   repeated_given on t hands facts array none (Done ws n) (ready, long, same) =
@@ -476,7 +476,7 @@ module _ (h : Here) (settled : IsSettled h.typing.table) (leaks : List Leak) (wa
   )
   nulls_given on t m hands facts array one ready false = tt
 
-  matches_plain : (t u : ℕ) → Matches h.typing.table t u → is_scalar (full h.typing.table t) ≡ true → is_scalar (full h.typing.table u) ≡ true
+  pub matches_plain : (t u : ℕ) → Matches h.typing.table t u → is_scalar (full h.typing.table t) ≡ true → is_scalar (full h.typing.table u) ≡ true
   matches_plain t u (inl same) plain = ap (λ z. is_scalar (view_shape z)) (sym same) ∙ plain
   matches_plain t u (inr both) plain = both.1
 

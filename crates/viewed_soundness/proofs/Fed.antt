@@ -1,68 +1,120 @@
--- An expression takes the one value that waits for its calls, and is of any type: within an aggregate or an
--- allocator, too. Meanwhile the value is in a hand below those of the expression.
-use Rattle.std.proofs.Common.{◌≡◌, refl, sym, ap, ◌∙◌, subst, inl, inr, ℕ, suc, ◌+◌, ◌<◌, true, false, ◌||◌, List, [], ◌∷◌, ◌++◌, length, drop, arith, append-nil, length-append, if◌then◌else◌}
+-- An expression takes the values that wait for its calls, of any types: each is in a hand below those of the
+-- expression until it is taken.
+use Rattle.std.proofs.Common.{◌≡◌, refl, sym, ap, ◌∙◌, subst, inl, inr, ℕ, suc, ◌+◌, ◌<◌, Bool, true, false, ◌||◌, List, [], ◌∷◌, ◌++◌, length, drop, arith, append-nil, append_assoc, length-append, if◌then◌else◌}
+use Rattle.std.specs.List.{AllByRecursion}
 use Rattle.place_names.specs.declared.fact.Fact.{Fact}
 use Rattle.type_definitions.specs.declared.table.Shape.{Shape}
-use Rattle.type_definitions.specs.Types.{shape_of, words}
-use Rattle.typed_tree.specs.Trees.{TypedTree, Call, Parens, Aggregate, New, NoMore, More}
+use Rattle.type_definitions.specs.Entries.{boolean}
+use Rattle.type_definitions.specs.Types.{shape_of, words, full, is_scalar}
+use Rattle.typed_tree.specs.Trees.{TypedTree, Name, Component as IntoComponent, Designated, Element, Call, Parens, Image, Unary, Binary, Short, IsNull, Aggregate, Alike, New, NoMore, More}
 use Rattle.flow_paths.specs.Objects.{Typing}
-use Rattle.flow_paths.specs.Names.{has_call}
+use Rattle.flow_paths.specs.Names.{has_call, waiting}
 use Rattle.flow_paths.specs.Acts.{acts_in}
 use Rattle.machine.specs.Words.{default, fits_type}
 use Rattle.machine.specs.Words as machine
 use Rattle.machine.specs.Memory.{Memory}
 use Rattle.machine.specs.Evaluate.{Here, Now, AsValue, part_type, parts_of, Evaluated, Done, Raises, Traps, followed_by, evaluate, initial, checked, allocated}
-use Rattle.machine.specs.Typed.{tree_count, field_count, is_record, is_array}
+use Rattle.machine.specs.Owners.{no_value}
 use Rattle.machine.specs.States.{Waiting, Leak}
-use Rattle.owned_ways.specs.Ways.{Step, OfVariable, OfHand, Loc, OfRoot, OfCell, Inside, Way, Object, Lost, Into, All, Word, Empty, Reaches, IsRooted, Under, Named, Spares, Allows, after, AllowsAll, Owned, IsSame, number_of}
-use Rattle.owned_ways.specs.Ways as ways
+use Rattle.machine.specs.Typed.{tree_count, field_count, is_record, is_array}
+use Rattle.owned_ways.specs.Ways.{Way, after, AllowsAll}
 use Rattle.part_offsets.specs.Parts.{IsSettled}
-use Rattle.soundness.specs.Seen.{IsNear, in_hand, content, trunk, word_in, seen, home}
-use Rattle.soundness.specs.Typed.{Matches, OwnsByShape, Kept}
+use Rattle.soundness.specs.Seen.{IsNear, home}
+use Rattle.soundness.specs.Typed.{Matches, OwnsByShape}
 use Rattle.typed_laws.specs.Needed.{Gives, GivesParts, GivesFirst, IndexLaw}
-use Rattle.soundness.proofs.Defaults.{NoCell, blank_word}
-use Rattle.soundness.proofs.Filling.{nth_part, words_to, words_none, words_next, part_there, part_is, part_offset}
+use Rattle.soundness.proofs.Evaluated.{regrouped, Keeps}
+use Rattle.soundness.proofs.Filling.{nth_part, words_to, words_none, words_next, part_there, part_is, part_offset, words_whole}
 use Rattle.soundness.proofs.Scalars.{after_append, allows_both, acts, acts_append}
-use Rattle.soundness.proofs.Taking.{no_takes}
-use Rattle.soundness.proofs.Evaluated.{regrouped, blank_hand, Keeps}
-use Rattle.owned_loans.specs.Views.{Around, Views, ExcusedBy, Viewed}
-use Rattle.owned_loans.proofs.Moves.{as_sound, same_viewed}
-use Rattle.viewed_soundness.specs.Holds.{IsNamed, PartsAreNamed, sees_only, is_fixed, AllKeep}
+use Rattle.soundness.proofs.Steps.{plain_shape}
+use Rattle.soundness.proofs.Taking.{IsWord, Takes, takes_none}
 use Rattle.soundness.proofs.Waits.{drop_none}
-use Rattle.viewed_soundness.proofs.Moments.{from_sound, hands_spared, other_hands}
-use Rattle.flow_paths.specs.Objects.{sub_at}
-use Rattle.std.proofs.Common.{Some, ◌⊎◌, ◌==◌}
-use Rattle.machine.specs.Owners.{no_value, waiting_at}
-use Rattle.soundness.specs.Changes.{hand}
-use Rattle.soundness.specs.Typed.{Points}
-use Rattle.soundness.specs.Seen.{steps_in}
-use Rattle.soundness.proofs.Around.{same_or_not}
-use Rattle.soundness.proofs.Steps.{hand_top, hand_below}
-use Rattle.soundness.proofs.Taking.{no_takes}
-use Rattle.soundness.proofs.Keeping.{less}
-use Rattle.soundness.proofs.Defaults.{blank_word}
-use Rattle.viewed_soundness.specs.Taken.{IsFed}
-use Rattle.viewed_soundness.proofs.Lifted.{lifted_sound, lifted_kept}
-use Rattle.viewed_soundness.proofs.Evaluated.{gives_plainly, keep_both, matches_named, part_named}
+use Rattle.owned_loans.specs.Views.{Around, Views}
+use Rattle.viewed_soundness.specs.Holds.{IsNamed, PartsAreNamed, is_fixed, AllKeep}
+use Rattle.viewed_soundness.specs.Taken.{GivesPlainly, type_given, types_taken, AreScalarTypes, TakesFit, IsOfType, AreOfTypes, AreScalarValues}
+use Rattle.viewed_soundness.proofs.Evaluated.{keep_both, matches_named, part_named}
 use Rattle.viewed_soundness.proofs.Evaluated as evaluating
+use Rattle.viewed_soundness.proofs.Hands.{blanks, blanks_both, first_words, first_both}
+use Rattle.viewed_soundness.proofs.Hands as hand
 
--- ---- hands
+-- ---- what is taken
 
-deep : (K : List Waiting) (x : Waiting) (rest : List Waiting) → waiting_at (K ++ x ∷ rest) (length rest) ≡ x
-deep [] x rest = hand_top x rest
-deep (y ∷ K) x rest =
-    hand_below y (K ++ x ∷ rest) (length rest) (λ e. (let size = length-append K (x ∷ rest) in absurd (omega (arith, e, size)))) ∙ deep K x rest
+both_count : (xs ys : List ℕ) (m n : ℕ) → length xs ≡ m → length ys ≡ n → length (ys ++ xs) ≡ m + n
+both_count xs ys m n first second = (let size : length (ys ++ xs) ≡ length ys + length xs = length-append ys xs in omega (arith, size, first, second))
 
-same_length : (K : List Waiting) (x y : Waiting) (rest : List Waiting) → length (K ++ x ∷ rest) ≡ length (K ++ y ∷ rest)
-same_length [] x y rest = refl
-same_length (z ∷ K) x y rest = ap suc (same_length K x y rest)
+-- as many as are asked for
+pub types_count : (s : Typing) (e : TypedTree) → length (types_taken s e) ≡ waiting e
+unfolding types_taken waiting
+types_count s (Call p sub actuals) = refl
+types_count s (Name p x steps t) = types_count s steps
+types_count s (IntoComponent i rest) = types_count s rest
+types_count s (Designated rest) = types_count s rest
+types_count s (Element index low high rest) = both_count (types_taken s index) (types_taken s rest) (waiting index) (waiting rest) (types_count s index) (types_count s rest)
+types_count s (Image t e) = types_count s e
+types_count s (Parens e) = types_count s e
+types_count s (Unary op e) = types_count s e
+types_count s (Binary op a b) = both_count (types_taken s a) (types_taken s b) (waiting a) (waiting b) (types_count s a) (types_count s b)
+types_count s (Short op p a q b) =
+    by (has_call b) (both_count (types_taken s a) (types_taken s b) (waiting a) (waiting b) (types_count s a) (types_count s b))
+  where
+    by : (c : Bool) → length (types_taken s b ++ types_taken s a) ≡ waiting a + waiting b
+        → length (if c then boolean ∷ [] else types_taken s b ++ types_taken s a) ≡ (if c then 1 else waiting a + waiting b)
+    by true both = refl
+    by false both = both
+types_count s (IsNull equal e) = types_count s e
+types_count s (Aggregate t parts) = types_count s parts
+types_count s (Alike t e) = types_count s e
+types_count s (New t v) = types_count s v
+types_count s (More e rest) = both_count (types_taken s e) (types_taken s rest) (waiting e) (waiting rest) (types_count s e) (types_count s rest)
+types_count s _ = refl
 
-elsewhere : (K : List Waiting) (x y : Waiting) (rest : List Waiting) (j : ℕ) → (j ≡ length rest → ⊥) → waiting_at (K ++ x ∷ rest) j ≡ waiting_at (K ++ y ∷ rest) j
-elsewhere [] x y rest j off = hand_below x rest j off ∙ sym (hand_below y rest j off)
-elsewhere (z ∷ K) x y rest j off = (λ i. if j == same_length K x y rest i then z else elsewhere K x y rest j off i)
+-- values of two lists of types
+pub split_values : (s : Typing) (ts us : List ℕ) (values : List Waiting) → AreOfTypes s (ts ++ us) values
+    → (xs : List Waiting) × (ys : List Waiting) × (values ≡ xs ++ ys) × AreOfTypes s ts xs × AreOfTypes s us ys
+split_values s [] us values fit = ([], values, refl, tt, fit)
+split_values s (t ∷ ts) us [] fit = absurd fit
+split_values s (t ∷ ts) us (v ∷ values) fit =
+    let more = split_values s ts us values fit.1 in (v ∷ more.0, more.1, ap (λ z. v ∷ z) more.2, (fit.0, more.3), more.4)
 
-deeper : (K : List Waiting) (x : Waiting) (rest : List Waiting) → length (K ++ x ∷ rest) ≡ length rest → ⊥
-deeper K x rest e = (let size = length-append K (x ∷ rest) in omega (arith, e, size))
+pub scalar_both : (s : Typing) (ts us : List ℕ) → AreScalarTypes s (ts ++ us) → AreScalarTypes s ts × AreScalarTypes s us
+scalar_both s [] us scalar = (tt, scalar)
+scalar_both s (t ∷ ts) us scalar = let more = scalar_both s ts us scalar.1 in ((scalar.0, more.0), more.1)
+
+-- values of scalar types are scalar
+pub scalar_values : (s : Typing) (types : List ℕ) (values : List Waiting) → AreOfTypes s types values → AreScalarTypes s types → AreScalarValues s values
+scalar_values s [] [] fit scalar = tt
+scalar_values s [] (v ∷ values) fit scalar = absurd fit
+scalar_values s (t ∷ types) [] fit scalar = absurd fit
+scalar_values s (t ∷ types) (v ∷ values) fit scalar = (
+  elim fit.0.0 [ inl both ↦ both.1 | inr same ↦ ap (λ z. is_scalar (full s.table z)) (sym same) ∙ scalar.0 ],
+  scalar_values s types values fit.1 scalar.1,
+)
+
+-- They are taken one after the other.
+pub takes_then : (j k : ℕ) (before mid on : List (List machine.Word)) → Takes j before mid → Takes k mid on → Takes (j + k) before on
+takes_then j k before mid on first more = record {
+  all = first.all ++ more.all;
+  is = first.is ∙ ap (λ z. first.all ++ z) more.is ∙ sym (append_assoc first.all more.all on);
+  count = (let size : length (first.all ++ more.all) ≡ length first.all + length more.all = length-append first.all more.all in
+      let one = first.count in let two = more.count in omega (arith, size, one, two));
+  each = each_both first.all more.all first.each more.each;
+}
+  where
+    each_both : (xs ys : List (List machine.Word)) → AllByRecursion IsWord xs → AllByRecursion IsWord ys → AllByRecursion IsWord (xs ++ ys)
+    each_both [] ys h g = g
+    each_both (x ∷ xs) ys h g = (h.0, each_both xs ys h.1 g)
+
+pub takes_values : (s : Typing) → IsSettled s.table → (types : List ℕ) (values : List Waiting) → AreOfTypes s types values → AreScalarTypes s types
+    → (on : List (List machine.Word)) → Takes (length types) (first_words values on) on
+takes_values s settled [] [] fit scalar on = takes_none on
+takes_values s settled [] (v ∷ values) fit scalar on = absurd fit
+takes_values s settled (t ∷ types) [] fit scalar on = absurd fit
+takes_values s settled (t ∷ types) (v ∷ values) fit scalar on =
+    let one : is_scalar (full s.table v.of) ≡ true = elim fit.0.0 [ inl both ↦ both.1 | inr same ↦ ap (λ z. is_scalar (full s.table z)) (sym same) ∙ scalar.0 ] in
+    let word : IsWord v.words = fit.0.1 ∙ settled.word_law v.of ∙ (plain_shape (shape_of s.table v.of) one).3 (words s.table) in
+    let mine : Takes 1 (v.words ∷ on) on = record { all = v.words ∷ []; is = refl; count = refl; each = (word, tt) } in
+    let all = takes_then (length types) 1 (first_words values (v.words ∷ on)) (v.words ∷ on) on
+    (takes_values s settled types values fit.1 scalar.1 (v.words ∷ on)) mine in
+    subst (λ k. Takes k (first_words values (v.words ∷ on)) on) (let same : length types + 1 ≡ suc (length types) = omega arith in same) all
 
 module _ (h : Here) (settled : IsSettled h.typing.table) (leaks : List Leak) (waits : List (List machine.Word)) (other : Around (home h.typing h.frame))
     (alone : (w : Way) → IsNear h.frame w → other.gone w → ⊥) (keeps : Keeps h.typing)
@@ -74,246 +126,221 @@ module _ (h : Here) (settled : IsSettled h.typing.table) (leaks : List Leak) (wa
   abbrev GivenOn : List (List machine.Word) → ℕ → List Waiting → List Fact → Evaluated (List machine.Word) → Type 0
   GivenOn = evaluating.GivenOn h settled leaks waits other alone keeps index_law own_law v parts_named
 
-  -- the value goes to a new hand
-  lifted : (m : Memory) (K : List Waiting) (x : Waiting) (rest : List Waiting) (facts : List Fact) → length x.words ≡ words h.typing.table x.of
-      → Ready m (K ++ x ∷ rest) facts → Ready m (x ∷ (K ++ no_value ∷ rest)) facts
-  lifted m K x rest facts long ready =
-      let before : List Waiting = K ++ x ∷ rest in
-      let a : List Waiting = record { of = x.of; words = [] } ∷ before in
-      let b : List Waiting = x ∷ (K ++ no_value ∷ rest) in
-      let blanked : Ready m a facts = evaluating.blank_ready h settled leaks waits other alone keeps index_law own_law v parts_named m before facts x.of [] (λ c has. has) ready in
-      let differ : length before ≡ length rest → ⊥ = deeper K x rest in
-      let from : waiting_at a (length rest) ≡ x = hand_below (record { of = x.of; words = [] }) before (length rest) (λ e. differ (sym e)) ∙ deep K x rest in
-      let left : waiting_at b (length rest) ≡ no_value =
-      hand_below x (K ++ no_value ∷ rest) (length rest) (λ e. deeper K no_value rest (sym e)) ∙ deep K no_value rest in
-      let free : waiting_at a (length before) ≡ record { of = x.of; words = [] } = hand_top (record { of = x.of; words = [] }) before in
-      let to : waiting_at b (length before) ≡ x = ap (waiting_at b) (same_length K x no_value rest) ∙ hand_top x (K ++ no_value ∷ rest) in
-      let others : (j : ℕ) → (j ≡ length rest → ⊥) → (j ≡ length before → ⊥) → waiting_at b j ≡ waiting_at a j =
-      (λ j off top. hand_below x (K ++ no_value ∷ rest) j (λ e. top (e ∙ sym (same_length K x no_value rest))) ∙ elsewhere K no_value x rest j off
-      ∙ sym (hand_below (record { of = x.of; words = [] }) before j top)) in record {
-        viewed = from_sound (home h.typing h.frame) (sees_only h.typing) other v (seen h.typing m a leaks) (seen h.typing m b leaks) facts blanked.viewed
-            (lifted_sound h.typing settled m leaks a b (length rest) (length before) x differ from left free to others long (home h.typing h.frame)
-            (ExcusedBy (home h.typing h.frame) v other facts) []
-            (hands_spared (home h.typing h.frame) (sees_only h.typing) other v (seen h.typing m a leaks) facts blanked.viewed (evaluating.spared_hand h settled leaks waits other alone keeps index_law own_law v parts_named))
-            (as_sound (home h.typing h.frame) (sees_only h.typing) other v (seen h.typing m a leaks) facts blanked.viewed))
-            (other_hands h.typing m a b leaks);
-        kept = lifted_kept h.typing settled m leaks a b (length rest) (length before) x differ from left free to others long blanked.kept;
-        holds = ready.holds;
-      }
-
-  -- the hand that it left falls from below the result
-  dropped : (m : Memory) (x : Waiting) (rest : List Waiting) (facts : List Fact) → length x.words ≡ words h.typing.table x.of
-      → Ready m (x ∷ no_value ∷ rest) facts → Ready m (x ∷ rest) facts
-  dropped m x rest facts long ready =
-      let blank : Waiting = record { of = x.of; words = [] } in
-      let a : List Waiting = x ∷ blank ∷ rest in
-      let b : List Waiting = no_value ∷ x ∷ rest in
-      let well : Viewed (home h.typing h.frame) (sees_only h.typing) other v (seen h.typing m a leaks) facts =
-      same_viewed (home h.typing h.frame) (sees_only h.typing) other v (seen h.typing m (x ∷ no_value ∷ rest) leaks) (seen h.typing m a leaks) facts
-      (other_blank m x no_value blank rest (λ p. blank_word h.typing.table (in_hand no_value) [] refl (λ c has. has) p)
-      (λ p. blank_word h.typing.table (in_hand blank) [] refl (λ c has. has) p)) ready.viewed in
-      let kept : Kept h.typing m a = blank_kept m x no_value blank rest (λ c has. has) ready.kept in
-      let differ : length rest ≡ suc (length rest) → ⊥ = (λ e. omega (arith, e)) in
-      let from : waiting_at a (suc (length rest)) ≡ x = hand_top x (blank ∷ rest) in
-      let left : waiting_at b (suc (length rest)) ≡ no_value = hand_top no_value (x ∷ rest) in
-      let free : waiting_at a (length rest) ≡ blank = hand_below x (blank ∷ rest) (length rest) differ ∙ hand_top blank rest in
-      let to : waiting_at b (length rest) ≡ x = hand_below no_value (x ∷ rest) (length rest) differ ∙ hand_top x rest in
-      let others : (j : ℕ) → (j ≡ suc (length rest) → ⊥) → (j ≡ length rest → ⊥) → waiting_at b j ≡ waiting_at a j =
-      (λ j off top. hand_below no_value (x ∷ rest) j off ∙ hand_below x rest j top ∙ sym (hand_below x (blank ∷ rest) j off ∙ hand_below blank rest j top)) in
-      let moved : Viewed (home h.typing h.frame) (sees_only h.typing) other v (seen h.typing m b leaks) facts =
-      from_sound (home h.typing h.frame) (sees_only h.typing) other v (seen h.typing m a leaks) (seen h.typing m b leaks) facts well
-      (lifted_sound h.typing settled m leaks a b (suc (length rest)) (length rest) x differ from left free to others long (home h.typing h.frame)
-      (ExcusedBy (home h.typing h.frame) v other facts) []
-      (hands_spared (home h.typing h.frame) (sees_only h.typing) other v (seen h.typing m a leaks) facts well (evaluating.spared_hand h settled leaks waits other alone keeps index_law own_law v parts_named))
-      (as_sound (home h.typing h.frame) (sees_only h.typing) other v (seen h.typing m a leaks) facts well))
-      (other_hands h.typing m a b leaks) in
-      let kept_then : Kept h.typing m b =
-      lifted_kept h.typing settled m leaks a b (suc (length rest)) (length rest) x differ from left free to others long kept in record {
-        viewed = same_viewed (home h.typing h.frame) (sees_only h.typing) other v (seen h.typing m b leaks) (seen h.typing m (x ∷ rest) leaks) facts
-            (flipped (seen h.typing m (x ∷ rest) leaks) (seen h.typing m b leaks)
-            (blank_hand h.typing m leaks no_value (x ∷ rest) (λ p. blank_word h.typing.table (in_hand no_value) [] refl (λ c has. has) p))) moved;
-        kept = record { variables = kept_then.variables; cells = kept_then.cells; points = less h.typing settled m no_value (x ∷ rest) kept_then.points };
-        holds = ready.holds;
-      }
-    where
-      flipped : (one two : ways.View) → IsSame one two → IsSame two one
-      flipped one two e = record { word = λ l. sym (e.word l); made = sym e.made; freed = λ n. sym (e.freed n); leaked = λ n. sym (e.leaked n) }
-
-      -- another hand that shows nothing
-      other_blank : (m : Memory) (x y z : Waiting) (rest : List Waiting) → ((p : List Step) → word_in h.typing.table (in_hand y) p ≡ Empty)
-          → ((p : List Step) → word_in h.typing.table (in_hand z) p ≡ Empty) → IsSame (seen h.typing m (x ∷ y ∷ rest) leaks) (seen h.typing m (x ∷ z ∷ rest) leaks)
-      other_blank m x y z rest none_y none_z = record { word = λ l. by_trunk l (steps_in l); made = refl; freed = λ n. refl; leaked = λ n. refl }
-        where
-          by_trunk : (l : Loc) (p : List Step)
-              → word_in h.typing.table (content h.typing m (x ∷ z ∷ rest) (trunk l)) p ≡ word_in h.typing.table (content h.typing m (x ∷ y ∷ rest) (trunk l)) p
-          by_trunk (OfRoot (OfVariable f i)) p = refl
-          by_trunk (OfRoot (OfHand j)) p = elim (same_or_not j (length rest)) [
-            | inr off ↦ ap (λ w. word_in h.typing.table (in_hand w) p) (elsewhere (x ∷ []) z y rest j off)
-            | inl e ↦ ap (λ w. word_in h.typing.table (in_hand w) p) (ap (waiting_at (x ∷ z ∷ rest)) e ∙ deep (x ∷ []) z rest) ∙ none_z p
-                ∙ sym (ap (λ w. word_in h.typing.table (in_hand w) p) (ap (waiting_at (x ∷ y ∷ rest)) e ∙ deep (x ∷ []) y rest) ∙ none_y p)
-          ]
-          by_trunk (OfCell c) p = refl
-          by_trunk (Inside l i) p = by_trunk l p
-
-      blank_kept : (m : Memory) (x y z : Waiting) (rest : List Waiting) → NoCell z.words → Kept h.typing m (x ∷ y ∷ rest) → Kept h.typing m (x ∷ z ∷ rest)
-      blank_kept m x y z rest none kept = record { variables = kept.variables; cells = kept.cells; points = points }
-        where
-          below : Kept h.typing m (z ∷ rest)
-          below = keeps.plain m z rest none (record {
-            variables = kept.variables;
-            cells = kept.cells;
-            points = less h.typing settled m y rest (less h.typing settled m x (y ∷ rest) kept.points);
-          })
-
-          in_hands : (j : ℕ) → Points h.typing m (in_hand (waiting_at (x ∷ z ∷ rest) j))
-          in_hands j = elim (same_or_not j (suc (length rest))) [
-            | inl e ↦ subst (λ w. Points h.typing m (in_hand w)) (hand_top x (y ∷ rest) ∙ sym (ap (waiting_at (x ∷ z ∷ rest)) e ∙ hand_top x (z ∷ rest))) (kept.points (hand (suc (length rest))))
-            | inr off ↦ subst (λ w. Points h.typing m (in_hand w)) (sym (hand_below x (z ∷ rest) j off)) (below.points (hand j))
-          ]
-
-          points : (l : Loc) → Points h.typing m (content h.typing m (x ∷ z ∷ rest) l)
-          points (OfRoot (OfVariable f i)) = kept.points (OfRoot (OfVariable f i))
-          points (OfRoot (OfHand j)) = in_hands j
-          points (OfCell c) = kept.points (OfCell c)
-          points (Inside l i) = points l
+  abbrev Grows : List (List machine.Word) → ℕ → List machine.Word → List Waiting → List Fact → Evaluated (List machine.Word) → Type 0
+  Grows = evaluating.Grows h settled leaks waits other alone keeps index_law own_law v parts_named
 
   then_fed : (mid on : List (List machine.Word)) (u t : ℕ) (acc : List machine.Word) (above below : List Waiting) (facts facts' : List Fact) (x : Evaluated (List machine.Word))
       (f : List machine.Word → Now → Evaluated (List machine.Word)) → GivenOn mid u above facts x
-      → ((ws : List machine.Word) (n : Now) → GivenOn mid u above facts (Done ws n) → evaluating.Grows h settled leaks waits other alone keeps index_law own_law v parts_named on t acc below facts' (f ws n))
-      → evaluating.Grows h settled leaks waits other alone keeps index_law own_law v parts_named on t acc below facts' (followed_by x f)
+      → ((ws : List machine.Word) (n : Now) → GivenOn mid u above facts (Done ws n) → Grows on t acc below facts' (f ws n))
+      → Grows on t acc below facts' (followed_by x f)
   then_fed mid on u t acc above below facts facts' (Done ws n) f given next = next ws n given
   then_fed mid on u t acc above below facts facts' (Raises e n) f given next = tt
   then_fed mid on u t acc above below facts facts' (Traps e n) f none next = none
 
-  module _ (of : ℕ) (ws : List machine.Word) (long : length ws ≡ words h.typing.table of) (rest : List Waiting) (on : List (List machine.Word)) where
-    abbrev value : Waiting
-    value = record { of = of; words = ws }
+  -- the type that is taken fits, so that of the value does
+  value_matches : (t want : ℕ) (w : Waiting) → Matches h.typing.table t want → IsOfType h.typing t w → Matches h.typing.table w.of want
+  value_matches t want w fits (inl both, long) = inr (both.1, evaluating.matches_plain h settled leaks waits other alone keeps index_law own_law v parts_named t want fits both.0)
+  value_matches t want w fits (inr same, long) = subst (λ z. Matches h.typing.table z want) same fits
 
-    same_result : (t : ℕ) (sub : ℕ) → (sub_at h.typing sub).result ≡ Some of → (sub_at h.typing sub).result ≡ Some t → of ≡ t
-    same_result t sub mine is = inner (sym mine ∙ is)
-      where
-        inner : Some of ≡ Some t → of ≡ t
-        inner e = cc
+  -- what takes scalar values alone
+  plainly : (e : TypedTree) (want : ℕ) → Gives h.typing want e → GivesPlainly h.typing e → AreScalarTypes h.typing (types_taken h.typing e)
+      → (front : List Waiting) → AreOfTypes h.typing (types_taken h.typing e) front → (K below : List Waiting) (on : List (List machine.Word)) (m : Memory) (facts : List Fact)
+      → Ready m (K ++ (front ++ below)) facts → AllowsAll facts (acts (acts_in h.typing e)) → IsNamed h.typing.table want
+      → AllKeep (is_fixed h.typing) (acts (acts_in h.typing e))
+      → GivenOn on want (K ++ (blanks front ++ below)) (after (acts (acts_in h.typing e)) facts) (evaluate h AsValue e (record { memory = m; waits = first_words front on }))
+  plainly e want gives plain scalar front fit K below on m facts ready allowed own keep =
+      evaluating.evaluated_on h settled leaks waits other alone keeps index_law own_law v parts_named e want gives plain (first_words front on) on
+      (subst (λ k. Takes k (first_words front on) on) (types_count h.typing e) (takes_values h.typing settled (types_taken h.typing e) front fit scalar on))
+      m (K ++ (blanks front ++ below)) facts
+      (hand.all_blanked h settled leaks waits other alone keeps index_law own_law v parts_named m K front below facts (scalar_values h.typing (types_taken h.typing e) front fit scalar) ready) allowed own keep
 
-    mutual
-      unfolding Gives GivesParts GivesFirst evaluate initial parts_of acts_in IsFed has_call
+  -- where values of a second part lie above those of a first one
+  two_fronts : (K later first below : List Waiting) → K ++ ((later ++ first) ++ below) ≡ (K ++ later) ++ (first ++ below)
+  two_fronts K later first below = ap (λ z. K ++ z) (append_assoc later first below) ∙ sym (append_assoc K later (first ++ below))
 
-      pub fed : (e : TypedTree) (want : ℕ) → Gives h.typing want e → IsFed h.typing of e → (K : List Waiting) (m : Memory) (facts : List Fact)
-          → Ready m (K ++ value ∷ rest) facts → AllowsAll facts (acts (acts_in h.typing e)) → IsNamed h.typing.table want
-          → AllKeep (is_fixed h.typing) (acts (acts_in h.typing e))
-          → GivenOn on want (K ++ no_value ∷ rest) (after (acts (acts_in h.typing e)) facts) (evaluate h AsValue e (record { memory = m; waits = ws ∷ on }))
-      fed (Call p sub actuals) want (t, result, fits) mine K m facts ready allowed own keep =
-          evaluating.retyped_given h settled leaks waits other alone keeps index_law own_law v parts_named on of want (K ++ no_value ∷ rest) facts (subst (λ z. Matches h.typing.table z want) (sym (same_result t sub mine result)) fits)
-          (Done ws (record { memory = m; waits = drop 1 (ws ∷ on) })) (lifted m K value rest facts long ready, long, drop_none on)
-      fed (Parens e) want gives mine K m facts ready allowed own keep = fed e want gives mine K m facts ready allowed own keep
-      fed (New t (More e more)) want (d, c, n, is, fits, (none, gives)) mine K m facts ready allowed own keep =
-          let now : Now = record { memory = m; waits = ws ∷ on } in
-          let acts_same : acts_in h.typing e ++ acts_in h.typing more ≡ acts_in h.typing e = ap (λ z. acts_in h.typing e ++ acts_in h.typing z) none ∙ append-nil (acts_in h.typing e) in
-          let blank : Waiting = record { of = want; words = [] } in
-          let inner = fed e t gives mine.0 (blank ∷ K) m facts (evaluating.blank_ready h settled leaks waits other alone keeps index_law own_law v parts_named m (K ++ value ∷ rest) facts want [] (λ k h. h) ready)
-          (subst (λ z. AllowsAll facts (acts z)) acts_same allowed) (matches_named h.typing.table d t fits (parts_named.designated want d c n is))
-          (subst (λ z. AllKeep (is_fixed h.typing) (acts z)) acts_same keep) in
-          subst (λ z. GivenOn on want (K ++ no_value ∷ rest) (after (acts z) facts) (followed_by (followed_by (evaluate h AsValue e now) (checked h t)) (allocated t))) (sym acts_same)
-          (evaluating.allocated_given h settled leaks waits other alone keeps index_law own_law v parts_named on t want d c n (K ++ no_value ∷ rest) (after (acts (acts_in h.typing e)) facts) own is fits
-          (followed_by (evaluate h AsValue e now) (checked h t))
-          (evaluating.checked_on h settled leaks waits other alone keeps index_law own_law v parts_named on t t (blank ∷ (K ++ no_value ∷ rest)) (after (acts (acts_in h.typing e)) facts) (evaluate h AsValue e now) inner))
-      fed (Aggregate t es) want (fits, made, count, gives) mine K m facts ready allowed own keep =
-          let now : Now = record { memory = m; waits = ws ∷ on } in
-          evaluating.retyped_given h settled leaks waits other alone keeps index_law own_law v parts_named on t want (K ++ no_value ∷ rest) (after (acts (acts_in h.typing es)) facts) fits (parts_of h t 0 es now)
-          (evaluating.all_grown h settled leaks waits other alone keeps index_law own_law v parts_named on t (K ++ no_value ∷ rest) (after (acts (acts_in h.typing es)) facts) (parts_of h t 0 es now)
-          (parts_fed es t 0 gives mine (let n : 0 + tree_count es ≡ field_count (shape_of h.typing.table t) = omega (arith, count) in n) made K m [] facts
-          (sym (words_none (words h.typing.table) (shape_of h.typing.table t)))
-          (evaluating.blank_ready h settled leaks waits other alone keeps index_law own_law v parts_named m (K ++ value ∷ rest) facts t [] (λ k h. h) ready) allowed keep))
-      fed (More e more) want gives mine K m facts ready allowed own keep = absurd gives
-      fed e want gives mine K m facts ready allowed own keep = absurd mine
+  then_blank : (K later first below : List Waiting) → K ++ (blanks later ++ (blanks first ++ below)) ≡ K ++ (blanks (later ++ first) ++ below)
+  then_blank K later first below =
+      ap (λ z. K ++ z) (sym (append_assoc (blanks later) (blanks first) below) ∙ ap (λ z. z ++ below) (sym (blanks_both later first)))
 
-      parts_fed : (es : TypedTree) (t i : ℕ) → GivesParts h.typing t i es → IsFed h.typing of es → i + tree_count es ≡ field_count (shape_of h.typing.table t)
-          → is_record (shape_of h.typing.table t) || is_array (shape_of h.typing.table t) ≡ true
-          → (K : List Waiting) (m : Memory) (acc : List machine.Word) (facts : List Fact)
-          → length acc ≡ words_to (words h.typing.table) (shape_of h.typing.table t) i
-          → Ready m (record { of = t; words = acc } ∷ (K ++ value ∷ rest)) facts → AllowsAll facts (acts (acts_in h.typing es))
-          → AllKeep (is_fixed h.typing) (acts (acts_in h.typing es))
-          → evaluating.Grows h settled leaks waits other alone keeps index_law own_law v parts_named on t acc (K ++ no_value ∷ rest) (after (acts (acts_in h.typing es)) facts) (parts_of h t i es (record { memory = m; waits = ws ∷ on }))
-      parts_fed (More e more) t i gives mine count made K m acc facts fills ready allowed keep = elim mine [
-        | inl (mine_first, none_more) ↦ joined on on (evaluating.checked_on h settled leaks waits other alone keeps index_law own_law v parts_named on u u (part ∷ (K ++ no_value ∷ rest)) between (evaluate h AsValue e now)
-            (fed e u gives.0 mine_first (part ∷ K) m facts ready each.0 (part_named h.typing.table parts_named t i sh refl made) names.0))
-            (λ w n given. evaluating.parts_given h settled leaks waits other alone keeps index_law own_law v parts_named more t (suc i) gives.1 (gives_plainly h.typing more (inl none_more)) (omega (arith, count)) made on on
-            (no_takes more none_more on) n.memory (acc ++ w) (K ++ no_value ∷ rest) between (grows w n (K ++ no_value ∷ rest) on given).0 (grows w n (K ++ no_value ∷ rest) on given).1 each.1 names.1)
-        | inr (none_first, later) ↦ joined (ws ∷ on) on (evaluating.checked_on h settled leaks waits other alone keeps index_law own_law v parts_named (ws ∷ on) u u (part ∷ (K ++ value ∷ rest)) between (evaluate h AsValue e now)
-            (evaluating.evaluated_on h settled leaks waits other alone keeps index_law own_law v parts_named e u gives.0 (gives_plainly h.typing e (inl none_first)) (ws ∷ on) (ws ∷ on) (no_takes e none_first (ws ∷ on)) m (part ∷ (K ++ value ∷ rest)) facts
-            ready each.0 (part_named h.typing.table parts_named t i sh refl made) names.0))
-            (λ w n given. parts_fed more t (suc i) gives.1 later (omega (arith, count)) made K n.memory (acc ++ w) between (grows w n (K ++ value ∷ rest) (ws ∷ on) given).0
-            (grows w n (K ++ value ∷ rest) (ws ∷ on) given).1 each.1 names.1)
-      ]
-        where
-          now : Now
-          now = record { memory = m; waits = ws ∷ on }
+  mutual
+    unfolding Gives GivesParts GivesFirst GivesPlainly evaluate initial parts_of acts_in types_taken TakesFit
 
-          sh : Shape
-          sh = shape_of h.typing.table t
-
-          u : ℕ
-          u = part_type sh i
-
-          lt : i < field_count sh
-          lt = omega (arith, count)
-
-          part : Waiting
-          part = record { of = t; words = acc }
-
-          each : AllowsAll facts (acts (acts_in h.typing e)) × AllowsAll (after (acts (acts_in h.typing e)) facts) (acts (acts_in h.typing more))
-          each = allows_both facts (acts (acts_in h.typing e)) (acts (acts_in h.typing more))
-              (subst (AllowsAll facts) (acts_append (acts_in h.typing e) (acts_in h.typing more)) allowed)
-
-          names : AllKeep (is_fixed h.typing) (acts (acts_in h.typing e)) × AllKeep (is_fixed h.typing) (acts (acts_in h.typing more))
-          names = keep_both (is_fixed h.typing) (acts (acts_in h.typing e)) (acts (acts_in h.typing more))
-              (subst (AllKeep (is_fixed h.typing)) (acts_append (acts_in h.typing e) (acts_in h.typing more)) keep)
-
-          between : List Fact
-          between = after (acts (acts_in h.typing e)) facts
-
-          behind : List Fact
-          behind = after (acts (acts_in h.typing more)) between
-
-          next : List machine.Word → Now → Evaluated (List machine.Word)
-          next w k = followed_by (parts_of h t (suc i) more k) (λ others k. Done (w ++ others) k)
-
-          grows : (w : List machine.Word) (n : Now) (hands : List Waiting) (mid : List (List machine.Word)) → GivenOn mid u (part ∷ hands) between (Done w n)
-              → (length (acc ++ w) ≡ words_to (words h.typing.table) sh (suc i)) × Ready n.memory (record { of = t; words = acc ++ w } ∷ hands) between
-          grows w n hands mid given = (
-            (let size : length (acc ++ w) ≡ length acc + length w = length-append acc w in let step = words_next (words h.typing.table) sh i lt in let own = given.1 in
-                omega (arith, size, step, fills, own)),
-            evaluating.part_joined h settled leaks waits other alone keeps index_law own_law v parts_named n.memory hands between t u acc w (nth_part sh i) (part_there h.typing.table t sh refl i lt)
-                (part_offset h.typing.table t sh refl i lt ∙ sym fills) (part_is h.typing.table t sh refl i lt) given.1 given.0,
-          )
-
-          joined : (mid end : List (List machine.Word)) {hands : List Waiting} → GivenOn mid u (part ∷ hands) between (followed_by (evaluate h AsValue e now) (checked h u))
-              → ((w : List machine.Word) (n : Now) → GivenOn mid u (part ∷ hands) between (Done w n)
-              → evaluating.Grows h settled leaks waits other alone keeps index_law own_law v parts_named on t (acc ++ w) (K ++ no_value ∷ rest) behind (parts_of h t (suc i) more (record { memory = n.memory; waits = mid })))
-              → evaluating.Grows h settled leaks waits other alone keeps index_law own_law v parts_named on t acc (K ++ no_value ∷ rest) (after (acts (acts_in h.typing e ++ acts_in h.typing more)) facts)
-              (followed_by (evaluate h AsValue e now) (λ w k. followed_by (checked h u w k) next))
-          joined mid end {hands} first go =
-              subst (λ z. evaluating.Grows h settled leaks waits other alone keeps index_law own_law v parts_named on t acc (K ++ no_value ∷ rest) z (followed_by (evaluate h AsValue e now) (λ w k. followed_by (checked h u w k) next)))
-              (sym (ap (λ z. after z facts) (acts_append (acts_in h.typing e) (acts_in h.typing more))
-              ∙ after_append (acts (acts_in h.typing e)) (acts (acts_in h.typing more)) facts))
-              (subst (evaluating.Grows h settled leaks waits other alone keeps index_law own_law v parts_named on t acc (K ++ no_value ∷ rest) behind) (regrouped (evaluate h AsValue e now) (checked h u) next)
-              (then_fed mid on u t acc (part ∷ hands) (K ++ no_value ∷ rest) between behind (followed_by (evaluate h AsValue e now) (checked h u)) next first
-              (λ w n given. evaluating.grown h settled leaks waits other alone keeps index_law own_law v parts_named on t acc w (K ++ no_value ∷ rest) behind (parts_of h t (suc i) more n)
-              (subst (λ z. evaluating.Grows h settled leaks waits other alone keeps index_law own_law v parts_named on t (acc ++ w) (K ++ no_value ∷ rest) behind (parts_of h t (suc i) more (record { memory = n.memory; waits = z }))) (sym given.2)
-              (go w n given)))))
-      parts_fed NoMore t i gives mine count made K m acc facts fills ready allowed keep = absurd mine
-      parts_fed es t i gives mine count made K m acc facts fills ready allowed keep = absurd gives
-
-    -- the result alone is in hand then
-    pub fed_alone : (e : TypedTree) (want : ℕ) → Gives h.typing want e → IsFed h.typing of e → (m : Memory) (facts : List Fact)
-        → Ready m (value ∷ rest) facts → AllowsAll facts (acts (acts_in h.typing e)) → IsNamed h.typing.table want
+    pub fed : (e : TypedTree) (want : ℕ) → Gives h.typing want e → TakesFit h.typing e → (front : List Waiting) → AreOfTypes h.typing (types_taken h.typing e) front
+        → (K below : List Waiting) (on : List (List machine.Word)) (m : Memory) (facts : List Fact)
+        → Ready m (K ++ (front ++ below)) facts → AllowsAll facts (acts (acts_in h.typing e)) → IsNamed h.typing.table want
         → AllKeep (is_fixed h.typing) (acts (acts_in h.typing e))
-        → GivenOn on want rest (after (acts (acts_in h.typing e)) facts) (evaluate h AsValue e (record { memory = m; waits = ws ∷ on }))
-    fed_alone e want gives mine m facts ready allowed own keep =
-        falls (evaluate h AsValue e (record { memory = m; waits = ws ∷ on })) (fed e want gives mine [] m facts ready allowed own keep)
+        → GivenOn on want (K ++ (blanks front ++ below)) (after (acts (acts_in h.typing e)) facts) (evaluate h AsValue e (record { memory = m; waits = first_words front on }))
+    fed (Call p sub actuals) want gives takes [] fit K below on m facts ready allowed own keep = absurd fit
+    fed (Call p sub actuals) want gives takes (w ∷ x ∷ front) fit K below on m facts ready allowed own keep = absurd fit.1
+    fed (Call p sub actuals) want (t, result, fits) takes (w ∷ []) fit K below on m facts ready allowed own keep =
+        let mine : IsOfType h.typing t w = subst (λ z. IsOfType h.typing z w) (ap type_given result) fit.0 in
+        evaluating.retyped_given h settled leaks waits other alone keeps index_law own_law v parts_named on w.of want (K ++ (no_value ∷ below)) facts (value_matches t want w fits mine)
+        (Done w.words (record { memory = m; waits = drop 1 (w.words ∷ on) })) (hand.lifted h settled leaks waits other alone keeps index_law own_law v parts_named m K w below facts mine.1 ready, mine.1, drop_none on)
+    fed (Parens e) want gives takes front fit K below on m facts ready allowed own keep = fed e want gives takes front fit K below on m facts ready allowed own keep
+    fed (New t NoMore) want gives takes front fit K below on m facts ready allowed own keep =
+        plainly (New t NoMore) want gives tt tt front fit K below on m facts ready allowed own keep
+    fed (New t (More e more)) want (d, c, n, is, fits, (none, gives)) takes front fit K below on m facts ready allowed own keep =
+        let now : Now = record { memory = m; waits = first_words front on } in
+        let acts_same : acts_in h.typing e ++ acts_in h.typing more ≡ acts_in h.typing e = ap (λ z. acts_in h.typing e ++ acts_in h.typing z) none ∙ append-nil (acts_in h.typing e) in
+        let types_same : types_taken h.typing more ++ types_taken h.typing e ≡ types_taken h.typing e = ap (λ z. types_taken h.typing z ++ types_taken h.typing e) none in
+        let blank : Waiting = record { of = want; words = [] } in
+        let inner = fed e t gives takes.0 front (subst (λ z. AreOfTypes h.typing z front) types_same fit) (blank ∷ K) below on m facts
+        (evaluating.blank_ready h settled leaks waits other alone keeps index_law own_law v parts_named m (K ++ (front ++ below)) facts want [] (λ k h. h) ready)
+        (subst (λ z. AllowsAll facts (acts z)) acts_same allowed) (matches_named h.typing.table d t fits (parts_named.designated want d c n is))
+        (subst (λ z. AllKeep (is_fixed h.typing) (acts z)) acts_same keep) in
+        subst (λ z. GivenOn on want (K ++ (blanks front ++ below)) (after (acts z) facts) (followed_by (followed_by (evaluate h AsValue e now) (checked h t)) (allocated t))) (sym acts_same)
+        (evaluating.allocated_given h settled leaks waits other alone keeps index_law own_law v parts_named on t want d c n (K ++ (blanks front ++ below)) (after (acts (acts_in h.typing e)) facts) own is fits
+        (followed_by (evaluate h AsValue e now) (checked h t))
+        (evaluating.checked_on h settled leaks waits other alone keeps index_law own_law v parts_named on t t (blank ∷ (K ++ (blanks front ++ below))) (after (acts (acts_in h.typing e)) facts) (evaluate h AsValue e now) inner))
+    fed (New t v) want (d, c, n, is, fits, none) takes front fit K below on m facts ready allowed own keep = absurd none
+    fed (Aggregate t es) want (fits, made, count, gives) takes front fit K below on m facts ready allowed own keep =
+        let now : Now = record { memory = m; waits = first_words front on } in
+        evaluating.retyped_given h settled leaks waits other alone keeps index_law own_law v parts_named on t want (K ++ (blanks front ++ below)) (after (acts (acts_in h.typing es)) facts) fits (parts_of h t 0 es now)
+        (evaluating.all_grown h settled leaks waits other alone keeps index_law own_law v parts_named on t (K ++ (blanks front ++ below)) (after (acts (acts_in h.typing es)) facts) (parts_of h t 0 es now)
+        (parts_fed es t 0 gives takes front fit (let n : 0 + tree_count es ≡ field_count (shape_of h.typing.table t) = omega (arith, count) in n) made K below on m [] facts
+        (sym (words_none (words h.typing.table) (shape_of h.typing.table t)))
+        (evaluating.blank_ready h settled leaks waits other alone keeps index_law own_law v parts_named m (K ++ (front ++ below)) facts t [] (λ k h. h) ready) allowed keep))
+    fed (Alike t e) want (fits, array, plain, gives) takes front fit K below on m facts ready allowed own keep = elim plain [
+      | inr null ↦ plainly (Alike t e) want (fits, array, inr null, gives) (subst (GivesPlainly h.typing) (sym null) tt)
+          (subst (λ z. AreScalarTypes h.typing (types_taken h.typing z)) (sym null) tt) front fit K below on m facts ready allowed own keep
+      | inl none ↦ (
+          let now : Now = record { memory = m; waits = first_words front on } in
+          let el : ℕ = machine.element_type h.typing.table t in
+          let hands : List Waiting = K ++ (blanks front ++ below) in
+          let facts_then : List Fact = after (acts (acts_in h.typing e)) facts in
+          evaluating.retyped_given h settled leaks waits other alone keeps index_law own_law v parts_named on t want hands facts_then fits (followed_by (evaluate h AsValue e now) (λ ws now. followed_by (checked h el ws now) (evaluating.repeats h settled leaks waits other alone keeps index_law own_law v parts_named t)))
+          (subst (GivenOn on t hands facts_then) (regrouped (evaluate h AsValue e now) (checked h el) (evaluating.repeats h settled leaks waits other alone keeps index_law own_law v parts_named t))
+          (evaluating.repeated_given h settled leaks waits other alone keeps index_law own_law v parts_named on t hands facts_then array none (followed_by (evaluate h AsValue e now) (checked h el))
+          (evaluating.checked_on h settled leaks waits other alone keeps index_law own_law v parts_named on el el hands facts_then (evaluate h AsValue e now)
+          (fed e el gives takes front fit K below on m facts ready allowed (parts_named.element t) keep)))))
+    ]
+    fed (More e more) want gives takes front fit K below on m facts ready allowed own keep = absurd gives
+    fed e want gives takes front fit K below on m facts ready allowed own keep = plainly e want gives tt takes front fit K below on m facts ready allowed own keep
+
+    parts_fed : (es : TypedTree) (t i : ℕ) → GivesParts h.typing t i es → TakesFit h.typing es → (front : List Waiting) → AreOfTypes h.typing (types_taken h.typing es) front
+        → i + tree_count es ≡ field_count (shape_of h.typing.table t)
+        → is_record (shape_of h.typing.table t) || is_array (shape_of h.typing.table t) ≡ true
+        → (K below : List Waiting) (on : List (List machine.Word)) (m : Memory) (acc : List machine.Word) (facts : List Fact)
+        → length acc ≡ words_to (words h.typing.table) (shape_of h.typing.table t) i
+        → Ready m (record { of = t; words = acc } ∷ (K ++ (front ++ below))) facts → AllowsAll facts (acts (acts_in h.typing es))
+        → AllKeep (is_fixed h.typing) (acts (acts_in h.typing es))
+        → Grows on t acc (K ++ (blanks front ++ below)) (after (acts (acts_in h.typing es)) facts) (parts_of h t i es (record { memory = m; waits = first_words front on }))
+    parts_fed (More e more) t i gives takes front fit count made K below on m acc facts fills ready allowed keep =
+        let two = split_values h.typing (types_taken h.typing more) (types_taken h.typing e) front fit in
+        subst (λ z. Grows on t acc (K ++ (blanks z ++ below)) (after (acts (acts_in h.typing e ++ acts_in h.typing more)) facts) (parts_of h t i (More e more) (record { memory = m; waits = first_words z on })))
+        (sym two.2)
+        (both two.0 two.1
+        (fed e u gives.0 takes.0 two.1 two.4 (part ∷ (K ++ two.0)) below (first_words two.0 on) m facts
+        (subst (λ z. Ready m (part ∷ z) facts) (two_fronts K two.0 two.1 below) (subst (λ z. Ready m (part ∷ (K ++ (z ++ below))) facts) two.2 ready))
+        each.0 (part_named h.typing.table parts_named t i sh refl made) names.0)
+        (λ w n long well. parts_fed more t (suc i) gives.1 takes.1 two.0 two.3 (omega (arith, count)) made K (blanks two.1 ++ below) on n.memory (acc ++ w) between long well each.1 names.1))
       where
-        falls : (x : Evaluated (List machine.Word)) → GivenOn on want (no_value ∷ rest) (after (acts (acts_in h.typing e)) facts) x
-            → GivenOn on want rest (after (acts (acts_in h.typing e)) facts) x
-        falls (Done w n) (well, size, same) = (dropped n.memory (record { of = want; words = w }) rest (after (acts (acts_in h.typing e)) facts) size well, size, same)
-        falls (Raises k n) given = tt
-        falls (Traps k n) none = none
+        sh : Shape
+        sh = shape_of h.typing.table t
+
+        u : ℕ
+        u = part_type sh i
+
+        lt : i < field_count sh
+        lt = omega (arith, count)
+
+        part : Waiting
+        part = record { of = t; words = acc }
+
+        each : AllowsAll facts (acts (acts_in h.typing e)) × AllowsAll (after (acts (acts_in h.typing e)) facts) (acts (acts_in h.typing more))
+        each = allows_both facts (acts (acts_in h.typing e)) (acts (acts_in h.typing more))
+            (subst (AllowsAll facts) (acts_append (acts_in h.typing e) (acts_in h.typing more)) allowed)
+
+        names : AllKeep (is_fixed h.typing) (acts (acts_in h.typing e)) × AllKeep (is_fixed h.typing) (acts (acts_in h.typing more))
+        names = keep_both (is_fixed h.typing) (acts (acts_in h.typing e)) (acts (acts_in h.typing more))
+            (subst (AllKeep (is_fixed h.typing)) (acts_append (acts_in h.typing e) (acts_in h.typing more)) keep)
+
+        between : List Fact
+        between = after (acts (acts_in h.typing e)) facts
+
+        behind : List Fact
+        behind = after (acts (acts_in h.typing more)) between
+
+        next : List machine.Word → Now → Evaluated (List machine.Word)
+        next w k = followed_by (parts_of h t (suc i) more k) (λ others k. Done (w ++ others) k)
+
+        grows : (w : List machine.Word) (n : Now) (hands : List Waiting) (mid : List (List machine.Word)) → GivenOn mid u (part ∷ hands) between (Done w n)
+            → (length (acc ++ w) ≡ words_to (words h.typing.table) sh (suc i)) × Ready n.memory (record { of = t; words = acc ++ w } ∷ hands) between
+        grows w n hands mid given = (
+          (let size : length (acc ++ w) ≡ length acc + length w = length-append acc w in let step = words_next (words h.typing.table) sh i lt in let own = given.1 in
+              omega (arith, size, step, fills, own)),
+          evaluating.part_joined h settled leaks waits other alone keeps index_law own_law v parts_named n.memory hands between t u acc w (nth_part sh i) (part_there h.typing.table t sh refl i lt)
+              (part_offset h.typing.table t sh refl i lt ∙ sym fills) (part_is h.typing.table t sh refl i lt) given.1 given.0,
+        )
+
+        both : (later first : List Waiting)
+            → GivenOn (first_words later on) u (part ∷ ((K ++ later) ++ (blanks first ++ below))) between
+            (evaluate h AsValue e (record { memory = m; waits = first_words first (first_words later on) }))
+            → ((w : List machine.Word) (n : Now) → length (acc ++ w) ≡ words_to (words h.typing.table) sh (suc i)
+            → Ready n.memory (record { of = t; words = acc ++ w } ∷ (K ++ (later ++ (blanks first ++ below)))) between
+            → Grows on t (acc ++ w) (K ++ (blanks later ++ (blanks first ++ below))) behind (parts_of h t (suc i) more (record { memory = n.memory; waits = first_words later on })))
+            → Grows on t acc (K ++ (blanks (later ++ first) ++ below)) (after (acts (acts_in h.typing e ++ acts_in h.typing more)) facts)
+            (parts_of h t i (More e more) (record { memory = m; waits = first_words (later ++ first) on }))
+        both later first value_there others =
+            subst (λ z. Grows on t acc (K ++ (blanks (later ++ first) ++ below)) z (followed_by (evaluate h AsValue e now) (λ w k. followed_by (checked h u w k) next)))
+            (sym (ap (λ z. after z facts) (acts_append (acts_in h.typing e) (acts_in h.typing more))
+            ∙ after_append (acts (acts_in h.typing e)) (acts (acts_in h.typing more)) facts))
+            (subst (Grows on t acc (K ++ (blanks (later ++ first) ++ below)) behind) (regrouped (evaluate h AsValue e now) (checked h u) next)
+            (then_fed mid on u t acc (part ∷ (K ++ (later ++ (blanks first ++ below)))) (K ++ (blanks (later ++ first) ++ below)) between behind
+            (followed_by (evaluate h AsValue e now) (checked h u)) next
+            (evaluating.checked_on h settled leaks waits other alone keeps index_law own_law v parts_named mid u u (part ∷ (K ++ (later ++ (blanks first ++ below)))) between (evaluate h AsValue e now) value_first)
+            (λ w n given. evaluating.grown h settled leaks waits other alone keeps index_law own_law v parts_named on t acc w (K ++ (blanks (later ++ first) ++ below)) behind (parts_of h t (suc i) more n)
+            (subst (λ z. Grows on t (acc ++ w) (K ++ (blanks (later ++ first) ++ below)) behind (parts_of h t (suc i) more (record { memory = n.memory; waits = z }))) (sym given.2)
+            (subst (λ z. Grows on t (acc ++ w) z behind (parts_of h t (suc i) more (record { memory = n.memory; waits = mid }))) (then_blank K later first below)
+            (others w n (grows w n (K ++ (later ++ (blanks first ++ below))) mid given).0 (grows w n (K ++ (later ++ (blanks first ++ below))) mid given).1))))))
+          where
+            mid : List (List machine.Word)
+            mid = first_words later on
+
+            now : Now
+            now = record { memory = m; waits = first_words (later ++ first) on }
+
+            value_first : GivenOn mid u (part ∷ (K ++ (later ++ (blanks first ++ below)))) between (evaluate h AsValue e now)
+            value_first =
+                subst (λ z. GivenOn mid u (part ∷ z) between (evaluate h AsValue e now)) (append_assoc K later (blanks first ++ below))
+                (subst (λ z. GivenOn mid u (part ∷ ((K ++ later) ++ (blanks first ++ below))) between (evaluate h AsValue e (record { memory = m; waits = z }))) (sym (first_both later first on))
+                value_there)
+    parts_fed NoMore t i gives takes [] fit count made K below on m acc facts fills ready allowed keep =
+        let sh : Shape = shape_of h.typing.table t in
+        let end : i ≡ field_count sh = omega (arith, count) in (
+          subst (λ z. Ready m (record { of = t; words = z } ∷ (K ++ below)) facts) (sym (append-nil acc)) ready,
+          ap (λ (z : List machine.Word). length z) (append-nil acc) ∙ fills ∙ ap (words_to (words h.typing.table) sh) end
+              ∙ words_whole (words h.typing.table) sh made ∙ sym (settled.word_law t),
+          refl,
+        )
+    parts_fed NoMore t i gives takes (w ∷ front) fit count made K below on m acc facts fills ready allowed keep = absurd fit
+    parts_fed es t i gives takes front fit count made K below on m acc facts fills ready allowed keep = absurd gives
+
+  -- Scalar values that are taken later wait above. Then the value alone is in hand.
+  pub fed_alone : (e : TypedTree) (want : ℕ) → Gives h.typing want e → TakesFit h.typing e → (later front : List Waiting) → AreScalarValues h.typing later
+      → AreOfTypes h.typing (types_taken h.typing e) front → (below : List Waiting) (on : List (List machine.Word)) (m : Memory) (facts : List Fact)
+      → Ready m ((later ++ front) ++ below) facts → AllowsAll facts (acts (acts_in h.typing e)) → IsNamed h.typing.table want
+      → AllKeep (is_fixed h.typing) (acts (acts_in h.typing e))
+      → GivenOn (first_words later on) want below (after (acts (acts_in h.typing e)) facts) (evaluate h AsValue e (record { memory = m; waits = first_words (later ++ front) on }))
+  fed_alone e want gives takes later front scalar fit below on m facts ready allowed own keep =
+      subst (λ z. GivenOn mid want below facts_then (evaluate h AsValue e (record { memory = m; waits = z }))) (sym (first_both later front on))
+      (falls (evaluate h AsValue e (record { memory = m; waits = first_words front mid }))
+      (fed e want gives takes front fit later below mid m facts (subst (λ z. Ready m z facts) (append_assoc later front below) ready) allowed own keep))
+    where
+      mid : List (List machine.Word)
+      mid = first_words later on
+
+      facts_then : List Fact
+      facts_then = after (acts (acts_in h.typing e)) facts
+
+      falls : (x : Evaluated (List machine.Word)) → GivenOn mid want (later ++ (blanks front ++ below)) facts_then x → GivenOn mid want below facts_then x
+      falls (Done w n) (well, size, same) =
+          let value : Waiting = record { of = want; words = w } in (
+            hand.all_dropped h settled leaks waits other alone keeps index_law own_law v parts_named n.memory value front below facts_then size
+                (hand.all_dropped h settled leaks waits other alone keeps index_law own_law v parts_named n.memory value later (blanks front ++ below) facts_then size
+                (hand.all_blanked h settled leaks waits other alone keeps index_law own_law v parts_named n.memory (value ∷ []) later (blanks front ++ below) facts_then scalar well)),
+            size,
+            same,
+          )
+      falls (Raises k n) given = tt
+      falls (Traps k n) none = none

@@ -5,6 +5,7 @@ pub mod Stays
 pub mod Moments
 pub mod Evaluated
 pub mod Lifted
+pub mod Hands
 pub mod Fed
 pub mod Stored
 pub mod Viewing

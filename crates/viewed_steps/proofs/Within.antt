@@ -1,5 +1,4 @@
--- What a function gave is taken within an aggregate or an allocator, with which an object is declared, or which
--- is assigned or returned. It may own.
+-- A value is made of what is taken, of any types: an object is declared with it, or it is assigned or returned.
 use Rattle.flow_paths.specs.Views.{sub_acts}
 use Rattle.place_names.specs.Facts.{effect}
 use Rattle.soundness.proofs.Fading.{FadesTo}
@@ -8,20 +7,20 @@ use Rattle.viewed_steps.specs.Traversals.{IsSourceIn}
 use Rattle.machine.specs.Calls.{checks_at}
 use Rattle.spark_base.specs.declared.position.Pos.{Pos}
 use Rattle.viewed_soundness.proofs.Names.{plain_named, true_false}
-use Rattle.std.proofs.Common.{◌≡◌, refl, sym, ap, ◌∙◌, subst, ◌⊎◌, inl, inr, ℕ, suc, ◌+◌, ◌<◌, Bool, true, false, List, [], ◌∷◌, ◌++◌, drop, length, arith, None, if◌then◌else◌, take, map}
+use Rattle.std.proofs.Common.{◌≡◌, refl, sym, ap, ◌∙◌, subst, ◌⊎◌, inl, inr, ℕ, suc, ◌<◌, true, false, List, [], ◌∷◌, ◌++◌, drop, length, None, if◌then◌else◌, take, map}
 use Rattle.spark_base.specs.Lists.{Has}
 use Rattle.place_names.specs.declared.act.Act.{Act}
 use Rattle.place_names.specs.declared.act.Act.TheVariants as act
 use Rattle.place_names.specs.declared.fact.Fact.{Fact}
 use Rattle.place_names.specs.declared.fact.Fact.TheVariants.{Moved}
 use Rattle.place_names.specs.Names.{Name as PlaceName}
-use Rattle.type_definitions.specs.Types.{Table, full}
-use Rattle.typed_tree.specs.Trees.{TypedTree, NoMore, More, Name, Call as CallIn}
+use Rattle.type_definitions.specs.Types.{Table, full, is_scalar}
+use Rattle.typed_tree.specs.Trees.{TypedTree, NoMore, More, Name}
 use Rattle.typed_tree.specs.Programs.{TypedProgram}
 use Rattle.flow_paths.specs.declared.report.Effects.{Effects}
 use Rattle.flow_paths.specs.Instructions.{Instruction, EndScope, Finish, Declare, Assign}
 use Rattle.flow_paths.specs.Objects.{Typing, is_anonymous, is_package_object, is_observer, view_of, object_at}
-use Rattle.flow_paths.specs.Names.{has_call, waiting as waits_in, name_of}
+use Rattle.flow_paths.specs.Names.{waiting as waits_in, name_of}
 use Rattle.flow_paths.specs.Acts as flow
 use Rattle.flow_paths.specs.Acts.{acts_in}
 use Rattle.flow_paths.specs.Points.{NamedPoint}
@@ -29,78 +28,93 @@ use Rattle.flow_paths.specs.Laid.{FlowProgram, NamedSub, typing_of, flow_typing,
 use Rattle.flow_paths.specs.Paths.{ControlPath}
 use Rattle.flow_paths.specs.Effects.{path_points}
 use Rattle.flow_paths.specs.Scopes.{taken, scope_behind}
+use Rattle.machine.specs.Words.{fits_type}
 use Rattle.machine.specs.Words as machine
 use Rattle.machine.specs.Memory.{declared, stored}
-use Rattle.machine.specs.Evaluate.{Evaluated, Done, followed_by, value, place_of, Now, checked, initial}
+use Rattle.machine.specs.Evaluate.{Exception, ConstraintError, ProgramError, Evaluated, Done, followed_by, value, place_of, text_of, Now, checked, initial}
 use Rattle.machine.specs.Evaluate as run
 use Rattle.machine.specs.States.{Waiting, Frame, State, Outcome, sub_of}
-use Rattle.machine.specs.Step.{Turn, turn, start}
+use Rattle.machine.specs.Step.{Turn, turn, start, successor}
 use Rattle.machine.specs.Step as steps
 use Rattle.machine.specs.Owners.{waiting_in}
 use Rattle.owned_ways.specs.Ways.{Step, OfVariable, OfRoot, Way, Held, after, AllowsAll}
 use Rattle.soundness.specs.Seen.{IsNear, content, word_in, home, seen}
 use Rattle.soundness.specs.Typed.{Kept}
 use Rattle.typed_laws.specs.Needed.{IsFine, Source, Leads}
-use Rattle.soundness.specs.Sound.{IsNoCall, Stage, facts_of, AreStages, IsRunnable, InScope, IsNamedSub, IsAtPoint, view_of as view_here, is_temporary_object, temporaries_in}
+use Rattle.soundness.specs.Sound.{IsNoCall, Stage, facts_of, AreStages, IsRunnable, InScope, IsNamedSub, IsAtPoint, view_of as view_here}
 use Rattle.soundness.proofs.Scalars.{acts, acts_append, after_append}
 use Rattle.soundness.proofs.Scoped.{Inside}
 use Rattle.soundness.proofs.Around.{IsFar}
-use Rattle.soundness.proofs.Waits.{drop_none, no_waits, take_none, waits_of}
-use Rattle.soundness.proofs.Taking.{no_takes}
+use Rattle.soundness.proofs.Waits.{waits_of}
 use Rattle.soundness.proofs.Waited.{FillsNone}
 use Rattle.soundness.proofs.Eased.{eased, goes_same}
 use Rattle.owned_loans.specs.Views.{Around, known_gone, Views, Viewed}
 use Rattle.viewed_soundness.specs.Holds.{IsNamed, AllKeep, is_view, sees_only, is_fixed}
 use Rattle.viewed_soundness.proofs.Outcomes.{named_plain, Leads_on, stored_goes, not_views, assigned_acts}
-use Rattle.viewed_steps.specs.Awaited.{AreFor, AreValues, temporaries_of, lasting_of, AreAwaited, TakesWithin}
-use Rattle.viewed_steps.proofs.Waited.{temporary_first, Shares, others_only}
+use Rattle.viewed_steps.specs.Awaited.{Fits, AreFor, AreValues, temporaries_of, lasting_of, AreAwaited, types_for, AreFilled, TakesTogether}
+use Rattle.viewed_steps.proofs.Waited.{Shares, split_list}
 use Rattle.viewed_steps.specs.Sound.{ArePast, IsResting, HoldsAt, ArePlaced, NoneAbove, ViewStage, stages_of, GoneElsewhere, AreWaiting, IsStoredAt, LeadsAlong, HasTraversals}
 use Rattle.viewed_steps.specs.Ready.{IsReady, AreOrderly}
 use Rattle.viewed_steps.proofs.Lent.{Spare}
 use Rattle.viewed_steps.proofs.Placed.{MayBe}
 use Rattle.viewed_steps.proofs.Waiting.{StandsBetween, beside_them, handed, apart_elsewhere}
+use Rattle.viewed_steps.proofs.Standing.{or_right}
 use Rattle.viewed_steps.proofs.Standing as standing
-use Rattle.viewed_steps.specs.Awaited.{IsMade}
-use Rattle.viewed_steps.proofs.Sources.{leads_or}
+use Rattle.viewed_steps.specs.Traversals.{IsSourceIn}
 use Rattle.soundness.proofs.Following.{Each}
-use Rattle.flow_paths.specs.Scopes.{brought}
-use Rattle.soundness.specs.Sound.{returns_value}
+use Rattle.viewed_soundness.proofs.Names.{true_false}
+use Rattle.std.proofs.Common.{◌≡◌, refl, sym, ap, ◌∙◌, subst, ◌⊎◌, inl, inr, ℕ, suc, ◌<◌, true, false, List, [], ◌∷◌, ◌++◌, drop, length, None, map}
+use Rattle.flow_paths.specs.Scopes.{taken, brought, scope_behind}
+use Rattle.machine.specs.Memory.{declared}
+use Rattle.machine.specs.Evaluate.{Done, followed_by, place_of}
+use Rattle.soundness.specs.Typed.{Kept}
+use Rattle.typed_laws.specs.Needed.{IsFine}
+use Rattle.soundness.specs.Sound.{IsNoCall, Stage, facts_of, AreStages, IsRunnable, returns_value, InScope, IsNamedSub, IsAtPoint, view_of as view_here}
+use Rattle.soundness.proofs.Eased.{eased}
 use Rattle.soundness.proofs.Successors.{below_one}
+use Rattle.viewed_soundness.specs.Holds.{is_view, sees_only}
+use Rattle.viewed_soundness.proofs.Outcomes.{named_plain, Leads_on}
+use Rattle.viewed_steps.proofs.Waited.{Shares}
 use Rattle.viewed_steps.proofs.Beside.{IsOther, others_keep}
+use Rattle.viewed_steps.proofs.Waiting.{StandsBetween, beside_them, handed}
 use Rattle.soundness.specs.Ready.{IsSupplied, Fills}
 use Rattle.soundness.proofs.Onward.{GoesOn, declare_follows, assign_follows}
 use Rattle.viewed_steps.proofs.Turned as turned
-use Rattle.owned_loans.specs.Views.{on}
-use Rattle.viewed_steps.specs.Ready.{IsSource, IsNewSource}
 use Rattle.std.proofs.Common.{append-nil, append_assoc}
 use Rattle.soundness.proofs.Scalars.{allows_both}
-use Rattle.typed_tree.specs.Trees.{Parens, New, Aggregate}
-use Rattle.viewed_soundness.specs.Taken.{IsFed}
-use Rattle.viewed_soundness.proofs.Fed.{fed_alone}
+use Rattle.viewed_soundness.specs.Taken.{types_taken, AreScalarTypes, AreOfTypes, AreScalarValues}
+use Rattle.viewed_soundness.proofs.Fed.{split_values, scalar_values, takes_values, types_count, fed_alone}
+use Rattle.viewed_soundness.proofs.Hands.{first_words, words_first}
+use Rattle.soundness.proofs.Taking.{Takes}
 use Rattle.viewed_steps.proofs.Packages as packages
 use Rattle.viewed_steps.proofs.Innermost as innermost
-use Rattle.std.specs.Prelude.{flat_map, reverse}
-use Rattle.type_definitions.specs.Types.{words}
+use Rattle.std.specs.Prelude.{flat_map}
+use Rattle.machine.specs.Step.{led}
 use Rattle.machine.specs.Evaluate.{Raises, Traps}
+use Rattle.soundness.specs.Seen.{seen}
+use Rattle.soundness.specs.Ready.{IsSupplied}
+use Rattle.soundness.proofs.Waits.{waits_of}
 use Rattle.soundness.proofs.Numbers.{index_law}
 use Rattle.soundness.proofs.Lasting.{keeps}
-use Rattle.viewed_soundness.proofs.Evaluated.{Given, Ready, checked_given, keep_both}
+use Rattle.viewed_soundness.proofs.Evaluated.{Given, GivenOn, Ready, checked_on, keep_both}
 use Rattle.viewed_steps.proofs.Declared.{declared_goes, first_fades}
 use Rattle.viewed_steps.proofs.EachInstruction as each
 use Rattle.viewed_steps.proofs.Views.{AreAccess, all_held}
 
--- such an expression takes one value
-mutual
-  unfolding IsFed waits_in
-
-  fed_waits : (s : Typing) (of : ℕ) (e : TypedTree) → IsFed s of e → waits_in e ≡ 1
-  fed_waits s of (CallIn p sub actuals) mine = refl
-  fed_waits s of (Parens e) mine = fed_waits s of e mine
-  fed_waits s of (New t (More e more)) (mine, none) = (let one = fed_waits s of e mine in let nothing = no_waits more none in omega (arith, one, nothing))
-  fed_waits s of (Aggregate t es) mine = fed_waits s of es mine
-  fed_waits s of (More e more) (inl (mine, none)) = (let one = fed_waits s of e mine in let nothing = no_waits more none in omega (arith, one, nothing))
-  fed_waits s of (More e more) (inr (none, later)) = (let one = fed_waits s of more later in let nothing = no_waits e none in omega (arith, one, nothing))
-  fed_waits s of e mine = absurd mine
+-- What temporaries are filled with has their types.
+pub of_types : (s : Typing) (types xs : List ℕ) (values : List Waiting) → AreFilled s types xs → AreFor s values xs → AreOfTypes s types values
+of_types s [] [] [] filled there = tt
+of_types s [] [] (v ∷ values) filled there = absurd there
+of_types s [] (x ∷ xs) values filled there = absurd filled
+of_types s (t ∷ types) [] values filled there = absurd filled
+of_types s (t ∷ types) (x ∷ xs) [] filled there = absurd there
+of_types s (t ∷ types) (x ∷ xs) (v ∷ values) filled there = ((one filled.0 there.0.0, there.0.1), of_types s types xs values filled.1 there.1)
+  where
+    one : Fits s t x → Fits s v.of x → ((is_scalar (full s.table t) ≡ true) × (is_scalar (full s.table v.of) ≡ true)) ⊎ (t ≡ v.of)
+    one (inl both) (inl mine) = inl (both.0, mine.0)
+    one (inl both) (inr same) = inl (both.0, ap (λ z. is_scalar (full s.table z)) same ∙ both.1)
+    one (inr is) (inl mine) = inl (ap (λ z. is_scalar (full s.table z)) is ∙ mine.1, mine.0)
+    one (inr is) (inr same) = inr (is ∙ sym same)
 
 module _ (table : Table) (typed : TypedProgram) (effects : Effects) (input : List ℕ) (ready : IsReady table typed effects) where
   abbrev program : FlowProgram
@@ -217,106 +231,68 @@ module _ (table : Table) (typed : TypedProgram) (effects : Effects) (input : Lis
 
     -- ---- the value
 
-    module _ (going : (y : ℕ) → p.instr ≡ EndScope y → ⊥) (taken_within : TakesWithin s p) where
-      abbrev x : ℕ
-      x = taken_within.0
-
+    module _ (going : (y : ℕ) → p.instr ≡ EndScope y → ⊥) (taken_within : TakesTogether s named.sub.result p) where
       abbrev pub tree : TypedTree
-      tree = taken_within.3
+      tree = taken_within.0
 
-      -- one value is taken
-      one_taken : taken p.instr ≡ 1
-      unfolding waits_in
-      one_taken = elim taken_within.6 [
-        | inl (y, is) ↦ ap taken is ∙ alone_there
-        | inr (inl (q, y, steps, u, is, calls)) ↦ ap taken is ∙ ap (λ k. waits_in tree + k) (no_waits steps calls) ∙ alone_there
-        | inr (inr is) ↦ ap taken is ∙ alone_there
-      ]
-        where
-          alone_there : waits_in tree + 0 ≡ 1
-          alone_there = (let one = fed_waits s (object_at s x).of tree taken_within.4 in omega (arith, one))
+      -- what is taken waits above what waits on
+      abbrev pub front : List Waiting
+      front = take (taken p.instr) top.frame.waits
 
-      one_there : temporaries_of s (take (taken p.instr) p.scope) ≡ x ∷ []
-      one_there =
-          ap (λ n. temporaries_of s (take n p.scope)) one_taken ∙ ap (λ z. temporaries_of s (take 1 z)) taken_within.2
-          ∙ by_kind (is_temporary_object s x) refl
-        where
-          count_one : temporaries_in s (take 1 (x ∷ taken_within.1)) ≡ 1
-          count_one = (λ j. temporaries_in s (take (sym one_taken j) (sym taken_within.2 j))) ∙ supplied_here.0 ∙ one_taken
+      pub values_fit : (i : Instruction) → p.instr ≡ i → AreOfTypes s (types_for s i) front
+      values_fit i is =
+          subst (λ z. AreOfTypes s (types_for s z) front) is
+          (of_types s (types_for s p.instr) (temporaries_of s (take (taken p.instr) p.scope)) front taken_within.3 shared.taken)
 
-          first_only : take 1 (x ∷ taken_within.1) ≡ x ∷ []
-          first_only = ap (λ z. x ∷ z) (take_none taken_within.1)
+      waits_split : waiting_in state ≡ front ++ waiting_in easy.state
+      waits_split =
+          ap (flat_map waits_of) frames ∙ ap (λ z. z ++ flat_map waits_of outer) (sym (split_list (taken p.instr) top.frame.waits))
+          ∙ append_assoc front (steps.waiting main_turn) (flat_map waits_of outer)
 
-          by_kind : (b : Bool) → is_temporary_object s x ≡ b → temporaries_of s (take 1 (x ∷ taken_within.1)) ≡ x ∷ []
-          by_kind true is = ap (temporaries_of s) first_only ∙ temporary_first s x [] is
-          by_kind false is =
-              (let none : length (temporaries_of s (x ∷ [])) ≡ 0 = ap (λ (z : List ℕ). length z) (others_only s x [] is) in
-              let some : length (temporaries_of s (x ∷ [])) ≡ 1 = ap (λ z. length (temporaries_of s z)) (sym first_only) ∙ count_one in absurd (omega (arith, none, some)))
-
-      -- A value of the type of the temporary.
-      abbrev pub IsFirst : Waiting → Type 0
-      IsFirst v =
-          (v.of ≡ (object_at s x).of) × (length v.words ≡ words s.table v.of) × (waiting_in state ≡ v ∷ waiting_in easy.state)
-          × (given_words ≡ v.words ∷ []) × (vs : List Waiting) × (top.frame.waits ≡ v ∷ vs)
-
-      pub first_value : (v : Waiting) × IsFirst v
-      first_value = by_waits top.frame.waits refl
-        where
-          taken_all : AreFor s (take (taken p.instr) top.frame.waits) (x ∷ [])
-          taken_all = subst (AreFor s (take (taken p.instr) top.frame.waits)) one_there shared.taken
-
-          by_waits : (waits : List Waiting) → top.frame.waits ≡ waits → (v : Waiting) × IsFirst v
-          by_waits [] none = absurd (subst (λ z. AreFor s z (x ∷ [])) ((λ j. take (one_taken j) (none j))) taken_all)
-          by_waits (v ∷ vs) some =
-              let mine : AreFor s (v ∷ take 0 vs) (x ∷ []) = subst (λ z. AreFor s z (x ∷ [])) (λ j. take (one_taken j) (some j)) taken_all in
-              let same : v.of ≡ (object_at s x).of = elim (mine.0).0 [
-                | inr is ↦ is
-                | inl both ↦ (let no : true ≡ false = sym both.1 ∙ taken_within.5 in cc)
-              ] in
-              let others : steps.waiting main_turn ≡ vs = (λ j. drop (one_taken j) (some j)) ∙ drop_none vs in (
-                v,
-                (
-                  same,
-                  (mine.0).1,
-                  ap (flat_map waits_of) frames ∙ ap (λ z. z ++ flat_map waits_of outer) some ∙ ap (λ z. v ∷ (z ++ flat_map waits_of outer)) (sym others),
-                  (λ j. map (λ (w : Waiting). w.words) (reverse (take (one_taken j) (some j)))) ∙ ap (λ z. map (λ (w : Waiting). w.words) (reverse (v ∷ z))) (take_none vs),
-                  vs,
-                  some,
-                ),
-              )
+      words_given : given_words ≡ first_words front []
+      words_given = words_first front
 
       pub ready_value : Ready (steps.here main_turn) ready.accepted.settled state.leaks [] other alone (keeps s ready.accepted.settled ready.owns) index_law ready.owns views
-          ready.class.parts_named state.memory (first_value.0 ∷ waiting_in easy.state) facts_now
+          ready.class.parts_named state.memory (front ++ waiting_in easy.state) facts_now
       ready_value = record {
-        viewed = subst (λ z. Viewed (home s depth) (sees_only s) other views (seen s state.memory z state.leaks) facts_now) first_value.1.2 viewed;
-        kept = subst (Kept s state.memory) first_value.1.2 kept;
+        viewed = subst (λ z. Viewed (home s depth) (sees_only s) other views (seen s state.memory z state.leaks) facts_now) waits_split viewed;
+        kept = subst (Kept s state.memory) waits_split kept;
         holds = all_held s in_formals depth views state.memory (λ y n view e. holds.held y n (λ fading. going fading.0 fading.1) view e) holds.only holds.owners holds.own;
       }
 
-      pub source_within : (u : ℕ) → IsNamed s.table u → Source s u tree → AllowsAll facts_now (acts (acts_in s tree)) → AllKeep (is_fixed s) (acts (acts_in s tree))
-          → Given (steps.here main_turn) ready.accepted.settled state.leaks [] other alone (keeps s ready.accepted.settled ready.owns) index_law ready.owns views
-          ready.class.parts_named u (waiting_in easy.state) (after (acts (acts_in s tree)) facts_now) (steps.taken_by main_turn u tree (start main_turn))
-      source_within u named_type (inl (view, is)) allowed keep = absurd (true_false (is_anonymous (full s.table u)) view (named_plain s.table u named_type))
-      source_within u named_type (inr gives) allowed keep =
-          let v : Waiting = first_value.0 in
+      -- scalar values may wait above it
+      pub source_within : (u : ℕ) → IsNamed s.table u → Source s u tree → (later first : List Waiting) → front ≡ later ++ first → AreScalarValues s later
+          → AreOfTypes s (types_taken s tree) first → AllowsAll facts_now (acts (acts_in s tree)) → AllKeep (is_fixed s) (acts (acts_in s tree))
+          → GivenOn (steps.here main_turn) ready.accepted.settled state.leaks [] other alone (keeps s ready.accepted.settled ready.owns) index_law ready.owns views
+          ready.class.parts_named (first_words later []) u (waiting_in easy.state) (after (acts (acts_in s tree)) facts_now) (steps.taken_by main_turn u tree (start main_turn))
+      source_within u named_type (inl (view, is)) later first split scalar fit allowed keep = absurd (true_false (is_anonymous (full s.table u)) view (named_plain s.table u named_type))
+      source_within u named_type (inr gives) later first split scalar fit allowed keep =
           let now : List (List machine.Word) → Now = (λ ws. record { memory = state.memory; waits = ws }) in
-          subst (λ b. Given (steps.here main_turn) ready.accepted.settled state.leaks [] other alone (keeps s ready.accepted.settled ready.owns) index_law ready.owns views
-          ready.class.parts_named u (waiting_in easy.state) (after (acts (acts_in s tree)) facts_now)
+          subst (λ b. GivenOn (steps.here main_turn) ready.accepted.settled state.leaks [] other alone (keeps s ready.accepted.settled ready.owns) index_law ready.owns views
+          ready.class.parts_named (first_words later []) u (waiting_in easy.state) (after (acts (acts_in s tree)) facts_now)
           (if b then run.viewed (steps.here main_turn) tree (start main_turn) else followed_by (value (steps.here main_turn) tree (start main_turn)) (checked (steps.here main_turn) u)))
           (sym (named_plain s.table u named_type))
-          (checked_given (steps.here main_turn) ready.accepted.settled state.leaks [] other alone (keeps s ready.accepted.settled ready.owns) index_law ready.owns views
-          ready.class.parts_named u u (waiting_in easy.state) (after (acts (acts_in s tree)) facts_now) (value (steps.here main_turn) tree (start main_turn))
-          (subst (λ ws. Given (steps.here main_turn) ready.accepted.settled state.leaks [] other alone (keeps s ready.accepted.settled ready.owns) index_law ready.owns views
-          ready.class.parts_named u (waiting_in easy.state) (after (acts (acts_in s tree)) facts_now) (value (steps.here main_turn) tree (now ws))) (sym first_value.1.3)
+          (checked_on (steps.here main_turn) ready.accepted.settled state.leaks [] other alone (keeps s ready.accepted.settled ready.owns) index_law ready.owns views
+          ready.class.parts_named (first_words later []) u u (waiting_in easy.state) (after (acts (acts_in s tree)) facts_now) (value (steps.here main_turn) tree (start main_turn))
+          (subst (λ ws. GivenOn (steps.here main_turn) ready.accepted.settled state.leaks [] other alone (keeps s ready.accepted.settled ready.owns) index_law ready.owns views
+          ready.class.parts_named (first_words later []) u (waiting_in easy.state) (after (acts (acts_in s tree)) facts_now) (value (steps.here main_turn) tree (now ws)))
+          (sym (words_given ∙ ap (λ z. first_words z []) split))
           (fed_alone (steps.here main_turn) ready.accepted.settled state.leaks [] other alone (keeps s ready.accepted.settled ready.owns) index_law ready.owns views
-          ready.class.parts_named v.of v.words first_value.1.1 (waiting_in easy.state) [] tree u gives
-          (subst (λ z. IsFed s z tree) (sym first_value.1.0) taken_within.4) state.memory facts_now ready_value allowed named_type keep)))
+          ready.class.parts_named tree u gives taken_within.2 later first scalar fit (waiting_in easy.state) [] state.memory facts_now
+          (subst (λ z. Ready (steps.here main_turn) ready.accepted.settled state.leaks [] other alone (keeps s ready.accepted.settled ready.owns) index_law ready.owns views
+          ready.class.parts_named state.memory (z ++ waiting_in easy.state) facts_now) split ready_value) allowed named_type keep)))
+
+      pub alone_within : (u : ℕ) → IsNamed s.table u → Source s u tree → AreOfTypes s (types_taken s tree) front → AllowsAll facts_now (acts (acts_in s tree))
+          → AllKeep (is_fixed s) (acts (acts_in s tree))
+          → Given (steps.here main_turn) ready.accepted.settled state.leaks [] other alone (keeps s ready.accepted.settled ready.owns) index_law ready.owns views
+          ready.class.parts_named u (waiting_in easy.state) (after (acts (acts_in s tree)) facts_now) (steps.taken_by main_turn u tree (start main_turn))
+      alone_within u named_type source fit allowed keep = source_within u named_type source [] front refl tt fit allowed keep
 
     -- ---- a declaration or an assignment
 
-    module _ (going : (y : ℕ) → p.instr ≡ EndScope y → ⊥) (no_calls : IsNoCall p.instr) (taken_within : TakesWithin s p) where
+    module _ (going : (y : ℕ) → p.instr ≡ EndScope y → ⊥) (no_calls : IsNoCall p.instr) (taken_within : TakesTogether s named.sub.result p) where
       abbrev held : TypedTree
-      held = taken_within.3
+      held = taken_within.0
 
       allowed_there : (p.instr ≡ Finish → ⊥) → AllowsAll facts_now (acts_of_main p.instr)
       allowed_there end =
@@ -357,6 +333,10 @@ module _ (table : Table) (typed : TypedProgram) (effects : Effects) (input : Lis
         pub facts_same : after (acts (acts_in s held)) facts_now ≡ after (acts_of_main (Declare y v)) facts_now
         facts_same = ap (λ z. after z facts_now) (sym acts_same)
 
+        pub values_here : AreOfTypes s (types_taken s held) (front going taken_within)
+        unfolding types_taken
+        values_here = values_fit going taken_within (Declare y v) is
+
         declared_value : (z : Evaluated (List machine.Word))
             → Given (steps.here main_turn) ready.accepted.settled state.leaks [] other alone (keeps s ready.accepted.settled ready.owns) index_law ready.owns views
             ready.class.parts_named (object_at s y).of (waiting_in easy.state) (after (acts_of_main (Declare y v)) facts_now) z
@@ -382,11 +362,11 @@ module _ (table : Table) (typed : TypedProgram) (effects : Effects) (input : Lis
             declared_value (steps.first_value main_turn (object_at s y).of v (start main_turn))
             (subst (λ z. Given (steps.here main_turn) ready.accepted.settled state.leaks [] other alone (keeps s ready.accepted.settled ready.owns) index_law ready.owns views
             ready.class.parts_named (object_at s y).of (waiting_in easy.state) z (steps.taken_by main_turn (object_at s y).of held (start main_turn))) facts_same
-            (source_within going taken_within (object_at s y).of named_object source_here allowed_here keeps_here))
+            (alone_within going taken_within (object_at s y).of named_object source_here values_here allowed_here keeps_here))
             (first_fades easy ready.accepted.settled ready.owns other alone in_formals views ready.class.parts_named may refl refl given_words (object_at s y).of v (refl, source_here))
 
       -- a place that is no view
-      module _ (r : Pos) (y : ℕ) (path_there : TypedTree) (u : ℕ) (is : p.instr ≡ Assign (Name r y path_there u) held) (calls : has_call path_there ≡ false) (end : p.instr ≡ Finish → ⊥)
+      module _ (r : Pos) (y : ℕ) (path_there : TypedTree) (u : ℕ) (is : p.instr ≡ Assign (Name r y path_there u) held) (path_scalar : AreScalarTypes s (types_taken s path_there)) (end : p.instr ≡ Finish → ⊥)
           (plain_target : is_anonymous (full s.table u) ≡ false) where
         abbrev target : TypedTree
         target = Name r y path_there u
@@ -435,6 +415,17 @@ module _ (table : Table) (typed : TypedProgram) (effects : Effects) (input : Lis
             sym (ap (λ z. after z facts_now) acts_there ∙ after_append first_acts last_acts facts_now
             ∙ after_append (acts (acts_in s path_there)) (act.Write (name_of y path_there) ∷ []) (after first_acts facts_now))
 
+        -- what the name takes waits above what the value takes
+        pub fronts : (later : List Waiting) × (first : List Waiting) × (front going taken_within ≡ later ++ first) × AreOfTypes s (types_taken s path_there) later
+            × AreOfTypes s (types_taken s held) first
+        unfolding types_taken
+        fronts = split_values s (types_taken s path_there) (types_taken s held) (front going taken_within) (values_fit going taken_within (Assign target held) is)
+
+        pub path_takes : Takes (waits_in path_there) (first_words fronts.0 []) []
+        path_takes =
+            subst (λ k. Takes k (first_words fronts.0 []) []) (types_count s path_there)
+            (takes_values s ready.accepted.settled (types_taken s path_there) fronts.0 fronts.3 path_scalar [])
+
         stored_value : (z : Evaluated steps.Stored)
             → Assigns (steps.here main_turn) ready.accepted.settled state.leaks [] other alone (keeps s ready.accepted.settled ready.owns) index_law ready.owns views
             ready.class.parts_named (waiting_in easy.state) (after (acts_of_main (Assign target held)) facts_now) z
@@ -458,69 +449,26 @@ module _ (table : Table) (typed : TypedProgram) (effects : Effects) (input : Lis
             ready.class.parts_named (waiting_in easy.state) z (followed_by (steps.taken_by main_turn u held (start main_turn))
             (λ ws now. followed_by (place_of (steps.here main_turn) target now) (λ k now. Done (record { words = ws; place = k }) now)))) facts_there
             (then_placed (steps.here main_turn) ready.accepted.settled state.leaks [] other alone (keeps s ready.accepted.settled ready.owns) index_law ready.owns views
-            ready.class.parts_named [] [] r y u path_there (waiting_in easy.state) (after first_acts facts_now) named_target plain_root leads_there (no_takes path_there calls [])
+            ready.class.parts_named (first_words fronts.0 []) [] r y u path_there (waiting_in easy.state) (after first_acts facts_now) named_target plain_root leads_there path_takes
             each_allowed.1 (steps.taken_by main_turn u held (start main_turn))
-            (source_within going taken_within u named_target source_there each_allowed.0 each_kept.0)))
+            (source_within going taken_within u named_target source_there fronts.0 fronts.1 fronts.2 (scalar_values s (types_taken s path_there) fronts.0 fronts.3 path_scalar) fronts.4
+            each_allowed.0 each_kept.0)))
 
       -- ---- what follows
 
-      made_name : (r : Pos) (b : ℕ) (w : TypedTree) (o : ℕ) → ◌≡◌ {A = TypedTree} held (Name r b w o) → ⊥
-      made_name r b w o e = subst IsMade e taken_within.7
-
-      made_call : (r : Pos) (b : ℕ) (actuals : TypedTree) → ◌≡◌ {A = TypedTree} held (CallIn r b actuals) → ⊥
-      made_call r b actuals e = subst IsMade e taken_within.7
-
-      same_first : (a b : TypedTree) → ◌≡◌ {A = TypedTree} (More a NoMore) (More b NoMore) → a ≡ b
-      same_first a b e = cc
-
-      -- a view is declared with a name or a call
-      declares : (y : ℕ) → p.instr ≡ Declare y (More held NoMore) → (p.instr ≡ Finish → ⊥) → LeadsFrom (Declare y (More held NoMore)) (turn main_turn (Declare y (More held NoMore)))
-      declares y is end = by_kind (is_anonymous (view_of s y)) refl
-        where
-          by_kind : (b : Bool) → is_anonymous (view_of s y) ≡ b → LeadsFrom (Declare y (More held NoMore)) (turn main_turn (Declare y (More held NoMore)))
-          by_kind false owner = declares_within y is owner
-          by_kind true view =
-              let found : IsSource program p.scope y (More held NoMore) = orderly.declared y (More held NoMore) is view in
-              let tree_is : held ≡ found.4 = same_first held found.4 found.5 in
-              absurd (elim found.6 [
-                | inl name ↦ made_name found.0 found.1 found.2 found.3 (tree_is ∙ name)
-                | inr (r, n, others, call, gives) ↦ made_call r n (More (Name found.0 found.1 found.2 found.3) others) (tree_is ∙ call)
-              ])
-
-      assigns : (r : Pos) (y : ℕ) (steps_there : TypedTree) (u : ℕ) → p.instr ≡ Assign (Name r y steps_there u) held → has_call steps_there ≡ false → (p.instr ≡ Finish → ⊥)
-          → LeadsFrom (Assign (Name r y steps_there u) held) (turn main_turn (Assign (Name r y steps_there u) held))
-      assigns r y steps_there u is calls end = by_kind (is_anonymous (full s.table u)) refl
-        where
-          text_there : IsFine s named.sub.result (Assign (Name r y steps_there u) held)
-          text_there = subst (IsFine s named.sub.result) is (standing.fine table typed effects input ready state top older outer named p frames of_sub at_point)
-
-          by_kind : (b : Bool) → is_anonymous (full s.table u) ≡ b → LeadsFrom (Assign (Name r y steps_there u) held) (turn main_turn (Assign (Name r y steps_there u) held))
-          by_kind false place = assigns_within r y steps_there u is calls end place
-          by_kind true view = elim (leads_or s ready.class.parts_named steps_there (object_at s y).of u text_there.1.0) [
-            | inr own_type ↦ absurd (true_false (is_anonymous (full s.table u)) view (named_plain s.table u own_type))
-            | inl whole ↦ (
-                let target_is : Name r y steps_there u ≡ Name r y NoMore (object_at s y).of = (λ j. Name r y (whole.0 j) (sym whole.1 j)) in
-                let found : IsNewSource program p.scope y held =
-                orderly.assigned r y (object_at s y).of held (is ∙ ap (λ z. Assign z held) target_is) (ap (λ z. is_anonymous (full s.table z)) whole.1 ∙ view) in
-                absurd (elim found.4 [
-                  | inl name ↦ made_name found.0 found.1 found.2 found.3 name
-                  | inr (q, n, others, call, gives) ↦ made_call q n (More (Name found.0 found.1 found.2 found.3) others) call
-                ]))
-          ]
-
       pub goes_within : IsOther p.instr → FillsNone s p.instr → (p.instr ≡ Finish → ⊥) → returns_value p.instr ≡ false → Along (turn main_turn p.instr)
-      goes_within other_one fills end none = elim taken_within.6 [
-        | inl (y, is) ↦ finish (Declare y (More held NoMore)) is (declares y is end)
+      goes_within other_one fills end none = elim taken_within.1 [
+        | inl (y, is, owner) ↦ finish (Declare y (More held NoMore)) is (declares_within y is owner)
             (declare_follows main_turn Left left IsOld (lasting_of s left_scope) (lasting_of s (y ∷ left_scope)) inside_left
             (innermost.one_more table typed effects input ready state top below more_frames rest named p frames deep stages running awaiting of_sub at_point path views viewed_before kept scope holds placed_before above y) y (More held NoMore)
             (innermost.new_one table typed effects input ready state top below more_frames rest named p frames deep stages running awaiting of_sub at_point path views viewed_before kept scope holds placed_before above y
             (subst (λ i. Fills s i left_scope) is supplied_here.1))
             (innermost.with_successors table typed effects input ready state top below more_frames rest named p frames deep stages running awaiting of_sub at_point path views viewed_before kept scope holds placed_before above (Declare y (More held NoMore)) 0 is below_one))
-        | inr (inl (r, y, steps, u, is, calls)) ↦ finish (Assign (Name r y steps u) held) is (assigns r y steps u is calls end)
+        | inr (inl (r, y, steps, u, is, place, scalar)) ↦ finish (Assign (Name r y steps u) held) is (assigns_within r y steps u is scalar end place)
             (assign_follows main_turn Left left IsOld (lasting_of s left_scope) (lasting_of s left_scope) inside_left (λ x within. within) r y u steps held
             (innermost.stored_there table typed effects input ready state top below more_frames rest named p frames deep stages running awaiting of_sub at_point path views viewed_before kept scope holds placed_before above (Assign (Name r y steps u) held) is y (inl refl))
             (innermost.with_successors table typed effects input ready state top below more_frames rest named p frames deep stages running awaiting of_sub at_point path views viewed_before kept scope holds placed_before above (Assign (Name r y steps u) held) 0 is below_one))
-        | inr (inr is) ↦ absurd (subst IsOther is other_one)
+        | inr (inr (is, plain_result)) ↦ absurd (subst IsOther is other_one)
       ]
         where
           left : Left (steps.waiting main_turn)
