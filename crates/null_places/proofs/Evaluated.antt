@@ -193,7 +193,7 @@ module _ (h : Here) (settled : IsSettled h.typing.table) (own_law : OwnsByShape 
     value_on e want gives calls own_calls before on takes compares m hands facts so allowed only own keep n' same = absurd gives
 
     -- the parts of an aggregate from the i-th on
-    pub parts_same : (es : TypedTree) (t i : ℕ) → GivesParts h.typing t i es → asks.calls (has_call es) → asks.gives es → (before on : List (List machine.Word))
+    parts_same : (es : TypedTree) (t i : ℕ) → GivesParts h.typing t i es → asks.calls (has_call es) → asks.gives es → (before on : List (List machine.Word))
         → Takes (waiting es) before on → Compares h.typing es
         → (m : Memory) (hands : List Waiting) (facts : List Fact) → ready m hands facts → AllowsAll facts (acts (acts_in h.typing es)) → OnlyOwners h.typing m
         → is_record (shape_of h.typing.table t) || is_array (shape_of h.typing.table t) ≡ true → asks.keeps (acts (acts_in h.typing es)) → (n' : Now) → SameNow h.typing (record { memory = m; waits = before }) n'

@@ -1,10 +1,15 @@
--- Facts without an element stay exact where what a function gave is taken within an aggregate or an allocator.
-use Rattle.std.proofs.Common.{◌≡◌, refl, sym, ap, ◌∙◌, subst, inl, inr, ℕ, suc, Bool, true, false, List, [], ◌∷◌, ◌++◌, map, length, Option, Some, None, if◌then◌else◌}
+-- Facts without an element stay exact where a value is made of what functions gave, of any types.
+use Rattle.std.proofs.Common.{◌≡◌, refl, sym, ap, ◌∙◌, subst, inl, inr, ℕ, suc, true, false, List, [], ◌∷◌, ◌++◌, map, length, Option, Some, None, if◌then◌else◌}
 use Rattle.viewed_facts.proofs.Stored.{then_placed}
 use Rattle.viewed_facts.proofs.Evaluated.{ExactTo, checked_exact}
 use Rattle.soundness.proofs.Lasting.{keeps}
 use Rattle.soundness.proofs.Numbers.{index_law}
-use Rattle.viewed_soundness.specs.Taken.{IsFed}
+use Rattle.viewed_soundness.specs.Taken.{types_taken, AreScalarTypes, AreOfTypes}
+use Rattle.viewed_soundness.proofs.Hands.{first_words, words_first, first_both}
+use Rattle.viewed_soundness.proofs.Fed.{scalar_values}
+use Rattle.viewed_soundness.proofs.Evaluated.{Ready}
+use Rattle.machine.specs.States.{Waiting}
+use Rattle.std.proofs.Common.{append_assoc}
 use Rattle.spark_base.specs.Lists.{Has}
 use Rattle.spark_base.specs.declared.position.Pos.{Pos}
 use Rattle.place_names.specs.declared.selector.Sel.{Sel}
@@ -16,13 +21,13 @@ use Rattle.place_names.specs.declared.fact.Fact.TheVariants.{Moved}
 use Rattle.place_names.specs.Names.{Name as PlaceName}
 use Rattle.place_names.specs.Facts.{effect}
 use Rattle.type_definitions.specs.Types.{Table, full, parts}
-use Rattle.typed_tree.specs.Trees.{TypedTree, Name, NoMore, More, Call as CallIn}
+use Rattle.typed_tree.specs.Trees.{TypedTree, Name, NoMore, More}
 use Rattle.typed_tree.specs.Programs.{TypedProgram}
 use Rattle.flow_paths.specs.declared.report.Effects.{Effects}
 use Rattle.flow_paths.specs.declared.point.LeakSpot.{LeakSpot}
 use Rattle.flow_paths.specs.Instructions.{Instruction, Declare, Assign, Hold, EndScope, Finish}
 use Rattle.flow_paths.specs.Objects.{Typing, object_at, is_anonymous, is_package_object, view_of}
-use Rattle.flow_paths.specs.Names.{has_call, name_of}
+use Rattle.flow_paths.specs.Names.{name_of}
 use Rattle.flow_paths.specs.Acts as flow
 use Rattle.flow_paths.specs.Acts.{acts_in, leaks_of}
 use Rattle.flow_paths.specs.Points.{NamedPoint}
@@ -45,7 +50,6 @@ use Rattle.soundness.specs.Typed.{Kept}
 use Rattle.soundness.specs.Sound.{Stage, facts_of, AreStages, IsRunnable, IsNoCall, InScope, IsNamedSub, IsAtPoint, view_of as view_here}
 use Rattle.typed_laws.specs.Needed.{IsFine, Source, Returns}
 use Rattle.soundness.proofs.Scalars.{after_append, acts, acts_append}
-use Rattle.soundness.proofs.Taking.{no_takes}
 use Rattle.soundness.proofs.Eased.{eased}
 use Rattle.soundness.proofs.Around.{IsFar}
 use Rattle.owned_loans.specs.Views.{Around, known_gone, Views, Viewed}
@@ -53,9 +57,8 @@ use Rattle.viewed_soundness.specs.Holds.{is_fixed, is_view, IsNamed, AllKeep, se
 use Rattle.viewed_soundness.proofs.Names.{true_false}
 use Rattle.viewed_soundness.proofs.Outcomes.{named_plain, assigned_acts}
 use Rattle.viewed_steps.specs.Sound.{ArePast, IsResting, HoldsAt, ArePlaced, NoneAbove, ViewStage, stages_of, GoneElsewhere, AreWaiting, HasTraversals}
-use Rattle.viewed_steps.specs.Awaited.{AreAwaited, lasting_of, TakesWithin, IsMade}
+use Rattle.viewed_steps.specs.Awaited.{AreAwaited, lasting_of, TakesTogether}
 use Rattle.viewed_steps.specs.Ready.{AreOrderly, IsReady}
-use Rattle.viewed_steps.proofs.Sources.{leads_or}
 use Rattle.viewed_steps.proofs.Waiting.{StandsBetween, beside_them, handed}
 use Rattle.viewed_steps.proofs.Standing as standing
 use Rattle.viewed_steps.proofs.Packages as packages
@@ -190,57 +193,64 @@ module _ (table : Table) (typed : TypedProgram) (effects : Effects) (input : Lis
       abbrev ExactValue : List Fact → Evaluated (List machine.Word) → Type 0
       ExactValue facts y = ExactTo (steps.here at) ready.accepted.settled state.leaks [] other alone (keeps s ready.accepted.settled ready.owns) index_law ready.owns views ready.class.parts_named elsewhere away facts y
 
-      module _ (taken_within : TakesWithin s p) where
+      module _ (taken_within : TakesTogether s named.sub.result p) where
         abbrev held : TypedTree
-        held = taken_within.3
+        held = taken_within.0
 
         abbrev held_acts : List Act
         held_acts = acts (acts_in s held)
 
-        -- the value comes from the frame, and is handed on within the expression
-        value_exact : (u : ℕ) → IsNamed s.table u → Source s u held → AllowsAll facts_now held_acts → AllKeep (is_fixed s) held_acts
-            → ExactValue (after held_acts facts_now) (steps.taken_by at u held (start at))
-        value_exact u type_there (inl (view, is)) allowed keep = absurd (true_false (is_anonymous (full s.table u)) view (named_plain s.table u type_there))
-        value_exact u type_there (inr gives) allowed keep =
-            let first = steps_within.first_value table typed effects input ready state top below more_frames rest named p frames deep stages running awaiting of_sub at_point path views viewed_before kept scope holds placed_before above going taken_within in
+        abbrev front : List Waiting
+        front = steps_within.front table typed effects input ready state top below more_frames rest named p frames deep stages running awaiting of_sub at_point path views viewed_before kept scope holds placed_before above going taken_within
+
+        -- the values come from the frame, and are handed on within the expression; scalar ones may wait above them
+        value_exact : (u : ℕ) → IsNamed s.table u → Source s u held → (later first : List Waiting) → front ≡ later ++ first → AreOfTypes s (types_taken s held) first
+            → AllowsAll facts_now held_acts → AllKeep (is_fixed s) held_acts → ExactValue (after held_acts facts_now) (steps.taken_by at u held (start at))
+        value_exact u type_there (inl (view, is)) later first split fit allowed keep = absurd (true_false (is_anonymous (full s.table u)) view (named_plain s.table u type_there))
+        value_exact u type_there (inr gives) later first split fit allowed keep =
+            let below_hands : List Waiting = waiting_in easy.state in
             let now : List (List machine.Word) → Now = (λ ws. record { memory = state.memory; waits = ws }) in
+            let words_are : (start at).waits ≡ first_words first (first_words later []) = words_first front ∙ ap (λ z. first_words z []) split ∙ first_both later first [] in
             subst (λ b. ExactValue (after held_acts facts_now) (if b then run.viewed (steps.here at) held (start at) else followed_by (value (steps.here at) held (start at)) (checked (steps.here at) u)))
             (sym (named_plain s.table u type_there))
             (checked_exact (steps.here at) ready.accepted.settled state.leaks [] other alone (keeps s ready.accepted.settled ready.owns) index_law ready.owns views ready.class.parts_named elsewhere away u (after held_acts facts_now) (value (steps.here at) held (start at))
-            (subst (λ ws. ExactValue (after held_acts facts_now) (value (steps.here at) held (now ws))) (sym first.1.3)
-            (fed_exact (steps.here at) ready.accepted.settled state.leaks [] other alone (keeps s ready.accepted.settled ready.owns) index_law ready.owns views ready.class.parts_named elsewhere away first.0.of first.0.words first.1.1 (waiting_in easy.state) [] held u gives
-            (subst (λ z. IsFed s z held) (sym first.1.0) taken_within.4) [] state.memory facts_now
-            (steps_within.ready_value table typed effects input ready state top below more_frames rest named p frames deep stages running awaiting of_sub at_point path views viewed_before kept scope holds placed_before above going taken_within) allowed type_there keep exact)))
+            (subst (λ ws. ExactValue (after held_acts facts_now) (value (steps.here at) held (now ws))) (sym words_are)
+            (fed_exact (steps.here at) ready.accepted.settled state.leaks [] other alone (keeps s ready.accepted.settled ready.owns) index_law ready.owns views ready.class.parts_named elsewhere away held u gives taken_within.2 first fit later below_hands (first_words later []) state.memory facts_now
+            (subst (λ z. Ready (steps.here at) ready.accepted.settled state.leaks [] other alone (keeps s ready.accepted.settled ready.owns) index_law ready.owns views ready.class.parts_named state.memory z facts_now) (ap (λ z. z ++ below_hands) split ∙ append_assoc later first below_hands)
+            (steps_within.ready_value table typed effects input ready state top below more_frames rest named p frames deep stages running awaiting of_sub at_point path views viewed_before kept scope holds placed_before above going taken_within)) allowed type_there keep exact)))
 
-        declares_owner : (y : ℕ) → p.instr ≡ Declare y (More held NoMore) → is_anonymous (view_of s y) ≡ false → Exacts (Declare y (More held NoMore))
+        declares : (y : ℕ) → p.instr ≡ Declare y (More held NoMore) → is_anonymous (view_of s y) ≡ false → Exacts (Declare y (More held NoMore))
         unfolding acts_in initial
-        declares_owner y is owner =
+        declares y is owner =
             let type_there = steps_within.named_object table typed effects input ready state top below more_frames rest named p frames deep stages running awaiting of_sub at_point path views viewed_before kept scope holds placed_before above going no_calls taken_within y is owner in
             let same = steps_within.facts_same table typed effects input ready state top below more_frames rest named p frames deep stages running awaiting of_sub at_point path views viewed_before kept scope holds placed_before above going no_calls taken_within y is owner in
             let source = steps_within.source_here table typed effects input ready state top below more_frames rest named p frames deep stages running awaiting of_sub at_point path views viewed_before kept scope holds placed_before above going no_calls taken_within y is owner in
+            let fit = steps_within.values_here table typed effects input ready state top below more_frames rest named p frames deep stages running awaiting of_sub at_point path views viewed_before kept scope holds placed_before above going no_calls taken_within y is owner in
             let allowed = steps_within.allowed_here table typed effects input ready state top below more_frames rest named p frames deep stages running awaiting of_sub at_point path views viewed_before kept scope holds placed_before above going no_calls taken_within y is owner in
             let keep = steps_within.keeps_here table typed effects input ready state top below more_frames rest named p frames deep stages running awaiting of_sub at_point path views viewed_before kept scope holds placed_before above going no_calls taken_within y is owner in
             turning.declared_main table typed effects input ready state top below more_frames rest named p frames deep stages running awaiting of_sub at_point path views viewed_before kept scope holds placed_before above exact_before going no_calls (after (acts_by (Declare y (More held NoMore))) facts_now) y (More held NoMore)
             (subst (λ z. ExactAt z [] (steps.evaluated easy (steps.first_value at (object_at s y).of (More held NoMore) (start at))
             (λ vs m. steps.goes easy (declared depth y vs m) 0))) same
             (then_declared easy ready.accepted.settled ready.owns other alone in_formals views ready.class.parts_named none_taken refl refl elsewhere away Excused y (orderly.begun y (More held NoMore) is) (after held_acts facts_now) (steps.first_value at (object_at s y).of (More held NoMore) (start at))
-            (steps_within.source_within table typed effects input ready state top below more_frames rest named p frames deep stages running awaiting of_sub at_point path views viewed_before kept scope holds placed_before above going taken_within (object_at s y).of type_there source allowed keep)
-            (value_exact (object_at s y).of type_there source allowed keep) (
+            (steps_within.alone_within table typed effects input ready state top below more_frames rest named p frames deep stages running awaiting of_sub at_point path views viewed_before kept scope holds placed_before above going taken_within (object_at s y).of type_there source fit allowed keep)
+            (value_exact (object_at s y).of type_there source [] front refl fit allowed keep) (
               subst (λ z. (name : PlaceName) → Has z (Moved name) → name.root ≡ y → depth ≡ home s depth y → ⊥) (sym same)
                   (each.after_it table typed effects input ready state top below more_frames rest named p frames deep stages running awaiting of_sub at_point path views viewed_before kept scope holds placed_before above going no_calls y (More held NoMore) is),
               each.free table typed effects input ready state top below more_frames rest named p frames deep stages running awaiting of_sub at_point path views viewed_before kept scope holds placed_before above going no_calls y (More held NoMore) is,
             )))
 
-        assigns_place : (r : Pos) (y : ℕ) (steps_there : TypedTree) (u : ℕ) → p.instr ≡ Assign (Name r y steps_there u) held → has_call steps_there ≡ false → (p.instr ≡ Finish → ⊥)
-            → is_anonymous (full s.table u) ≡ false → Exacts (Assign (Name r y steps_there u) held)
+        assigns : (r : Pos) (y : ℕ) (steps_there : TypedTree) (u : ℕ) → p.instr ≡ Assign (Name r y steps_there u) held → AreScalarTypes s (types_taken s steps_there)
+            → (p.instr ≡ Finish → ⊥) → is_anonymous (full s.table u) ≡ false → Exacts (Assign (Name r y steps_there u) held)
         unfolding acts_in
-        assigns_place r y steps_there u is calls end place =
+        assigns r y steps_there u is scalar end place =
             let target : TypedTree = Name r y steps_there u in
-            let type_there = steps_within.named_target table typed effects input ready state top below more_frames rest named p frames deep stages running awaiting of_sub at_point path views viewed_before kept scope holds placed_before above going no_calls taken_within r y steps_there u is calls end place in
-            let leads = steps_within.leads_there table typed effects input ready state top below more_frames rest named p frames deep stages running awaiting of_sub at_point path views viewed_before kept scope holds placed_before above going no_calls taken_within r y steps_there u is calls end place in
-            let source = steps_within.source_there table typed effects input ready state top below more_frames rest named p frames deep stages running awaiting of_sub at_point path views viewed_before kept scope holds placed_before above going no_calls taken_within r y steps_there u is calls end place in
-            let allows = steps_within.each_allowed table typed effects input ready state top below more_frames rest named p frames deep stages running awaiting of_sub at_point path views viewed_before kept scope holds placed_before above going no_calls taken_within r y steps_there u is calls end place in
-            let keep = steps_within.each_kept table typed effects input ready state top below more_frames rest named p frames deep stages running awaiting of_sub at_point path views viewed_before kept scope holds placed_before above going no_calls taken_within r y steps_there u is calls end place in
+            let type_there = steps_within.named_target table typed effects input ready state top below more_frames rest named p frames deep stages running awaiting of_sub at_point path views viewed_before kept scope holds placed_before above going no_calls taken_within r y steps_there u is scalar end place in
+            let leads = steps_within.leads_there table typed effects input ready state top below more_frames rest named p frames deep stages running awaiting of_sub at_point path views viewed_before kept scope holds placed_before above going no_calls taken_within r y steps_there u is scalar end place in
+            let source = steps_within.source_there table typed effects input ready state top below more_frames rest named p frames deep stages running awaiting of_sub at_point path views viewed_before kept scope holds placed_before above going no_calls taken_within r y steps_there u is scalar end place in
+            let fronts = steps_within.fronts table typed effects input ready state top below more_frames rest named p frames deep stages running awaiting of_sub at_point path views viewed_before kept scope holds placed_before above going no_calls taken_within r y steps_there u is scalar end place in
+            let takes = steps_within.path_takes table typed effects input ready state top below more_frames rest named p frames deep stages running awaiting of_sub at_point path views viewed_before kept scope holds placed_before above going no_calls taken_within r y steps_there u is scalar end place in
+            let allows = steps_within.each_allowed table typed effects input ready state top below more_frames rest named p frames deep stages running awaiting of_sub at_point path views viewed_before kept scope holds placed_before above going no_calls taken_within r y steps_there u is scalar end place in
+            let keep = steps_within.each_kept table typed effects input ready state top below more_frames rest named p frames deep stages running awaiting of_sub at_point path views viewed_before kept scope holds placed_before above going no_calls taken_within r y steps_there u is scalar end place in
             let a : List Act = acts (acts_in s steps_there) in
             let facts_then : List Fact = after a (after held_acts facts_now) in
             let front_same : after (acts (acts_in s held ++ acts_in s steps_there)) facts_now ≡ facts_then =
@@ -249,7 +259,7 @@ module _ (table : Table) (typed : TypedProgram) (effects : Effects) (input : Lis
             (subst (λ z. ExactAt z (spots_by (Assign target held)) (steps.evaluated easy (followed_by (steps.taken_by at u held (start at))
             (λ ws now. followed_by (place_of (steps.here at) target now) (λ k now. Done (record { words = ws; place = k }) now)))
             (λ (st : steps.Stored) m. steps.leaking_goes (checks_at s (steps.target_pos at target) m st.place) (steps.goes easy (stored s st.place st.words m) 0))))
-            (steps_within.facts_there table typed effects input ready state top below more_frames rest named p frames deep stages running awaiting of_sub at_point path views viewed_before kept scope holds placed_before above going no_calls taken_within r y steps_there u is calls end place)
+            (steps_within.facts_there table typed effects input ready state top below more_frames rest named p frames deep stages running awaiting of_sub at_point path views viewed_before kept scope holds placed_before above going no_calls taken_within r y steps_there u is scalar end place)
             (then_stored easy ready.accepted.settled ready.owns other alone in_formals views ready.class.parts_named none_taken refl refl elsewhere away Excused (name_of y steps_there) u facts_then (effect (act.Write (name_of y steps_there)) facts_then) (steps.target_pos at target)
             r (length (acts_in s held ++ acts_in s steps_there))
             (subst (λ z. Knows Excused r (name_of y steps_there) (length (acts_in s held ++ acts_in s steps_there)) z (parts s.table u)) front_same
@@ -257,54 +267,15 @@ module _ (table : Table) (typed : TypedProgram) (effects : Effects) (input : Lis
             (assigned_acts s p.pos y u target steps_there held type_there leads) r (name_of y steps_there) (parts s.table u)))
             (followed_by (steps.taken_by at u held (start at))
             (λ ws now. followed_by (place_of (steps.here at) target now) (λ k now. Done (record { words = ws; place = k }) now)))
-            (then_placed (steps.here at) ready.accepted.settled state.leaks [] other alone (keeps s ready.accepted.settled ready.owns) index_law ready.owns views ready.class.parts_named elsewhere away Excused [] [] r y u steps_there (waiting_in easy.state) (after held_acts facts_now)
-            (steps_within.plain_root table typed effects input ready state top below more_frames rest named p frames deep stages running awaiting of_sub at_point path views viewed_before kept scope holds placed_before above going no_calls taken_within r y steps_there u is calls end place) leads (no_takes steps_there calls []) allows.1
+            (then_placed (steps.here at) ready.accepted.settled state.leaks [] other alone (keeps s ready.accepted.settled ready.owns) index_law ready.owns views ready.class.parts_named elsewhere away Excused (first_words fronts.0 []) [] r y u steps_there (waiting_in easy.state) (after held_acts facts_now)
+            (steps_within.plain_root table typed effects input ready state top below more_frames rest named p frames deep stages running awaiting of_sub at_point path views viewed_before kept scope holds placed_before above going no_calls taken_within r y steps_there u is scalar end place) leads takes allows.1
             (steps.taken_by at u held (start at))
-            (steps_within.source_within table typed effects input ready state top below more_frames rest named p frames deep stages running awaiting of_sub at_point path views viewed_before kept scope holds placed_before above going taken_within u type_there source allows.0 keep.0)
-            (value_exact u type_there source allows.0 keep.0))))
-
-        -- no view takes such a value
-        made_name : (r : Pos) (b : ℕ) (w : TypedTree) (o : ℕ) → ◌≡◌ {A = TypedTree} held (Name r b w o) → ⊥
-        made_name r b w o e = subst IsMade e taken_within.7
-
-        made_call : (r : Pos) (b : ℕ) (actuals : TypedTree) → ◌≡◌ {A = TypedTree} held (CallIn r b actuals) → ⊥
-        made_call r b actuals e = subst IsMade e taken_within.7
+            (steps_within.source_within table typed effects input ready state top below more_frames rest named p frames deep stages running awaiting of_sub at_point path views viewed_before kept scope holds placed_before above going taken_within u type_there source fronts.0 fronts.1 fronts.2
+            (scalar_values s (types_taken s steps_there) fronts.0 fronts.3 scalar) fronts.4 allows.0 keep.0)
+            (value_exact u type_there source fronts.0 fronts.1 fronts.2 fronts.4 allows.0 keep.0))))
 
         same_first : (a b : TypedTree) → ◌≡◌ {A = TypedTree} (More a NoMore) (More b NoMore) → a ≡ b
         same_first a b e = cc
-
-        declares : (y : ℕ) → p.instr ≡ Declare y (More held NoMore) → Exacts (Declare y (More held NoMore))
-        declares y is = by_kind (is_anonymous (view_of s y)) refl
-          where
-            by_kind : (b : Bool) → is_anonymous (view_of s y) ≡ b → Exacts (Declare y (More held NoMore))
-            by_kind false owner = declares_owner y is owner
-            by_kind true view =
-                let found = orderly.declared y (More held NoMore) is view in
-                let tree_is : held ≡ found.4 = same_first held found.4 found.5 in
-                absurd (elim found.6 [
-                  | inl name ↦ made_name found.0 found.1 found.2 found.3 (tree_is ∙ name)
-                  | inr (r, n, others, call, gives) ↦ made_call r n (More (Name found.0 found.1 found.2 found.3) others) (tree_is ∙ call)
-                ])
-
-        assigns : (r : Pos) (y : ℕ) (steps_there : TypedTree) (u : ℕ) → p.instr ≡ Assign (Name r y steps_there u) held → has_call steps_there ≡ false → (p.instr ≡ Finish → ⊥)
-            → Exacts (Assign (Name r y steps_there u) held)
-        assigns r y steps_there u is calls end = by_kind (is_anonymous (full s.table u)) refl
-          where
-            text_there : IsFine s named.sub.result (Assign (Name r y steps_there u) held)
-            text_there = subst (IsFine s named.sub.result) is fine_here
-
-            by_kind : (b : Bool) → is_anonymous (full s.table u) ≡ b → Exacts (Assign (Name r y steps_there u) held)
-            by_kind false place = assigns_place r y steps_there u is calls end place
-            by_kind true view = elim (leads_or s ready.class.parts_named steps_there (object_at s y).of u text_there.1.0) [
-              | inr own_type ↦ absurd (true_false (is_anonymous (full s.table u)) view (named_plain s.table u own_type))
-              | inl whole ↦ (
-                  let target_is : Name r y steps_there u ≡ Name r y NoMore (object_at s y).of = (λ j. Name r y (whole.0 j) (sym whole.1 j)) in
-                  let found = orderly.assigned r y (object_at s y).of held (is ∙ ap (λ z. Assign z held) target_is) (ap (λ z. is_anonymous (full s.table z)) whole.1 ∙ view) in
-                  absurd (elim found.4 [
-                    | inl name ↦ made_name found.0 found.1 found.2 found.3 name
-                    | inr (q, n, others, call, gives) ↦ made_call q n (More (Name found.0 found.1 found.2 found.3) others) call
-                  ]))
-            ]
 
         -- the value is of what the function returns
         result_there : (r : Option ℕ) → named.sub.result ≡ r → Returns s r (More held NoMore) → (of : ℕ) × (named.sub.result ≡ Some of) × Source s of held
@@ -313,15 +284,17 @@ module _ (table : Table) (typed : TypedProgram) (effects : Effects) (input : Lis
 
         returns : p.instr ≡ Hold (More held NoMore) → AllowsAll facts_now (acts_by (Hold (More held NoMore))) → AllKeep (is_fixed s) (acts_by (Hold (More held NoMore)))
             → Exacts (Hold (More held NoMore))
+        unfolding types_taken
         returns is allowed keep =
             let result = result_there named.sub.result refl (subst (IsFine s named.sub.result) is fine_here) in
+            let fit : AreOfTypes s (types_taken s held) front = steps_within.values_fit table typed effects input ready state top below more_frames rest named p frames deep stages running awaiting of_sub at_point path views viewed_before kept scope holds placed_before above going taken_within (Hold (More held NoMore)) is in
             turning.holds_value table typed effects input ready state top below more_frames rest named p frames deep stages running awaiting of_sub at_point path views viewed_before kept scope holds placed_before above exact_before going no_calls held result.0 is result.1
-            (λ type_there allows keeps. value_exact result.0 type_there result.2 allows keeps) allowed keep
+            (λ type_there allows keeps. value_exact result.0 type_there result.2 [] front refl fit allows keeps) allowed keep
 
         pub within_exact : (p.instr ≡ Finish → ⊥) → AllowsAll facts_now (acts_by p.instr) → AllKeep (is_fixed s) (acts_by p.instr) → Exacts p.instr
-        within_exact end allowed_there keep = elim taken_within.6 [
-          | inl (y, is) ↦ subst Exacts (sym is) (declares y is)
-          | inr (inl (r, y, steps_there, u, is, calls)) ↦ subst Exacts (sym is) (assigns r y steps_there u is calls end)
-          | inr (inr is) ↦ subst Exacts (sym is)
+        within_exact end allowed_there keep = elim taken_within.1 [
+          | inl (y, is, owner) ↦ subst Exacts (sym is) (declares y is owner)
+          | inr (inl (r, y, steps_there, u, is, place, scalar)) ↦ subst Exacts (sym is) (assigns r y steps_there u is scalar end place)
+          | inr (inr (is, plain)) ↦ subst Exacts (sym is)
               (returns is (subst (λ i. AllowsAll facts_now (acts_by i)) is allowed_there) (subst (λ i. AllKeep (is_fixed s) (acts_by i)) is keep))
         ]
