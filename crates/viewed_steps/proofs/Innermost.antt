@@ -20,7 +20,7 @@ use Rattle.place_names.specs.declared.rule.Loan.{Loan}
 use Rattle.place_names.specs.declared.rule.Loan.TheVariants.{Borrowed, Observed}
 use Rattle.place_names.specs.Names.{Name as PlaceName, overlaps}
 use Rattle.place_names.specs.Facts.{place}
-use Rattle.type_definitions.specs.Types.{Table, full, is_owning}
+use Rattle.type_definitions.specs.Types.{Table, is_owning}
 use Rattle.typed_tree.specs.Programs.{TypedProgram}
 use Rattle.flow_paths.specs.declared.report.Effects.{Effects}
 use Rattle.flow_paths.specs.Instructions.{Instruction, EndScope}
@@ -47,7 +47,7 @@ use Rattle.soundness.specs.Sound.{Stage, facts_of, AreStages, Uses, IsRunnable, 
 use Rattle.soundness.specs.Ready.{stored_at, IsSupplied}
 use Rattle.soundness.proofs.Contents.{bool_cases, word_no}
 use Rattle.machine.specs.Run.{no_point}
-use Rattle.soundness.proofs.Points.{flow_at, point_there, sub_there, sub_at_number, sub_in_range}
+use Rattle.soundness.proofs.Points.{flow_at, point_there, sub_at_number, sub_in_range}
 use Rattle.soundness.proofs.Scoped.{MayHold, Inside}
 use Rattle.soundness.proofs.Inherited.{Splits, after_splits, allowed_beside}
 use Rattle.soundness.proofs.Used.{writes_used, reads_used, fact_added}
@@ -354,25 +354,6 @@ module _ (table : Table) (typed : TypedProgram) (effects : Effects) (input : Lis
     sub_result : (of : ℕ) → named.sub.result ≡ Some of → (sub_of program top.frame.sub).result ≡ Some of
     sub_result of result =
         ap (λ (z : FlowSub). z.result) (standing.sub_is table typed effects input ready state top older outer named p frames of_sub at_point) ∙ result
-
-    -- only functions that are called give results
-    pub named_result : (of : ℕ) → named.sub.result ≡ Some of → is_anonymous (full s.table of) ≡ false
-    named_result of result = elim (running.0).entered [
-      | inl main ↦ (
-          let same : Some top.frame.sub ≡ Some ready.main = sym main ∙ ready.is_main in
-          let number : top.frame.sub ≡ ready.main = cc in
-          absurd (no_some (sym (sub_result of result) ∙ ap (λ n. (sub_of program n).result) number ∙ main_result)))
-      | inr (sub, has, q, there, actuals, temporary, calls) ↦
-          ready.class.results sub has q there top.frame.sub actuals temporary calls of (sub_result of result)
-    ]
-      where
-        no_some : Some of ≡ None → ⊥
-        no_some never = cc
-
-        main_result : (sub_of program ready.main).result ≡ None
-        main_result =
-            ap (λ (z : FlowSub). z.result) (sub_there table typed ready.main ready.main_there.named ready.main_there.stands)
-            ∙ ready.main_there.procedure ready.main_there.named ready.main_there.stands
 
     -- what a function gives belongs to no package
     pub gives_own : (m : PlaceName) (b : Bool)

@@ -42,6 +42,7 @@ pub mod LaidOut
 -- what formals are shown that own nothing
 pub mod Seeing
 pub mod Clear
+pub mod First
 pub mod Reading
 pub mod Puts
 pub mod Called
@@ -71,6 +72,13 @@ pub mod Results
 pub mod Giving
 pub mod ScopeEnds
 pub mod CallEnds
+-- calls of traversal functions
+pub mod Unlent
+pub mod Taker
+pub mod Traversing
+pub mod Successor
+pub mod Followed
+pub mod Begun
 pub mod CallActs
 pub mod Calling
 pub mod CallBegins

@@ -1,7 +1,6 @@
 -- What waits in frames: the values of the temporaries in scope, one for each.
 use Rattle.std.specs.Prelude.{◌≡◌, ◌⊎◌, ℕ, Bool, true, false, not, ◌&&◌, List, [], ◌∷◌, ◌++◌, take, filter, length, Option, Some, None, if◌then◌else◌}
 use Rattle.std.specs.List.{AllByRecursion}
-use Rattle.spark_base.specs.Lists.{Has}
 use Rattle.type_definitions.specs.Entries.{boolean}
 use Rattle.type_definitions.specs.Types.{Table, words, full, is_scalar}
 use Rattle.typed_tree.specs.Trees.{TypedTree, Name, Call as CallIn, NoMore, More}
@@ -10,7 +9,7 @@ use Rattle.spark_base.specs.declared.position.Pos.{Pos}
 use Rattle.flow_paths.specs.Instructions.{Instruction, Declare, Assign, Call, Evaluate, Hold}
 use Rattle.flow_paths.specs.Objects.{Typing, object_at, sub_at, view_of, is_anonymous, has_scope_end}
 use Rattle.flow_paths.specs.Names.{has_call}
-use Rattle.flow_paths.specs.Points.{NamedPoint, FlowPoint}
+use Rattle.flow_paths.specs.Points.{NamedPoint}
 use Rattle.flow_paths.specs.Laid.{FlowSub, FlowProgram, NamedSub, flow_typing, flow_program, flow_named}
 use Rattle.flow_paths.specs.Scopes.{taken}
 use Rattle.machine.specs.States.{Waiting, sub_of}
@@ -144,9 +143,3 @@ StoresNone i = Unit {0}
 abbrev pub IsTaken : Typing → Option ℕ → NamedPoint → Type 0
 IsTaken s result p =
     (AreScalar s (filter (is_temporary_object s) (take (taken p.instr) p.scope)) × TakesScalars s p.instr) ⊎ (TakesAlone s p ⊎ TakesTogether s result p)
-
--- Functions that are called have no results of anonymous types.
-abbrev pub AreNamedResults : FlowProgram → Type 0
-AreNamedResults program =
-    (sub : FlowSub) → Has program.subs sub → (p : FlowPoint) → Has sub.points p → (n : ℕ) (actuals : TypedTree) (result : Option ℕ)
-    → p.instr ≡ Call n actuals result → (t : ℕ) → (sub_of program n).result ≡ Some t → is_anonymous (full program.table t) ≡ false
