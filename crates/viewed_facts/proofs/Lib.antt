@@ -2,6 +2,7 @@ pub mod Steps
 pub mod Checks
 pub mod Memories
 pub mod Evaluated
+pub mod Fed
 pub mod Stored
 pub mod Instructions
 pub mod Releases
@@ -11,6 +12,8 @@ pub mod Given
 pub mod Frames
 pub mod Here
 pub mod Sighted
+pub mod Turning
+pub mod Within
 pub mod Stepping
 pub mod Told
 pub mod ScopeEnds

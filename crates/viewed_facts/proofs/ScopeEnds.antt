@@ -1,6 +1,6 @@
 -- At the end of a scope, facts of all frames stay exact, and no leak check fails that is excused.
 use Rattle.viewed_soundness.specs.Holds.{is_view, sees_only}
-use Rattle.std.proofs.Common.{◌≡◌, refl, sym, ◌∙◌, subst, inl, inr, ℕ, suc, true, false, List, [], ◌∷◌, ◌++◌, length, Some, None, take}
+use Rattle.std.proofs.Common.{◌≡◌, refl, sym, ◌∙◌, subst, ℕ, suc, true, false, List, [], ◌∷◌, ◌++◌, length, Some, None, take}
 use Rattle.spark_base.specs.Lists.{Has}
 use Rattle.spark_base.specs.declared.position.Pos.{Pos}
 use Rattle.place_names.specs.declared.selector.Sel.{Sel}
@@ -10,11 +10,10 @@ use Rattle.place_names.specs.declared.fact.Fact.{Fact}
 use Rattle.place_names.specs.declared.fact.Fact.TheVariants.{Moved}
 use Rattle.place_names.specs.Names.{Name as PlaceName, object}
 use Rattle.type_definitions.specs.Types.{Table, parts}
-use Rattle.typed_tree.specs.Trees.{Name, NoMore, More}
 use Rattle.typed_tree.specs.Programs.{TypedProgram}
 use Rattle.flow_paths.specs.declared.report.Effects.{Effects}
 use Rattle.flow_paths.specs.declared.point.LeakSpot.{LeakSpot}
-use Rattle.flow_paths.specs.Instructions.{Instruction, Declare, Assign, Call, Hold, EndScope}
+use Rattle.flow_paths.specs.Instructions.{Instruction, Call, EndScope}
 use Rattle.flow_paths.specs.Objects.{Typing, object_at, is_package_object, is_borrower}
 use Rattle.flow_paths.specs.Acts as flow
 use Rattle.flow_paths.specs.Acts.{leaks_of}
@@ -38,7 +37,7 @@ use Rattle.soundness.proofs.Eased.{eased}
 use Rattle.soundness.proofs.Around.{IsFar}
 use Rattle.owned_loans.specs.Views.{Around, known_gone, Views, Viewed}
 use Rattle.viewed_steps.specs.Sound.{ArePast, IsResting, HoldsAt, ArePlaced, NoneAbove, ViewStage, stages_of, GoneElsewhere, AreWaiting, AreLeft, HasTraversals}
-use Rattle.viewed_steps.specs.Awaited.{AreAwaited, lasting_of, AreScalar, temporaries_of, TakesScalars}
+use Rattle.viewed_steps.specs.Awaited.{AreAwaited, lasting_of, AreScalar, temporaries_of, TakesScalars, StoresNone}
 use Rattle.viewed_steps.specs.Ready.{IsReady}
 use Rattle.viewed_steps.proofs.Waiting.{StandsBetween, beside_them, handed}
 use Rattle.viewed_steps.proofs.Standing as standing
@@ -179,11 +178,7 @@ module _ (table : Table) (typed : TypedProgram) (effects : Effects) (input : Lis
 
     module _ (y : ℕ) (is : p.instr ≡ EndScope y) where
       plain_end : Plainly
-      plain_end = innermost.plain_here table typed effects input ready state top below more_frames rest named p frames deep stages running awaiting of_sub at_point path views viewed_before kept scope holds placed_before above (λ call by. elim by [
-        | inl (z, other_instr) ↦ (let never : EndScope y ≡ Declare z (More call NoMore) = sym is ∙ other_instr in cc)
-        | inr (inl (r, z, steps_there, w, other_instr, calls)) ↦ (let never : EndScope y ≡ Assign (Name r z steps_there w) call = sym is ∙ other_instr in cc)
-        | inr (inr other_instr) ↦ (let never : EndScope y ≡ Hold (More call NoMore) = sym is ∙ other_instr in cc)
-      ])
+      plain_end = innermost.plain_here table typed effects input ready state top below more_frames rest named p frames deep stages running awaiting of_sub at_point path views viewed_before kept scope holds placed_before above (subst StoresNone (sym is) tt)
 
       no_call_there : IsNoCall p.instr
       no_call_there n actuals result same = (let never : EndScope y ≡ Call n actuals result = sym is ∙ same in cc)

@@ -2,8 +2,19 @@
 -- observers that is ready.
 use Rattle.std.proofs.Common.{◌≡◌, refl, sym, ap, ◌∙◌, subst, ◌⊎◌, inl, inr, ℕ, suc, Bool, true, false, not, List, [], ◌∷◌, ◌++◌, length, is_some, append-nil, Option, Some, None, if◌then◌else◌, drop, get_or}
 use Rattle.viewed_soundness.proofs.Names.{plain_named}
-use Rattle.viewed_steps.specs.Awaited.{AreAwaited, awaited, lasting_of, TakesScalars, TakesAlone}
+use Rattle.viewed_steps.specs.Awaited.{AreAwaited, awaited, lasting_of, TakesScalars, TakesAlone, StoresNone}
 use Rattle.viewed_steps.proofs.Alone as alone_value
+use Rattle.viewed_steps.proofs.Within as steps_within
+use Rattle.viewed_steps.specs.Awaited.{TakesTogether}
+use Rattle.viewed_soundness.specs.Taken.{types_taken, AreScalarTypes, AreOfTypes}
+use Rattle.viewed_soundness.proofs.Hands.{first_words, words_first, first_both}
+use Rattle.viewed_soundness.proofs.Fed.{scalar_values}
+use Rattle.std.proofs.Common.{append_assoc}
+use Rattle.viewed_nulls.proofs.Fed.{fed_same}
+use Rattle.viewed_nulls.proofs.Viewed.{given_by}
+use Rattle.null_places.proofs.Laws.{GivenBy}
+use Rattle.null_places.proofs.Instructions.{then_placed}
+use Rattle.owned_ways.specs.Ways.{after}
 use Rattle.viewed_soundness.proofs.Evaluated.{gives_plainly}
 use Rattle.spark_base.specs.declared.position.Pos.{Pos}
 use Rattle.spark_base.specs.Lists.{Has}
@@ -273,6 +284,13 @@ module _ (table : Table) (typed : TypedProgram) (effects : Effects) (input : Lis
           (λ ws m. Goes (handed_over program input main_turn.point (record state { memory = n }) top.frame below.stage.frame rest of ws m))
           same (λ ws i j now. ((refl, now.0), now.2)))
 
+      returned_acts : (of : ℕ) (e : TypedTree) → named.sub.result ≡ Some of → acts_of_main (Hold (More e NoMore)) ≡ acts (acts_in s e)
+      unfolding acts_in
+      returned_acts of e result =
+          ap (λ r. acts (flow.returned_acts s r (More e NoMore))) result
+          ∙ ap (λ b. acts (if b then flow.source_acts s e (λ m. act.Give m (flow.gives_variable s (Some of))) else acts_in s e ++ [])) (named_plain s.table of (result_named of result))
+          ∙ ap acts (append-nil (acts_in s e))
+
       value_same : Plain → (e : TypedTree) (of : ℕ) → p.instr ≡ Hold (More e NoMore) → named.sub.result ≡ Some of → Source s of e → TakesScalars s (Hold (More e NoMore))
           → ComparesIn s (Hold (More e NoMore)) → AllowsAll facts_now (acts_of_main (Hold (More e NoMore))) → AllKeep (is_fixed s) (acts_of_main (Hold (More e NoMore)))
           → SameTo s (steps.taken_by main_turn of e (start main_turn)) (steps.taken_by main_turn of e (start (twin main_turn n)))
@@ -280,10 +298,7 @@ module _ (table : Table) (typed : TypedProgram) (effects : Effects) (input : Lis
       value_same plain e of is result source takes_plainly compares_there allowed keep =
           let own_type : IsNamed s.table of = result_named of result in
           let owner : is_anonymous (full s.table of) ≡ false = named_plain s.table of own_type in
-          let same : acts_of_main (Hold (More e NoMore)) ≡ acts (acts_in s e) =
-          ap (λ r. acts (flow.returned_acts s r (More e NoMore))) result
-          ∙ ap (λ b. acts (if b then flow.source_acts s e (λ m. act.Give m (flow.gives_variable s (Some of))) else acts_in s e ++ [])) owner
-          ∙ ap acts (append-nil (acts_in s e)) in
+          let same : acts_of_main (Hold (More e NoMore)) ≡ acts (acts_in s e) = returned_acts of e result in
           source_same main_turn ready.accepted.settled ready.owns asks ready_in laws facts_now so only n agrees [] of e owner own_type (given_there of e owner source)
           tt (gives_both s e NoMore takes_plainly).0
           (takes_as (taken (Hold (More e NoMore))) (waits_in e) (start main_turn).waits [] (nothing_more (waits_in e)) (takes_of plain (Hold (More e NoMore)) is))
@@ -421,6 +436,102 @@ module _ (table : Table) (typed : TypedProgram) (effects : Effects) (input : Lis
             by_result None is result none = absurd (let no : ◌≡◌ {A = TypedTree} (More call NoMore) NoMore = none in cc)
             by_result (Some of) is result fine = holds_value call of result (call_same_value of (result_named of result))
 
+      -- ---- a value that is made of what functions gave
+
+      module _ (no_call : IsNoCall p.instr) (end : p.instr ≡ Finish → ⊥) (together : TakesTogether s named.sub.result p) where
+        abbrev held : TypedTree
+        held = together.0
+
+        abbrev left_hands : List Waiting
+        left_hands = waiting_in (eased main_turn).state
+
+        abbrev front : List Waiting
+        front = steps_within.front table typed effects input ready state top below more_frames rest named p frames deep stages running awaiting of_sub at_point path views viewed_before kept scope holds placed_before above going together
+
+        -- scalar values may wait above those that it takes
+        held_same : (u : ℕ) → IsNamed s.table u → Source s u held → (later first : List Waiting) → front ≡ later ++ first → AreOfTypes s (types_taken s held) first
+            → Compares s held → AllowsAll facts_now (acts (acts_in s held)) → AllKeep (is_fixed s) (acts (acts_in s held))
+            → SameTo s (steps.taken_by main_turn u held (start main_turn)) (steps.taken_by main_turn u held (start (twin main_turn n)))
+        held_same u own_type (inl view) later first split fit compares_there allowed keep = absurd (let no : true ≡ false = sym view.0 ∙ named_plain s.table u own_type in cc)
+        held_same u own_type (inr gives) later first split fit compares_there allowed keep =
+            let h : Here = steps.here main_turn in
+            let words_are : (start main_turn).waits ≡ first_words first (first_words later []) = words_first front ∙ ap (λ z. first_words z []) split ∙ first_both later first [] in
+            let x : Evaluated (List machine.Word) = evaluate h AsValue held (start main_turn) in
+            let y : Evaluated (List machine.Word) = evaluate h AsValue held (start (twin main_turn n)) in
+            subst (λ b. SameTo s (if b then viewed h held (start main_turn) else followed_by x (checked h u)) (if b then viewed h held (start (twin main_turn n)) else followed_by y (checked h u)))
+            (sym (named_plain s.table u own_type))
+            (checked_same h ready.accepted.settled ready.owns asks ready_in laws u x y
+            (subst (λ ws. SameTo s (evaluate h AsValue held (record { memory = state.memory; waits = ws })) y) (sym words_are)
+            (fed_same h ready.accepted.settled state.leaks other alone in_formals index_law ready.owns views ready.class.parts_named
+            held u gives together.2 compares_there first fit later left_hands (first_words later []) state.memory facts_now
+            (subst (λ z. ready_in state.memory z facts_now) (ap (λ z. z ++ left_hands) split ∙ append_assoc later first left_hands)
+            (steps_within.ready_value table typed effects input ready state top below more_frames rest named p frames deep stages running awaiting of_sub at_point path views viewed_before kept scope holds placed_before above going together)) allowed own_type keep only
+            (start (twin main_turn n)) (agrees, sym words_are, only))))
+
+        declares_within : (y : ℕ) → p.instr ≡ Declare y (More held NoMore) → is_anonymous (view_of s y) ≡ false → Goal (Declare y (More held NoMore))
+        unfolding Compares
+        declares_within y is owner =
+            declared_by main_turn ready.accepted.settled ready.owns asks ready_in laws facts_now so only n agrees y (More held NoMore)
+            (held_same (object_at s y).of (steps_within.named_object table typed effects input ready state top below more_frames rest named p frames deep stages running awaiting of_sub at_point path views viewed_before kept scope holds placed_before above going no_call together y is owner)
+            (steps_within.source_here table typed effects input ready state top below more_frames rest named p frames deep stages running awaiting of_sub at_point path views viewed_before kept scope holds placed_before above going no_call together y is owner) [] front refl
+            (steps_within.values_here table typed effects input ready state top below more_frames rest named p frames deep stages running awaiting of_sub at_point path views viewed_before kept scope holds placed_before above going no_call together y is owner)
+            (subst (ComparesIn s) is compares).0
+            (steps_within.allowed_here table typed effects input ready state top below more_frames rest named p frames deep stages running awaiting of_sub at_point path views viewed_before kept scope holds placed_before above going no_call together y is owner)
+            (steps_within.keeps_here table typed effects input ready state top below more_frames rest named p frames deep stages running awaiting of_sub at_point path views viewed_before kept scope holds placed_before above going no_call together y is owner))
+
+        assigns_within : (r : Pos) (y : ℕ) (path_there : TypedTree) (u : ℕ) → p.instr ≡ Assign (Name r y path_there u) held → AreScalarTypes s (types_taken s path_there)
+            → is_anonymous (full s.table u) ≡ false → Goal (Assign (Name r y path_there u) held)
+        unfolding Compares
+        assigns_within r y path_there u is scalar plain_target =
+            let target : TypedTree = Name r y path_there u in
+            let own_type = steps_within.named_target table typed effects input ready state top below more_frames rest named p frames deep stages running awaiting of_sub at_point path views viewed_before kept scope holds placed_before above going no_call together r y path_there u is scalar end plain_target in
+            let leads = steps_within.leads_there table typed effects input ready state top below more_frames rest named p frames deep stages running awaiting of_sub at_point path views viewed_before kept scope holds placed_before above going no_call together r y path_there u is scalar end plain_target in
+            let source = steps_within.source_there table typed effects input ready state top below more_frames rest named p frames deep stages running awaiting of_sub at_point path views viewed_before kept scope holds placed_before above going no_call together r y path_there u is scalar end plain_target in
+            let fronts = steps_within.fronts table typed effects input ready state top below more_frames rest named p frames deep stages running awaiting of_sub at_point path views viewed_before kept scope holds placed_before above going no_call together r y path_there u is scalar end plain_target in
+            let takes = steps_within.path_takes table typed effects input ready state top below more_frames rest named p frames deep stages running awaiting of_sub at_point path views viewed_before kept scope holds placed_before above going no_call together r y path_there u is scalar end plain_target in
+            let allows = steps_within.each_allowed table typed effects input ready state top below more_frames rest named p frames deep stages running awaiting of_sub at_point path views viewed_before kept scope holds placed_before above going no_call together r y path_there u is scalar end plain_target in
+            let keep = steps_within.each_kept table typed effects input ready state top below more_frames rest named p frames deep stages running awaiting of_sub at_point path views viewed_before kept scope holds placed_before above going no_call together r y path_there u is scalar end plain_target in
+            let mid : List (List machine.Word) = first_words fronts.0 [] in
+            let facts_then : List Fact = after (acts (acts_in s held)) facts_now in
+            let placed : List machine.Word → Now → Evaluated steps.Stored =
+            (λ ws now. followed_by (place_of (steps.here main_turn) target now) (λ k now. Done (record { words = ws; place = k }) now)) in
+            stored_same main_turn ready.accepted.settled ready.owns asks ready_in laws facts_now so only n agrees target
+            (followed_by (steps.taken_by main_turn u held (start main_turn)) placed) (followed_by (steps.taken_by main_turn u held (start (twin main_turn n))) placed)
+            (then_same s (GivenBy (steps.here main_turn) ready_in mid u left_hands facts_then)
+            (steps.taken_by main_turn u held (start main_turn)) (steps.taken_by main_turn u held (start (twin main_turn n))) placed placed
+            (given_by (steps.here main_turn) ready.accepted.settled state.leaks other alone in_formals index_law ready.owns views ready.class.parts_named mid u left_hands facts_then
+            (steps.taken_by main_turn u held (start main_turn))
+            (steps_within.source_within table typed effects input ready state top below more_frames rest named p frames deep stages running awaiting of_sub at_point path views viewed_before kept scope holds placed_before above going together u own_type source fronts.0 fronts.1 fronts.2
+            (scalar_values s (types_taken s path_there) fronts.0 fronts.3 scalar) fronts.4 allows.0 keep.0))
+            (held_same u own_type source fronts.0 fronts.1 fronts.2 fronts.4 (subst (ComparesIn s) is compares).1 allows.0 keep.0)
+            (λ ws i j given now. then_placed main_turn ready.accepted.settled ready.owns asks ready_in laws facts_now so only n agrees left_hands mid [] r y u path_there leads
+            takes tt (subst (ComparesIn s) is compares).0 facts_then allows.1 ws i j given now))
+
+        same_first : (a b : TypedTree) → ◌≡◌ {A = TypedTree} (More a NoMore) (More b NoMore) → a ≡ b
+        same_first a b e = cc
+
+        returns_within : p.instr ≡ Hold (More held NoMore) → (r : Option ℕ) → named.sub.result ≡ r → Returns s r (More held NoMore)
+            → AllowsAll facts_now (acts_of_main (Hold (More held NoMore))) → AllKeep (is_fixed s) (acts_of_main (Hold (More held NoMore))) → Goal (Hold (More held NoMore))
+        unfolding Compares types_taken
+        returns_within is None result none allowed keep = absurd (let no : ◌≡◌ {A = TypedTree} (More held NoMore) NoMore = none in cc)
+        returns_within is (Some of) result (e, same, source) allowed keep =
+            let own_type : IsNamed s.table of = result_named of result in
+            let acts_same : acts_of_main (Hold (More held NoMore)) ≡ acts (acts_in s held) = returned_acts of held result in
+            let fit : AreOfTypes s (types_taken s held) front = steps_within.values_fit table typed effects input ready state top below more_frames rest named p frames deep stages running awaiting of_sub at_point path views viewed_before kept scope holds placed_before above going together (Hold (More held NoMore)) is in
+            holds_value held of result
+            (held_same of own_type (subst (Source s of) (sym (same_first held e same)) source) [] front refl fit (subst (ComparesIn s) is compares).0
+            (subst (AllowsAll facts_now) acts_same allowed) (subst (AllKeep (is_fixed s)) acts_same keep))
+
+        goes_together : Goal p.instr
+        goes_together = elim together.1 [
+          | inl (y, is, owner) ↦ subst Goal (sym is) (declares_within y is owner)
+          | inr more ↦ elim more [
+            | inl (r, y, path_there, u, is, place, scalar) ↦ subst Goal (sym is) (assigns_within r y path_there u is scalar place)
+            | inr (is, plain) ↦ subst Goal (sym is) (returns_within is named.sub.result refl (subst (IsFine s named.sub.result) is text)
+                (subst (λ i. AllowsAll facts_now (acts_of_main i)) is (allowed_now no_call end)) (subst (λ i. AllKeep (is_fixed s) (acts_of_main i)) is keeps_there))
+          ]
+        ]
+
       -- ---- a call
 
       module _ (k : ℕ) (actuals : TypedTree) (result : Option ℕ) (e : p.instr ≡ Call k actuals result) where
@@ -434,13 +545,7 @@ module _ (table : Table) (typed : TypedProgram) (effects : Effects) (input : Lis
         plain_call : Plain
         plain_call =
             (innermost.plain_here table typed effects input ready state top below more_frames rest named p frames deep stages running awaiting of_sub at_point path views viewed_before kept scope holds placed_before above
-            (λ c by. elim by [
-              | inl (y, is) ↦ (let no : Call k actuals result ≡ Declare y (More c NoMore) = sym e ∙ is in cc)
-              | inr more ↦ elim more [
-                | inl (r, y, path_there, u, is, calls) ↦ (let no : Call k actuals result ≡ Assign (Name r y path_there u) c = sym e ∙ is in cc)
-                | inr is ↦ (let no : Call k actuals result ≡ Hold (More c NoMore) = sym e ∙ is in cc)
-              ]
-            ])).0
+            (subst StoresNone (sym e) tt)).0
 
         -- with the values that wait under plain types
         so_easy : IsReadyIn (steps.here main_turn) ready.accepted.settled state.leaks other alone in_formals index_law ready.owns views ready.class.parts_named
@@ -558,7 +663,8 @@ module _ (table : Table) (typed : TypedProgram) (effects : Effects) (input : Lis
             | inr going ↦ elim (call_or p.instr) [
               | inr no_call ↦ elim (innermost.taken_there table typed effects input ready state top below more_frames rest named p frames deep stages running awaiting of_sub at_point path views viewed_before kept scope holds placed_before above) [
                 | inl plain ↦ goes_plainly going plain no_call end
-                | inr by_itself ↦ goes_alone going no_call end by_itself
+                | inr (inl by_itself) ↦ goes_alone going no_call end by_itself
+                | inr (inr together) ↦ goes_together going no_call end together
               ]
               | inl call ↦ subst Goal (sym call.3) (calls_it going call.0 call.1 call.2 call.3)
             ]

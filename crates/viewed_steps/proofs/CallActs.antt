@@ -13,12 +13,12 @@ use Rattle.place_names.specs.Rules.{moved_or_lent}
 use Rattle.place_names.specs.declared.rule.Loan.{Loan}
 use Rattle.place_names.specs.declared.rule.Loan.TheVariants.{Borrowed}
 use Rattle.place_names.specs.declared.act.Mode.TheVariants as mode
-use Rattle.type_definitions.specs.Types.{Table, full, is_owning}
-use Rattle.typed_tree.specs.Trees.{TypedTree, Name, NoMore, More}
+use Rattle.type_definitions.specs.Types.{Table, is_owning, full}
+use Rattle.typed_tree.specs.Trees.{TypedTree, Name, More}
 use Rattle.typed_tree.specs.Programs.{TypedProgram}
 use Rattle.flow_paths.specs.declared.report.Effects.{Effects}
-use Rattle.flow_paths.specs.Instructions.{Instruction, Call, EndScope, Declare, Assign, Hold}
-use Rattle.flow_paths.specs.Objects.{Typing, object_at, sub_at, is_anonymous, is_package_object, view_of, traverses, passings, Passing, Signature, passing, is_observer, is_observing, is_formal}
+use Rattle.flow_paths.specs.Instructions.{Instruction, Call, EndScope}
+use Rattle.flow_paths.specs.Objects.{Typing, object_at, sub_at, is_anonymous, is_package_object, view_of, traverses, passings, Passing, Signature, passing, is_observer, is_formal, is_observing}
 use Rattle.place_names.specs.Reports.{Report}
 use Rattle.flow_paths.specs.Aliases.{overlap_reports, passed_reports, call_reports}
 use Rattle.flow_paths.specs.Aliases as alias
@@ -60,7 +60,7 @@ use Rattle.owned_loans.proofs.Safe.{Unlent}
 use Rattle.viewed_soundness.specs.Holds.{Holds, is_view, sees_only, IsOwners, is_given, is_exclusive, lends_first, is_first, AllKeep, is_fixed}
 use Rattle.viewed_soundness.proofs.Given.{IsLow}
 use Rattle.viewed_soundness.proofs.Evaluated.{live_trunk, keep_both}
-use Rattle.viewed_steps.specs.Awaited.{temporaries_of, lasting_of, AreAwaited, AreScalar, TakesScalars, IsTakenBy}
+use Rattle.viewed_steps.specs.Awaited.{temporaries_of, lasting_of, AreAwaited, AreScalar, TakesScalars, StoresNone}
 use Rattle.viewed_steps.specs.Sound.{IsCopiedBack, ArePast, HoldsAt, ArePlaced, NoneAbove, ViewStage, stages_of, GoneElsewhere, AreWaiting, IsResting, IsKindOfFormal, HasTraversals, LendsShared, AreShownOwn}
 use Rattle.viewed_steps.specs.Ready.{IsReady, IsCalled, IsTraversalCall, IsSeen, AreActualsTo}
 use Rattle.viewed_steps.specs.Traversals.{traversed_name}
@@ -162,7 +162,7 @@ module _ (table : Table) (typed : TypedProgram) (effects : Effects) (input : Lis
     abbrev Plain : Type 0
     Plain = AreScalar s (temporaries_of s (take (taken p.instr) p.scope))
 
-    abbrev plain_here : ((call : TypedTree) → IsTakenBy p.instr call → ⊥) → Plain × TakesScalars s p.instr
+    abbrev plain_here : StoresNone p.instr → Plain × TakesScalars s p.instr
     plain_here = innermost.plain_here table typed effects input ready state top below more_frames rest named p frames deep stages running awaiting of_sub at_point path views viewed_before kept scope holds placed_before above
 
     abbrev named_there : Has (flow_named table typed) named
@@ -213,11 +213,7 @@ module _ (table : Table) (typed : TypedProgram) (effects : Effects) (input : Lis
 
       -- what a call takes is of scalar types
       pub plain_there : Plain × TakesScalars s p.instr
-      plain_there = plain_here (λ call by. elim by [
-        | inl (x, is) ↦ (let never : Call n actuals result ≡ Declare x (More call NoMore) = sym e ∙ is in cc)
-        | inr (inl (q, x, steps, u, is, calls)) ↦ (let never : Call n actuals result ≡ Assign (Name q x steps u) call = sym e ∙ is in cc)
-        | inr (inr is) ↦ (let never : Call n actuals result ≡ Hold (More call NoMore) = sym e ∙ is in cc)
-      ])
+      plain_there = plain_here (subst StoresNone (sym e) tt)
 
       abbrev pub procedure : Bool
       procedure = not (is_some (sub_of program n).result)

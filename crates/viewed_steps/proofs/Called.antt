@@ -258,7 +258,7 @@ module _ (h : Here) (settled : IsSettled h.typing.table) (hands : List Waiting) 
 
   abbrev pub IsGiven : ℕ → Mode → TypedTree → Passed → Type 0
   IsGiven x mode.In e (Value ws) = IsValueGiven x e ws
-  IsGiven x mode.Out e (To k) = IsPlaceGiven x e k
+  IsGiven x mode.Out e (To k) = IsBackGiven x e k
   IsGiven x mode.InOut e (From k) = IsBackGiven x e k
   IsGiven x m' e a = ⊥
 
@@ -348,22 +348,12 @@ module _ (h : Here) (settled : IsSettled h.typing.table) (hands : List Waiting) 
           (matches_scalar h.typing t (object_at h.typing x).of fits plain) other_type)
       own_there (inr own) other_type = own
 
-  out_given : (before on : List (List machine.Word)) (x : ℕ) (e : TypedTree) → (object_at h.typing x).mode ≡ mode.Out → is_anonymous (view_of h.typing x) ≡ false → IsActualTo h.typing x mode.InOut e
-      → (goes_through_none e ≡ true) ⊎ (IsReachedBack h.typing x e × IsOpenActual h.typing h.frame facts e) → Takes (waits_in e) before on
-      → AllowsAll facts (acts (index_acts h.typing e)) → Quiet (at on) (λ k. IsPlaceGiven x e k) (place_of h e (at before))
-  out_given before on x e is unseen actual copied takes allowed = copied_given before on x e unseen actual (direct_there copied) takes allowed
-    where
-      direct_there : (goes_through_none e ≡ true) ⊎ (IsReachedBack h.typing x e × IsOpenActual h.typing h.frame facts e) → AreDirect x e
-      direct_there (inl none) = inl none
-      direct_there (inr (inl scalar, opens)) = inr (scalar, opens)
-      direct_there (inr (inr (back, owners), opens)) = (let never : mode.Out ≡ mode.InOut = sym is ∙ back in cc)
-
   back_given : (before on : List (List machine.Word)) (x : ℕ) (e : TypedTree) → is_anonymous (view_of h.typing x) ≡ false → IsActualTo h.typing x mode.InOut e
       → (goes_through_none e ≡ true) ⊎ (IsReachedBack h.typing x e × IsOpenActual h.typing h.frame facts e) → Takes (waits_in e) before on
       → AllowsAll facts (acts (index_acts h.typing e)) → Quiet (at on) (λ k. IsBackGiven x e k) (place_of h e (at before))
   back_given before on x e unseen actual (inl none) takes allowed = placed_back before on x e (copied_given before on x e unseen actual (inl none) takes allowed)
   back_given before on x e unseen actual (inr (inl scalar, opens)) takes allowed = placed_back before on x e (copied_given before on x e unseen actual (inr (scalar, opens)) takes allowed)
-  back_given before on x e unseen (t, place, fits, which) (inr (inr (back, owners), opens)) takes allowed = elim (bool_cases (is_scalar (full h.typing.table (object_at h.typing x).of))) [
+  back_given before on x e unseen (t, place, fits, which) (inr (inr owners, opens)) takes allowed = elim (bool_cases (is_scalar (full h.typing.table (object_at h.typing x).of))) [
     | inl plain ↦ placed_back before on x e (copied_given before on x e unseen (t, place, fits, which) (inr (plain, opens)) takes allowed)
     | inr other_type ↦ quiet_on on (λ k. IsKeptPut x e k) (λ k. IsBackGiven x e k)
         (λ k put. elim put [ inl own ↦ inl (inr (other_type, own)) | inr housed ↦ inr (other_type, housed) ]) (place_of h e (at before))
@@ -393,8 +383,8 @@ module _ (h : Here) (settled : IsSettled h.typing.table) (hands : List Waiting) 
     ]
   ]
   one_given before on mode.Out owning access x e is fits unseen kind actual clears copied takes allowed =
-      quiet_then (at on) (λ k. IsPlaceGiven x e k) (λ a. IsGiven x mode.Out e a) (place_of h e (at before)) (λ k now. Done (To k) now)
-      (out_given before on x e is unseen actual (copied refl) takes allowed) (λ k put. (refl, put))
+      quiet_then (at on) (λ k. IsBackGiven x e k) (λ a. IsGiven x mode.Out e a) (place_of h e (at before)) (λ k now. Done (To k) now)
+      (back_given before on x e unseen actual (copied refl) takes allowed) (λ k put. (refl, put))
   one_given before on mode.InOut owning access x e is fits unseen kind actual clears copied takes allowed =
       from_given before on x e (back_given before on x e unseen actual (copied refl) takes allowed)
 

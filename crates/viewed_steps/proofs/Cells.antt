@@ -45,10 +45,10 @@ use Rattle.viewed_soundness.specs.Holds.{sees_only}
 use Rattle.viewed_steps.specs.Taken.{Lodge}
 use Rattle.viewed_steps.specs.Sound.{IsScalarObject, IsReachedBack, IsCopiedBack, AreKeptPlaces}
 use Rattle.viewed_steps.specs.Ready.{AreUnobserved}
-use Rattle.viewed_steps.proofs.LaidOut.{IsHoused, house_of, IsPlaceLaid, IsLaidOne, AreLaidOut, place_cell, cell_of, cells_of, IsOpenActual, AreOpenActuals}
+use Rattle.viewed_steps.proofs.LaidOut.{IsHoused, house_of, IsPlaceLaid, IsBackLaid, IsLaidOne, AreLaidOut, place_cell, back_cell, cell_of, cells_of, IsOpenActual, AreOpenActuals}
 use Rattle.viewed_steps.proofs.Opened.{actual_open, IsLess, open_before}
 use Rattle.viewed_steps.proofs.Called.{copies_add}
-use Rattle.viewed_steps.proofs.Entered.{inside_named, IsFrom}
+use Rattle.viewed_steps.proofs.Entered.{inside_named, IsFrom, IsOfPlace}
 use Rattle.viewed_steps.proofs.Passed.{apart_pair, flat_has, later_none, after_less}
 
 -- ---- names that don't overlap
@@ -383,10 +383,10 @@ module _ (s : Typing) (settled : IsSettled s.table) (own_law : OwnsByShape s.tab
       same_cell e = cc
 
   -- the cell of one that isn't scalar
-  housed_cell : (x : ℕ) (m : Mode) (p : Pos) (y u : ℕ) (path : TypedTree) (k : Place) (known : List Fact) (formals : List ℕ) (rest : TypedTree) (passed : List Passed) → (object_at s x).mode ≡ m → (m ≡ mode.In → ⊥)
-      → (h : IsHoused s depth v view x y path k) → AllowsAll known (acts (actual_act (passing s procedure x) (Name p y path u))) → ((f : Fact) → Has facts f → Has known f)
-      → is_scalar (full s.table (object_at s x).of) ≡ false → Called (x ∷ formals) (More (Name p y path u) rest) (From k ∷ passed) (house_of s depth v view x y path k h)
-  housed_cell x m p y u path k known formals rest passed is other h allowed less many = record {
+  housed_cell : (x : ℕ) (m : Mode) (p : Pos) (y u : ℕ) (path : TypedTree) (k : Place) (a : Passed) (known : List Fact) (formals : List ℕ) (rest : TypedTree) (passed : List Passed) → (object_at s x).mode ≡ m → (m ≡ mode.In → ⊥)
+      → IsOfPlace a k → (h : IsHoused s depth v view x y path k) → AllowsAll known (acts (actual_act (passing s procedure x) (Name p y path u))) → ((f : Fact) → Has facts f → Has known f)
+      → is_scalar (full s.table (object_at s x).of) ≡ false → Called (x ∷ formals) (More (Name p y path u) rest) (a ∷ passed) (house_of s depth v view x y path k h)
+  housed_cell x m p y u path k a known formals rest passed is other of h allowed less many = record {
     whole = h.to;
     named = inside_named s settled depth k h.to h.inside;
     plain = ap (sees_only s) (ap (λ (z : PlaceName). z.root) h.called) ∙ h.plain;
@@ -400,7 +400,7 @@ module _ (s : Typing) (settled : IsSettled s.table) (own_law : OwnsByShape s.tab
     among = inl refl;
     back = λ in_mode. other (sym is ∙ in_mode);
     called = sym h.called;
-    sort = inr (k, house_base s depth v view x y path k h, inl (refl, refl), many);
+    sort = inr (k, house_base s depth v view x y path k h, inl (refl, of), many);
   }
 
   one_cell : (x : ℕ) (m : Mode) (e : TypedTree) (k : Place) (known : List Fact) (formals : List ℕ) (rest : TypedTree) (passed : List Passed) → (object_at s x).mode ≡ m → (m ≡ mode.In → ⊥)
@@ -428,16 +428,21 @@ module _ (s : Typing) (settled : IsSettled s.table) (own_law : OwnsByShape s.tab
   one_cell x m e k known formals rest passed is other (inr own) allowed less d has a = absurd has
   one_cell x m e k known formals rest passed is other (inl (plain, never)) allowed less d has a = absurd never
 
+  back_cell_named : (x : ℕ) (m : Mode) (e : TypedTree) (k : Place) (a : Passed) (known : List Fact) (formals : List ℕ) (rest : TypedTree) (passed : List Passed) → (object_at s x).mode ≡ m → (m ≡ mode.In → ⊥)
+      → IsOfPlace a k → (laid : IsBackLaid s depth v view x e k) → AllowsAll known (acts (actual_act (passing s procedure x) e)) → ((f : Fact) → Has facts f → Has known f)
+      → (c : Lodge) → Has (back_cell s depth v view x e k laid) c → Called (x ∷ formals) (More e rest) (a ∷ passed) c
+  back_cell_named x m e k a known formals rest passed is other of (inl laid) allowed less c has = one_cell x m e k known formals rest passed is other laid allowed less c has a
+  back_cell_named x m (Name p y path u) k a known formals rest passed is other of (inr housed) allowed less c (inl same) =
+      subst (Called (x ∷ formals) (More (Name p y path u) rest) (a ∷ passed)) same (housed_cell x m p y u path k a known formals rest passed is other of housed.1 allowed less housed.0)
+  back_cell_named x m (Name p y path u) k a known formals rest passed is other of (inr housed) allowed less c (inr never) = absurd never
+  back_cell_named x m e k a known formals rest passed is other of (inr never) allowed less c has = absurd never.1
+
   first_cell : (x : ℕ) (m : Mode) (e : TypedTree) (a : Passed) (known : List Fact) (formals : List ℕ) (rest : TypedTree) (passed : List Passed) → (object_at s x).mode ≡ m
       → (laid : IsLaidOne s mem depth v view x m e a) → AllowsAll known (acts (actual_act (passing s procedure x) e)) → ((f : Fact) → Has facts f → Has known f)
       → (c : Lodge) → Has (cell_of s mem depth v view x m e a laid) c → Called (x ∷ formals) (More e rest) (a ∷ passed) c
   first_cell x mode.In e (Value ws) known formals rest passed is laid allowed less c has = absurd has
-  first_cell x mode.Out e (To k) known formals rest passed is laid allowed less c has = one_cell x mode.Out e k known formals rest passed is (λ e. cc) laid allowed less c has (To k)
-  first_cell x mode.InOut e (From k) known formals rest passed is (inl laid) allowed less c has = one_cell x mode.InOut e k known formals rest passed is (λ e. cc) laid allowed less c has (From k)
-  first_cell x mode.InOut (Name p y path u) (From k) known formals rest passed is (inr housed) allowed less c (inl same) =
-      subst (Called (x ∷ formals) (More (Name p y path u) rest) (From k ∷ passed)) same (housed_cell x mode.InOut p y u path k known formals rest passed is (λ e. cc) housed.1 allowed less housed.0)
-  first_cell x mode.InOut (Name p y path u) (From k) known formals rest passed is (inr housed) allowed less c (inr never) = absurd never
-  first_cell x mode.InOut e (From k) known formals rest passed is (inr never) allowed less c has = absurd never.1
+  first_cell x mode.Out e (To k) known formals rest passed is laid allowed less c has = back_cell_named x mode.Out e k (To k) known formals rest passed is (λ e. cc) (inr refl) laid allowed less c has
+  first_cell x mode.InOut e (From k) known formals rest passed is laid allowed less c has = back_cell_named x mode.InOut e k (From k) known formals rest passed is (λ e. cc) (inl refl) laid allowed less c has
   first_cell x m e a known formals rest passed is laid allowed less c has = absurd laid
 
   pub cells_named : (formals : List ℕ) (actuals : TypedTree) (passed : List Passed) (known : List Fact) → (laid : AreLaidOut s mem depth v view formals actuals passed)

@@ -1,4 +1,4 @@
--- What is passed for actuals that are copied back to: places in variables, and scalar ones in cells.
+-- What is passed for actuals that are copied back to: places in variables, and in cells.
 use Rattle.std.proofs.Common.{◌≡◌, ◌⊎◌, inl, inr, ℕ, true, false, List, [], ◌∷◌, ◌++◌}
 use Rattle.place_names.specs.declared.act.Mode.{Mode}
 use Rattle.place_names.specs.declared.act.Mode.TheVariants as mode
@@ -82,6 +82,11 @@ abbrev pub IsPlaceLaid : Typing → ℕ → Views → ways.View → ℕ → Type
 IsPlaceLaid s depth v view x e k =
     (IsScalarObject s x × IsPlainAt s depth v view e k) ⊎ ((is_scalar (full s.table (object_at s x).of) ≡ false) × IsOwnPut s depth x e k)
 
+-- Such a place, or one in a cell.
+abbrev pub IsBackLaid : Typing → ℕ → Views → ways.View → ℕ → TypedTree → Place → Type 0
+IsBackLaid s depth v view x e k =
+    IsPlaceLaid s depth v view x e k ⊎ ((is_scalar (full s.table (object_at s x).of) ≡ false) × IsHousedPut s depth v view x e k)
+
 -- A value of the type of the formal, or an access value.
 abbrev pub IsValueLaid : Typing → Memory → ℕ → List machine.Word → Type 0
 IsValueLaid s m x ws =
@@ -91,9 +96,8 @@ IsValueLaid s m x ws =
 -- By the mode: such a value, or a place.
 abbrev pub IsLaidOne : Typing → Memory → ℕ → Views → ways.View → ℕ → Mode → TypedTree → Passed → Type 0
 IsLaidOne s m depth v view x mode.In e (Value ws) = IsValueLaid s m x ws
-IsLaidOne s m depth v view x mode.Out e (To k) = IsPlaceLaid s depth v view x e k
-IsLaidOne s m depth v view x mode.InOut e (From k) =
-    IsPlaceLaid s depth v view x e k ⊎ ((is_scalar (full s.table (object_at s x).of) ≡ false) × IsHousedPut s depth v view x e k)
+IsLaidOne s m depth v view x mode.Out e (To k) = IsBackLaid s depth v view x e k
+IsLaidOne s m depth v view x mode.InOut e (From k) = IsBackLaid s depth v view x e k
 IsLaidOne s m depth v view x how e a = ⊥
 
 abbrev pub AreLaidOut : Typing → Memory → ℕ → Views → ways.View → List ℕ → TypedTree → List Passed → Type 0
@@ -111,8 +115,16 @@ abbrev pub place_out : (s : Typing) (depth : ℕ) (v : Views) (view : ways.View)
 place_out s depth v view x e k (inl plain) = []
 place_out s depth v view x e k (inr own) = own_out s depth x e k own.1
 
+abbrev pub housed_out : (s : Typing) (depth : ℕ) (v : Views) (view : ways.View) (x : ℕ) (e : TypedTree) (k : Place) → IsHousedPut s depth v view x e k → List Out
+housed_out s depth v view x (Name p y path u) k h = record { way = h.to; place = k; pos = p } ∷ []
+housed_out s depth v view x e k never = []
+
+abbrev pub back_out : (s : Typing) (depth : ℕ) (v : Views) (view : ways.View) (x : ℕ) (e : TypedTree) (k : Place) → IsBackLaid s depth v view x e k → List Out
+back_out s depth v view x e k (inl laid) = place_out s depth v view x e k laid
+back_out s depth v view x e k (inr housed) = housed_out s depth v view x e k housed.1
+
 abbrev pub out_of : (s : Typing) (m : Memory) (depth : ℕ) (v : Views) (view : ways.View) (x : ℕ) (how : Mode) (e : TypedTree) (a : Passed) → IsLaidOne s m depth v view x how e a → List Out
-out_of s m depth v view x mode.Out e (To k) laid = place_out s depth v view x e k laid
+out_of s m depth v view x mode.Out e (To k) laid = back_out s depth v view x e k laid
 out_of s m depth v view x how e a laid = []
 
 abbrev pub outs_of : (s : Typing) (m : Memory) (depth : ℕ) (v : Views) (view : ways.View) (formals : List ℕ) (actuals : TypedTree) (passed : List Passed)
@@ -131,10 +143,14 @@ abbrev pub place_cell : (s : Typing) (depth : ℕ) (v : Views) (view : ways.View
 place_cell s depth v view x e k (inl plain) = plain_cell s depth v view e k plain.1
 place_cell s depth v view x e k (inr own) = []
 
+abbrev pub back_cell : (s : Typing) (depth : ℕ) (v : Views) (view : ways.View) (x : ℕ) (e : TypedTree) (k : Place) → IsBackLaid s depth v view x e k → List Lodge
+back_cell s depth v view x e k (inl laid) = place_cell s depth v view x e k laid
+back_cell s depth v view x (Name p y path u) k (inr housed) = house_of s depth v view x y path k housed.1 ∷ []
+back_cell s depth v view x e k (inr never) = []
+
 abbrev pub cell_of : (s : Typing) (m : Memory) (depth : ℕ) (v : Views) (view : ways.View) (x : ℕ) (how : Mode) (e : TypedTree) (a : Passed) → IsLaidOne s m depth v view x how e a → List Lodge
-cell_of s m depth v view x mode.Out e (To k) laid = place_cell s depth v view x e k laid
-cell_of s m depth v view x mode.InOut e (From k) (inl laid) = place_cell s depth v view x e k laid
-cell_of s m depth v view x mode.InOut (Name p y path u) (From k) (inr housed) = house_of s depth v view x y path k housed.1 ∷ []
+cell_of s m depth v view x mode.Out e (To k) laid = back_cell s depth v view x e k laid
+cell_of s m depth v view x mode.InOut e (From k) laid = back_cell s depth v view x e k laid
 cell_of s m depth v view x how e a laid = []
 
 abbrev pub cells_of : (s : Typing) (m : Memory) (depth : ℕ) (v : Views) (view : ways.View) (formals : List ℕ) (actuals : TypedTree) (passed : List Passed)

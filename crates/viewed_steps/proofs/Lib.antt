@@ -66,6 +66,7 @@ pub mod EachInstruction
 pub mod Turned
 pub mod Operands
 pub mod Alone
+pub mod Within
 pub mod Taking
 pub mod Results
 pub mod Giving

@@ -62,13 +62,13 @@ abbrev pub AreNamedIn : Typing → List ℕ → Type 0
 AreNamedIn s xs = (x : ℕ) → Has xs x → is_temporary_object s x ≡ true → is_anonymous (view_of s x) ≡ false
 
 -- What waits: what is stored at or passed is no temporary that owns; what is taken is of scalar types, or
--- what a function gave, alone; and what is filled fits.
+-- what a function gave, alone, or what a value is made of; and what is filled fits.
 pub record AreValued (table : Table) (typed : TypedProgram) : Type 0 where
   pub lasting : (sub : NamedSub) → Has (flow_named table typed) sub → (p : NamedPoint) → Has sub.points p → (x : ℕ) → Has (stored_at p.instr) x
       → is_held (flow_typing (flow_program table typed)) x ≡ false
   pub passed : (sub : NamedSub) → Has (flow_named table typed) sub → (p : NamedPoint) → Has sub.points p → (n : ℕ) (actuals : TypedTree) (result : Option ℕ)
       → p.instr ≡ Call n actuals result → (x : ℕ) → Has (roots_passed actuals) x → is_held (flow_typing (flow_program table typed)) x ≡ false
-  pub takes : (sub : NamedSub) → Has (flow_named table typed) sub → (p : NamedPoint) → Has sub.points p → IsTaken (flow_typing (flow_program table typed)) p
+  pub takes : (sub : NamedSub) → Has (flow_named table typed) sub → (p : NamedPoint) → Has sub.points p → IsTaken (flow_typing (flow_program table typed)) sub.sub.result p
   -- what is of an anonymous access type is taken at once
   pub seen : (sub : NamedSub) → Has (flow_named table typed) sub → (p : NamedPoint) → Has sub.points p
       → AreNamedIn (flow_typing (flow_program table typed)) p.scope

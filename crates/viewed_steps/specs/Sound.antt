@@ -63,12 +63,12 @@ abbrev pub IsKindOfFormal : Typing → ℕ → Type 0
 IsKindOfFormal s x = IsScalarObject s x ⊎ ((IsCopiedBack s x × IsNamed s.table (object_at s x).of) ⊎ (IsShown s x ⊎ IsOwnless s x))
 
 -- Actuals that are copied back to go through no access value; or they are rooted in objects that belong to no
--- package, and are for formals of scalar types, or of mode `in out` and rooted in owners.
+-- package, and are for formals of scalar types, or rooted in owners.
 abbrev pub AreOwners : Typing → TypedTree → Type 0
 AreOwners s e = (y : ℕ) → Has (root_of e) y → (is_anonymous (view_of s y) ≡ false) × (is_view_formal s y ≡ false)
 
 abbrev pub IsReachedBack : Typing → ℕ → TypedTree → Type 0
-IsReachedBack s x e = IsScalarObject s x ⊎ (((object_at s x).mode ≡ mode.InOut) × AreOwners s e)
+IsReachedBack s x e = IsScalarObject s x ⊎ AreOwners s e
 
 abbrev pub AreKeptPlaces : Typing → List ℕ → TypedTree → Type 0
 AreKeptPlaces s (x ∷ formals) (More e rest) =
