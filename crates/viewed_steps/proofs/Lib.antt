@@ -17,6 +17,7 @@ pub mod Inherited
 pub mod Uses
 pub mod Rooted
 pub mod Roots
+pub mod Withheld
 pub mod Waiting
 pub mod Onward
 pub mod Apart
