@@ -41,6 +41,7 @@ use Rattle.soundness.proofs.Waits.{drop_none}
 use Rattle.scope_laws.specs.Order.{IsOrdered, named_in}
 use Rattle.viewed_soundness.specs.Holds.{PartsAreNamed}
 use Rattle.viewed_steps.specs.Awaited.{is_held}
+use Rattle.viewed_steps.specs.Sound.{IsStoredAt}
 use Rattle.view_laws.specs.InOrder.{NamesSource}
 use Rattle.view_laws.proofs.Calls.{AreViewCalls, point_good}
 
