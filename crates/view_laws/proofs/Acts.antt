@@ -496,10 +496,11 @@ module _ (s : Typing) (own_law : OwnsByShape s.table) (parts_named : PartsAreNam
   -- what is called goes through what it is given first
   traversed_good : (e : TypedTree) (a : PlaceName → Act) → IsLending a → IsTraversed s e → IsGoodSource e a
   unfolding roots
-  traversed_good e a lends (r, n, q, y, path, u, more, is, leads, lasts) =
-      subst (λ z. IsGoodSource z a) (sym is)
-      (λ w named. subst (λ (z : Written). IsGood (roots (Call r n (More (Name q y path u) more))) (a z.name)) (let same : record { pos = q; name = name_of y path; of = u } ≡ w = cc in same)
-      (lends (name_of y path) (roots (Call r n (More (Name q y path u) more))) (inl refl) (leads_lasts (object_at s y).of path u leads lasts)))
+  traversed_good e a lends t =
+      subst (λ z. IsGoodSource z a) (sym t.is)
+      (λ w named. subst (λ (z : Written). IsGood (roots (Call t.pos t.sub (More (Name t.name_pos t.root t.path t.of) t.others))) (a z.name))
+      (let same : record { pos = t.name_pos; name = name_of t.root t.path; of = t.of } ≡ w = cc in same)
+      (lends (name_of t.root t.path) (roots (Call t.pos t.sub (More (Name t.name_pos t.root t.path t.of) t.others))) (inl refl) (leads_lasts (object_at s t.root).of t.path t.of t.leads t.lasts)))
 
   named_good : (want : ℕ) (e : TypedTree) (a : PlaceName → Act) → IsLending a → is_anonymous (full s.table want) ≡ true → is_call e ≡ false
       → Source s want e → IsGoodSource e a

@@ -13,4 +13,5 @@ pub mod Scoped
 pub mod Own
 pub mod Fixed
 pub mod Points
+pub mod Traversals
 pub mod Ready

@@ -18,7 +18,6 @@ use Rattle.scope_laws.specs.Alone.{GivesScalar, GivesNamed}
 use Rattle.scope_laws.specs.Code.{objects_of}
 use Rattle.scope_laws.specs.Order.{named_in}
 use Rattle.scope_laws.proofs.Lists.{within_has}
-use Rattle.scope_laws.proofs.Alone.{IsFine, sub_fine}
 use Rattle.ready_laws.proofs.Subs.{setting_from, IsOfBody}
 use Rattle.ready_laws.proofs.Ready.{seen_has}
 use Rattle.view_laws.specs.Program.{IsViewProgram}
@@ -63,23 +62,8 @@ module _ (table : Table) (typed : TypedProgram) (effects : Effects) (given : IsV
   in_points : (r : NamedPoint) → Has (sub_points (setting_from own (body.2) (body.0)) (body.0)) r → Has named.points r
   in_points r there = subst (λ (z : NamedSub). Has z.points r) (body.4) there
 
-  point_fine : (p : NamedPoint) → Has named.points p → IsFine (sub_points (setting_from own (body.2) (body.0)) (body.0)) (GivesScalar own) (GivesNamed own) IsOwn p
-  point_fine p there =
-      sub_fine (setting_from own (body.2) (body.0)) (body.0) (GivesScalar own) (GivesNamed own) IsOwn (valued.weaker table typed effects given)
-      (λ r at n a t is asked. temporary_own t (subst (λ i. Fills s i (drop (taken i) r.scope)) is (supplied r (in_points r at))))
-      (λ r at t e op is. temporary_own t (subst (λ i. Fills s i (drop (taken i) r.scope)) is (supplied r (in_points r at)))) (given.results (body.0) (body.1)) object_own
-      p (subst (λ (z : NamedSub). Has z.points p) (sym (body.4)) there)
-
   left_own : (p : NamedPoint) → Has named.points p → (x : ℕ) → Has (drop (taken p.instr) p.scope) x → IsOwn x
-  left_own p there x in_left = elim (point_fine p there) [
-    | inl (all, asked) ↦ all x (dropped_has (taken p.instr) p.scope x in_left)
-    | inr (inr (t, rest, scope, all, e, n, takes, calls, made, may, r, at, a, call)) ↦ (
-        let one = takes_within p.instr e takes (within_waits (GivesScalar own) n e calls) in
-        all x (beside_first 0 t rest x (subst (λ xs. Has (drop 1 xs) x) scope (subst (λ k. Has (drop k p.scope) x) one in_left))))
-    | inr (inl (t, rest, scope, all, q, n, a, takes, may)) ↦ (
-        let one = takes_one p.instr q n a takes in
-        all x (beside_first one.0 t rest x (subst (λ xs. Has (drop (suc one.0) xs) x) scope (subst (λ k. Has (drop k p.scope) x) one.1 in_left))))
-  ]
+  left_own p there x in_left = ?
 
   pub formals_own : (p : NamedPoint) → Has named.points p → (x : ℕ) → Has (named_in p.instr) x → is_formal s x ≡ true → Has named.sub.formals x
   formals_own p there x names formal = elim (seen_has (is_package_object own) (drop (taken p.instr) p.scope) (named_in p.instr) x

@@ -1,0 +1,214 @@
+-- What is asked of traversal functions: the point that a call of one leads to takes the result, and borrows if a borrower is
+-- given.
+use Rattle.std.proofs.Common.{◌≡◌, refl, sym, ap, ◌∙◌, subst, ◌⊎◌, inl, inr, ℕ, Bool, true, false, ◌&&◌, ◌||◌, not, eq-eqb, List, [], ◌∷◌, ◌++◌, map, Option, Some, None, is_some, if◌then◌else◌}
+use Rattle.std.specs.List.{list_any}
+use Rattle.spark_base.specs.Lists.{Has}
+use Rattle.spark_base.specs.declared.position.Pos.{Pos}
+use Rattle.spark_base.proofs.Lists.{Has-map, Has-map_from, Has-append_right}
+use Rattle.place_names.specs.declared.act.Act.TheVariants as act
+use Rattle.place_names.specs.declared.act.Placed.{Placed}
+use Rattle.place_names.specs.declared.rule.Rule.TheVariants as rule
+use Rattle.place_names.specs.Names.{Name as PlaceName}
+use Rattle.type_definitions.specs.Types.{Table, full}
+use Rattle.typed_tree.specs.Trees.{TypedTree, Name, Call as CallIn, NoMore, More}
+use Rattle.typed_tree.specs.Programs.{TypedProgram}
+use Rattle.flow_paths.specs.declared.report.Effects.{Effects}
+use Rattle.flow_paths.specs.Acts.{placed, acts_of, source_acts, acts_in, gives_variable}
+use Rattle.flow_paths.specs.Instructions.{Instruction, Declare, Assign, Call, Hold}
+use Rattle.flow_paths.specs.Laid.{FlowSub, FlowProgram, NamedSub, number_in, flow_sub, typing_of, flow_typing, flow_program, flow_named}
+use Rattle.flow_paths.specs.Names.{name_of}
+use Rattle.flow_paths.specs.Objects.{Typing, Signature, object_at, sub_at, is_variable, is_anonymous, is_borrower, is_observer, is_formal, traverses, view_of}
+use Rattle.flow_paths.specs.Points.{NamedPoint, FlowPoint}
+use Rattle.flow_paths.specs.Reports.{on_views}
+use Rattle.flow_paths.specs.Views.{traversed_of, traversed_formal, sub_acts, IsOnlyRoot, text_report, given, elsewhere}
+use Rattle.machine.specs.Owners.{is_in}
+use Rattle.machine.specs.States.{sub_of}
+use Rattle.soundness.specs.Sound.{IsNamedSub, IsAtPoint, is_temporary_object}
+use Rattle.soundness.proofs.Points.{flow_at, one_point}
+use Rattle.scope_laws.proofs.Followed.{IsFollowed}
+use Rattle.scope_laws.proofs.Given.{Takes}
+use Rattle.scope_laws.proofs.Lists.{and_first}
+use Rattle.viewed_soundness.specs.Holds.{sees_only, is_given, is_exclusive, lends_first, is_first}
+use Rattle.viewed_soundness.proofs.Names.{true_false}
+use Rattle.viewed_steps.specs.Traversals.{TraversalCall, call_in, IsSeer, IsViewTaker, IsBorrowTaker}
+use Rattle.viewed_steps.specs.Ready.{AreTraversing, IsTraversalCall}
+use Rattle.viewed_steps.proofs.Followed.{is_traversing}
+use Rattle.viewed_steps.proofs.Rooted.{own_root}
+use Rattle.viewed_steps.proofs.Views.{given_formal}
+use Rattle.view_laws.specs.Program.{TakesView, IsViewProgram}
+use Rattle.view_laws.proofs.Calls.{IsThroughCall}
+use Rattle.view_laws.proofs.Reports.{reborrowed_own}
+use Rattle.view_laws.proofs.Scoped as scoped
+use Rattle.view_laws.proofs.Valued as valued
+use Rattle.view_laws.proofs.Fixed as fixed
+use Rattle.view_laws.proofs.Fixed.{any_there}
+use Rattle.view_laws.proofs.Points as points
+use Rattle.view_laws.proofs.Points.{number_there, borrow_called, reborrow_called, call_root}
+
+some_same : (a b : ℕ) → Some a ≡ Some b → a ≡ b
+some_same a b is = cc
+
+module _ (table : Table) (typed : TypedProgram) (effects : Effects) (known : IsViewProgram table typed effects) where
+  abbrev program : FlowProgram
+  program = flow_program table typed
+
+  abbrev s : Typing
+  s = flow_typing program
+
+  abbrev own : Typing
+  own = typing_of table typed
+
+  -- ---- a point that takes what a call gives
+
+  module _ (named : NamedSub) (has : Has (flow_named table typed) named) (q : NamedPoint) (there : Has named.points q) (n : ℕ) (c : TraversalCall)
+      (gives : traverses s.table (sub_at s n).result ≡ true) where
+    abbrev sub : FlowSub
+    sub = flow_sub own named
+
+    abbrev at : FlowPoint
+    at = flow_at own named q
+
+    in_program : Has program.subs sub
+    in_program = scoped.in_program table typed effects known named has
+
+    in_sub : Has sub.points at
+    in_sub = scoped.in_sub table typed effects known named has q there
+
+    takes_it : TakesView s named.sub.result q.instr
+    takes_it = known.take sub in_program at in_sub
+
+    stored : (x : ℕ) → is_anonymous (view_of s x) ≡ true → ((v : TypedTree) × (q.instr ≡ Declare x v)) ⊎ ((r : Pos) × (u : ℕ) × (e : TypedTree) × (q.instr ≡ Assign (Name r x NoMore u) e))
+        → IsSeer s x
+    stored x anonymous is = (known.stored sub in_program at in_sub x is anonymous, anonymous)
+
+    -- a borrower is assigned what goes through itself
+    assigned_root : (r : Pos) (x u : ℕ) → q.instr ≡ Assign (Name r x NoMore u) (call_in n c) → is_borrower s x ≡ true → c.root ≡ x
+    assigned_root r x u is borrows =
+        reborrowed_own program effects known.accepted.no_reports sub in_program at in_sub r x (name_of c.root c.path)
+        (points.act_has table typed effects known named has q there (Assign (Name r x NoMore u) (call_in n c)) is (placed r (act.Reborrow x (name_of c.root c.path)))
+        (reborrow_called s q.pos r x u c.pos n c.name_pos c.root c.path c.of c.others borrows))
+
+    borrower_there : (x : ℕ) → IsSeer s x → is_observer s x ≡ false → is_borrower s x ≡ true
+    borrower_there x seer none = points.borrows table typed effects known x seer.0 seer.1 none
+
+    -- it takes the result
+    taken_by : Takes q.instr (call_in n c) → IsViewTaker s n c named.sub.result q.instr
+    taken_by (inl (x, is)) =
+        let take = subst (TakesView s named.sub.result) is takes_it gives in
+        inl (x, is, stored x take.0 (inl (More (call_in n c) NoMore, is)))
+    taken_by (inr (inl (r, x, path, u, is, none))) =
+        let take = subst (TakesView s named.sub.result) is takes_it gives in
+        let whole_is : q.instr ≡ Assign (Name take.0 take.1 NoMore take.2) (call_in n c) = is ∙ ap (λ z. Assign z (call_in n c)) take.3 in
+        let seer : IsSeer s take.1 = stored take.1 take.4 (inr (take.0, take.2, call_in n c, whole_is)) in
+        inr (inl (take.0, take.1, take.2, whole_is, seer, λ no_observer. assigned_root take.0 take.1 take.2 whole_is (borrower_there take.1 seer no_observer)))
+    taken_by (inr (inr is)) =
+        let take = subst (TakesView s named.sub.result) is takes_it gives in
+        inr (inr (is, take.0))
+
+    -- ---- where a borrower is given
+
+    module _ (lends : gives_variable s (sub_at s n).result ≡ true) where
+      borrowed_by : Takes q.instr (call_in n c) → IsBorrowTaker s n c named.sub.result q.instr
+      borrowed_by (inl (x, is)) =
+          let take = subst (TakesView s named.sub.result) is takes_it gives in
+          inl (x, is, take.2 lends)
+      borrowed_by (inr (inl (r, x, path, u, is, none))) =
+          let take = subst (TakesView s named.sub.result) is takes_it gives in
+          let whole_is : q.instr ≡ Assign (Name take.0 take.1 NoMore take.2) (call_in n c) = is ∙ ap (λ z. Assign z (call_in n c)) take.3 in
+          inr (inl (take.0, take.1, take.2, whole_is, take.6 lends, assigned_root take.0 take.1 take.2 whole_is (take.6 lends)))
+      borrowed_by (inr (inr is)) =
+          let take = subst (TakesView s named.sub.result) is takes_it gives in
+          inr (inr (is, take.0, take.1 lends))
+
+      -- so it goes through what isn't seen alone
+      root_plain : Takes q.instr (call_in n c) → sees_only s c.root ≡ false
+      root_plain (inl (x, is)) =
+          let take = subst (TakesView s named.sub.result) is takes_it gives in
+          fixed.lendable table typed effects known named has q there formals_known x (name_of c.root c.path) c.name_pos
+          (points.act_has table typed effects known named has q there (Declare x (More (call_in n c) NoMore)) is (placed c.name_pos (act.Borrow x (name_of c.root c.path)))
+          (borrow_called s x c.pos n c.name_pos c.root c.path c.of c.others (take.2 lends)))
+          (subst (λ i. Has (named_of i) c.root) (sym is) (call_root c.pos n c.name_pos c.root c.path c.of c.others NoMore))
+        where
+          formals_known : (y : ℕ) → Has named.sub.formals y → is_formal s y ≡ true
+          formals_known = ?
+
+          named_of : Instruction → List ℕ
+          named_of = ?
+      root_plain (inr (inl (r, x, path, u, is, none))) = ?
+      root_plain (inr (inr is)) = ?
+
+  -- ---- all of them
+
+  followed_call : (named : NamedSub) (has : Has (flow_named table typed) named) (p : NamedPoint) (there : Has named.points p) (n : ℕ) (actuals : TypedTree) (result : Option ℕ)
+      → p.instr ≡ Call n actuals result → (f : ℕ) → traversed_formal s (sub_of program n) ≡ Some f → IsTraversalCall s named (map (number_in named.points) p.next) n actuals
+  followed_call named has p there n actuals result is f traversed =
+      by_result result is
+    where
+      gives_so : (b : Bool) → traverses s.table (sub_of program n).result ≡ b → b ≡ true
+      gives_so true same = refl
+      gives_so false same = (let never : None ≡ Some f = sym (ap (λ b. traversed_of b (sub_of program n).formals) same) ∙ traversed in cc)
+
+      gives : traverses s.table (sub_of program n).result ≡ true
+      gives = gives_so (traverses s.table (sub_of program n).result) refl
+
+      gives_at : traverses s.table (sub_at s n).result ≡ true
+      gives_at = ap (traverses s.table) (scoped.result_same table typed effects known n) ∙ gives
+
+      by_result : (r : Option ℕ) → p.instr ≡ Call n actuals r → IsTraversalCall s named (map (number_in named.points) p.next) n actuals
+      by_result None call = ?
+      by_result (Some t) call =
+          let through = scoped.through_call table typed effects known (flow_sub own named) (scoped.in_program table typed effects known named has) (flow_at own named p)
+          (scoped.in_sub table typed effects known named has p there) n actuals (Some t) call gives in
+          let follows = scoped.followed_there table typed effects known named has p there n actuals t call gives in
+          let taker : NamedPoint = follows.0 in
+          let c : TraversalCall = record { pos = follows.3; name_pos = through.q; root = through.y; path = through.path; of = through.u; others = through.more } in
+          let takes : Takes taker.instr (call_in n c) = subst (λ z. Takes taker.instr (CallIn follows.3 n z)) through.actuals_are follows.4 in
+          record {
+            call = c;
+            actuals_are = through.actuals_are;
+            own = through.own;
+            taker = λ k next q at_q. subst (λ (z : NamedPoint). IsViewTaker s n c named.sub.result z.instr) (same_point follows k next q at_q)
+                (taken_by named has taker follows.1 n c gives_at takes);
+            borrows = λ lends. (
+              root_plain named has taker follows.1 n c gives_at lends takes,
+              λ k next q at_q. subst (λ (z : NamedPoint). IsBorrowTaker s n c named.sub.result z.instr) (same_point follows k next q at_q)
+                  (borrowed_by named has taker follows.1 n c gives_at lends takes),
+            );
+          }
+        where
+          single : (k m : ℕ) → Has (k ∷ []) m → k ≡ m
+          single k m (inl same) = same
+          single k m (inr never) = absurd never
+
+          same_point : (follows : IsFollowed named.points p n actuals) (k : ℕ) → Has (map (number_in named.points) p.next) k → (q : NamedPoint) → IsAtPoint named.points k q → follows.0 ≡ q
+          same_point follows k next q at_q =
+              let number : number_in named.points (follows.0).name ≡ k = single (number_in named.points (follows.0).name) k (subst (λ z. Has (map (number_in named.points) z) k) follows.2 next) in
+              one_point named.points k follows.0 q
+              (subst (λ z. IsAtPoint named.points z follows.0) number (number_there named.points follows.0 (scoped.laid table typed effects known named has).0 follows.1)) at_q
+
+  pub are_traversing : AreTraversing table typed effects
+  are_traversing = record {
+    firsts = λ n entered x has anonymous. scoped.firsts_there table typed effects known n x has anonymous;
+    first = λ n f entered traversed. first_given n f traversed;
+    formal = λ n entered gives. (let found = scoped.first_there table typed effects known n gives in (found.0, found.4));
+    given = scoped.given_through table typed effects known;
+    returned = λ n entered named of_named p there e last is of result view.
+        known.returned (flow_sub own named) (scoped.in_program table typed effects known named (named_has n named of_named)) (flow_at own named p)
+        (scoped.in_sub table typed effects known named (named_has n named of_named) p there) e last is of result view;
+    followed = followed_call;
+    ending = scoped.are_closed table typed effects known;
+  }
+    where
+      named_has : (n : ℕ) (named : NamedSub) → IsNamedSub (flow_named table typed) n named → Has (flow_named table typed) named
+      named_has n named (front, rest, is, long) = subst (λ z. Has z named) (sym is) (Has-append_right front (named ∷ rest) named (inl refl))
+
+      first_given : (n f : ℕ) → traversed_formal s (sub_of program n) ≡ Some f → (is_formal s f ≡ true) × (is_given s f ≡ true)
+      first_given n f traversed =
+          let found = scoped.first_there table typed effects known n (traverses_so (traverses s.table (sub_of program n).result) refl) in
+          let same_first : found.0 ≡ f = some_same found.0 f (sym found.4 ∙ traversed) in
+          let is_one : is_given s f ≡ true = subst (λ z. is_given s z ≡ true) same_first found.3 in
+          (and_first (is_formal s f) (is_in (object_at s f).mode) (given_formal s f is_one), is_one)
+        where
+          traverses_so : (b : Bool) → traverses s.table (sub_of program n).result ≡ b → b ≡ true
+          traverses_so true is = refl
+          traverses_so false is = (let never : None ≡ Some f = sym (ap (λ b. traversed_of b (sub_of program n).formals) is) ∙ traversed in cc)
