@@ -49,7 +49,7 @@ module _ (program : FlowProgram) (owns : OwnsByShape program.table) (parts_named
       (sym (ap (λ ways. actual_values (flow_typing program) ways actuals ++ actual_acts ways actuals) (passes_to program n call.no_traversal)))
       (λ a has. elim (Has-append_cases values copies a has) [
         | inl value ↦ reads_good (flow_typing program) owns parts_named values xs
-            (values_are_read (flow_typing program) owns procedure formals actuals call.actuals_stay) a value
+            (values_are_read (flow_typing program) owns procedure parts_named formals actuals call.actuals_stay) a value
         | inr copy ↦ copies_good (flow_typing program) owns parts_named procedure formals actuals xs call.kinds call.actuals_stay named a copy
       ])
 

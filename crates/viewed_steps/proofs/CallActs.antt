@@ -207,7 +207,7 @@ module _ (table : Table) (typed : TypedProgram) (effects : Effects) (input : Lis
           ∙ ap (λ z. flow.actual_values s z actuals ++ flow.actual_acts z actuals) ways_are
 
       pub reads_there : AreReads values
-      reads_there = values_are_read s ready.owns procedure formals actuals called.actuals_stay
+      reads_there = values_are_read s ready.owns procedure ready.class.parts_named formals actuals called.actuals_stay
 
       pub call_acts : standing.whole_acts table typed effects input ready state top older outer named p frames of_sub at_point p.instr ≡ acts (values ++ copies) ++ globals_of program effects n
       call_acts =

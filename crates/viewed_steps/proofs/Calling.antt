@@ -352,7 +352,7 @@ module _ (table : Table) (typed : TypedProgram) (effects : Effects) (input : Lis
             | inl was ↦ was
             | inr (a, there, new) ↦ (
                 let from = Has-map_from (λ (z : Placed). z.act) (values ++ copies) a there in
-                absurd (call_adds_none s ready.owns procedure formals actuals called.actuals_stay from.0 from.1 f (subst (λ z. Has (adds z) f) (sym from.2) new)))
+                absurd (call_adds_none s ready.owns procedure ready.class.parts_named formals actuals called.actuals_stay from.0 from.1 f (subst (λ z. Has (adds z) f) (sym from.2) new)))
           ])
 
       -- what the callee uses isn't moved

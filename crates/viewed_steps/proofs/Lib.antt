@@ -43,6 +43,7 @@ pub mod LaidOut
 pub mod Seeing
 pub mod Clear
 pub mod Reading
+pub mod Copies
 pub mod Puts
 pub mod Called
 pub mod Acted
