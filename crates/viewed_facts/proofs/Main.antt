@@ -231,8 +231,9 @@ module _ (table : Table) (typed : TypedProgram) (effects : Effects) (input : Lis
           by_room false full = subst (λ z. NoneFails Excused spots (checks_of z)) (sym (enters.full passed state.memory full)) (none_made Excused spots)
           by_room true fits =
               subst (λ z. NoneFails Excused spots (checks_of z)) (sym (enters.fits passed state.memory fits))
-              (outs_hold s ready.accepted.settled depth views elsewhere_here state.memory (waiting_in state) state.leaks facts_here variables_here (here.exact table typed effects input ready state top below more_frames rest named p frames deep stages running awaiting of_sub at_point path views viewed_before kept scope holds placed_before above exact_before) kept holds.only Excused p.pos procedure
-              (values ++ copies) knows_there view_there formals actuals passed laid called.actuals_stay values refl)
+              (outs_hold s ready.accepted.settled depth views elsewhere_here state.memory (waiting_in (here.easy table typed effects input ready state top below more_frames rest named p frames deep stages running awaiting of_sub at_point path views viewed_before kept scope holds placed_before above exact_before).state) state.leaks facts_here variables_here (here.exact table typed effects input ready state top below more_frames rest named p frames deep stages running awaiting of_sub at_point path views viewed_before kept scope holds placed_before above exact_before) (here.viewed_easy table typed effects input ready state top below more_frames rest named p frames deep stages running awaiting of_sub at_point path views viewed_before kept scope holds placed_before above exact_before
+              (calling.plain_there table typed effects input ready state top below more_frames rest named p frames deep stages running awaiting of_sub at_point path views viewed_before kept scope holds placed_before above n actuals result e).0).1 holds.only Excused p.pos procedure
+              (values ++ copies) knows_there formals actuals passed laid called.actuals_stay values refl)
 
       evaluated_holds : (f : List Passed → Memory → Outcome) → Enters at ready.accepted.settled n actuals f → (y : Evaluated (List Passed))
           → Quiet (calling.then_now table typed effects input ready state top below more_frames rest named p frames deep stages running awaiting of_sub at_point path views viewed_before kept scope holds placed_before above n actuals result e) Given_there y → NoneFails Excused spots (checks_of (steps.evaluated at y f))

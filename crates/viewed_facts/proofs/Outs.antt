@@ -30,7 +30,8 @@ use Rattle.soundness.proofs.Fixed.{matches_scalar}
 use Rattle.soundness.proofs.Freeing.{plain_parts}
 use Rattle.owned_loans.specs.Views.{Views}
 use Rattle.viewed_steps.specs.Ready.{IsActualTo, AreActualsTo}
-use Rattle.viewed_steps.proofs.LaidOut.{IsOwnPut, IsPlainAt, IsPlaceLaid, IsLaidOne, AreLaidOut}
+use Rattle.viewed_steps.specs.Taken.{IsInside}
+use Rattle.viewed_steps.proofs.LaidOut.{IsPlainAt, IsBackLaid, IsLaidOne, AreLaidOut}
 use Rattle.viewed_steps.proofs.Carried.{inside_at, inside_spot, inside_reached}
 use Rattle.viewed_steps.proofs.Entered.{inside_named, inside_itself}
 use Rattle.exact_facts.specs.Exact.{IsOfVariable, NoneFails}
@@ -85,9 +86,11 @@ module _ (s : Typing) (settled : IsSettled s.table) (depth : ℕ) (v : Views) (e
   parts_same : (t u : ℕ) → shape_of s.table t ≡ shape_of s.table u → parts s.table t ≡ parts s.table u
   parts_same t u e = settled.part_law t ∙ ap (parts_of (parts s.table)) e ∙ sym (settled.part_law u)
 
-  own_holds : (x y u before : ℕ) (p pos' : Pos) (path : TypedTree) (k : Place) → IsOwnPut s depth x (Name p y path u) k → shape_of s.table k.of ≡ shape_of s.table u → KnowsAt before (name_of y path)
+  -- the place is in a variable, or in a cell that a way leads to
+  own_holds : (y u before : ℕ) (p pos' : Pos) (path : TypedTree) (k : Place) (to : Way) (inside : IsInside s depth k to) → ways.name_of to ≡ name_of y path
+      → ways.Reaches (seen s m hands leaks) inside.trunk inside.start → shape_of s.table k.of ≡ shape_of s.table u → KnowsAt before (name_of y path)
       → Holds (map (spot p (name_of y path) before) (parts s.table u)) (checks_at s pos' m k)
-  own_holds x y u before p pos' path k (to, inside, called, object_is, fits, stands) same known =
+  own_holds y u before p pos' path k to inside called begins same known =
       subst (λ z. Holds (map (spot p (name_of y path) before) z) (checks_at s pos' m k)) (parts_same k.of u same) (
         length-map (parts s.table k.of) (spot p (name_of y path) before)
             ∙ sym (length-map (parts s.table k.of) (λ part. checked_at pos' k.at (slots_at s m k.base) (offsets s.table k.of part))),
@@ -98,11 +101,6 @@ module _ (s : Typing) (settled : IsSettled s.table) (depth : ℕ) (v : Views) (e
             (inside_reached s depth k to inside (seen s m hands leaks) begins)) Excused pos' p before
             (λ q has. subst (KnowsAt before) (sym called) known p q)),
       )
-    where
-      begins : ways.Reaches (seen s m hands leaks) inside.trunk inside.start
-      begins =
-          subst (λ z. ways.Reaches (seen s m hands leaks) z inside.start) (sym stands.0)
-          stands.1
 
   scalar_type : (t u : ℕ) → Matches s.table t u → is_scalar (full s.table u) ≡ true → is_scalar (full s.table t) ≡ true
   scalar_type t u (inl e) plain = matches_scalar s u t (inl (sym e)) plain
@@ -112,47 +110,59 @@ module _ (s : Typing) (settled : IsSettled s.table) (depth : ℕ) (v : Views) (e
   same_type t u (inl e) many = e
   same_type t u (inr both) many = (let no : true ≡ false = sym both.1 ∙ many in cc)
 
-  plain_scalar : (view : ways.View) (p : Pos) (y u : ℕ) (path : TypedTree) (k : Place) → IsPlainAt s depth v view (Name p y path u) k → is_scalar (full s.table k.of) ≡ true
-  plain_scalar view p y u path k (inl fixed) = fixed.scalar
-  plain_scalar view p y u path k (inr lodged) = lodged.2
+  abbrev view : ways.View
+  view = seen s m hands leaks
 
-  place_holds_at : (view : ways.View) (x before : ℕ) (e : TypedTree) (k : Place) (owning access : Bool) → IsPlaceLaid s depth v view x e k → IsActualTo s x mode.Out e
+  plain_scalar : (p : Pos) (y u : ℕ) (path : TypedTree) (k : Place) → IsPlainAt s depth v view (Name p y path u) k → is_scalar (full s.table k.of) ≡ true
+  plain_scalar p y u path k (inl fixed) = fixed.scalar
+  plain_scalar p y u path k (inr lodged) = lodged.2
+
+  -- what is named is of the shape of the formal, if that isn't scalar
+  shape_named : (x y u t : ℕ) (path : TypedTree) (k : Place) → Matches s.table k.of (object_at s x).of → is_scalar (full s.table (object_at s x).of) ≡ false → u ≡ t
+      → Matches s.table t (object_at s x).of → shape_of s.table k.of ≡ shape_of s.table u
+  shape_named x y u t path k fits many type match =
+      same_type k.of (object_at s x).of fits many ∙ sym (same_type t (object_at s x).of match many) ∙ sym (ap (shape_of s.table) type)
+
+  place_holds_at : (x before : ℕ) (e : TypedTree) (k : Place) (owning access : Bool) → IsBackLaid s depth v view x e k → IsActualTo s x mode.Out e
       → ((name : PlaceName) → KnowsAt before name) → Holds (actual_spots s (passing_by mode.Out owning access) e before) (head_checks s pos m (To k) e)
-  place_holds_at view x before (Name p y path u) k owning access (inl (plain, at)) (t, (leads, type), match, which) known =
+  place_holds_at x before (Name p y path u) k owning access (inl (inl (plain, at))) (t, (leads, type), match, which) known =
       scalar_holds (spot p (name_of y path) before) (λ part. checked_at p k.at (slots_at s m k.base) (offsets s.table k.of part)) u k.of
-      (subst (λ z. is_scalar (full s.table z) ≡ true) (sym type) (scalar_type t (object_at s x).of match plain)) (plain_scalar view p y u path k at)
-  place_holds_at view x before (Name p y path u) k owning access (inr (many, own)) (t, (leads, type), match, which) known =
-      own_holds x y u before p p path k own
-      (same_type k.of (object_at s x).of own.4 many ∙ sym (same_type t (object_at s x).of match many) ∙ sym (ap (shape_of s.table) type)) (known (name_of y path))
-  place_holds_at view x before e k owning access laid (t, never, match, which) known = absurd never
+      (subst (λ z. is_scalar (full s.table z) ≡ true) (sym type) (scalar_type t (object_at s x).of match plain)) (plain_scalar p y u path k at)
+  place_holds_at x before (Name p y path u) k owning access (inl (inr (many, own))) (t, (leads, type), match, which) known =
+      own_holds y u before p p path k own.0 own.1 own.2 (subst (λ z. ways.Reaches view z (own.1).start) (sym (own.5).0) (own.5).1)
+      (shape_named x y u t path k own.4 many type match) (known (name_of y path))
+  place_holds_at x before (Name p y path u) k owning access (inr (many, housed)) (t, (leads, type), match, which) known =
+      own_holds y u before p p path k housed.to housed.inside housed.called (subst (ways.Reaches view (housed.inside).trunk) (sym housed.start) housed.reaches)
+      (shape_named x y u t path k housed.fits many type match) (known (name_of y path))
+  place_holds_at x before e k owning access laid (t, never, match, which) known = absurd never
 
-  one_holds : (view : ways.View) (x before : ℕ) (mode_of : Mode) (owning access : Bool) (e : TypedTree) (a : Passed) → IsLaidOne s m depth v view x mode_of e a → IsActualTo s x mode_of e
+  one_holds : (x before : ℕ) (mode_of : Mode) (owning access : Bool) (e : TypedTree) (a : Passed) → IsLaidOne s m depth v view x mode_of e a → IsActualTo s x mode_of e
       → ((name : PlaceName) → KnowsAt before name) → Holds (actual_spots s (passing_by mode_of owning access) e before) (head_checks s pos m a e)
-  one_holds view x before mode.In true access e (Value ws) laid stay known = (refl, tt)
-  one_holds view x before mode.In false access e (Value ws) laid stay known = (refl, tt)
-  one_holds view x before mode.InOut owning access e (From k) laid stay known = (refl, tt)
-  one_holds view x before mode.Out owning access e (To k) laid stay known = place_holds_at view x before e k owning access laid stay known
-  one_holds view x before m' owning access e a laid stay known = absurd laid
+  one_holds x before mode.In true access e (Value ws) laid stay known = (refl, tt)
+  one_holds x before mode.In false access e (Value ws) laid stay known = (refl, tt)
+  one_holds x before mode.InOut owning access e (From k) laid stay known = (refl, tt)
+  one_holds x before mode.Out owning access e (To k) laid stay known = place_holds_at x before e k owning access laid stay known
+  one_holds x before m' owning access e a laid stay known = absurd laid
 
   -- ---- all of them
 
   module _ (procedure : Bool) (placed : List Placed)
       (known : (front others : List Placed) → placed ≡ front ++ others → (name : PlaceName) → KnowsAt (length front) name) where
-    pub outs_hold : (view : ways.View) (formals : List ℕ) (actuals : TypedTree) (passed : List Passed) → AreLaidOut s m depth v view formals actuals passed → AreActualsTo s formals actuals
+    pub outs_hold : (formals : List ℕ) (actuals : TypedTree) (passed : List Passed) → AreLaidOut s m depth v view formals actuals passed → AreActualsTo s formals actuals
         → (front : List Placed) → placed ≡ front ++ actual_acts (map (passing s procedure) formals) actuals
         → NoneFails Excused (call_spots s (map (passing s procedure) formals) actuals (length front)) (out_checks s pos m passed actuals)
-    outs_hold view [] actuals passed laid stay front is = tt
-    outs_hold view (x ∷ formals) (More e rest) (a ∷ passed) laid stay front is =
+    outs_hold [] actuals passed laid stay front is = tt
+    outs_hold (x ∷ formals) (More e rest) (a ∷ passed) laid stay front is =
         let owning : Bool = is_owning s.table (object_at s x).of in
         let access : Bool = procedure && is_named_access (view_of s x) in
         let act : List Placed = actual_act (passing s procedure x) e in
         let later : List Placed = actual_acts (map (passing s procedure) formals) rest in
-        let first = one_holds view x (length front) (object_at s x).mode owning access e a laid.0 stay.0 (known front (act ++ later) is) in
+        let first = one_holds x (length front) (object_at s x).mode owning access e a laid.0 stay.0 (known front (act ++ later) is) in
         let longer : length (front ++ act) ≡ length front + length act = length-append front act in
         subst (NoneFails Excused (call_spots s (map (passing s procedure) (x ∷ formals)) (More e rest) (length front))) (sym (head_first s pos m a passed e rest))
         (both_hold Excused (actual_spots s (passing s procedure x) e (length front))
         (call_spots s (map (passing s procedure) formals) rest (length front + length act)) (head_checks s pos m a e) (out_checks s pos m passed rest) first.0 first.1
         (subst (λ z. NoneFails Excused (call_spots s (map (passing s procedure) formals) rest z) (out_checks s pos m passed rest)) longer
-        (outs_hold view formals rest passed laid.1 stay.1 (front ++ act) (is ∙ sym (append_assoc front act later)))))
-    outs_hold view (x ∷ formals) (More e rest) [] laid stay front is = absurd laid
-    outs_hold view (x ∷ formals) actuals passed laid stay front is = tt
+        (outs_hold formals rest passed laid.1 stay.1 (front ++ act) (is ∙ sym (append_assoc front act later)))))
+    outs_hold (x ∷ formals) (More e rest) [] laid stay front is = absurd laid
+    outs_hold (x ∷ formals) actuals passed laid stay front is = tt

@@ -112,7 +112,7 @@ module _ (y : Typing) (whole : counts (shape_of y.table integer) ≡ true) (list
               elim kept [
                 | inl (plain, which) ↦ inl (scalar_back y whole listed word_law found.0 (object_at y x).of found.2 plain)
                 | inr (inl (none, roots)) ↦ inr roots
-                | inr (inr (both, roots)) ↦ inr (λ z has. (roots z has).2)
+                | inr (inr roots) ↦ inr (λ z has. (roots z has).2)
               ],
             )
 
@@ -136,7 +136,7 @@ kept_there : (s : Typing) (x : ℕ) (e : TypedTree) → IsKeptActual s x e → I
 kept_there s x e (inl (plain, inl none)) = inl none
 kept_there s x e (inl (plain, inr roots)) = inr (inl plain, roots)
 kept_there s x e (inr (inl (none, roots))) = inl none
-kept_there s x e (inr (inr (both, roots))) = inr (inr (both, λ z has. ((roots z has).1, (roots z has).2)), λ z has. (roots z has).0)
+kept_there s x e (inr (inr roots)) = inr (inr (λ z has. ((roots z has).1, (roots z has).2)), λ z has. (roots z has).0)
 
 kept_one : (s : Typing) (x : ℕ) (e : TypedTree) (m : Mode) → is_in m ≡ false → IsFitActual s x m e → IsKeptPlace s x e
 kept_one s x e mode.In back fit = cc

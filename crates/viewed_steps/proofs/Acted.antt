@@ -38,7 +38,8 @@ use Rattle.viewed_steps.proofs.Views.{AreAccess}
 use Rattle.viewed_steps.proofs.Between.{gone_also, number_under}
 use Rattle.viewed_steps.proofs.Emptied.{out_left, taken_back}
 use Rattle.viewed_steps.proofs.Outs.{Out, IsUnderOne}
-use Rattle.viewed_steps.proofs.LaidOut.{IsValueLaid, IsOwnPut, IsPlainAt, IsPlaceLaid, IsLaidOne, AreLaidOut, own_out, place_out, out_of, outs_of, IsHousedPut}
+use Rattle.viewed_steps.specs.Taken.{IsInside}
+use Rattle.viewed_steps.proofs.LaidOut.{IsValueLaid, IsPlainAt, IsPlaceLaid, IsBackLaid, IsLaidOne, AreLaidOut, place_out, back_out, out_of, outs_of}
 use Rattle.viewed_steps.proofs.Entered.{inside_plain, inside_named, inside_number}
 use Rattle.viewed_steps.proofs.Released.{nothing_written}
 use Rattle.viewed_steps.proofs.Called as called
@@ -86,9 +87,7 @@ module _ (h : Here) (settled : IsSettled h.typing.table) (hands : List Waiting) 
   place_laid x e k (inl (plain, put)) = inl (plain, put.0)
   place_laid x e k (inr own) = inr own
 
-  abbrev pub back_laid : (x : ℕ) (e : TypedTree) (k : Place) → IsBackGiven x e k
-      → IsPlaceLaid h.typing h.frame v (seen h.typing m hands leaks) x e k
-      ⊎ ((is_scalar (full h.typing.table (object_at h.typing x).of) ≡ false) × IsHousedPut h.typing h.frame v (seen h.typing m hands leaks) x e k)
+  abbrev pub back_laid : (x : ℕ) (e : TypedTree) (k : Place) → IsBackGiven x e k → IsBackLaid h.typing h.frame v (seen h.typing m hands leaks) x e k
   back_laid x e k (inl put) = inl (place_laid x e k put)
   back_laid x e k (inr housed) = inr housed
 
@@ -98,7 +97,7 @@ module _ (h : Here) (settled : IsSettled h.typing.table) (hands : List Waiting) 
   laid_one x mode.In e (To k) is = absurd is
   laid_one x mode.Out e (Value ws) is = absurd is
   laid_one x mode.Out e (From k) is = absurd is
-  laid_one x mode.Out e (To k) is = place_laid x e k is
+  laid_one x mode.Out e (To k) is = back_laid x e k is
   laid_one x mode.InOut e (Value ws) is = absurd is
   laid_one x mode.InOut e (From k) is = back_laid x e k is
   laid_one x mode.InOut e (To k) is = absurd is
@@ -140,10 +139,10 @@ module _ (h : Here) (settled : IsSettled h.typing.table) (hands : List Waiting) 
     abbrev pub AreGone : List Out → Type 0
     AreGone outs = (w : Way) → IsUnderOne outs w → gone w
 
-    own_acted : (owning access : Bool) (x : ℕ) (p : Pos) (y u : ℕ) (path : TypedTree) (k : Place) (known : List Fact)
-        → (own : IsOwnPut h.typing h.frame x (Name p y path u) k) → AreGone (own_out h.typing h.frame x (Name p y path u) k own) → ViewedWith known
+    own_acted : (owning access : Bool) (p : Pos) (y : ℕ) (path : TypedTree) (k : Place) (known : List Fact) (to : Way) (inside : IsInside h.typing h.frame k to)
+        → ways.name_of to ≡ name_of y path → AreGone (record { way = to; place = k; pos = p } ∷ []) → ViewedWith known
         → ViewedWith (effect (act.Actual (name_of y path) mode.Out owning access) known)
-    own_acted owning access x p y u path k known (to, inside, called, is, fits, at_variable) adds there =
+    own_acted owning access p y path k known to inside called adds there =
         subst (λ z. ViewedWith (effect (act.Actual z mode.Out owning access) known)) called
         (taken_back (home h.typing h.frame) (sees_only h.typing) v (gone_also (home h.typing h.frame) around gone) gone apart (seen h.typing m hands leaks) to known
         (effect (act.Actual (ways.name_of to) mode.Out owning access) known) there
@@ -170,9 +169,17 @@ module _ (h : Here) (settled : IsSettled h.typing.table) (hands : List Waiting) 
         subst (λ z. ViewedWith (effect (act.Write z) known)) called
         (nothing_written (home h.typing h.frame) (sees_only h.typing) (gone_also (home h.typing h.frame) around gone) v (seen h.typing m hands leaks) known there w l named place reaches
         (plain_there k l spot (plain_type_at (Name p y path u) k at_place)))
-    place_acted owning access x (Name p y path u) k known (inr (many, own)) adds there = own_acted owning access x p y u path k known own adds there
+    place_acted owning access x (Name p y path u) k known (inr (many, own)) adds there = own_acted owning access p y path k known own.0 own.1 own.2 adds there
     place_acted owning access x e k known (inl (plain, (fixed, never))) adds there = absurd never
     place_acted owning access x e k known (inr (many, never)) adds there = absurd never
+
+    back_acted : (owning access : Bool) (x : ℕ) (e : TypedTree) (k : Place) (known : List Fact) → (given : IsBackGiven x e k)
+        → AreGone (back_out h.typing h.frame v (seen h.typing m hands leaks) x e k (back_laid x e k given)) → ViewedWith known
+        → ViewedWith (after (acts (actual_act (passing_by mode.Out owning access) e)) known)
+    back_acted owning access x e k known (inl given) adds there = place_acted owning access x e k known given adds there
+    back_acted owning access x (Name p y path u) k known (inr (many, housed)) adds there =
+        own_acted owning access p y path k known housed.to housed.inside housed.called adds there
+    back_acted owning access x e k known (inr (many, never)) adds there = absurd never
 
     pub head_acted : (mode_of : Mode) (owning access : Bool) (x : ℕ) (e : TypedTree) (a : Passed) (known : List Fact)
         → (given : IsGiven x mode_of e a) → AreGone (out_of h.typing m h.frame v (seen h.typing m hands leaks) x mode_of e a (laid_one x mode_of e a given)) → ViewedWith known
@@ -180,7 +187,7 @@ module _ (h : Here) (settled : IsSettled h.typing.table) (hands : List Waiting) 
     head_acted mode.In false access x e a known is adds there = there
     head_acted mode.In true access x e a known is adds there = subst ViewedWith (sym (naming_sees (written e) true access known)) there
     head_acted mode.InOut owning access x e a known is adds there = subst ViewedWith (sym (naming_keeps (written e) owning access known)) there
-    head_acted mode.Out owning access x e (To k) known is adds there = place_acted owning access x e k known is adds there
+    head_acted mode.Out owning access x e (To k) known is adds there = back_acted owning access x e k known is adds there
     head_acted mode.Out owning access x e (Value ws) known is adds there = absurd is
     head_acted mode.Out owning access x e (From k) known is adds there = absurd is
 

@@ -19,7 +19,7 @@ use Rattle.place_names.specs.Reports.{Report}
 use Rattle.place_names.proofs.Names.{both_parts, both_true}
 use Rattle.type_definitions.specs.Types.{full, is_scalar, is_owning}
 use Rattle.typed_tree.specs.Trees.{TypedTree, Name, More}
-use Rattle.flow_paths.specs.Objects.{Typing, object_at, is_package_object, is_named_access, view_of, Passing, passing, passing_by}
+use Rattle.flow_paths.specs.Objects.{Typing, object_at, is_named_access, view_of, Passing, passing, passing_by}
 use Rattle.flow_paths.specs.Names.{Written, written, name_of}
 use Rattle.flow_paths.specs.Acts.{naming, actual_act, actual_acts}
 use Rattle.flow_paths.specs.Aliases as alias
@@ -45,10 +45,10 @@ use Rattle.viewed_soundness.specs.Holds.{sees_only}
 use Rattle.viewed_steps.specs.Taken.{Lodge}
 use Rattle.viewed_steps.specs.Sound.{IsScalarObject, IsReachedBack, IsCopiedBack, AreKeptPlaces}
 use Rattle.viewed_steps.specs.Ready.{AreUnobserved}
-use Rattle.viewed_steps.proofs.LaidOut.{IsHoused, house_of, IsPlaceLaid, IsLaidOne, AreLaidOut, place_cell, cell_of, cells_of, IsOpenActual, AreOpenActuals}
+use Rattle.viewed_steps.proofs.LaidOut.{IsHoused, house_of, IsPlaceLaid, IsBackLaid, IsLaidOne, AreLaidOut, place_cell, back_cell, cell_of, cells_of, IsOpenActual, AreOpenActuals}
 use Rattle.viewed_steps.proofs.Opened.{actual_open, IsLess, open_before}
 use Rattle.viewed_steps.proofs.Called.{copies_add}
-use Rattle.viewed_steps.proofs.Entered.{inside_named, IsFrom}
+use Rattle.viewed_steps.proofs.Entered.{inside_named, IsFrom, IsOfPlace}
 use Rattle.viewed_steps.proofs.Passed.{apart_pair, flat_has, later_none, after_less}
 
 -- ---- names that don't overlap
@@ -125,12 +125,12 @@ passed_formal (x ∷ formals) actuals b has = absurd has
 
 -- ---- before the acts of the call
 
--- Those that are copied back to go through no access value; or they are rooted in objects that belong to no
--- package and aren't observers, and are for formals of scalar types, or for other ones and rooted in owners.
+-- Those that are copied back to go through no access value; or they are rooted in objects that aren't observers,
+-- and are for formals of scalar types, or for other ones and rooted in owners.
 abbrev pub AreKept : Typing → List ℕ → TypedTree → Type 0
 AreKept s (x ∷ formals) (More e rest) =
     (is_in (object_at s x).mode ≡ false → (goes_through_none e ≡ true)
-    ⊎ (IsReachedBack s x e × ((y : ℕ) → Has (root_of e) y → (is_package_object s y ≡ false) × (sees_only s y ≡ false)))) × AreKept s formals rest
+    ⊎ (IsReachedBack s x e × ((y : ℕ) → Has (root_of e) y → sees_only s y ≡ false))) × AreKept s formals rest
 AreKept s formals actuals = Unit {0}
 
 pub are_kept : (s : Typing) (formals : List ℕ) (actuals : TypedTree) → AreKeptPlaces s formals actuals
@@ -139,7 +139,7 @@ are_kept s [] actuals places unobserved = tt
 are_kept s (x ∷ formals) (More e rest) places unobserved = (
   λ other. elim (places.0 other) [
     | inl direct ↦ inl direct
-    | inr (scalar, own) ↦ inr (scalar, λ y has. (own y has, unobserved.0 other y has))
+    | inr reached ↦ inr (reached, λ y has. unobserved.0 other y has)
   ],
   are_kept s formals rest places.1 unobserved.1,
 )
@@ -192,18 +192,16 @@ module _ (s : Typing) (own_law : OwnsByShape s.table) (depth : ℕ) (facts : Lis
   ways_of formals = map (passing s procedure) formals
 
   one_open : (x : ℕ) (m : Mode) (e : TypedTree) (known : List Fact) (outs : List PlaceName) → (object_at s x).mode ≡ m → (m ≡ mode.In → ⊥)
-      → ((y : ℕ) → Has (root_of e) y → (is_package_object s y ≡ false) × (sees_only s y ≡ false))
+      → ((y : ℕ) → Has (root_of e) y → sees_only s y ≡ false)
       → AllowsAll known (acts (actual_act (passing s procedure x) e)) → ((f : Fact) → Has facts f → IsLess outs known f)
       → ((w : Written) → written e ≡ Some w → (k : PlaceName) → Has outs k → overlaps k w.name ≡ true → ⊥) → IsOpenActual s depth facts e
   one_open x m (Name p y path u) known outs is other roots allowed less apart =
-      let root = roots y (inl refl) in
       let owning : Bool = is_owning s.table (object_at s x).of in
       let access : Bool = procedure && is_named_access (view_of s x) in
       let here : Allows known (act.Actual (name_of y path) m owning access) =
       by_mode m other (subst (λ z. AllowsAll known (acts (actual_act (passing_by z owning access) (Name p y path u)))) is allowed) in
       inr (
-        root.0,
-        root.1,
+        roots y (inl refl),
         λ q named called.
             open_before facts known outs q less
             (λ k has over. apart (record { pos = p; name = name_of y path; of = u }) refl k has (subst (λ z. overlaps k z ≡ true) called over))
@@ -312,7 +310,6 @@ pub record IsCellNamed (s : Typing) (depth : ℕ) (facts : List Fact) (v : Views
   pub whole : Way
   pub named : Named (home s depth) whole
   pub plain : sees_only s (number_of whole) ≡ false
-  pub own : is_package_object s (number_of whole) ≡ false
   pub begins : Under c.name whole
   pub deep : (r : ways.Root) → c.name ≡ ways.Object r → ⊥
   pub leads : expand v c.name ≡ c.way
@@ -342,7 +339,6 @@ module _ (s : Typing) (settled : IsSettled s.table) (own_law : OwnsByShape s.tab
     whole = there.whole;
     named = there.named;
     plain = there.plain;
-    own = there.own;
     begins = there.begins;
     deep = there.deep;
     leads = there.leads;
@@ -383,14 +379,13 @@ module _ (s : Typing) (settled : IsSettled s.table) (own_law : OwnsByShape s.tab
       same_cell e = cc
 
   -- the cell of one that isn't scalar
-  housed_cell : (x : ℕ) (m : Mode) (p : Pos) (y u : ℕ) (path : TypedTree) (k : Place) (known : List Fact) (formals : List ℕ) (rest : TypedTree) (passed : List Passed) → (object_at s x).mode ≡ m → (m ≡ mode.In → ⊥)
-      → (h : IsHoused s depth v view x y path k) → AllowsAll known (acts (actual_act (passing s procedure x) (Name p y path u))) → ((f : Fact) → Has facts f → Has known f)
-      → is_scalar (full s.table (object_at s x).of) ≡ false → Called (x ∷ formals) (More (Name p y path u) rest) (From k ∷ passed) (house_of s depth v view x y path k h)
-  housed_cell x m p y u path k known formals rest passed is other h allowed less many = record {
+  housed_cell : (x : ℕ) (m : Mode) (p : Pos) (y u : ℕ) (path : TypedTree) (k : Place) (a : Passed) (known : List Fact) (formals : List ℕ) (rest : TypedTree) (passed : List Passed) → (object_at s x).mode ≡ m → (m ≡ mode.In → ⊥)
+      → IsOfPlace a k → (h : IsHoused s depth v view x y path k) → AllowsAll known (acts (actual_act (passing s procedure x) (Name p y path u))) → ((f : Fact) → Has facts f → Has known f)
+      → is_scalar (full s.table (object_at s x).of) ≡ false → Called (x ∷ formals) (More (Name p y path u) rest) (a ∷ passed) (house_of s depth v view x y path k h)
+  housed_cell x m p y u path k a known formals rest passed is other of h allowed less many = record {
     whole = h.to;
     named = inside_named s settled depth k h.to h.inside;
     plain = ap (sees_only s) (ap (λ (z : PlaceName). z.root) h.called) ∙ h.plain;
-    own = ap (is_package_object s) (ap (λ (z : PlaceName). z.root) h.called) ∙ h.own;
     begins = subst (Under (h.inside).trunk) (sym (h.inside).way) (under_along (h.inside).trunk (h.inside).trunk (h.inside).steps (under_itself (h.inside).trunk));
     deep = h.deep;
     leads = h.leads;
@@ -400,7 +395,7 @@ module _ (s : Typing) (settled : IsSettled s.table) (own_law : OwnsByShape s.tab
     among = inl refl;
     back = λ in_mode. other (sym is ∙ in_mode);
     called = sym h.called;
-    sort = inr (k, house_base s depth v view x y path k h, inl (refl, refl), many);
+    sort = inr (k, house_base s depth v view x y path k h, inl (refl, of), many);
   }
 
   one_cell : (x : ℕ) (m : Mode) (e : TypedTree) (k : Place) (known : List Fact) (formals : List ℕ) (rest : TypedTree) (passed : List Passed) → (object_at s x).mode ≡ m → (m ≡ mode.In → ⊥)
@@ -411,7 +406,6 @@ module _ (s : Typing) (settled : IsSettled s.table) (own_law : OwnsByShape s.tab
         whole = there.whole;
         named = there.named;
         plain = ap (sees_only s) (ap (λ (z : PlaceName). z.root) there.called) ∙ there.plain;
-        own = ap (is_package_object s) (ap (λ (z : PlaceName). z.root) there.called) ∙ there.own;
         begins = there.begins;
         deep = there.deep;
         leads = there.leads;
@@ -428,16 +422,21 @@ module _ (s : Typing) (settled : IsSettled s.table) (own_law : OwnsByShape s.tab
   one_cell x m e k known formals rest passed is other (inr own) allowed less d has a = absurd has
   one_cell x m e k known formals rest passed is other (inl (plain, never)) allowed less d has a = absurd never
 
+  back_cell_named : (x : ℕ) (m : Mode) (e : TypedTree) (k : Place) (a : Passed) (known : List Fact) (formals : List ℕ) (rest : TypedTree) (passed : List Passed) → (object_at s x).mode ≡ m → (m ≡ mode.In → ⊥)
+      → IsOfPlace a k → (laid : IsBackLaid s depth v view x e k) → AllowsAll known (acts (actual_act (passing s procedure x) e)) → ((f : Fact) → Has facts f → Has known f)
+      → (c : Lodge) → Has (back_cell s depth v view x e k laid) c → Called (x ∷ formals) (More e rest) (a ∷ passed) c
+  back_cell_named x m e k a known formals rest passed is other of (inl laid) allowed less c has = one_cell x m e k known formals rest passed is other laid allowed less c has a
+  back_cell_named x m (Name p y path u) k a known formals rest passed is other of (inr housed) allowed less c (inl same) =
+      subst (Called (x ∷ formals) (More (Name p y path u) rest) (a ∷ passed)) same (housed_cell x m p y u path k a known formals rest passed is other of housed.1 allowed less housed.0)
+  back_cell_named x m (Name p y path u) k a known formals rest passed is other of (inr housed) allowed less c (inr never) = absurd never
+  back_cell_named x m e k a known formals rest passed is other of (inr never) allowed less c has = absurd never.1
+
   first_cell : (x : ℕ) (m : Mode) (e : TypedTree) (a : Passed) (known : List Fact) (formals : List ℕ) (rest : TypedTree) (passed : List Passed) → (object_at s x).mode ≡ m
       → (laid : IsLaidOne s mem depth v view x m e a) → AllowsAll known (acts (actual_act (passing s procedure x) e)) → ((f : Fact) → Has facts f → Has known f)
       → (c : Lodge) → Has (cell_of s mem depth v view x m e a laid) c → Called (x ∷ formals) (More e rest) (a ∷ passed) c
   first_cell x mode.In e (Value ws) known formals rest passed is laid allowed less c has = absurd has
-  first_cell x mode.Out e (To k) known formals rest passed is laid allowed less c has = one_cell x mode.Out e k known formals rest passed is (λ e. cc) laid allowed less c has (To k)
-  first_cell x mode.InOut e (From k) known formals rest passed is (inl laid) allowed less c has = one_cell x mode.InOut e k known formals rest passed is (λ e. cc) laid allowed less c has (From k)
-  first_cell x mode.InOut (Name p y path u) (From k) known formals rest passed is (inr housed) allowed less c (inl same) =
-      subst (Called (x ∷ formals) (More (Name p y path u) rest) (From k ∷ passed)) same (housed_cell x mode.InOut p y u path k known formals rest passed is (λ e. cc) housed.1 allowed less housed.0)
-  first_cell x mode.InOut (Name p y path u) (From k) known formals rest passed is (inr housed) allowed less c (inr never) = absurd never
-  first_cell x mode.InOut e (From k) known formals rest passed is (inr never) allowed less c has = absurd never.1
+  first_cell x mode.Out e (To k) known formals rest passed is laid allowed less c has = back_cell_named x mode.Out e k (To k) known formals rest passed is (λ e. cc) (inr refl) laid allowed less c has
+  first_cell x mode.InOut e (From k) known formals rest passed is laid allowed less c has = back_cell_named x mode.InOut e k (From k) known formals rest passed is (λ e. cc) (inl refl) laid allowed less c has
   first_cell x m e a known formals rest passed is laid allowed less c has = absurd laid
 
   pub cells_named : (formals : List ℕ) (actuals : TypedTree) (passed : List Passed) (known : List Fact) → (laid : AreLaidOut s mem depth v view formals actuals passed)

@@ -1,7 +1,7 @@
 -- What a call takes for formals: a scalar value, a scalar place, or another place in a variable of its
 -- caller. A formal of mode `in out` has what its actual had; the place of the actual is gone meanwhile, and
 -- has no number.
-use Rattle.viewed_soundness.specs.Holds.{is_view, sees_only, IsNamed}
+use Rattle.viewed_soundness.specs.Holds.{is_view, sees_only, IsNamed, is_given}
 use Rattle.std.proofs.Common.{◌≡◌, refl, sym, ap, ◌∙◌, subst, ◌⊎◌, inl, inr, ℕ, suc, ◌+◌, Bool, true, false, not, ◌&&◌, ◌||◌, List, [], ◌∷◌, ◌++◌, take, drop, length, get_or, arith, if◌then◌else◌, Some}
 use Rattle.std.proofs.lemmas.List.{length-map}
 use Rattle.spark_base.specs.Lists.{Has}
@@ -110,7 +110,7 @@ IsTyped s m x z = (d : ℕ) (c n : Bool) (k : ℕ) → shape_of s.table (object_
 
 -- An access value, for a formal that owns nothing.
 abbrev pub IsShownOne : Typing → Memory → ℕ → Passed → Type 0
-IsShownOne s m x a = (is_view_formal s x ≡ true) × (z : machine.Word) × (a ≡ Value (z ∷ [])) × IsTyped s m x z
+IsShownOne s m x a = (is_given s x ≡ true) × (z : machine.Word) × (a ≡ Value (z ∷ [])) × IsTyped s m x z
 
 -- Words are a value of a type, and what they designate is of the types of its parts.
 abbrev pub IsFit : Typing → Memory → ℕ → List machine.Word → Type 0
@@ -183,18 +183,30 @@ passed_one s m cells depth facts scope (x ∷ formals) (a ∷ passed) (k ∷ way
 passed_one s m cells depth facts scope (x ∷ formals) (a ∷ passed) (k ∷ ways) outs (inr (place, later, how, one, apart, differ, more)) to (inr has) =
     passed_one s m cells depth facts scope formals passed ways later more to has
 
-plain_from : (s : Typing) (m : Memory) (cells : List Lodge) (x : ℕ) (a : Passed) → IsPlainOne s m cells x a → (y : ℕ) (k : Place) → x ≡ y → a ≡ From k
+-- A place is passed.
+abbrev pub IsOfPlace : Passed → Place → Type 0
+IsOfPlace a k = (a ≡ From k) ⊎ (a ≡ To k)
+
+plain_from : (s : Typing) (m : Memory) (cells : List Lodge) (x : ℕ) (a : Passed) → IsPlainOne s m cells x a → (y : ℕ) (k : Place) → x ≡ y → IsOfPlace a k
     → is_scalar (full s.table (object_at s y).of) ≡ false → ⊥
 plain_from s m cells x a (inl (plain, at)) y k same is many =
     true_false (is_scalar (full s.table (object_at s y).of)) (subst (λ z. is_scalar (full s.table (object_at s z).of) ≡ true) same plain) many
-plain_from s m cells x a (inr (inl (shown, z, at, typed))) y k same is many = (let never : Value (z ∷ []) ≡ From k = sym at ∙ is in cc)
-plain_from s m cells x a (inr (inr (plain, named, ws, at, fits))) y k same is many = (let never : Value ws ≡ From k = sym at ∙ is in cc)
+plain_from s m cells x a (inr (inl (shown, z, at, typed))) y k same is many = no_value (z ∷ []) (subst (λ b. IsOfPlace b k) at is)
+  where
+    no_value : (ws : List machine.Word) → IsOfPlace (Value ws) k → ⊥
+    no_value ws (inl e) = cc
+    no_value ws (inr e) = cc
+plain_from s m cells x a (inr (inr (plain, named, ws, at, fits))) y k same is many = no_value ws (subst (λ b. IsOfPlace b k) at is)
+  where
+    no_value : (ws : List machine.Word) → IsOfPlace (Value ws) k → ⊥
+    no_value ws (inl e) = cc
+    no_value ws (inr e) = cc
 
--- A place is passed for a formal.
+-- It is passed for a formal.
 abbrev pub IsFrom : List ℕ → List Passed → ℕ → Place → Type 0
 IsFrom [] passed y k = ⊥
 IsFrom (x ∷ formals) [] y k = ⊥
-IsFrom (x ∷ formals) (a ∷ passed) y k = ((x ≡ y) × (a ≡ From k)) ⊎ IsFrom formals passed y k
+IsFrom (x ∷ formals) (a ∷ passed) y k = ((x ≡ y) × IsOfPlace a k) ⊎ IsFrom formals passed y k
 
 -- it is taken, if it isn't scalar
 pub from_taken : (s : Typing) (m : Memory) (cells : List Lodge) (depth : ℕ) (facts : List Fact) (scope : List ℕ) (formals : List ℕ) (passed : List Passed) (ways : List Way) (outs : List Out)
@@ -210,12 +222,15 @@ from_taken s m cells depth facts scope (x ∷ formals) (a ∷ passed) (to ∷ wa
 from_taken s m cells depth facts scope (x ∷ formals) (a ∷ passed) (to ∷ ways) outs (inr (place, later_outs, how, one, apart, differ, more)) y k (inl (same, is)) many =
     (to, inl refl, subst (λ z. IsPassedOn s cells depth facts scope z k to) same (subst (λ z. IsPassedOn s cells depth facts scope x z to) (same_place how) one))
   where
+    one_place : {a b : Place} → IsOfPlace (From a) b ⊎ IsOfPlace (To a) b → a ≡ b
+    one_place (inl (inl e)) = cc
+    one_place (inl (inr e)) = cc
+    one_place (inr (inl e)) = cc
+    one_place (inr (inr e)) = cc
+
     same_place : IsTakenAs facts place to a outs later_outs → place ≡ k
-    same_place (inl (from, whole, rest)) = from_same (sym from ∙ is)
-      where
-        from_same : {a b : Place} → From a ≡ From b → a ≡ b
-        from_same e = cc
-    same_place (inr (pos, goes, rest)) = (let never : To place ≡ From k = sym goes ∙ is in cc)
+    same_place (inl (from, whole, rest)) = one_place (inl (subst (λ b. IsOfPlace b k) from is))
+    same_place (inr (pos, goes, rest)) = one_place (inr (subst (λ b. IsOfPlace b k) goes is))
 from_taken s m cells depth facts scope (x ∷ formals) (a ∷ passed) (to ∷ ways) outs (inr (place, later_outs, how, one, apart, differ, more)) y k (inr later) many =
     let found = from_taken s m cells depth facts scope formals passed ways later_outs more y k later many in
     (found.0, inr found.1, found.2)

@@ -1,11 +1,11 @@
--- What is passed for actuals that are copied back to: places in variables, and scalar ones in cells.
+-- What is passed for actuals that are copied back to: places in variables, and in cells.
 use Rattle.std.proofs.Common.{◌≡◌, ◌⊎◌, inl, inr, ℕ, true, false, List, [], ◌∷◌, ◌++◌}
 use Rattle.place_names.specs.declared.act.Mode.{Mode}
 use Rattle.place_names.specs.declared.act.Mode.TheVariants as mode
 use Rattle.place_names.specs.declared.fact.Fact.{Fact}
-use Rattle.type_definitions.specs.Types.{full, is_scalar, is_owning}
+use Rattle.type_definitions.specs.Types.{full, is_scalar}
 use Rattle.typed_tree.specs.Trees.{TypedTree, Name, More}
-use Rattle.flow_paths.specs.Objects.{Typing, object_at, is_package_object}
+use Rattle.flow_paths.specs.Objects.{Typing, object_at}
 use Rattle.flow_paths.specs.Names.{name_of}
 use Rattle.machine.specs.Words as machine
 use Rattle.machine.specs.Memory.{Memory, Place}
@@ -19,6 +19,7 @@ use Rattle.soundness.specs.Sound.{goes_through_none}
 use Rattle.owned_loans.specs.Views.{Views, expand}
 use Rattle.owned_loans.proofs.Safe.{Open}
 use Rattle.viewed_soundness.specs.Holds.{sees_only}
+use Rattle.viewed_steps.specs.Ready.{is_shown_type}
 use Rattle.viewed_steps.specs.Taken.{Lodge, IsLodged, IsVariableAt, IsInside}
 use Rattle.viewed_steps.specs.Sound.{IsScalarObject, IsReachedBack}
 use Rattle.viewed_steps.proofs.Outs.{Out}
@@ -33,8 +34,8 @@ IsOwnPut s depth x (Name p y path u) k =
     × IsVariableAt inside.frame inside.object k inside.trunk inside.start
 IsOwnPut s depth x e k = ⊥
 
--- A place in a cell: a name of the cell begins that of the actual, which is rooted in an object that belongs
--- to no package and isn't an observer.
+-- A place in a cell: a name of the cell begins that of the actual, which is rooted in an object that isn't an
+-- observer.
 pub record IsInCell (s : Typing) (depth : ℕ) (v : Views) (view : ways.View) (y : ℕ) (path : TypedTree) (k : Place) (c : Lodge) : Type 0 where
   pub lodged : IsLodged s k c
   pub whole : Way
@@ -42,7 +43,6 @@ pub record IsInCell (s : Typing) (depth : ℕ) (v : Views) (view : ways.View) (y
   pub called : ways.name_of whole ≡ name_of y path
   pub begins : ways.Under c.name whole
   pub deep : (r : ways.Root) → c.name ≡ ways.Object r → ⊥
-  pub own : is_package_object s y ≡ false
   pub plain : sees_only s y ≡ false
   pub leads : expand v c.name ≡ c.way
   pub reaches : Reaches view c.way (ways.OfCell c.cell)
@@ -62,7 +62,6 @@ pub record IsHoused (s : Typing) (depth : ℕ) (v : Views) (view : ways.View) (x
   pub fits : Matches s.table k.of (object_at s x).of
   pub cell : ℕ
   pub start : inside.start ≡ ways.OfCell cell
-  pub own : is_package_object s y ≡ false
   pub plain : sees_only s y ≡ false
   pub deep : (r : ways.Root) → inside.trunk ≡ ways.Object r → ⊥
   pub leads : expand v inside.trunk ≡ inside.trunk
@@ -81,18 +80,22 @@ abbrev pub IsPlaceLaid : Typing → ℕ → Views → ways.View → ℕ → Type
 IsPlaceLaid s depth v view x e k =
     (IsScalarObject s x × IsPlainAt s depth v view e k) ⊎ ((is_scalar (full s.table (object_at s x).of) ≡ false) × IsOwnPut s depth x e k)
 
+-- Such a place, or one in a cell.
+abbrev pub IsBackLaid : Typing → ℕ → Views → ways.View → ℕ → TypedTree → Place → Type 0
+IsBackLaid s depth v view x e k =
+    IsPlaceLaid s depth v view x e k ⊎ ((is_scalar (full s.table (object_at s x).of) ≡ false) × IsHousedPut s depth v view x e k)
+
 -- A value of the type of the formal, or an access value.
 abbrev pub IsValueLaid : Typing → Memory → ℕ → List machine.Word → Type 0
 IsValueLaid s m x ws =
-    (is_owning s.table (object_at s x).of ≡ false → IsFit s m (object_at s x).of ws)
-    × (is_owning s.table (object_at s x).of ≡ true → (z : machine.Word) × (ws ≡ z ∷ []) × IsTyped s m x z)
+    (is_shown_type s x ≡ false → IsFit s m (object_at s x).of ws)
+    × (is_shown_type s x ≡ true → (z : machine.Word) × (ws ≡ z ∷ []) × IsTyped s m x z)
 
 -- By the mode: such a value, or a place.
 abbrev pub IsLaidOne : Typing → Memory → ℕ → Views → ways.View → ℕ → Mode → TypedTree → Passed → Type 0
 IsLaidOne s m depth v view x mode.In e (Value ws) = IsValueLaid s m x ws
-IsLaidOne s m depth v view x mode.Out e (To k) = IsPlaceLaid s depth v view x e k
-IsLaidOne s m depth v view x mode.InOut e (From k) =
-    IsPlaceLaid s depth v view x e k ⊎ ((is_scalar (full s.table (object_at s x).of) ≡ false) × IsHousedPut s depth v view x e k)
+IsLaidOne s m depth v view x mode.Out e (To k) = IsBackLaid s depth v view x e k
+IsLaidOne s m depth v view x mode.InOut e (From k) = IsBackLaid s depth v view x e k
 IsLaidOne s m depth v view x how e a = ⊥
 
 abbrev pub AreLaidOut : Typing → Memory → ℕ → Views → ways.View → List ℕ → TypedTree → List Passed → Type 0
@@ -110,8 +113,16 @@ abbrev pub place_out : (s : Typing) (depth : ℕ) (v : Views) (view : ways.View)
 place_out s depth v view x e k (inl plain) = []
 place_out s depth v view x e k (inr own) = own_out s depth x e k own.1
 
+abbrev pub housed_out : (s : Typing) (depth : ℕ) (v : Views) (view : ways.View) (x : ℕ) (e : TypedTree) (k : Place) → IsHousedPut s depth v view x e k → List Out
+housed_out s depth v view x (Name p y path u) k h = record { way = h.to; place = k; pos = p } ∷ []
+housed_out s depth v view x e k never = []
+
+abbrev pub back_out : (s : Typing) (depth : ℕ) (v : Views) (view : ways.View) (x : ℕ) (e : TypedTree) (k : Place) → IsBackLaid s depth v view x e k → List Out
+back_out s depth v view x e k (inl laid) = place_out s depth v view x e k laid
+back_out s depth v view x e k (inr housed) = housed_out s depth v view x e k housed.1
+
 abbrev pub out_of : (s : Typing) (m : Memory) (depth : ℕ) (v : Views) (view : ways.View) (x : ℕ) (how : Mode) (e : TypedTree) (a : Passed) → IsLaidOne s m depth v view x how e a → List Out
-out_of s m depth v view x mode.Out e (To k) laid = place_out s depth v view x e k laid
+out_of s m depth v view x mode.Out e (To k) laid = back_out s depth v view x e k laid
 out_of s m depth v view x how e a laid = []
 
 abbrev pub outs_of : (s : Typing) (m : Memory) (depth : ℕ) (v : Views) (view : ways.View) (formals : List ℕ) (actuals : TypedTree) (passed : List Passed)
@@ -130,10 +141,14 @@ abbrev pub place_cell : (s : Typing) (depth : ℕ) (v : Views) (view : ways.View
 place_cell s depth v view x e k (inl plain) = plain_cell s depth v view e k plain.1
 place_cell s depth v view x e k (inr own) = []
 
+abbrev pub back_cell : (s : Typing) (depth : ℕ) (v : Views) (view : ways.View) (x : ℕ) (e : TypedTree) (k : Place) → IsBackLaid s depth v view x e k → List Lodge
+back_cell s depth v view x e k (inl laid) = place_cell s depth v view x e k laid
+back_cell s depth v view x (Name p y path u) k (inr housed) = house_of s depth v view x y path k housed.1 ∷ []
+back_cell s depth v view x e k (inr never) = []
+
 abbrev pub cell_of : (s : Typing) (m : Memory) (depth : ℕ) (v : Views) (view : ways.View) (x : ℕ) (how : Mode) (e : TypedTree) (a : Passed) → IsLaidOne s m depth v view x how e a → List Lodge
-cell_of s m depth v view x mode.Out e (To k) laid = place_cell s depth v view x e k laid
-cell_of s m depth v view x mode.InOut e (From k) (inl laid) = place_cell s depth v view x e k laid
-cell_of s m depth v view x mode.InOut (Name p y path u) (From k) (inr housed) = house_of s depth v view x y path k housed.1 ∷ []
+cell_of s m depth v view x mode.Out e (To k) laid = back_cell s depth v view x e k laid
+cell_of s m depth v view x mode.InOut e (From k) laid = back_cell s depth v view x e k laid
 cell_of s m depth v view x how e a laid = []
 
 abbrev pub cells_of : (s : Typing) (m : Memory) (depth : ℕ) (v : Views) (view : ways.View) (formals : List ℕ) (actuals : TypedTree) (passed : List Passed)
@@ -144,12 +159,12 @@ cells_of s m depth v view formals actuals passed laid = []
 
 -- ---- what is asked of an actual that is copied back to
 
--- It goes through no access value; or it is rooted in an object that belongs to no package and isn't an
--- observer, and nothing that was moved or is borrowed leads to it.
+-- It goes through no access value; or it is rooted in an object that isn't an observer, and nothing that was moved
+-- or is borrowed leads to it.
 abbrev pub IsOpenActual : Typing → ℕ → List Fact → TypedTree → Type 0
 IsOpenActual s depth facts (Name p y path u) =
     (goes_through_none path ≡ true)
-    ⊎ ((is_package_object s y ≡ false) × (sees_only s y ≡ false)
+    ⊎ ((sees_only s y ≡ false)
     × ((q : Way) → Named (home s depth) q → ways.name_of q ≡ name_of y path → Open facts q))
 IsOpenActual s depth facts e = Unit {0}
 

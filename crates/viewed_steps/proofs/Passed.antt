@@ -25,8 +25,8 @@ use Rattle.type_definitions.specs.Types.{shape_of, full, parts, is_scalar, is_ow
 use Rattle.typed_tree.specs.Trees.{TypedTree, Name, More}
 use Rattle.flow_paths.specs.declared.report.Effects.{Effects}
 use Rattle.flow_paths.specs.Instructions.{Call}
-use Rattle.flow_paths.specs.Objects.{Typing, Signature, object_at, sub_at, is_formal, is_package_object, is_named_access, is_variable_access, view_of, Passing, passing, passing_by, passings}
-use Rattle.machine.specs.Owners.{is_in, is_in_formal}
+use Rattle.flow_paths.specs.Objects.{Typing, Signature, object_at, sub_at, is_formal, is_package_object, is_named_access, is_variable_access, is_anonymous, view_of, Passing, passing, passing_by, passings}
+use Rattle.machine.specs.Owners.{is_in}
 use Rattle.soundness.specs.Seen.{is_view_formal}
 use Rattle.flow_paths.specs.Names.{Written, written, name_of}
 use Rattle.flow_paths.specs.Acts.{actual_act, actual_acts}
@@ -62,10 +62,12 @@ use Rattle.owned_loans.proofs.Allowed.{either_right}
 use Rattle.owned_loans.proofs.Safe.{Unlent, Unmoved}
 use Rattle.viewed_steps.specs.Sound.{IsScalarObject, IsCopiedBack, IsKindOfFormal}
 use Rattle.viewed_steps.specs.Ready.{roots_passed, AreDifferent, AreActualsTo}
-use Rattle.viewed_soundness.proofs.Names.{true_false}
+use Rattle.viewed_soundness.proofs.Names.{true_false, both_no}
+use Rattle.viewed_soundness.proofs.Outcomes.{named_plain}
+use Rattle.viewed_steps.proofs.Views.{given_cases, given_type, unowned_view, scalar_unseen}
 use Rattle.viewed_steps.specs.Taken.{Lodge, IsInside, IsAmong, IsPlainPlace, IsApartFrom}
 use Rattle.viewed_steps.proofs.Outs.{Out, found_in}
-use Rattle.viewed_steps.proofs.LaidOut.{IsHoused, house_of, IsValueLaid, IsOwnPut, IsPlainAt, IsPlaceLaid, IsLaidOne, AreLaidOut, own_out, place_out, out_of, outs_of, plain_cell, cell_of, cells_of}
+use Rattle.viewed_steps.proofs.LaidOut.{IsHoused, house_of, IsValueLaid, IsOwnPut, IsPlainAt, IsHousedPut, IsPlaceLaid, IsBackLaid, IsLaidOne, AreLaidOut, own_out, place_out, housed_out, back_out, out_of, outs_of, plain_cell, back_cell, cell_of, cells_of}
 use Rattle.viewed_steps.proofs.Called.{copies_add}
 use Rattle.viewed_steps.proofs.Entered.{IsPlainOne, DiffersFrom, IsTakenAs, ArePassedOn}
 use Rattle.soundness.proofs.Fixed.{plain_word}
@@ -428,36 +430,52 @@ module _ (s : Typing) (own_law : OwnsByShape s.table) (settled : IsSettled s.tab
   abbrev LessAfter : List Fact → ℕ → TypedTree → Type 0
   LessAfter known x e = (f : Fact) → Has facts f → Has (after (acts (actual_act (passing s procedure x) e)) known) f
 
-  out_first : (x : ℕ) (e : TypedTree) (k : Place) (formals : List ℕ) (actuals : TypedTree) (passed : List Passed) (known : List Fact) (later : List Out)
-      → (object_at s x).mode ≡ mode.Out → is_scalar (full s.table (object_at s x).of) ≡ false → (own : IsOwnPut s depth x e k) → is_package_object s x ≡ false
-      → DiffersFrom x formals → IsWithin e → NoOverlap (x ∷ formals) (More e actuals) → ((f : Fact) → Has facts f → Has known f) → LessAfter known x e → AllowsOne known x e
-      → Passes formals actuals passed later → Passes (x ∷ formals) (More e actuals) (To k ∷ passed) (own_out s depth x e k own ++ later)
-  unfolding in_variable
-  out_first x (Name p y path u) k formals actuals passed known later is many own local differ within none less less_after allowed rest =
+  out_first : (x : ℕ) (p : Pos) (y u : ℕ) (path : TypedTree) (k : Place) (formals : List ℕ) (actuals : TypedTree) (passed : List Passed) (known : List Fact) (later : List Out)
+      → (object_at s x).mode ≡ mode.Out → is_scalar (full s.table (object_at s x).of) ≡ false → (own : OwnPlace x y path k) → is_package_object s x ≡ false
+      → DiffersFrom x formals → IsWithin (Name p y path u) → NoOverlap (x ∷ formals) (More (Name p y path u) actuals) → ((f : Fact) → Has facts f → Has known f)
+      → LessAfter known x (Name p y path u) → AllowsOne known x (Name p y path u)
+      → Passes formals actuals passed later
+      → Passes (x ∷ formals) (More (Name p y path u) actuals) (To k ∷ passed) (record { way = own.0; place = k; pos = p } ∷ later)
+  out_first x p y u path k formals actuals passed known later is many own local differ within none less less_after allowed rest =
       let owning : Bool = is_owning s.table (object_at s x).of in
       let access : Bool = procedure && is_named_access (view_of s x) in
-      own_first x mode.Out p y u path k (To k) formals actuals passed known (record { way = own.0; place = k; pos = p } ∷ later) later (back_of x mode.Out is no_out) many (in_variable x p y u path k own) local differ
+      own_first x mode.Out p y u path k (To k) formals actuals passed known (record { way = own.0; place = k; pos = p } ∷ later) later (back_of x mode.Out is no_out) many own local differ
       within none less (act_allowed x mode.Out p y u path known is no_out allowed) (λ w by_way. out_unlent known w owning access by_way) (λ by_way. (
         inr (p, refl, refl),
         λ n has covered. out_cleared (name_of y path) owning access known n
             (subst (λ z. Has (after (acts (actual_act (passing_by z owning access) (Name p y path u))) known) (Moved n)) is (less_after (Moved n) has))
             (subst (λ z. covers z n ≡ true) own.2 covered),
       )) rest
-  out_first x e k formals actuals passed known later is many never local differ within none less less_after allowed rest = absurd never
+
+  out_own : (x : ℕ) (e : TypedTree) (k : Place) (formals : List ℕ) (actuals : TypedTree) (passed : List Passed) (known : List Fact) (later : List Out)
+      → (object_at s x).mode ≡ mode.Out → is_scalar (full s.table (object_at s x).of) ≡ false → (own : IsOwnPut s depth x e k) → is_package_object s x ≡ false
+      → DiffersFrom x formals → IsWithin e → NoOverlap (x ∷ formals) (More e actuals) → ((f : Fact) → Has facts f → Has known f) → LessAfter known x e → AllowsOne known x e
+      → Passes formals actuals passed later → Passes (x ∷ formals) (More e actuals) (To k ∷ passed) (own_out s depth x e k own ++ later)
+  unfolding in_variable
+  out_own x (Name p y path u) k formals actuals passed known later is many own local differ within none less less_after allowed rest =
+      out_first x p y u path k formals actuals passed known later is many (in_variable x p y u path k own) local differ within none less less_after allowed rest
+  out_own x e k formals actuals passed known later is many never local differ within none less less_after allowed rest = absurd never
+
+  out_housed : (x : ℕ) (e : TypedTree) (k : Place) (formals : List ℕ) (actuals : TypedTree) (passed : List Passed) (known : List Fact) (later : List Out)
+      → (object_at s x).mode ≡ mode.Out → (many : is_scalar (full s.table (object_at s x).of) ≡ false) → (housed : IsHousedPut s depth v view x e k) → is_package_object s x ≡ false
+      → DiffersFrom x formals → IsWithin e → NoOverlap (x ∷ formals) (More e actuals) → ((f : Fact) → Has facts f → Has known f) → LessAfter known x e → AllowsOne known x e
+      → ((c : Lodge) → Has (back_cell s depth v view x e k (inr (many, housed))) c → Has cells c)
+      → Passes formals actuals passed later → Passes (x ∷ formals) (More e actuals) (To k ∷ passed) (housed_out s depth v view x e k housed ++ later)
+  unfolding in_cell
+  out_housed x (Name p y path u) k formals actuals passed known later is many h local differ within none less less_after allowed lodged rest =
+      out_first x p y u path k formals actuals passed known later is many (in_cell x y path k h (lodged (house_of s depth v view x y path k h) (inl refl))) local differ within none less
+      less_after allowed rest
+  out_housed x e k formals actuals passed known later is many never local differ within none less less_after allowed lodged rest = absurd never
 
   -- a value of mode `in`
   value_first : (x : ℕ) (ws : List machine.Word) → (object_at s x).mode ≡ mode.In → IsKindOfFormal s x → IsValueLaid s m x ws → IsPlainOne s m cells x (Value ws)
   value_first x ws is (inl plain) laid =
-      inl (plain, (laid.0 (plain_type s own_law (object_at s x).of plain)).0 ∙ plain_word s settled (object_at s x).of plain)
+      inl (plain, (laid.0 (both_no (is_owning s.table (object_at s x).of) (is_anonymous (view_of s x)) (plain_type s own_law (object_at s x).of plain) (scalar_unseen s x plain))).0 ∙ plain_word s settled (object_at s x).of plain)
   value_first x ws is (inr (inl (back, own))) laid = absurd (back is)
-  value_first x ws is (inr (inr (inr (by_mode, plain, named)))) laid = inr (inr (plain, named, ws, refl, laid.0 plain))
+  value_first x ws is (inr (inr (inr (by_mode, plain, named)))) laid = inr (inr (plain, named, ws, refl, laid.0 (both_no (is_owning s.table (object_at s x).of) (is_anonymous (view_of s x)) plain (named_plain s.table (object_at s x).of named))))
   value_first x ws is (inr (inr (inl shown))) laid =
-      let value = laid.1 (second_true (is_in_formal s x) (is_owning s.table (object_at s x).of) shown.0) in
+      let value = laid.1 (given_type s x shown.0) in
       inr (inl (shown.0, value.0, ap Value value.1, value.2))
-    where
-      second_true : (a b : Bool) → a && b ≡ true → b ≡ true
-      second_true true b e = e
-      second_true false b e = cc
 
   -- a scalar place
   plain_place_of : (e : TypedTree) (k : Place) → (there : IsPlainAt s depth v view e k) → ((c : Lodge) → Has (plain_cell s depth v view e k there) c → Has cells c) → IsPlainPlace s cells k
@@ -472,10 +490,12 @@ module _ (s : Typing) (own_law : OwnsByShape s.table) (settled : IsSettled s.tab
       → Passes formals actuals passed later → Passes (x ∷ formals) (More e actuals) (a ∷ passed) (out_of s m depth v view x how e a laid ++ later)
   first_passed x mode.In e (Value ws) formals actuals passed known later is laid kind local differ within none less less_after allowed lodged rest =
       plain_first x e (Value ws) formals actuals passed later (value_first x ws is kind laid) rest
-  first_passed x mode.Out e (To k) formals actuals passed known later is (inl (plain, there)) kind local differ within none less less_after allowed lodged rest =
+  first_passed x mode.Out e (To k) formals actuals passed known later is (inl (inl (plain, there))) kind local differ within none less less_after allowed lodged rest =
       plain_first x e (To k) formals actuals passed later (inl (plain, plain_place_of e k there lodged)) rest
-  first_passed x mode.Out e (To k) formals actuals passed known later is (inr (many, own)) kind local differ within (inl none) less less_after allowed lodged rest =
-      out_first x e k formals actuals passed known later is many own local differ within none less less_after allowed rest
+  first_passed x mode.Out e (To k) formals actuals passed known later is (inl (inr (many, own))) kind local differ within (inl none) less less_after allowed lodged rest =
+      out_own x e k formals actuals passed known later is many own local differ within none less less_after allowed rest
+  first_passed x mode.Out e (To k) formals actuals passed known later is (inr (many, housed)) kind local differ within (inl none) less less_after allowed lodged rest =
+      out_housed x e k formals actuals passed known later is many housed local differ within none less less_after allowed lodged rest
   first_passed x mode.InOut e (From k) formals actuals passed known later is (inl (inl (plain, there))) kind local differ within none less less_after allowed lodged rest =
       plain_first x e (From k) formals actuals passed later (inl (plain, plain_place_of e k there lodged)) rest
   first_passed x mode.InOut e (From k) formals actuals passed known later is (inl (inr (many, own))) kind local differ within (inl none) less less_after allowed lodged rest =
@@ -483,7 +503,9 @@ module _ (s : Typing) (own_law : OwnsByShape s.table) (settled : IsSettled s.tab
   first_passed x mode.InOut (Name p y path u) (From k) formals actuals passed known later is (inr (many, h)) kind local differ within (inl none) less less_after allowed lodged rest =
       in_out_first x p y u path k formals actuals passed known later is many (in_cell x y path k h (lodged (house_of s depth v view x y path k h) (inl refl))) local differ within none less
       allowed rest
-  first_passed x mode.Out e (To k) formals actuals passed known later is (inr (many, own)) kind local differ within (inr plain) less less_after allowed lodged rest =
+  first_passed x mode.Out e (To k) formals actuals passed known later is (inr (many, housed)) kind local differ within (inr plain) less less_after allowed lodged rest =
+      absurd (true_false (is_scalar (full s.table (object_at s x).of)) (plain x (inl refl) (back_of x mode.Out is no_out)) many)
+  first_passed x mode.Out e (To k) formals actuals passed known later is (inl (inr (many, own))) kind local differ within (inr plain) less less_after allowed lodged rest =
       absurd (true_false (is_scalar (full s.table (object_at s x).of)) (plain x (inl refl) (back_of x mode.Out is no_out)) many)
   first_passed x mode.InOut e (From k) formals actuals passed known later is (inl (inr (many, own))) kind local differ within (inr plain) less less_after allowed lodged rest =
       absurd (true_false (is_scalar (full s.table (object_at s x).of)) (plain x (inl refl) (back_of x mode.InOut is no_in_out)) many)
@@ -549,6 +571,12 @@ module _ (s : Typing) (settled : IsSettled s.table) (depth : ℕ) (v : Views) (v
   found_both m (o ∷ a) b =
       ap (λ z. leaks_at s o.pos m o.place ++ z) (found_both m a b) ∙ sym (append_assoc (leaks_at s o.pos m o.place) (found_in s m a) (found_in s m b))
 
+  back_found : (p : Pos) (m : Memory) (x : ℕ) (e : TypedTree) (k : Place) → (laid : IsBackLaid s depth v view x e k)
+      → all_leaks (checks_at s (written_pos p (written e)) m k) ≡ found_in s m (back_out s depth v view x e k laid)
+  back_found p m x e k (inl laid) = out_found p m x e k laid
+  back_found p m x (Name q y path u) k (inr (many, housed)) = all_checks s q m k ∙ sym (append-nil (leaks_at s q m k))
+  back_found p m x e k (inr (many, never)) = absurd never
+
   first_checks : (p : Pos) (m : Memory) (x : ℕ) (how : Mode) (e : TypedTree) (a : Passed) (passed : List Passed) (rest : TypedTree) (outs : List Out)
       → (laid : IsLaidOne s m depth v view x how e a) → all_leaks (out_checks s p m passed rest) ≡ found_in s m outs
       → all_leaks (out_checks s p m (a ∷ passed) (More e rest)) ≡ found_in s m (out_of s m depth v view x how e a laid ++ outs)
@@ -556,8 +584,8 @@ module _ (s : Typing) (settled : IsSettled s.table) (depth : ℕ) (v : Views) (v
   first_checks p m x mode.InOut e (From k) passed rest outs laid others = others
   first_checks p m x mode.Out e (To k) passed rest outs laid others =
       flat_map-append (λ (leaks : List Leak). leaks) (checks_at s (written_pos p (written e)) m k) (out_checks s p m passed rest)
-      ∙ (λ j. out_found p m x e k laid j ++ others j)
-      ∙ sym (found_both m (place_out s depth v view x e k laid) outs)
+      ∙ (λ j. back_found p m x e k laid j ++ others j)
+      ∙ sym (found_both m (back_out s depth v view x e k laid) outs)
   first_checks p m x how e a passed rest outs laid others = absurd laid
 
   -- the leak checks of a call are those of the places that are emptied
@@ -578,26 +606,26 @@ module _ (s : Typing) (settled : IsSettled s.table) (depth : ℕ) (v : Views) (v
   more_return x y a formals passed (inr (inl (r, has, is))) = inr (inl (r, Has-append_right (return_of x a) (returns_of formals passed) r has, is))
   more_return x y a formals passed (inr (inr shown)) = inr (inr shown)
 
-  first_return : (m : Memory) (x : ℕ) (how : Mode) (e : TypedTree) (a : Passed) (formals : List ℕ) (passed : List Passed) → (object_at s x).mode ≡ how → IsLaidOne s m depth v view x how e a
+  first_return : OwnsByShape s.table → (m : Memory) (x : ℕ) (how : Mode) (e : TypedTree) (a : Passed) (formals : List ℕ) (passed : List Passed) → (object_at s x).mode ≡ how → IsLaidOne s m depth v view x how e a
       → IsKindOfFormal s x → IsReturned x (returns_of (x ∷ formals) (a ∷ passed))
-  first_return m x mode.InOut e (From k) formals passed is laid kind = inr (inl (record { formal = x; to = k }, inl refl, refl))
-  first_return m x mode.In e (Value ws) formals passed is laid (inl plain) = inl plain
-  first_return m x mode.In e (Value ws) formals passed is laid (inr (inl (back, own))) = absurd (back is)
-  first_return m x mode.In e (Value ws) formals passed is laid (inr (inr (inl shown))) = inr (inr (inl shown.0))
-  first_return m x mode.In e (Value ws) formals passed is laid (inr (inr (inr plain))) = inr (inr (inr plain.1))
-  first_return m x mode.Out e (To k) formals passed is laid kind = inr (inl (record { formal = x; to = k }, inl refl, refl))
-  first_return m x how e a formals passed is laid kind = absurd laid
+  first_return own_law m x mode.InOut e (From k) formals passed is laid kind = inr (inl (record { formal = x; to = k }, inl refl, refl))
+  first_return own_law m x mode.In e (Value ws) formals passed is laid (inl plain) = inl plain
+  first_return own_law m x mode.In e (Value ws) formals passed is laid (inr (inl (back, own))) = absurd (back is)
+  first_return own_law m x mode.In e (Value ws) formals passed is laid (inr (inr (inl shown))) = inr (inr (elim (given_cases s x shown.0) [ inl formal ↦ inl formal | inr anonymous ↦ inr (unowned_view s own_law x anonymous) ]))
+  first_return own_law m x mode.In e (Value ws) formals passed is laid (inr (inr (inr plain))) = inr (inr (inr plain.1))
+  first_return own_law m x mode.Out e (To k) formals passed is laid kind = inr (inl (record { formal = x; to = k }, inl refl, refl))
+  first_return own_law m x how e a formals passed is laid kind = absurd laid
 
-  pub all_returned : (m : Memory) (formals : List ℕ) (actuals : TypedTree) (passed : List Passed) → AreLaidOut s m depth v view formals actuals passed → AreActualsTo s formals actuals
+  pub all_returned : OwnsByShape s.table → (m : Memory) (formals : List ℕ) (actuals : TypedTree) (passed : List Passed) → AreLaidOut s m depth v view formals actuals passed → AreActualsTo s formals actuals
       → ((x : ℕ) → Has formals x → IsKindOfFormal s x) → (x : ℕ) → Has formals x → IsReturned x (returns_of formals passed)
-  all_returned m [] actuals passed laid stay kinds x has = absurd has
-  all_returned m (y ∷ formals) (More e rest) (a ∷ passed) laid stay kinds x (inl same) =
+  all_returned own_law m [] actuals passed laid stay kinds x has = absurd has
+  all_returned own_law m (y ∷ formals) (More e rest) (a ∷ passed) laid stay kinds x (inl same) =
       subst (λ z. IsReturned z (returns_of (y ∷ formals) (a ∷ passed))) same
-      (first_return m y (object_at s y).mode e a formals passed refl laid.0 (kinds y (inl refl)))
-  all_returned m (y ∷ formals) (More e rest) (a ∷ passed) laid stay kinds x (inr has) =
-      more_return y x a formals passed (all_returned m formals rest passed laid.1 stay.1 (λ z there. kinds z (inr there)) x has)
-  all_returned m (y ∷ formals) (More e rest) [] laid stay kinds x has = absurd laid
-  all_returned m (y ∷ formals) actuals passed laid stay kinds x has = inl (stay x has)
+      (first_return own_law m y (object_at s y).mode e a formals passed refl laid.0 (kinds y (inl refl)))
+  all_returned own_law m (y ∷ formals) (More e rest) (a ∷ passed) laid stay kinds x (inr has) =
+      more_return y x a formals passed (all_returned own_law m formals rest passed laid.1 stay.1 (λ z there. kinds z (inr there)) x has)
+  all_returned own_law m (y ∷ formals) (More e rest) [] laid stay kinds x has = absurd laid
+  all_returned own_law m (y ∷ formals) actuals passed laid stay kinds x has = inl (stay x has)
 
 -- ---- the call
 

@@ -4,7 +4,7 @@ use Rattle.spark_base.specs.declared.position.Pos.{Pos}
 use Rattle.place_names.specs.declared.fact.Fact.{Fact}
 use Rattle.type_definitions.specs.Types.{shape_of, full, is_scalar, is_owning}
 use Rattle.typed_tree.specs.Trees.{TypedTree, Name}
-use Rattle.flow_paths.specs.Objects.{object_at, is_anonymous, is_package_object, view_of, ByValue}
+use Rattle.flow_paths.specs.Objects.{object_at, is_anonymous, view_of, ByValue}
 use Rattle.flow_paths.specs.Names.{waiting as waits_in, name_of}
 use Rattle.flow_paths.specs.Acts.{acts_in, index_acts}
 use Rattle.machine.specs.Words.{access_offsets, fits_type}
@@ -165,11 +165,11 @@ module _ (h : Here) (settled : IsSettled h.typing.table) (hands : List Waiting) 
 
   -- a name that may go through access values
   through_walked : (on : List (List machine.Word)) (p : Pos) (x u : ℕ) (path : TypedTree) (w : Way) → is_scalar (full h.typing.table u) ≡ true → Named (home h.typing h.frame) w
-      → ways.number_of w ≡ x → ways.name_of w ≡ name_of x path → IsPlace v w → is_package_object h.typing x ≡ false → sees_only h.typing x ≡ false
+      → ways.number_of w ≡ x → ways.name_of w ≡ name_of x path → IsPlace v w → sees_only h.typing x ≡ false
       → (y : Evaluated Place) → Walked h.typing settled hands leaks m on (expand v w) u y → Quiet (at on) (λ k. IsPut (Name p x path u) k) y
-  through_walked on p x u path w plain named root called place local sees (Raises e n) is = is
-  through_walked on p x u path w plain named root called place local sees (Traps t n) never = absurd never
-  through_walked on p x u path w plain named root called place local sees (Done k n) (l, same, spot, reaches, of) =
+  through_walked on p x u path w plain named root called place sees (Raises e n) is = is
+  through_walked on p x u path w plain named root called place sees (Traps t n) never = absurd never
+  through_walked on p x u path w plain named root called place sees (Done k n) (l, same, spot, reaches, of) =
       (same, (by_base k.base refl, (w, l, named, called, place, reaches, spot)))
     where
       scalar_there : is_scalar (full h.typing.table k.of) ≡ true
@@ -196,7 +196,6 @@ module _ (h : Here) (settled : IsSettled h.typing.table) (hands : List Waiting) 
               called = called;
               begins = subst (ways.Under found.name) (sym found.is) (under_along found.name found.name found.rest (under_itself found.name));
               deep = found.deep;
-              own = local;
               plain = sees;
               leads = refl;
               reaches = found.reaches;
@@ -269,7 +268,7 @@ module _ (h : Here) (settled : IsSettled h.typing.table) (hands : List Waiting) 
       → IsOpenActual h.typing h.frame facts e → AllowsAll facts (acts (index_acts h.typing e)) → Quiet (at on) (λ k. IsPut e k) (place_of h e (at before))
   unfolding waits_in goes_through_none
   through_given before on (Name p x path u) t (leads, type) plain takes (inl direct) allowed = place_given before on (Name p x path u) t (leads, type) plain takes direct allowed
-  through_given before on (Name p x path u) t (leads, type) plain takes (inr (local, sees, opens)) allowed =
+  through_given before on (Name p x path u) t (leads, type) plain takes (inr (sees, opens)) allowed =
       let inner = steps_taking h settled hands leaks m waits other facts v kept well holds alone live index_law own_law parts_named (object_at h.typing x).of u path leads before on takes allowed in
       let plain_there : is_scalar (full h.typing.table u) ≡ true = subst (λ z. is_scalar (full h.typing.table z) ≡ true) (sym type) plain in
       quiet_then (at on) (λ way. GoesAlong h.typing.table (object_at h.typing x).of u path way) (λ k. IsPut (Name p x path u) k) (steps_of h path (at before))
@@ -281,7 +280,7 @@ module _ (h : Here) (settled : IsSettled h.typing.table) (hands : List Waiting) 
       (is_place h.typing v (home h.typing h.frame x) x u way goes.lead (scalar_named h.typing.table u plain_there)
       (λ formal none. scalar_no_view h.typing in_formals x
       (subst (λ z. is_scalar (full h.typing.table z) ≡ true) (sym (subst (λ z. Starts h.typing.table (object_at h.typing x).of z u) none goes.lead)) plain_there)
-      (formal_view h.typing x formal)) holds.only) local sees
+      (formal_view h.typing x formal)) holds.only) sees
       (walked h.typing way (variable_place h x) (at on))
       (name_quiet h settled hands leaks m on other facts v kept well holds alone live index_law own_law parts_named x path u way goes opens))
   through_given before on e t place plain takes opens allowed = absurd place
@@ -372,11 +371,11 @@ module _ (h : Here) (settled : IsSettled h.typing.table) (hands : List Waiting) 
   -- a name that may go through access values, of an owner
   housed_walked : (on : List (List machine.Word)) (p : Pos) (x y u : ℕ) (path : TypedTree) (w : Way) → IsNamed h.typing.table u → Matches h.typing.table u (object_at h.typing x).of
       → is_view_formal h.typing y ≡ false → is_anonymous (view_of h.typing y) ≡ false → Named (home h.typing h.frame) w → ways.number_of w ≡ y → ways.name_of w ≡ name_of y path
-      → is_package_object h.typing y ≡ false → sees_only h.typing y ≡ false
+      → sees_only h.typing y ≡ false
       → (z : Evaluated Place) → Walked h.typing settled hands leaks m on (expand v w) u z → Quiet (at on) (λ k. IsKeptPut x (Name p y path u) k) z
-  housed_walked on p x y u path w own fits owner plain named root called local sees (Raises e n) is = is
-  housed_walked on p x y u path w own fits owner plain named root called local sees (Traps t n) never = absurd never
-  housed_walked on p x y u path w own fits owner plain named root called local sees (Done k n) (l, same, spot, reaches, of) = (same, by_base k.base refl)
+  housed_walked on p x y u path w own fits owner plain named root called sees (Raises e n) is = is
+  housed_walked on p x y u path w own fits owner plain named root called sees (Traps t n) never = absurd never
+  housed_walked on p x y u path w own fits owner plain named root called sees (Done k n) (l, same, spot, reaches, of) = (same, by_base k.base refl)
     where
       owned_one : (u : Way) → ways.number_of u ≡ y → expand v u ≡ u
       owned_one u number = elim (lifts v u) [
@@ -457,7 +456,6 @@ module _ (h : Here) (settled : IsSettled h.typing.table) (hands : List Waiting) 
             fits = subst (λ z. Matches h.typing.table z (object_at h.typing x).of) (sym of) fits;
             cell = c;
             start = refl;
-            own = local;
             plain = sees;
             deep = found.deep;
             leads = itself;
@@ -471,7 +469,7 @@ module _ (h : Here) (settled : IsSettled h.typing.table) (hands : List Waiting) 
   housed_given before on x (Name p y path u) t (leads, type) own fits owner takes (inl direct) allowed =
       quiet_on on (λ k. IsOwnPut h.typing h.frame x (Name p y path u) k) (λ k. IsKeptPut x (Name p y path u) k) (λ k put. inl put) (place_of h (Name p y path u) (at before))
       (own_place_given before on x (Name p y path u) t (leads, type) own fits (λ z has. (owner z has).1) takes direct allowed)
-  housed_given before on x (Name p y path u) t (leads, type) own fits owner takes (inr (local, sees, opens)) allowed =
+  housed_given before on x (Name p y path u) t (leads, type) own fits owner takes (inr (sees, opens)) allowed =
       let inner = steps_taking h settled hands leaks m waits other facts v kept well holds alone live index_law own_law parts_named (object_at h.typing y).of u path leads before on takes allowed in
       quiet_then (at on) (λ way. GoesAlong h.typing.table (object_at h.typing y).of u path way) (λ k. IsKeptPut x (Name p y path u) k) (steps_of h path (at before))
       (λ way now. walked h.typing way (variable_place h y) now) inner.0
@@ -479,7 +477,7 @@ module _ (h : Here) (settled : IsSettled h.typing.table) (hands : List Waiting) 
       let root : Way = Object (OfVariable (home h.typing h.frame y) y) in
       housed_walked on p x y u path (way_along way root) (subst (IsNamed h.typing.table) (sym type) own) (subst (λ z. Matches h.typing.table z (object_at h.typing x).of) (sym type) fits)
       (owner y (inl refl)).1 (owner y (inl refl)).0 (named_along (home h.typing h.frame) way root refl) (number_along way root)
-      (λ j. record { root = number_along way root j; sels = goes.sels root j }) local sees
+      (λ j. record { root = number_along way root j; sels = goes.sels root j }) sees
       (walked h.typing way (variable_place h y) (at on))
       (name_quiet h settled hands leaks m on other facts v kept well holds alone live index_law own_law parts_named y path u way goes opens))
   housed_given before on x e t place own fits owner takes opens allowed = absurd place
