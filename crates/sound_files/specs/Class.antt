@@ -21,6 +21,7 @@ use Rattle.soundness.specs.Sound.{calls_nothing, calls_procedures, goes_through_
 use Rattle.soundness.specs.Ready.{root_of}
 use Rattle.gathered_laws.specs.Named.{IsNamed}
 use Rattle.viewed_soundness.specs.Holds.{is_exclusive}
+use Rattle.viewed_soundness.specs.Taken.{GivesPlainly}
 use Rattle.scope_laws.specs.Alone.{ResultsFit}
 use Rattle.viewed_steps.specs.Sound.{LendsShared}
 use Rattle.called_subs.specs.Called.{CodeCalls}
@@ -120,10 +121,9 @@ IsShownActual s x typed.Null = Unit {0}
 IsShownActual s x (Name p y path u) = (shape_of s.table u ≡ shape_of s.table (object_at s x).of) × (is_package_object s y ≡ false)
 IsShownActual s x e = ⊥
 
--- One for a formal of mode `in` whose type owns nothing is a name of its type.
+-- In one for a formal of mode `in` whose type owns nothing, as a name or an aggregate, functions give scalar parts alone.
 abbrev pub IsCopiedActual : Typing → ℕ → TypedTree → Type 0
-IsCopiedActual s x (Name p y path u) = shape_of s.table u ≡ shape_of s.table (object_at s x).of
-IsCopiedActual s x e = ⊥
+IsCopiedActual s x e = GivesPlainly s e
 
 -- One that is copied back to goes through no access value, and isn't rooted in a formal of mode `in` that owns; or it is
 -- rooted in an object that belongs to no package, and the formal is of a scalar type, or that object is no borrower or

@@ -223,7 +223,7 @@ module _ (table : Table) (typed : TypedProgram) (effects : Effects) (input : Lis
               known.0,
               after_less (acts front)
                   (λ a there. (let from = Has-map_from (λ (z : Placed). z.act) front a there in
-                  λ f new. call_adds_none s ready.owns procedure formals actuals
+                  λ f new. call_adds_none s ready.owns procedure ready.class.parts_named formals actuals
                   (acting.unseen_plain table typed effects input ready state top below more_frames rest named p frames deep stages running awaiting of_sub at_point path views viewed_before kept scope holds placed_before above n actuals result e none) called.actuals_stay from.0
                   (subst (λ z. Has z from.0) (sym is) (Has-append_left front others from.0 from.1)) f (subst (λ z. Has (adds z) f) (sym from.2) new)))
                   facts_here (Moved (extend name q)) known.1,

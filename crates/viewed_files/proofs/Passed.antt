@@ -3,7 +3,8 @@ use Rattle.std.proofs.Common.{◌≡◌, ◌∙◌, refl, sym, ap, subst, ◌⊎
 use Rattle.spark_base.specs.Lists.{Has as Holds}
 use Rattle.place_names.specs.declared.act.Mode.{Mode}
 use Rattle.place_names.specs.declared.act.Mode.TheVariants as mode
-use Rattle.type_definitions.specs.Types.{shape_of, words, words_of, is_owning}
+use Rattle.type_definitions.specs.declared.table.Shape.TheVariants as shape
+use Rattle.type_definitions.specs.Types.{shape_of, words, words_of, full, is_scalar, is_owning}
 use Rattle.type_definitions.specs.Entries.{integer, boolean}
 use Rattle.typed_tree.specs.Trees.{TypedTree, Name, More}
 use Rattle.typed_tree.specs.Trees as typed
@@ -16,15 +17,19 @@ use Rattle.machine.specs.Owners.{is_in, is_in_formal}
 use Rattle.soundness.specs.Typed.{OwnsByShape}
 use Rattle.soundness.specs.Sound.{goes_through_none}
 use Rattle.typed_laws.specs.Fine.{Has, Agree, counts, lists}
-use Rattle.typed_laws.specs.Needed.{Matches, IsPlace}
-use Rattle.typed_laws.proofs.Sound.{matches, leads}
-use Rattle.typed_steps.specs.Steps.{Taken, IsPlaceOf, IsActual, ActualsTaken, IsTypedStep, AreTyped}
+use Rattle.typed_laws.specs.Needed.{Matches, Gives, IsPlace}
+use Rattle.typed_laws.proofs.Sound.{matches, leads, gives}
+use Rattle.typed_steps.specs.Steps.{IsViewed, Taken, IsPlaceOf, IsActual, ActualsTaken, IsTypedStep, AreTyped}
 use Rattle.soundness.specs.Ready.{root_of}
+use Rattle.soundness.proofs.Contents.{bool_cases}
 use Rattle.soundness.proofs.Passing.{plain_type, signature_there}
+use Rattle.viewed_soundness.specs.Holds.{IsNamed}
+use Rattle.viewed_soundness.specs.Taken.{GivesPlainly}
 use Rattle.ready_laws.proofs.Actuals.{taken_stays, scalar_back}
-use Rattle.sound_files.specs.Class.{IsShownActual, IsCopiedActual, IsKeptActual, IsFitActual, AreFitActuals, AreOwnersShown, AreShownFit}
+use Rattle.sound_files.specs.Class.{IsShownActual, IsKeptActual, IsFitActual, AreFitActuals, AreOwnersShown, AreShownFit}
 use Rattle.viewed_steps.specs.Sound.{IsScalarObject, IsKindOfFormal, IsReachedBack, AreKeptPlaces, AreShownOwn}
-use Rattle.viewed_steps.specs.Ready.{IsSeen, IsCopyOf, IsValueTo, IsActualTo, AreActualsTo}
+use Rattle.viewed_steps.specs.Ready.{IsSeen, IsValueTo, IsActualTo, AreActualsTo}
+use Rattle.viewed_steps.proofs.Copies.{no_cell}
 use Rattle.view_laws.specs.Program.{PassActuals}
 
 both_first : (a b : Bool) → a && b ≡ true → a ≡ true
@@ -51,14 +56,27 @@ module _ (y : Typing) (whole : counts (shape_of y.table integer) ≡ true) (list
   shown_seen x (Name p z path u) shown (inr (lead, view)) = (leads y whole listed word_law path (object_at y z).of u lead, inl shown.0, shown.1)
   shown_seen x e shown taken = absurd shown
 
-  -- what is copied is a name of the formal's type
-  name_copied : (x : ℕ) (e : TypedTree) → IsCopiedActual y x e → Taken y (object_at y x).of e → IsCopyOf y x e
-  unfolding Has
-  name_copied x (Name p z path u) same (inl has) = (leads y whole listed word_law path (object_at y z).of u has.0, inl same)
-  name_copied x (Name p z path u) same (inr (lead, view)) = (leads y whole listed word_law path (object_at y z).of u lead, inl same)
-  name_copied x e same taken = absurd same
+  -- what is looked at is for an access type
+  viewed_access : (want : ℕ) (e : TypedTree) → IsViewed y want e → (d : ℕ) × (c : Bool) × (n : Bool) × (shape_of y.table want ≡ shape.Access d c n)
+  viewed_access want (Name p z path u) (lead, view) = (view.1, view.4, view.5, view.7)
+  viewed_access want (typed.Call p sub actuals) (t, is, view) = (view.1, view.4, view.5, view.7)
+  viewed_access want (typed.Parens e) view = viewed_access want e view
+  viewed_access want e never = absurd never
 
   module _ (own_law : OwnsByShape y.table) where
+    -- what is copied is a value of the formal's type
+    copied_gives : (x : ℕ) (e : TypedTree) → IsNamed y.table (object_at y x).of → is_owning y.table (object_at y x).of ≡ false → Taken y (object_at y x).of e → Gives y (object_at y x).of e
+    copied_gives x e named none (inl has) = gives y whole listed word_law e (object_at y x).of has
+    copied_gives x e named none (inr view) =
+        let access = viewed_access (object_at y x).of e view in
+        absurd (no_cell y own_law (object_at y x).of access.0 access.1 access.2 access.3 named none)
+
+    copied_value : (x : ℕ) (e : TypedTree) → IsNamed y.table (object_at y x).of → is_owning y.table (object_at y x).of ≡ false → GivesPlainly y e → Taken y (object_at y x).of e → IsValueTo y x e
+    copied_value x e named none plainly taken = elim (bool_cases (is_scalar (full y.table (object_at y x).of))) [
+      | inl plain ↦ inl (plain, taken_stays y whole listed word_law (object_at y x).of e plain taken)
+      | inr many ↦ inr (many, named, (copied_gives x e named none taken, plainly))
+    ]
+
     actual_to : (x : ℕ) (e : TypedTree) → IsKindOfFormal y x → IsFitActual y x (object_at y x).mode e → IsActual y x e → IsActualTo y x (object_at y x).mode e
     actual_to x e kind fit actual = by_mode (object_at y x).mode refl fit actual
       where
@@ -76,7 +94,7 @@ module _ (y : Typing) (whole : counts (shape_of y.table integer) ≡ true) (list
           | inr (inr (inr (in_mode, owns, named))) ↦ elim fit [
             | inl plain ↦ inl (plain, taken_stays y whole listed word_law (object_at y x).of e plain taken)
             | inr (inl (here, shown)) ↦ absurd (no_owner here none)
-            | inr (inr (here, copy)) ↦ inr (named, name_copied x e copy taken)
+            | inr (inr (here, plainly)) ↦ copied_value x e named none plainly taken
           ]
         ]
 

@@ -2,6 +2,7 @@
 -- other places in variables, of which nothing is moved.
 use Rattle.std.proofs.Common.{◌≡◌, refl, sym, ap, ◌∙◌, subst, ◌⊎◌, inl, inr, ℕ, Bool, true, false, ◌&&◌, List, [], ◌∷◌, map, arith, length, if◌then◌else◌, Some, ◌<◌}
 use Rattle.spark_base.specs.Lists.{Has}
+use Rattle.place_names.specs.declared.act.Act.{Act}
 use Rattle.place_names.specs.declared.act.Act.TheVariants as act
 use Rattle.place_names.specs.declared.act.Mode.{Mode}
 use Rattle.place_names.specs.declared.act.Mode.TheVariants as mode
@@ -14,7 +15,7 @@ use Rattle.typed_tree.specs.Trees.{TypedTree, Name, More}
 use Rattle.flow_paths.specs.Objects.{object_at, is_anonymous, is_observer, is_named_access, view_of, Passing, ByValue, passing_by}
 use Rattle.flow_paths.specs.Objects as objects
 use Rattle.flow_paths.specs.Names.{has_call, waiting, written, name_of}
-use Rattle.flow_paths.specs.Acts.{actual_act, actual_acts, actual_values, acts_in, index_acts, used}
+use Rattle.flow_paths.specs.Acts.{actual_act, actual_acts, actual_values, acts_in, index_acts}
 use Rattle.machine.specs.Words as machine
 use Rattle.machine.specs.Memory.{Memory, Place, slots_of}
 use Rattle.machine.specs.Evaluate.{Here, Now, Evaluated, Done, followed_by, variable_place, walked, evaluate, Raises, Traps, held_or_taken, AsView, AsValue, viewed, value, steps_of, checked}
@@ -36,11 +37,11 @@ use Rattle.soundness.proofs.Walks.{way_along, past_along}
 use Rattle.soundness.proofs.Scalars.{named_along, acts, acts_append, allows_both, number_along}
 use Rattle.soundness.proofs.Stays.{Quiet}
 use Rattle.soundness.proofs.Taking.{Takes, takes_both}
-use Rattle.soundness.proofs.Passing.{reads_keep, plain_type}
+use Rattle.soundness.proofs.Passing.{AreReads, reads_keep, plain_type}
 use Rattle.soundness.proofs.Lasting.{keeps}
 use Rattle.owned_loans.specs.Views.{Around, Views, IsForeign}
 use Rattle.owned_loans.proofs.Allowed.{cleared_open, cleared_whole}
-use Rattle.viewed_soundness.specs.Holds.{IsNamed, PartsAreNamed, sees_only, IsOwners, IsAccess}
+use Rattle.viewed_soundness.specs.Holds.{IsNamed, PartsAreNamed, sees_only, is_fixed, IsOwners, IsAccess, KeepsObserved, AllKeep}
 use Rattle.viewed_soundness.proofs.Names.{Starts, true_false, view_access, not_view, plain_sees, both_no, plain_named}
 use Rattle.viewed_soundness.proofs.Stays.{Goes}
 use Rattle.viewed_soundness.proofs.Evaluated.{matches_named, live_trunk}
@@ -49,23 +50,22 @@ use Rattle.viewed_steps.specs.Ready.{IsOwnPlace, IsSeen, IsCopyOf, IsActualTo, A
 use Rattle.viewed_steps.proofs.Seeing.{IsClear, AreOpenTo}
 use Rattle.viewed_steps.proofs.LaidOut.{IsOpenActual, AreOpenActuals}
 use Rattle.viewed_steps.proofs.Called.{way_to, head_of, head_values_are, head_of_reads, IsGiven, one_given}
-use Rattle.viewed_steps.proofs.Reading.{unowned, unowned_read}
+use Rattle.viewed_steps.proofs.Copies.{copies_read}
 use Rattle.viewed_nulls.proofs.Spared.{Spares, done_on, spares_on, spared_whole}
 use Rattle.owned_loans.proofs.Safe.{Unlent, Unmoved}
 use Rattle.null_places.specs.Compares.{Compares}
 use Rattle.null_places.proofs.Only.{OnlyOwners}
+use Rattle.null_places.proofs.Evaluated.{value_on}
 use Rattle.null_places.proofs.Direct.{has_deref, past_deref, selectors_direct}
 use Rattle.null_places.proofs.Walks.{SameNow, SameTo, then_same, simply}
 use Rattle.null_places.proofs.Laws.{Premises, Behaves, Finds, IsAt, IsWholeAt}
-use Rattle.null_places.proofs.Scalars.{scalar_none, value_passed_same, to_passed_same, from_passed_same, place_then, steps_on, view_same, copy_same, none_there}
+use Rattle.null_places.proofs.Scalars.{scalar_none, value_passed_same, to_passed_same, from_passed_same, place_then, steps_on, view_same, none_there}
 use Rattle.viewed_nulls.proofs.Names.{name_same, access_found, view_whole, owner_found}
-use Rattle.viewed_nulls.proofs.Viewed.{viewed_premises, anonymous_access, IsReadyIn, leads, viewed_behaves}
+use Rattle.viewed_nulls.proofs.Viewed.{viewed_premises, anonymous_access, IsReadyIn, leads, viewed_behaves, viewed_values}
 use Rattle.viewed_steps.proofs.Views.{AreAccess}
 use Rattle.spark_base.specs.declared.position.Pos.{Pos}
 use Rattle.machine.specs.Memory as memory
 use Rattle.machine.specs.Words.{fits_type}
-use Rattle.null_places.proofs.Memories.{NoneGone}
-use Rattle.null_places.proofs.Places.{spot_whole, plain_whole}
 use Rattle.viewed_soundness.proofs.Outcomes.{named_plain}
 use Rattle.soundness.specs.Ready.{root_of}
 use Rattle.type_definitions.specs.Types as types
@@ -196,39 +196,29 @@ module _ (h : Here) (settled : IsSettled h.typing.table) (leaks : List Leak) (ot
       (opens w (named_along (home h.typing h.frame) way (Object (OfVariable (home h.typing h.frame y) y)) refl)
       (λ j. record { root = number_along way (Object (OfVariable (home h.typing h.frame y) y)) j; sels = goes.sels (Object (OfVariable (home h.typing h.frame y) y)) j }))
 
+  -- what reads changes nothing
+  reads_kept : (ps : List Placed) → AreReads ps → AllKeep (is_fixed h.typing) (acts ps)
+  reads_kept [] reads = tt
+  reads_kept (p ∷ ps) reads = (one p.act (reads p (inl refl)).0 (reads p (inl refl)).1, reads_kept ps (λ q has. reads q (inr has)))
+    where
+      one : (a : Act) (m : PlaceName) → (a ≡ act.Read m) ⊎ (a ≡ act.Look m) → KeepsObserved (is_fixed h.typing) a
+      one a m (inl e) = subst (KeepsObserved (is_fixed h.typing)) (sym e) tt
+      one a m (inr e) = subst (KeepsObserved (is_fixed h.typing)) (sym e) tt
+
   -- a copy, of a type that owns nothing
   copied_same : (before on : List (List machine.Word)) (x : ℕ) (e : TypedTree) → is_owning h.typing.table (object_at h.typing x).of ≡ false → IsNamed h.typing.table (object_at h.typing x).of
       → IsCopyOf h.typing x e → Takes (waiting e) before on → Compares h.typing e → AllowsAll facts (acts (acts_in h.typing e)) → SameFor before on ByValue x e
-  unfolding Compares evaluate acts_in waiting has_call
-  copied_same before on x (Name p y path u) plain named (lead, fits) takes compares allowed n' same =
+  copied_same before on x e plain named (gives, plainly) takes compares allowed n' same =
       by_kind (is_anonymous (view_of h.typing x)) (named_plain h.typing.table (object_at h.typing x).of named)
     where
-      own : is_owning h.typing.table u ≡ false
-      own = unowned h.typing own_law u (object_at h.typing x).of fits plain
+      of : ℕ
+      of = (object_at h.typing x).of
 
-      each : AllowsAll facts (acts (acts_in h.typing path)) × AllowsAll (after (acts (acts_in h.typing path)) facts) (used h.typing (name_of y path) u ∷ [])
-      each =
-          allows_both facts (acts (acts_in h.typing path)) (used h.typing (name_of y path) u ∷ [])
-          (subst (AllowsAll facts) (acts_append (acts_in h.typing path) (record { pos = p; act = used h.typing (name_of y path) u } ∷ [])) allowed)
-
-      inner : Quiet (at on) (λ way. asks.goes (object_at h.typing y).of u path way) (steps_of h path (at before)) × (after (acts (acts_in h.typing path)) facts ≡ facts)
-      inner = law.steps (object_at h.typing y).of u path lead before on takes tt each.0
-
-      reads : Allows facts (act.Read (name_of y path))
-      reads =
-          subst (Allows facts) (unowned_read h.typing own_law (name_of y path) u (object_at h.typing x).of fits plain)
-          ((subst (λ z. AllowsAll z (used h.typing (name_of y path) u ∷ [])) inner.1 each.1).0)
-
-      copied : SameTo h.typing (evaluate h AsValue (Name p y path u) (at before)) (evaluate h AsValue (Name p y path u) n')
+      copied : SameTo h.typing (evaluate h AsValue e (at before)) (evaluate h AsValue e n')
       copied =
-          place_then h settled own_law asks m hands facts law before on y u path (held_or_taken h AsValue) (held_or_taken h AsValue) (IsAt h asks m hands facts u)
-          (λ way goes. law.read on y u path way goes reads) inner.0 n'
-          (steps_on h settled own_law asks m hands facts law (object_at h.typing y).of u path lead before on takes tt compares each.0 n' same)
-          (λ k i j found now. copy_same h k i j
-          (subst (λ (z : Now). NoneGone (slots_of h.typing z.memory k)) (sym found.0)
-          (spot_whole h.typing settled m hands only ready.kept k found.1.0 found.1.1
-          (plain_whole h.typing settled m hands k found.1.0 found.1.1 ((keeps h.typing settled own_law).ownerless k.of (ap (is_owning h.typing.table) found.1.2 ∙ own)))))
-          (ap (is_owning h.typing.table) found.1.2 ∙ own) now)
+          value_on h settled own_law asks (IsReadyIn h settled leaks other alone in_formals index_law own_law v parts_named)
+          (viewed_values h settled leaks other alone in_formals index_law own_law v parts_named) e of gives tt plainly before on takes compares m hands facts ready allowed only named
+          (reads_kept (acts_in h.typing e) (copies_read h.typing own_law parts_named e of gives plain named plainly)) n' same
 
       last : List machine.Word → Now → Evaluated Passed
       last ws now = followed_by (checked h (type_of h x) ws now) value_passed
@@ -239,13 +229,10 @@ module _ (h : Here) (settled : IsSettled h.typing.table) (leaks : List Leak) (ot
       by_test ws n n'' now false = (refl, now)
 
       by_kind : (b : Bool) → b ≡ false
-          → SameTo h.typing (followed_by (if b then viewed h (Name p y path u) (at before) else value h (Name p y path u) (at before)) last)
-          (followed_by (if b then viewed h (Name p y path u) n' else value h (Name p y path u) n') last)
+          → SameTo h.typing (followed_by (if b then viewed h e (at before) else value h e (at before)) last) (followed_by (if b then viewed h e n' else value h e n') last)
       by_kind true e = cc
-      by_kind false e =
-          simply h.typing (value h (Name p y path u) (at before)) (value h (Name p y path u) n') last last copied
-          (λ ws n n'' now. by_test ws n n'' now (fits_type h.typing.table (type_of h x) ws))
-  copied_same before on x e plain named never takes compares allowed n' same = absurd never
+      by_kind false is =
+          simply h.typing (value h e (at before)) (value h e n') last last copied (λ ws n n'' now. by_test ws n n'' now (fits_type h.typing.table (type_of h x) ws))
 
   -- what a formal is shown that owns nothing
   shown_same : (before on : List (List machine.Word)) (access : Bool) (x : ℕ) (e : TypedTree) → IsAccess h.typing x → IsSeen h.typing x e → Takes (waiting e) before on → Compares h.typing e
@@ -304,7 +291,7 @@ module _ (h : Here) (settled : IsSettled h.typing.table) (leaks : List Leak) (ot
   unfolding Compares goes_through_none has_call waiting
   one_same mode.In false access x e is fits kind stays clears direct before on takes compares allowed spared = elim (stays.0 fits) [
     | inl (plain, stay) ↦ (value_passed_same h settled own_law asks m hands facts law before on x e stay takes tt compares allowed).0
-    | inr (named, copy) ↦ copied_same before on x e fits named copy takes compares allowed
+    | inr (many, named, copy) ↦ copied_same before on x e fits named copy takes compares allowed
   ]
   one_same mode.In true access x e is fits kind stays clears direct before on takes compares allowed spared = elim kind [
     | inl plain ↦ absurd (true_false (is_owning h.typing.table (object_at h.typing x).of) fits (plain_type h.typing own_law (object_at h.typing x).of plain))
@@ -406,7 +393,7 @@ module _ (h : Here) (settled : IsSettled h.typing.table) (leaks : List Leak) (ot
       let two = takes_both (waiting e) (waiting rest) before on takes in
       let each = allows_both facts (acts head) (acts others)
       (subst (AllowsAll facts) (acts_append head others) (subst (λ z. AllowsAll facts (acts z)) (head_values_are h.typing own_law procedure x e (map (way_to h.typing own_law procedure) formals) rest) allowed)) in
-      let still : after (acts head) facts ≡ facts = reads_keep head (head_of_reads h.typing own_law procedure x mode_of owning e refl stay.0) facts in
+      let still : after (acts head) facts ≡ facts = reads_keep head (head_of_reads h.typing own_law procedure parts_named x mode_of owning e refl stay.0) facts in
       let each_copy = allows_both known (acts copy) (acts copies_left) (subst (AllowsAll known) (acts_append copy copies_left) copies) in
       let first = one_same mode_of owning access x e refl refl kind stay.0 (λ formal. (clears.0 formal).0) copied.0 before two.0 two.1 compares.0 each.0
       (is_spared mode_of owning access x e formals rest known done refl spares each_copy.0) in

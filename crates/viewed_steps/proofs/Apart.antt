@@ -1,17 +1,13 @@
 -- What the frames around the innermost one say of package objects: places that one of them has moved or
 -- lent meet none that another one has lent, and the innermost frame disturbs none of them.
 use Rattle.std.proofs.Common.{◌≡◌, refl, sym, ap, ◌∙◌, subst, inl, inr, ℕ, ◌<◌, Bool, true, false, ◌&&◌, ◌==◌, eqb-true, List, [], ◌∷◌, length, arith}
-use Rattle.std.specs.Prelude.{map}
 use Rattle.spark_base.specs.Lists.{Has}
-use Rattle.spark_base.proofs.Lists.{Has-append_cases, Has-map_from}
 use Rattle.place_names.specs.Facts.{place}
-use Rattle.place_names.proofs.Names.{overlaps-sym}
-use Rattle.owned_ways.specs.Ways.{Way, name_of}
 use Rattle.place_names.specs.declared.fact.Fact.{Fact}
 use Rattle.place_names.specs.declared.fact.Fact.TheVariants.{Moved, Lent}
 use Rattle.place_names.specs.declared.rule.Loan.{Loan}
 use Rattle.place_names.specs.declared.rule.Loan.TheVariants.{Borrowed, Observed}
-use Rattle.place_names.specs.Names.{Name, agree_along, overlaps}
+use Rattle.place_names.specs.Names.{Name, agree_along, overlaps, object}
 use Rattle.type_definitions.specs.Types.{Table}
 use Rattle.typed_tree.specs.Programs.{TypedProgram}
 use Rattle.flow_paths.specs.declared.report.Effects.{Effects}
@@ -23,11 +19,10 @@ use Rattle.machine.specs.States.{Return, State}
 use Rattle.soundness.specs.Sound.{Stage, facts_of, Uses, IsNamedSub}
 use Rattle.soundness.proofs.Points.{sub_there, sub_at_number, sub_in_range}
 use Rattle.soundness.proofs.Used.{writes_used, reads_used, fact_added}
-use Rattle.viewed_steps.specs.Awaited.{lasting_of}
-use Rattle.viewed_steps.specs.Sound.{loan_by, withheld, ViewStage, Disturbs, IsWaiting, AreWaiting}
-use Rattle.viewed_steps.proofs.Between.{taken_unlent}
+use Rattle.viewed_steps.specs.Sound.{loan_by, withheld, ViewStage, Disturbs, IsWaiting, AreWaiting, passed_roots}
 use Rattle.viewed_steps.proofs.Inherited.{lending_uses}
 use Rattle.viewed_steps.proofs.Uses.{writes_there, borrowing_writes, moving_writes}
+use Rattle.viewed_steps.proofs.Withheld.{kept_cases, kept_loan}
 
 both_first : (a b : Bool) → a && b ≡ true → a ≡ true
 both_first true b e = refl
@@ -116,46 +111,34 @@ module _ (table : Table) (typed : TypedProgram) (effects : Effects) (are : AreEf
 
   module _ (state : State) (callee : ℕ) (backs : List Return) (g : ViewStage) (waits : IsWaiting table typed effects state callee backs g) where
     -- it is written
-    kept_written : (n : Name) → Has (withheld program effects g.stage) (Moved n) → is_package_object s n.root ≡ true → Has (written_by effects g.stage.frame.sub) n.root
-    kept_written n has shared =
-        elim (Has-append_cases (facts_of program effects g.stage) (map (λ (to : Way). Moved (name_of to)) g.stage.returns) (Moved n) has) [
-          | inl fact ↦ moved_written g.stage waits.named waits.of_sub n fact shared
-          | inr taken ↦ (
-              let from = Has-map_from (λ (to : Way). Moved (name_of to)) g.stage.returns (Moved n) taken in
-              let same : name_of from.0 ≡ n = moved_same (name_of from.0) n from.2 in
-              subst (λ (z : Name). Has (written_by effects g.stage.frame.sub) z.root) same
-              (waits.written from.0 from.1 (subst (λ (z : Name). is_package_object s z.root ≡ true) (sym same) shared)))
-        ]
+    kept_written : (n : Name) → Has (withheld program effects g) (Moved n) → is_package_object s n.root ≡ true → Has (written_by effects g.stage.frame.sub) n.root
+    kept_written n has shared = elim (kept_cases program effects g (Moved n) has) [
+      | inl fact ↦ moved_written g.stage waits.named waits.of_sub n fact.0 shared
+      | inr (y, passed, is) ↦ (
+          let root : n.root ≡ y = ap (λ (z : Name). z.root) (moved_same n (object y) is) in
+          subst (Has (written_by effects g.stage.frame.sub)) (sym root) (waits.written y passed (ap (is_package_object s) (sym root) ∙ shared)))
+    ]
 
     -- and not lent
-    kept_unlent : (n : Name) → Has (withheld program effects g.stage) (Moved n) → (l : Loan) (h : ℕ) (m : Name) → Has (facts_of program effects g.stage) (Lent l h m)
+    kept_unlent : (n : Name) → Has (withheld program effects g) (Moved n) → (l : Loan) (h : ℕ) (m : Name) → Has (withheld program effects g) (Lent l h m)
         → overlaps n m ≡ true → ⊥
     kept_unlent n has l h m lent over =
-        elim (Has-append_cases (facts_of program effects g.stage) (map (λ (to : Way). Moved (name_of to)) g.stage.returns) (Moved n) has) [
-          | inl fact ↦ waits.clear.moved l h n m fact lent over
-          | inr taken ↦ (
-              let from = Has-map_from (λ (to : Way). Moved (name_of to)) g.stage.returns (Moved n) taken in
-              let same : name_of from.0 ≡ n = moved_same (name_of from.0) n from.2 in
-              taken_unlent s g.cells state.memory g.stage.depth (facts_of program effects g.stage) (lasting_of s waits.point.scope) backs g.stage.returns waits.taken from.0 from.1 l h m lent
-              (overlaps-sym m (name_of from.0) ∙ ap (λ z. overlaps z m) same ∙ over))
+        let own = kept_loan program effects g l h m lent in
+        elim (kept_cases program effects g (Moved n) has) [
+          | inl fact ↦ waits.clear.moved l h n m fact.0 own.0 over
+          | inr (y, passed, is) ↦ own.1 (subst (Has (passed_roots g)) (ap (λ (z : Name). z.root) (sym (moved_same n (object y) is)) ∙ same_root n m over) passed)
         ]
 
   -- loans are those of the facts
-  loan_fact : (g : ViewStage) (l : Loan) (h : ℕ) (n : Name) → Has (withheld program effects g.stage) (Lent l h n) → Has (facts_of program effects g.stage) (Lent l h n)
-  loan_fact g l h n has =
-      elim (Has-append_cases (facts_of program effects g.stage) (map (λ (to : Way). Moved (name_of to)) g.stage.returns) (Lent l h n) has) [
-        | inl fact ↦ fact
-        | inr taken ↦ (
-            let from = Has-map_from (λ (to : Way). Moved (name_of to)) g.stage.returns (Lent l h n) taken in
-            let no : Moved (name_of from.0) ≡ Lent l h n = from.2 in cc)
-      ]
+  loan_fact : (g : ViewStage) (l : Loan) (h : ℕ) (n : Name) → Has (withheld program effects g) (Lent l h n) → Has (facts_of program effects g.stage) (Lent l h n)
+  loan_fact g l h n has = (kept_loan program effects g l h n has).0
 
   module _ (unused : (state : State) (callee : ℕ) (backs : List Return) (older : List ViewStage) → AreWaiting table typed effects state callee backs older → (g : ViewStage) → Has older g
-      → (name : Name) → Has (withheld (flow_program table typed) effects g.stage) (Moved name)
+      → (name : Name) → Has (withheld (flow_program table typed) effects g) (Moved name)
       → is_package_object (flow_typing (flow_program table typed)) name.root ≡ true → Uses effects callee name.root → ⊥) where
     -- none of what they keep is disturbed by the innermost one
     pub kept_there : (state : State) (callee : ℕ) (backs : List Return) (older : List ViewStage) → AreWaiting table typed effects state callee backs older → (g : ViewStage) → Has older g
-        → 0 < g.stage.depth → (f : Fact) → Has (withheld program effects g.stage) f → is_package_object s (place f).root ≡ true
+        → 0 < g.stage.depth → (f : Fact) → Has (withheld program effects g) f → is_package_object s (place f).root ≡ true
         → Disturbs effects (loan_by f) callee (place f).root → ⊥
     kept_there state callee backs older waiting g has some (Moved n) there shared disturbs = unused state callee backs older waiting g has n there shared disturbs
     kept_there state callee backs older waiting g has some (Lent l h n) there shared disturbs =
@@ -163,8 +146,8 @@ module _ (table : Table) (typed : TypedProgram) (effects : Effects) (are : AreEf
 
     -- what one has moved isn't lent by another
     pub moved_apart : (state : State) (callee : ℕ) (backs : List Return) (older : List ViewStage) → AreWaiting table typed effects state callee backs older → (g k : ViewStage) → Has older g → Has older k
-        → 0 < g.stage.depth → 0 < k.stage.depth → (n : Name) → Has (withheld program effects g.stage) (Moved n) → is_package_object s n.root ≡ true
-        → (l : Loan) (h : ℕ) (m : Name) → Has (facts_of program effects k.stage) (Lent l h m) → overlaps n m ≡ true → ⊥
+        → 0 < g.stage.depth → 0 < k.stage.depth → (n : Name) → Has (withheld program effects g) (Moved n) → is_package_object s n.root ≡ true
+        → (l : Loan) (h : ℕ) (m : Name) → Has (withheld program effects k) (Lent l h m) → overlaps n m ≡ true → ⊥
     moved_apart state callee backs [] waiting g k has rests deep some n moved shared l h m lent over = absurd has
     moved_apart state callee backs (e ∷ []) waiting g k (inl same) rests deep some n moved shared l h m lent over =
         let first = (waiting.0).3 in
@@ -172,17 +155,17 @@ module _ (table : Table) (typed : TypedProgram) (effects : Effects) (are : AreEf
         omega (arith, deep, first, depths)
     moved_apart state callee backs (e ∷ []) waiting g k (inr never) rests deep some n moved shared l h m lent over = absurd never
     moved_apart state callee backs (e ∷ (j ∷ older)) waiting g k (inl same) (inl also) deep some n moved shared l h m lent over =
-        kept_unlent state callee backs e waiting.0 n (subst (λ (z : ViewStage). Has (withheld program effects z.stage) (Moved n)) (sym same) moved) l h m
-        (subst (λ (z : ViewStage). Has (facts_of program effects z.stage) (Lent l h m)) (sym also) lent) over
+        kept_unlent state callee backs e waiting.0 n (subst (λ (z : ViewStage). Has (withheld program effects z) (Moved n)) (sym same) moved) l h m
+        (subst (λ (z : ViewStage). Has (withheld program effects z) (Lent l h m)) (sym also) lent) over
     moved_apart state callee backs (e ∷ (j ∷ older)) waiting g k (inl same) (inr rests) deep some n moved shared l h m lent over =
         let root = same_root n m over in
-        let own_fact = subst (λ (z : ViewStage). Has (withheld program effects z.stage) (Moved n)) (sym same) moved in
-        spared_there state e.stage.frame.sub e.stage.frame.returns (j ∷ older) waiting.1 k rests some l h m lent (ap (is_package_object s) (sym root) ∙ shared)
+        let own_fact = subst (λ (z : ViewStage). Has (withheld program effects z) (Moved n)) (sym same) moved in
+        spared_there state e.stage.frame.sub e.stage.frame.returns (j ∷ older) waiting.1 k rests some l h m (loan_fact k l h m lent) (ap (is_package_object s) (sym root) ∙ shared)
         (written_disturbs l e.stage.frame.sub m.root
         (subst (Has (written_by effects e.stage.frame.sub)) root (kept_written state callee backs e waiting.0 n own_fact shared)))
     moved_apart state callee backs (e ∷ (j ∷ older)) waiting g k (inr has) (inl also) deep some n moved shared l h m lent over =
         let root = same_root n m over in
-        let own_fact = subst (λ (z : ViewStage). Has (facts_of program effects z.stage) (Lent l h m)) (sym also) lent in
+        let own_fact = loan_fact e l h m (subst (λ (z : ViewStage). Has (withheld program effects z) (Lent l h m)) (sym also) lent) in
         unused state e.stage.frame.sub e.stage.frame.returns (j ∷ older) waiting.1 g has n moved shared
         (subst (Uses effects e.stage.frame.sub) (sym root)
         (lent_used e.stage (waiting.0).named (waiting.0).of_sub l h m own_fact (ap (is_package_object s) (sym root) ∙ shared)))
@@ -218,11 +201,11 @@ module _ (table : Table) (typed : TypedProgram) (effects : Effects) (are : AreEf
 
     -- what one keeps as borrowed isn't observed
     pub held_apart : (state : State) (callee : ℕ) (backs : List Return) (older : List ViewStage) → AreWaiting table typed effects state callee backs older → (g k : ViewStage) → Has older g → Has older k
-        → 0 < g.stage.depth → 0 < k.stage.depth → (f o : Fact) → Has (withheld program effects g.stage) f → Has (withheld program effects k.stage) o
+        → 0 < g.stage.depth → 0 < k.stage.depth → (f o : Fact) → Has (withheld program effects g) f → Has (withheld program effects k) o
         → loan_by f ≡ Borrowed → loan_by o ≡ Observed → is_package_object s (place f).root ≡ true → overlaps (place f) (place o) ≡ true → ⊥
     held_apart state callee backs older waiting g k has rests deep some f (Moved m) kept seen borrowed observed shared over = cc
     held_apart state callee backs older waiting g k has rests deep some (Moved n) (Lent l h m) kept seen borrowed observed shared over =
-        moved_apart state callee backs older waiting g k has rests deep some n kept shared l h m (loan_fact k l h m seen) over
+        moved_apart state callee backs older waiting g k has rests deep some n kept shared l h m seen over
     held_apart state callee backs older waiting g k has rests deep some (Lent c b n) (Lent l h m) kept seen borrowed observed shared over =
         seen_apart state callee backs older waiting g k has rests deep some b n
         (subst (λ z. Has (facts_of program effects g.stage) (Lent z b n)) borrowed (loan_fact g c b n kept)) shared h m

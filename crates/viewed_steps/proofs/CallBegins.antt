@@ -7,14 +7,13 @@ use Rattle.viewed_steps.proofs.Followed as followed
 use Rattle.viewed_steps.proofs.Traversed.{none_given, empty_given, named_given}
 use Rattle.typed_tree.specs.declared.object.ObjectKind.{ObjectKind}
 use Rattle.typed_tree.specs.declared.object.ObjectKind.TheVariants as object_kind
-use Rattle.spark_base.proofs.Lists.{Has-map_from, Has-append_left}
-use Rattle.std.proofs.Common.{◌≡◌, refl, sym, ap, ◌∙◌, subst, ◌⊎◌, inl, inr, ℕ, suc, ◌<◌, true, false, List, [], ◌∷◌, ◌++◌, map, take, drop, length, get_or, arith, Option, Some, None, Bool, ◌||◌, flat_map}
+use Rattle.spark_base.proofs.Lists.{Has-append_left}
+use Rattle.std.proofs.Common.{◌≡◌, refl, sym, ap, ◌∙◌, subst, ◌⊎◌, inl, inr, ℕ, suc, ◌<◌, true, false, List, [], ◌∷◌, ◌++◌, take, drop, length, get_or, arith, Option, Some, None, Bool, ◌||◌, flat_map}
 use Rattle.spark_base.specs.Lists.{Has}
-use Rattle.spark_base.proofs.Lists.{Has-append_cases, Has-map_from}
 use Rattle.place_names.specs.declared.fact.Fact.{Fact}
 use Rattle.place_names.specs.declared.fact.Fact.TheVariants.{Moved, Lent}
 use Rattle.place_names.specs.declared.rule.Loan.{Loan}
-use Rattle.place_names.specs.Names.{Name as PlaceName}
+use Rattle.place_names.specs.Names.{Name as PlaceName, object}
 use Rattle.place_names.specs.declared.act.Mode.TheVariants as mode
 use Rattle.type_definitions.specs.Types.{Table}
 use Rattle.typed_tree.specs.Trees.{TypedTree}
@@ -61,7 +60,7 @@ use Rattle.viewed_soundness.specs.Holds.{Holds, is_view, sees_only, IsOwners, is
 use Rattle.viewed_soundness.proofs.Given.{IsLow, foreign_there, low_there}
 use Rattle.viewed_steps.specs.Awaited.{temporaries_of, lasting_of, awaited, WaitsAt, AreAwaited, AreScalar, TakesScalars}
 use Rattle.viewed_steps.proofs.Waited.{within_lasting, Shares, plain_unheld}
-use Rattle.viewed_steps.specs.Sound.{IsCopiedBack, ArePast, AreUnmet, HoldsAt, ArePlaced, NoneAbove, ViewStage, stages_of, GoneElsewhere, Disturbs, IsWaiting, AreWaiting, calls_one, LeadsAlong, IsResting, IsKindOfFormal, AreReturned, withheld, KeptBy, IsWayOf, IsBareOf, HasTraversals, NoneGiven, IsTraversal}
+use Rattle.viewed_steps.specs.Sound.{IsCopiedBack, ArePast, AreUnmet, HoldsAt, ArePlaced, NoneAbove, ViewStage, stages_of, GoneElsewhere, Disturbs, IsWaiting, AreWaiting, calls_one, LeadsAlong, IsResting, IsKindOfFormal, AreReturned, withheld, KeptBy, IsWayOf, IsBareOf, HasTraversals, NoneGiven, IsTraversal, passed_roots}
 use Rattle.viewed_steps.specs.Ready.{IsReady, IsCalled}
 use Rattle.viewed_steps.specs.Taken.{TakenBy, AreTaken, AreCarried, Lodge}
 use Rattle.viewed_steps.proofs.Apart.{moved_same}
@@ -87,6 +86,7 @@ use Rattle.viewed_steps.proofs.Exclusive.{AreLent, IsFrom, from_past, from_far, 
 use Rattle.viewed_steps.proofs.Opening.{opened_first, opened_rooted, Opens, all_opened, low_of, opened_from, opened_views, opened_whole, opened_lies, opened_held, opened_placed}
 use Rattle.viewed_steps.proofs.Calling as calling
 use Rattle.viewed_steps.proofs.Bared.{taken_bare}
+use Rattle.viewed_steps.proofs.Withheld.{kept_cases}
 
 module _ (table : Table) (typed : TypedProgram) (effects : Effects) (input : List ℕ) (ready : IsReady table typed effects) where
   abbrev program : FlowProgram
@@ -329,12 +329,6 @@ module _ (table : Table) (typed : TypedProgram) (effects : Effects) (input : Lis
         abbrev cell_aside : (c : Lodge) → Has cells c → (to : Way) → Has ways_taken to → ways.Past to c.way → ⊥
         cell_aside = calling.cell_aside table typed effects input ready state top below more_frames rest named p frames deep stages running awaiting of_sub at_point path views viewed_before kept scope holds placed_before above n actuals result e passed given
 
-        abbrev written_to : (to : Way) → Has ways_taken to → is_package_object s (ways.number_of to) ≡ true → Has (written_by effects top.frame.sub) (ways.number_of to)
-        written_to = calling.written_to table typed effects input ready state top below more_frames rest named p frames deep stages running awaiting of_sub at_point path views viewed_before kept scope holds placed_before above n actuals result e passed given
-
-        abbrev unused_to : (to : Way) → Has ways_taken to → is_package_object s (ways.number_of to) ≡ true → Uses effects n (ways.number_of to) → ⊥
-        unused_to = calling.unused_to table typed effects input ready state top below more_frames rest named p frames deep stages running awaiting of_sub at_point path views viewed_before kept scope holds placed_before above n actuals result e passed given
-
         abbrev spared_to : (to : Way) (has : Has ways_taken to) → IsSpared table typed effects unmoved_stage local state depth older between (homed to has).1
         spared_to = calling.spared_to table typed effects input ready state top below more_frames rest named p frames deep stages running awaiting of_sub at_point path views viewed_before kept scope holds placed_before above n actuals result e passed given
 
@@ -380,7 +374,13 @@ module _ (table : Table) (typed : TypedProgram) (effects : Effects) (input : Lis
         waits_stage = waits_with all_passed_ways.0
 
         abbrev waits_there : ViewStage
-        waits_there = record { stage = waits_with all_passed_ways.0; views = views; cells = cells }
+        waits_there = calling.waits_there table typed effects input ready state top below more_frames rest named p frames deep stages running awaiting of_sub at_point path views viewed_before kept scope holds placed_before above n actuals result e passed given
+
+        abbrev root_written : (y : ℕ) → Has (passed_roots waits_there) y → is_package_object s y ≡ true → Has (written_by effects top.frame.sub) y
+        root_written = calling.root_written table typed effects input ready state top below more_frames rest named p frames deep stages running awaiting of_sub at_point path views viewed_before kept scope holds placed_before above n actuals result e passed given
+
+        abbrev root_unused : (y : ℕ) → Has (passed_roots waits_there) y → is_package_object s y ≡ true → Uses effects n y → ⊥
+        root_unused = calling.root_unused table typed effects input ready state top below more_frames rest named p frames deep stages running awaiting of_sub at_point path views viewed_before kept scope holds placed_before above n actuals result e passed given
 
         frames_there : after_call.frames ≡ frame_at_start n (returns_of formals passed) ∷ (waits_stage.frame ∷ outer)
         frames_there =
@@ -417,16 +417,13 @@ module _ (table : Table) (typed : TypedProgram) (effects : Effects) (input : Lis
         ]
 
         -- what is moved or taken of package objects isn't used
-        kept_unused : (name : PlaceName) → Has (withheld program effects (waits_with all_passed_ways.0)) (Moved name) → is_package_object s name.root ≡ true
-            → Uses effects n name.root → ⊥
-        kept_unused name has shared uses =
-            elim (Has-append_cases (facts_of program effects (waits_with all_passed_ways.0)) (map (λ (to : Way). Moved (ways.name_of to)) ways_taken) (Moved name) has) [
-              | inl fact ↦ spared_then name (subst (λ z. Has z (Moved name)) facts_there fact) shared uses
-              | inr taken ↦ (
-                  let from = Has-map_from (λ (to : Way). Moved (ways.name_of to)) ways_taken (Moved name) taken in
-                  let same : ways.name_of from.0 ≡ name = moved_same (ways.name_of from.0) name from.2 in
-                  unused_to from.0 from.1 (ap (λ (z : PlaceName). is_package_object s z.root) same ∙ shared) (subst (λ (z : PlaceName). Uses effects n z.root) (sym same) uses))
-            ]
+        kept_unused : (name : PlaceName) → Has (withheld program effects waits_there) (Moved name) → is_package_object s name.root ≡ true → Uses effects n name.root → ⊥
+        kept_unused name has shared uses = elim (kept_cases program effects waits_there (Moved name) has) [
+          | inl fact ↦ spared_then name (subst (λ z. Has z (Moved name)) facts_there fact.0) shared uses
+          | inr (y, passed, is) ↦ (
+              let root : name.root ≡ y = ap (λ (z : PlaceName). z.root) (moved_same name (object y) is) in
+              root_unused y passed (ap (is_package_object s) (sym root) ∙ shared) (subst (Uses effects n) root uses))
+        ]
 
         taken_then : AreTaken s cells with_all depth facts_called next_there (returns_of formals passed) ways_taken
         taken_then = enters.2
@@ -462,7 +459,7 @@ module _ (table : Table) (typed : TypedProgram) (effects : Effects) (input : Lis
           ];
           lends = lends_there;
           unmoved = λ name has shared uses. kept_unused name has shared uses;
-          written = λ to has shared. written_to to has shared;
+          written = root_written;
           uses = λ x uses. called_used program effects ready.accepted.effects_are top.frame.sub (flow_sub own named) sub_at_all sub_less n callee_less
               main_turn.point (standing.in_sub table typed effects input ready state top older outer named p frames of_sub at_point) actuals result e x uses;
           writes = λ x written. called_writes program effects ready.accepted.effects_are top.frame.sub (flow_sub own named) sub_at_all sub_less n callee_less
@@ -483,7 +480,6 @@ module _ (table : Table) (typed : TypedProgram) (effects : Effects) (input : Lis
               (subst (λ z. ArePlaced program depth z views (at_successor.0).scope) (sym facts_there) next_placed);
           kept = λ c has. record {
             named = subst (λ d. ways.Named (home s d) c.name) (sym deep) (cell_plain c has).0;
-            own = ap (is_package_object s) (cell_root c has) ∙ (named_cell c has).own;
             leads = (named_cell c has).leads;
             reaches = subst (λ z. ways.Reaches z c.way (ways.OfCell c.cell)) view_called
                 (let begin = cell_begins c has in

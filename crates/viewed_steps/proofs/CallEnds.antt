@@ -71,6 +71,7 @@ use Rattle.viewed_steps.proofs.Backed.{AwayBy, ViewedAway, IsBack, all_given_bac
 use Rattle.viewed_steps.proofs.Whole.{leaves_whole}
 use Rattle.viewed_steps.proofs.Views.{AreAccess, AreFar, lies_far, apart_by_base}
 use Rattle.soundness.proofs.Lasting.{keeps}
+use Rattle.viewed_steps.proofs.Withheld.{taken_passed}
 
 smaller : (f b low : ℕ) → f < suc b → (f ≡ low → ⊥) → low ≡ b → f < low
 smaller f b low less ne is =
@@ -549,7 +550,7 @@ module _ (table : Table) (typed : TypedProgram) (effects : Effects) (input : Lis
             begin.2 ∙ ap (λ f. OfRoot (OfVariable f begin.1)) begin.3 in
             let number : number_of to ≡ begin.1 = number_based (home s below.stage.depth) to begin.1 (base_named (home s below.stage.depth) to begin.1 at) at in
             let (g, there, some, f, keeps, shared, kind, name_is) = lent in
-            let written = waits.written to has (ap (is_package_object s) (number ∙ sym root) ∙ shared) in
+            let written = waits.written (number_of to) (taken_passed below to has) (ap (is_package_object s) (number ∙ sym root) ∙ shared) in
             kept_there table typed effects ready.accepted.effects_are (unused_there table typed effects unmoved_stage local) state below.stage.frame.sub below.stage.frame.returns
             (h ∷ others) waiting.1 g there some f keeps (ap (λ (z : PlaceName). is_package_object s z.root) name_is ∙ shared)
             (written_disturbs table typed effects ready.accepted.effects_are (loan_by f) below.stage.frame.sub (place f).root

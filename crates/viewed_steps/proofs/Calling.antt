@@ -67,7 +67,7 @@ use Rattle.viewed_soundness.specs.Holds.{Holds, is_view, sees_only, is_given, Is
 use Rattle.soundness.specs.Ready.{IsSupplied, Fills}
 use Rattle.viewed_steps.specs.Awaited.{AreValuesBut, temporaries_of, lasting_of, awaited, WaitsAt, AreAwaited, AreScalar, FillsTyped, TakesScalars}
 use Rattle.viewed_steps.proofs.Waited.{late_scope, within_lasting, lasting_more, Shares}
-use Rattle.viewed_steps.specs.Sound.{IsCopiedBack, ArePast, HoldsAt, ArePlaced, NoneAbove, ViewStage, stages_of, GoneElsewhere, Disturbs, AreWaiting, IsResting, IsKindOfFormal, IsScalarObject, HasTraversals}
+use Rattle.viewed_steps.specs.Sound.{IsCopiedBack, ArePast, HoldsAt, ArePlaced, NoneAbove, ViewStage, stages_of, GoneElsewhere, Disturbs, AreWaiting, IsResting, IsKindOfFormal, IsScalarObject, HasTraversals, passed_roots}
 use Rattle.viewed_steps.specs.Ready.{IsReady, roots_passed, IsCalled, IsTraversalCall}
 use Rattle.viewed_steps.proofs.Followed.{IsTraversing}
 use Rattle.viewed_steps.specs.Taken.{Lodge, IsPassedOn}
@@ -101,6 +101,7 @@ use Rattle.viewed_steps.proofs.Exclusive.{AreLent}
 use Rattle.owned_ways.proofs.Unique.{one_way}
 use Rattle.viewed_steps.proofs.Bared.{not_before}
 use Rattle.viewed_steps.proofs.CallActs as acting
+use Rattle.viewed_steps.proofs.Withheld.{passed_from}
 
 module _ (table : Table) (typed : TypedProgram) (effects : Effects) (input : List ℕ) (ready : IsReady table typed effects) where
   abbrev program : FlowProgram
@@ -636,23 +637,58 @@ module _ (table : Table) (typed : TypedProgram) (effects : Effects) (input : Lis
             (subst (λ z. Has z act.0) (standing.acts_agree table typed effects input ready state top older outer named p frames of_sub at_point)
             (acting.back_there table typed effects input ready state top below more_frames rest named p frames deep stages running awaiting of_sub at_point path views viewed_before kept scope holds placed_before above n actuals result e b.formal (named_has formals actuals b has) back act.0 act.1)) act.2
 
-        pub written_to : (to : Way) → Has ways_taken to → is_package_object s (ways.number_of to) ≡ true → Has (written_by effects top.frame.sub) (ways.number_of to)
+        abbrev pub waits_there : ViewStage
+        waits_there = record { stage = waits_with all_passed_ways.0; views = views; cells = cells }
+
+        written_to : (to : Way) → Has ways_taken to → is_package_object s (ways.number_of to) ≡ true → Has (written_by effects top.frame.sub) (ways.number_of to)
         written_to to has shared =
             let by = all_passed_ways.2 to has in
             subst (λ (z : PlaceName). Has (written_by effects top.frame.sub) z.root) by.3
             (act_of_passed by.0 by.1 by.2 (ap (λ (z : PlaceName). is_package_object s z.root) by.3 ∙ shared))
 
+        cell_named_root : (c : Lodge) (has : Has cells c) → (named_cell c has).by.actual.name.root ≡ ways.number_of c.name
+        cell_named_root c has = ap (λ (z : PlaceName). z.root) (named_cell c has).called ∙ sym (cell_root c has)
+
+        written_cell : (c : Lodge) → Has cells c → is_package_object s (ways.number_of c.name) ≡ true → Has (written_by effects top.frame.sub) (ways.number_of c.name)
+        written_cell c has shared =
+            let cell = named_cell c has in
+            subst (Has (written_by effects top.frame.sub)) (cell_named_root c has)
+            (act_of_passed cell.by cell.among cell.back (ap (is_package_object s) (cell_named_root c has) ∙ shared))
+
         -- and the callee doesn't use it
-        pub unused_to : (to : Way) → Has ways_taken to → is_package_object s (ways.number_of to) ≡ true → Uses effects n (ways.number_of to) → ⊥
-        unused_to to has shared uses =
-            let by = all_passed_ways.2 to has in
+        unused_passed : (b : alias.Passed) → Has (alias.passed formals actuals) b → IsCopiedBack s b.formal → is_package_object s b.actual.name.root ≡ true
+            → Uses effects n b.actual.name.root → ⊥
+        unused_passed b has back shared uses =
             passed_unused program effects ready.accepted.no_reports (flow_sub own named)
             (standing.in_program table typed effects input ready state top older outer named p frames of_sub at_point) main_turn.point
             (standing.in_sub table typed effects input ready state top older outer named p frames of_sub at_point) n actuals result e called.answers
-            (λ of answers x has. ready.class.modes n of answers x has) by.0 by.1 by.2 (ap (λ (z : PlaceName). is_package_object s z.root) by.3 ∙ shared)
+            (λ of answers x has. ready.class.modes n of answers x has) b has back shared uses
+
+        unused_cell : (c : Lodge) → Has cells c → is_package_object s (ways.number_of c.name) ≡ true → Uses effects n (ways.number_of c.name) → ⊥
+        unused_cell c has shared uses =
+            let cell = named_cell c has in
+            unused_passed cell.by cell.among cell.back (ap (is_package_object s) (cell_named_root c has) ∙ shared) (subst (Uses effects n) (sym (cell_named_root c has)) uses)
+
+        unused_to : (to : Way) → Has ways_taken to → is_package_object s (ways.number_of to) ≡ true → Uses effects n (ways.number_of to) → ⊥
+        unused_to to has shared uses =
+            let by = all_passed_ways.2 to has in
+            unused_passed by.0 by.1 by.2 (ap (λ (z : PlaceName). is_package_object s z.root) by.3 ∙ shared)
             (subst (λ (z : PlaceName). Uses effects n z.root) (sym by.3) uses)
 
-        -- so the frames around keep nothing of it
+        -- so it is with each object of which a part is passed
+        pub root_written : (y : ℕ) → Has (passed_roots waits_there) y → is_package_object s y ≡ true → Has (written_by effects top.frame.sub) y
+        root_written y passed shared = elim (passed_from waits_there y passed) [
+          | inl (to, has, is) ↦ subst (Has (written_by effects top.frame.sub)) is (written_to to has (ap (is_package_object s) is ∙ shared))
+          | inr (c, has, is) ↦ subst (Has (written_by effects top.frame.sub)) is (written_cell c has (ap (is_package_object s) is ∙ shared))
+        ]
+
+        pub root_unused : (y : ℕ) → Has (passed_roots waits_there) y → is_package_object s y ≡ true → Uses effects n y → ⊥
+        root_unused y passed shared uses = elim (passed_from waits_there y passed) [
+          | inl (to, has, is) ↦ unused_to to has (ap (is_package_object s) is ∙ shared) (subst (Uses effects n) (sym is) uses)
+          | inr (c, has, is) ↦ unused_cell c has (ap (is_package_object s) is ∙ shared) (subst (Uses effects n) (sym is) uses)
+        ]
+
+        -- the frames around keep nothing of it
         pub spared_to : (to : Way) (has : Has ways_taken to) → IsSpared table typed effects unmoved_stage local state depth older between (homed to has).1
         spared_to to has l name lent root =
             let begin = homed to has in

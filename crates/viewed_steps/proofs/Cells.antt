@@ -19,7 +19,7 @@ use Rattle.place_names.specs.Reports.{Report}
 use Rattle.place_names.proofs.Names.{both_parts, both_true}
 use Rattle.type_definitions.specs.Types.{full, is_scalar, is_owning}
 use Rattle.typed_tree.specs.Trees.{TypedTree, Name, More}
-use Rattle.flow_paths.specs.Objects.{Typing, object_at, is_package_object, is_named_access, view_of, Passing, passing, passing_by}
+use Rattle.flow_paths.specs.Objects.{Typing, object_at, is_named_access, view_of, Passing, passing, passing_by}
 use Rattle.flow_paths.specs.Names.{Written, written, name_of}
 use Rattle.flow_paths.specs.Acts.{naming, actual_act, actual_acts}
 use Rattle.flow_paths.specs.Aliases as alias
@@ -125,12 +125,12 @@ passed_formal (x ∷ formals) actuals b has = absurd has
 
 -- ---- before the acts of the call
 
--- Those that are copied back to go through no access value; or they are rooted in objects that belong to no
--- package and aren't observers, and are for formals of scalar types, or for other ones and rooted in owners.
+-- Those that are copied back to go through no access value; or they are rooted in objects that aren't observers,
+-- and are for formals of scalar types, or for other ones and rooted in owners.
 abbrev pub AreKept : Typing → List ℕ → TypedTree → Type 0
 AreKept s (x ∷ formals) (More e rest) =
     (is_in (object_at s x).mode ≡ false → (goes_through_none e ≡ true)
-    ⊎ (IsReachedBack s x e × ((y : ℕ) → Has (root_of e) y → (is_package_object s y ≡ false) × (sees_only s y ≡ false)))) × AreKept s formals rest
+    ⊎ (IsReachedBack s x e × ((y : ℕ) → Has (root_of e) y → sees_only s y ≡ false))) × AreKept s formals rest
 AreKept s formals actuals = Unit {0}
 
 pub are_kept : (s : Typing) (formals : List ℕ) (actuals : TypedTree) → AreKeptPlaces s formals actuals
@@ -139,7 +139,7 @@ are_kept s [] actuals places unobserved = tt
 are_kept s (x ∷ formals) (More e rest) places unobserved = (
   λ other. elim (places.0 other) [
     | inl direct ↦ inl direct
-    | inr (scalar, own) ↦ inr (scalar, λ y has. (own y has, unobserved.0 other y has))
+    | inr reached ↦ inr (reached, λ y has. unobserved.0 other y has)
   ],
   are_kept s formals rest places.1 unobserved.1,
 )
@@ -192,18 +192,16 @@ module _ (s : Typing) (own_law : OwnsByShape s.table) (depth : ℕ) (facts : Lis
   ways_of formals = map (passing s procedure) formals
 
   one_open : (x : ℕ) (m : Mode) (e : TypedTree) (known : List Fact) (outs : List PlaceName) → (object_at s x).mode ≡ m → (m ≡ mode.In → ⊥)
-      → ((y : ℕ) → Has (root_of e) y → (is_package_object s y ≡ false) × (sees_only s y ≡ false))
+      → ((y : ℕ) → Has (root_of e) y → sees_only s y ≡ false)
       → AllowsAll known (acts (actual_act (passing s procedure x) e)) → ((f : Fact) → Has facts f → IsLess outs known f)
       → ((w : Written) → written e ≡ Some w → (k : PlaceName) → Has outs k → overlaps k w.name ≡ true → ⊥) → IsOpenActual s depth facts e
   one_open x m (Name p y path u) known outs is other roots allowed less apart =
-      let root = roots y (inl refl) in
       let owning : Bool = is_owning s.table (object_at s x).of in
       let access : Bool = procedure && is_named_access (view_of s x) in
       let here : Allows known (act.Actual (name_of y path) m owning access) =
       by_mode m other (subst (λ z. AllowsAll known (acts (actual_act (passing_by z owning access) (Name p y path u)))) is allowed) in
       inr (
-        root.0,
-        root.1,
+        roots y (inl refl),
         λ q named called.
             open_before facts known outs q less
             (λ k has over. apart (record { pos = p; name = name_of y path; of = u }) refl k has (subst (λ z. overlaps k z ≡ true) called over))
@@ -312,7 +310,6 @@ pub record IsCellNamed (s : Typing) (depth : ℕ) (facts : List Fact) (v : Views
   pub whole : Way
   pub named : Named (home s depth) whole
   pub plain : sees_only s (number_of whole) ≡ false
-  pub own : is_package_object s (number_of whole) ≡ false
   pub begins : Under c.name whole
   pub deep : (r : ways.Root) → c.name ≡ ways.Object r → ⊥
   pub leads : expand v c.name ≡ c.way
@@ -342,7 +339,6 @@ module _ (s : Typing) (settled : IsSettled s.table) (own_law : OwnsByShape s.tab
     whole = there.whole;
     named = there.named;
     plain = there.plain;
-    own = there.own;
     begins = there.begins;
     deep = there.deep;
     leads = there.leads;
@@ -390,7 +386,6 @@ module _ (s : Typing) (settled : IsSettled s.table) (own_law : OwnsByShape s.tab
     whole = h.to;
     named = inside_named s settled depth k h.to h.inside;
     plain = ap (sees_only s) (ap (λ (z : PlaceName). z.root) h.called) ∙ h.plain;
-    own = ap (is_package_object s) (ap (λ (z : PlaceName). z.root) h.called) ∙ h.own;
     begins = subst (Under (h.inside).trunk) (sym (h.inside).way) (under_along (h.inside).trunk (h.inside).trunk (h.inside).steps (under_itself (h.inside).trunk));
     deep = h.deep;
     leads = h.leads;
@@ -411,7 +406,6 @@ module _ (s : Typing) (settled : IsSettled s.table) (own_law : OwnsByShape s.tab
         whole = there.whole;
         named = there.named;
         plain = ap (sees_only s) (ap (λ (z : PlaceName). z.root) there.called) ∙ there.plain;
-        own = ap (is_package_object s) (ap (λ (z : PlaceName). z.root) there.called) ∙ there.own;
         begins = there.begins;
         deep = there.deep;
         leads = there.leads;

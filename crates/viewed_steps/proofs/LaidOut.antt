@@ -5,7 +5,7 @@ use Rattle.place_names.specs.declared.act.Mode.TheVariants as mode
 use Rattle.place_names.specs.declared.fact.Fact.{Fact}
 use Rattle.type_definitions.specs.Types.{full, is_scalar}
 use Rattle.typed_tree.specs.Trees.{TypedTree, Name, More}
-use Rattle.flow_paths.specs.Objects.{Typing, object_at, is_package_object}
+use Rattle.flow_paths.specs.Objects.{Typing, object_at}
 use Rattle.flow_paths.specs.Names.{name_of}
 use Rattle.machine.specs.Words as machine
 use Rattle.machine.specs.Memory.{Memory, Place}
@@ -34,8 +34,8 @@ IsOwnPut s depth x (Name p y path u) k =
     × IsVariableAt inside.frame inside.object k inside.trunk inside.start
 IsOwnPut s depth x e k = ⊥
 
--- A place in a cell: a name of the cell begins that of the actual, which is rooted in an object that belongs
--- to no package and isn't an observer.
+-- A place in a cell: a name of the cell begins that of the actual, which is rooted in an object that isn't an
+-- observer.
 pub record IsInCell (s : Typing) (depth : ℕ) (v : Views) (view : ways.View) (y : ℕ) (path : TypedTree) (k : Place) (c : Lodge) : Type 0 where
   pub lodged : IsLodged s k c
   pub whole : Way
@@ -43,7 +43,6 @@ pub record IsInCell (s : Typing) (depth : ℕ) (v : Views) (view : ways.View) (y
   pub called : ways.name_of whole ≡ name_of y path
   pub begins : ways.Under c.name whole
   pub deep : (r : ways.Root) → c.name ≡ ways.Object r → ⊥
-  pub own : is_package_object s y ≡ false
   pub plain : sees_only s y ≡ false
   pub leads : expand v c.name ≡ c.way
   pub reaches : Reaches view c.way (ways.OfCell c.cell)
@@ -63,7 +62,6 @@ pub record IsHoused (s : Typing) (depth : ℕ) (v : Views) (view : ways.View) (x
   pub fits : Matches s.table k.of (object_at s x).of
   pub cell : ℕ
   pub start : inside.start ≡ ways.OfCell cell
-  pub own : is_package_object s y ≡ false
   pub plain : sees_only s y ≡ false
   pub deep : (r : ways.Root) → inside.trunk ≡ ways.Object r → ⊥
   pub leads : expand v inside.trunk ≡ inside.trunk
@@ -161,12 +159,12 @@ cells_of s m depth v view formals actuals passed laid = []
 
 -- ---- what is asked of an actual that is copied back to
 
--- It goes through no access value; or it is rooted in an object that belongs to no package and isn't an
--- observer, and nothing that was moved or is borrowed leads to it.
+-- It goes through no access value; or it is rooted in an object that isn't an observer, and nothing that was moved
+-- or is borrowed leads to it.
 abbrev pub IsOpenActual : Typing → ℕ → List Fact → TypedTree → Type 0
 IsOpenActual s depth facts (Name p y path u) =
     (goes_through_none path ≡ true)
-    ⊎ ((is_package_object s y ≡ false) × (sees_only s y ≡ false)
+    ⊎ ((sees_only s y ≡ false)
     × ((q : Way) → Named (home s depth) q → ways.name_of q ≡ name_of y path → Open facts q))
 IsOpenActual s depth facts e = Unit {0}
 

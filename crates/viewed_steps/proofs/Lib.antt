@@ -17,6 +17,7 @@ pub mod Inherited
 pub mod Uses
 pub mod Rooted
 pub mod Roots
+pub mod Withheld
 pub mod Waiting
 pub mod Onward
 pub mod Apart
@@ -44,6 +45,7 @@ pub mod Seeing
 pub mod Clear
 pub mod First
 pub mod Reading
+pub mod Copies
 pub mod Puts
 pub mod Called
 pub mod Acted

@@ -73,7 +73,6 @@ module _ (table : Table) (typed : TypedProgram) (effects : Effects)
       bare = λ w l p taken q k held. bare w l p taken q k (bare_word s next g w l p (q ++ p) taken ∙ held);
       kept = λ c has. (let kept = waits.kept c has in record {
         named = kept.named;
-        own = kept.own;
         leads = kept.leads;
         reaches = reach c.way c.cell (inr (c, has, refl, refl));
         aside = kept.aside;

@@ -539,7 +539,6 @@ module _ (table : Table) (typed : TypedProgram) (effects : Effects) (input : Lis
               placed = was.placed;
               kept = λ c has. record {
                 named = (was.kept c has).named;
-                own = (was.kept c has).own;
                 leads = (was.kept c has).leads;
                 reaches = (was.kept c has).reaches;
                 aside = (was.kept c has).aside;

@@ -2,14 +2,14 @@
 -- of others, and they wait still after its steps.
 use Rattle.viewed_soundness.specs.Holds.{is_view, sees_only}
 use Rattle.std.proofs.Common.{◌≡◌, refl, sym, ap, ◌∙◌, subst, ◌⊎◌, inl, inr, ℕ, ◌<◌, ◌≤◌, Bool, true, false, ◌&&◌, ◌==◌, eqb-true, nat_lt, ltb-true, lt-ltb, List, [], ◌∷◌, ◌++◌, length, arith, Option, Some, None, if◌then◌else◌, append-nil}
-use Rattle.std.specs.Prelude.{flat_map, map}
+use Rattle.std.specs.Prelude.{flat_map}
 use Rattle.spark_base.specs.Lists.{Has}
-use Rattle.spark_base.proofs.Lists.{Has-append_left, Has-append_right, Has-append_cases, Has-map, Has-map_from}
+use Rattle.spark_base.proofs.Lists.{Has-append_left, Has-append_right, Has-append_cases}
 use Rattle.place_names.specs.declared.fact.Fact.{Fact}
 use Rattle.place_names.specs.declared.fact.Fact.TheVariants.{Moved, Lent}
 use Rattle.place_names.specs.declared.rule.Loan.{Loan}
 use Rattle.place_names.specs.declared.rule.Loan.TheVariants.{Borrowed, Observed}
-use Rattle.place_names.specs.Names.{Name, overlaps}
+use Rattle.place_names.specs.Names.{Name, object, overlaps}
 use Rattle.place_names.specs.Facts.{place}
 use Rattle.type_definitions.specs.Types.{Table}
 use Rattle.typed_tree.specs.Programs.{TypedProgram}
@@ -36,7 +36,8 @@ use Rattle.viewed_steps.proofs.Between.{base_along as along_base, number_based, 
 use Rattle.viewed_steps.proofs.Roots.{borrower_goes, view_goes}
 use Rattle.viewed_steps.specs.Awaited.{lasting_of}
 use Rattle.viewed_steps.proofs.Whole.{flat_has}
-use Rattle.viewed_steps.specs.Sound.{loan_by, withheld, KeptBy, ArePast, ViewStage, stages_of, Lies, GoneElsewhere, IsWaiting, IsFirst, AreWaiting, IsWayOf, IsBareOf}
+use Rattle.viewed_steps.proofs.Withheld.{kept_cases, kept_root, kept_fact, taken_passed, cell_passed, passed_from}
+use Rattle.viewed_steps.specs.Sound.{loan_by, passed_roots, withheld, KeptBy, ArePast, ViewStage, stages_of, Lies, GoneElsewhere, IsWaiting, IsFirst, AreWaiting, IsWayOf, IsBareOf}
 use Rattle.viewed_steps.proofs.Views.{base_named, same_lies}
 use Rattle.machine.specs.Owners.{waiting_in}
 
@@ -98,6 +99,16 @@ pub along_both : (w : Way) (q p : List Step) → along w (q ++ p) ≡ along (alo
 along_both w [] p = refl
 along_both w (i ∷ q) p = ap (λ z. Into z i) (along_both w q p)
 
+-- a way goes on from the object that it begins at
+root_under : (f y : ℕ) (w : Way) → base_of w ≡ OfRoot (OfVariable f y) → Under (Object (OfVariable f y)) w
+root_under f y (Object r) base = sym (one_root r base)
+  where
+    one_root : (r : Root) → OfRoot r ≡ OfRoot (OfVariable f y) → Object r ≡ Object (OfVariable f y)
+    one_root r e = cc
+root_under f y (Lost n) base = cc
+root_under f y (Into w i) base = inr (root_under f y w base)
+root_under f y (All w) base = inr (root_under f y w base)
+
 -- ---- frames that wait
 
 pub some_frames : (k : ViewStage) (older : List ViewStage) (outer : List Frame) → AreStages (stages_of (k ∷ older)) outer → 0 < length outer
@@ -136,22 +147,24 @@ module _ (table : Table) (typed : TypedProgram) (effects : Effects)
       all_between state h.stage.frame.sub depth h.stage.frame.returns (k ∷ older) outer stages.2 (omega (arith, less)) waiting.1 g has
 
   -- the frame of the package objects has moved nothing
-  first_none : (e : ViewStage) → IsFirst e → (f : Fact) → Has (withheld program effects e.stage) f → (name : Name) → f ≡ Moved name → ⊥
-  first_none e first f has name is =
-      elim (Has-append_cases (facts_of program effects e.stage) (map (λ (to : Way). Moved (name_of to)) e.stage.returns) f has) [
-        | inl fact ↦ unmoved e.stage first.0 name (subst (Has (facts_of program effects e.stage)) is fact)
-        | inr taken ↦ (Has-map_from (λ (to : Way). Moved (name_of to)) [] f (subst (λ z. Has (map (λ (to : Way). Moved (name_of to)) z) f) (first.1).2 taken)).1
-      ]
+  first_none : (e : ViewStage) → IsFirst e → (f : Fact) → Has (withheld program effects e) f → (name : Name) → f ≡ Moved name → ⊥
+  first_none e first f has name is = elim (kept_cases program effects e f has) [
+    | inl fact ↦ unmoved e.stage first.0 name (subst (Has (facts_of program effects e.stage)) is fact.0)
+    | inr (y, passed, root) ↦ elim (passed_from e y passed) [
+      | inl (to, taken, same) ↦ subst (λ z. Has z to) (first.1).2 taken
+      | inr (c, there, same) ↦ subst (λ z. Has z c) first.4 there
+    ]
+  ]
 
   -- no package object that is moved in a frame around is used by the innermost one
   pub unused_there : (state : State) (callee : ℕ) (backs : List Return) (older : List ViewStage) → AreWaiting table typed effects state callee backs older → (g : ViewStage) → Has older g
-      → (name : Name) → Has (withheld program effects g.stage) (Moved name) → is_package_object s name.root ≡ true → Uses effects callee name.root → ⊥
+      → (name : Name) → Has (withheld program effects g) (Moved name) → is_package_object s name.root ≡ true → Uses effects callee name.root → ⊥
   unused_there state callee backs [] waiting g has name moved shared used = absurd has
   unused_there state callee backs (e ∷ []) waiting g (inl same) name moved shared used =
-      first_none e waiting.0 (Moved name) (subst (λ (z : ViewStage). Has (withheld program effects z.stage) (Moved name)) (sym same) moved) name refl
+      first_none e waiting.0 (Moved name) (subst (λ (z : ViewStage). Has (withheld program effects z) (Moved name)) (sym same) moved) name refl
   unused_there state callee backs (e ∷ []) waiting g (inr never) name moved shared used = absurd never
   unused_there state callee backs (h ∷ (k ∷ older)) waiting g (inl same) name moved shared used =
-      (waiting.0).unmoved name (subst (λ (z : ViewStage). Has (withheld program effects z.stage) (Moved name)) (sym same) moved) shared used
+      (waiting.0).unmoved name (subst (λ (z : ViewStage). Has (withheld program effects z) (Moved name)) (sym same) moved) shared used
   unused_there state callee backs (h ∷ (k ∷ older)) waiting g (inr has) name moved shared used =
       unused_there state h.stage.frame.sub h.stage.frame.returns (k ∷ older) waiting.1 g has name moved shared ((waiting.0).uses name.root used)
 
@@ -202,7 +215,7 @@ module _ (table : Table) (typed : TypedProgram) (effects : Effects)
   loan_of f = if is_package_object s (place f).root then Lent (loan_by f) (place f).root (place f) ∷ [] else []
 
   pub loans_in : (g : ViewStage) → List Fact
-  loans_in g = if nat_lt 0 g.stage.depth then flat_map loan_of (withheld program effects g.stage) else []
+  loans_in g = if nat_lt 0 g.stage.depth then flat_map loan_of (withheld program effects g) else []
 
   abbrev pub loans_there : List ViewStage → List Fact
   loans_there older = flat_map loans_in older
@@ -210,7 +223,7 @@ module _ (table : Table) (typed : TypedProgram) (effects : Effects)
   -- A place of a package object that a frame that waits keeps.
   abbrev pub LentElsewhere : List ViewStage → Loan → Name → Type 0
   LentElsewhere older l n =
-      (g : ViewStage) × Has older g × (0 < g.stage.depth) × (f : Fact) × Has (withheld program effects g.stage) f × (is_package_object s n.root ≡ true)
+      (g : ViewStage) × Has older g × (0 < g.stage.depth) × (f : Fact) × Has (withheld program effects g) f × (is_package_object s n.root ≡ true)
       × (loan_by f ≡ l) × (place f ≡ n)
 
   loan_same : (l k : Loan) (h b : ℕ) (n m : Name) → Lent l h n ≡ Lent k b m → (l ≡ k) × (h ≡ b) × (n ≡ m)
@@ -236,10 +249,10 @@ module _ (table : Table) (typed : TypedProgram) (effects : Effects)
   loans_from older f has =
       let found = flat_from loans_in older f has in by_depth found.0 found.1 (nat_lt 0 (found.0).stage.depth) refl found.2
     where
-      by_depth : (g : ViewStage) → Has older g → (b : Bool) → nat_lt 0 g.stage.depth ≡ b → Has (if b then flat_map loan_of (withheld program effects g.stage) else []) f
+      by_depth : (g : ViewStage) → Has older g → (b : Bool) → nat_lt 0 g.stage.depth ≡ b → Has (if b then flat_map loan_of (withheld program effects g) else []) f
           → (l : Loan) × (n : Name) × (f ≡ Lent l n.root n) × LentElsewhere older l n
       by_depth g there true some has =
-          let found = flat_from loan_of (withheld program effects g.stage) f has in
+          let found = flat_from loan_of (withheld program effects g) f has in
           let one = one_from found.0 f found.2 in
           (loan_by found.0, place found.0, one.0, (g, there, ltb-true 0 g.stage.depth some, found.0, found.1, one.1, refl, refl))
       by_depth g there false none has = absurd has
@@ -250,8 +263,8 @@ module _ (table : Table) (typed : TypedProgram) (effects : Effects)
       subst (λ z. Has (loans_there older) (Lent z n.root n)) kind
       (subst (λ (z : Name). Has (loans_there older) (Lent (loan_by f) z.root z)) is
       (flat_has loans_in older g (Lent (loan_by f) (place f).root (place f)) has
-      (subst (λ b. Has (if b then flat_map loan_of (withheld program effects g.stage) else []) (Lent (loan_by f) (place f).root (place f))) (sym (lt-ltb 0 g.stage.depth some))
-      (flat_has loan_of (withheld program effects g.stage) f (Lent (loan_by f) (place f).root (place f)) there
+      (subst (λ b. Has (if b then flat_map loan_of (withheld program effects g) else []) (Lent (loan_by f) (place f).root (place f))) (sym (lt-ltb 0 g.stage.depth some))
+      (flat_has loan_of (withheld program effects g) f (Lent (loan_by f) (place f).root (place f)) there
       (one_has f (ap (λ (z : Name). is_package_object s z.root) is ∙ shared))))))
 
   -- such a way reaches its cell
@@ -269,20 +282,38 @@ module _ (table : Table) (typed : TypedProgram) (effects : Effects)
     IsLentFor l w = IsThrough (home s depth) (LentElsewhere older) l w
 
     -- the innermost frame has the same names for what belongs to packages
-    pub lent_for : (g : ViewStage) → Has older g → 0 < g.stage.depth → (f : Fact) (k w : Way) → Has (withheld program effects g.stage) f → place f ≡ name_of k
+    pub lent_for : (g : ViewStage) → Has older g → 0 < g.stage.depth → (f : Fact) (k w : Way) → Has (withheld program effects g) f → place f ≡ name_of k
         → Named (home s g.stage.depth) k → Under k w → is_package_object s (number_of w) ≡ true → IsLentFor (loan_by f) w
     lent_for g has some f k w there is named under shared =
         let root : is_package_object s (number_of k) ≡ true = ap (is_package_object s) (sym (longer k w under).root) ∙ shared in
         (k, package_named s g.stage.depth depth k root named, under, (g, has, some, f, there, root, refl, is))
 
-    -- what its facts say is kept, and what was taken
-    pub kept_fact : (g : ViewStage) (f : Fact) → Has (facts_of program effects g.stage) f → Has (withheld program effects g.stage) f
-    kept_fact g f has = Has-append_left (facts_of program effects g.stage) (map (λ (to : Way). Moved (name_of to)) g.stage.returns) f has
+    -- so it is with a part of an object that is passed
+    root_for : (g : ViewStage) → Has older g → 0 < g.stage.depth → (y : ℕ) (w : Way) → Has (passed_roots g) y → base_of w ≡ OfRoot (OfVariable (home s g.stage.depth y) y)
+        → is_package_object s y ≡ true → IsLentFor Borrowed w
+    root_for g has some y w passed base shared =
+        let named : Named (home s g.stage.depth) w = base_named (home s g.stage.depth) w y base in
+        lent_for g has some (Moved (object y)) (Object (OfVariable (home s g.stage.depth y) y)) w (kept_root program effects g y passed) refl refl
+        (root_under (home s g.stage.depth y) y w base) (ap (is_package_object s) (number_based (home s g.stage.depth) w y named base) ∙ shared)
 
-    kept_place : (g : ViewStage) (to : Way) → Has g.stage.returns to → Has (withheld program effects g.stage) (Moved (name_of to))
-    kept_place g to has =
-        Has-append_right (facts_of program effects g.stage) (map (λ (to : Way). Moved (name_of to)) g.stage.returns) (Moved (name_of to))
-        (Has-map (λ (to : Way). Moved (name_of to)) g.stage.returns to has)
+    -- and with what its facts say
+    fact_for : (g : ViewStage) → Has older g → 0 < g.stage.depth → (f : Fact) (k w : Way) → Has (facts_of program effects g.stage) f → place f ≡ name_of k
+        → Named (home s g.stage.depth) k → Under k w → is_package_object s (number_of w) ≡ true → IsLentFor (loan_by f) w ⊎ IsLentFor Borrowed w
+    fact_for g has some f k w there is named under shared = elim (kept_fact program effects g f there) [
+      | inl keeps ↦ inl (lent_for g has some f k w keeps is named under shared)
+      | inr passed ↦ (
+          let on_root : number_of w ≡ number_of k = (longer k w under).root in
+          let at : base_of w ≡ OfRoot (OfVariable (home s g.stage.depth (number_of k)) (number_of k)) = (longer k w under).base ∙ named_base (home s g.stage.depth) k named in
+          inr (root_for g has some (number_of k) w (subst (λ (z : Name). Has (passed_roots g) z.root) is passed) at (ap (is_package_object s) (sym on_root) ∙ shared)))
+    ]
+
+    -- what is moved or borrowed
+    held_for : (g : ViewStage) → Has older g → 0 < g.stage.depth → (f : Fact) (k w : Way) → Has (facts_of program effects g.stage) f → place f ≡ name_of k
+        → Named (home s g.stage.depth) k → Under k w → is_package_object s (number_of w) ≡ true → loan_by f ≡ Borrowed → IsLentFor Borrowed w
+    held_for g has some f k w there is named under shared borrowed = elim (fact_for g has some f k w there is named under shared) [
+      | inl lent ↦ subst (λ l. IsLentFor l w) borrowed lent
+      | inr lent ↦ lent
+    ]
 
     -- the way of a view begins at an own variable of its frame, or goes on from such a place
     way_cases : (callee : ℕ) (backs : List Return) (g : ViewStage) → Has older g → 0 < g.stage.depth → IsWaiting table typed effects state callee backs g → (x : ℕ) (w : Way)
@@ -292,7 +323,10 @@ module _ (table : Table) (typed : TypedProgram) (effects : Effects)
       | inl shared ↦ (
           let goes = view_goes (home s g.stage.depth) (sees_only s) g.views (view_here s state) (facts_of program effects g.stage) waits.views x w way named in
           let place = goes.1 in
-          inr (goes.0, lent_for g has some (Lent goes.0 place.0 (name_of place.1)) place.1 w (kept_fact g (Lent goes.0 place.0 (name_of place.1)) place.2) refl place.3 place.4 shared))
+          elim (fact_for g has some (Lent goes.0 place.0 (name_of place.1)) place.1 w place.2 refl place.3 place.4 shared) [
+            | inl lent ↦ inr (goes.0, lent)
+            | inr lent ↦ inr (Borrowed, lent)
+          ])
     ]
 
     -- a way of a view of a frame below
@@ -334,7 +368,8 @@ module _ (table : Table) (typed : TypedProgram) (effects : Effects)
           ];
         }
 
-    -- the way of a cell of a place begins at an own variable, or goes on from that of a view
+    -- the way of a cell of a place begins at an own variable, or at a package object that is passed, or goes on from that
+    -- of a view
     cell_begins : (callee : ℕ) (backs : List Return) (g : ViewStage) → Has older g → 0 < g.stage.depth → g.stage.depth < depth
         → IsWaiting table typed effects state callee backs g → (c : Lodge) → Has g.cells c → Begins c.way
     cell_begins callee backs g has some less waits c there =
@@ -345,8 +380,10 @@ module _ (table : Table) (typed : TypedProgram) (effects : Effects)
             object = number_of c.name;
             base = named_base (home s g.stage.depth) c.name kept.named;
             low = low_home (is_package_object s (number_of c.name)) g.stage.depth less;
-            other = inl (λ e. other_frame s g.stage.depth depth some less (number_of c.name) kept.own
-                (sym (ap (λ z. if z then 0 else g.stage.depth) kept.own) ∙ e));
+            other = elim (bool_cases (is_package_object s (number_of c.name))) [
+              | inl shared ↦ inr (Borrowed, root_for g has some (number_of c.name) c.name (cell_passed g c there) (named_base (home s g.stage.depth) c.name kept.named) shared)
+              | inr own ↦ inl (λ e. other_frame s g.stage.depth depth some less (number_of c.name) own (sym (ap (λ z. if z then 0 else g.stage.depth) own) ∙ e))
+            ];
           })
           | inr l ↦ subst Begins (sym (lifted_way g.views c.name l))
               (goes_on l.way l.rest (way_begins callee backs g has some less waits l.object l.way l.has (waits.holds.lies l.object l.way l.has)))
@@ -441,9 +478,11 @@ module _ (table : Table) (typed : TypedProgram) (effects : Effects)
       | inr (some, less, callee, backs, waits) ↦ (
           let begin = words_taken s g.cells state.memory g.stage.depth (facts_of program effects g.stage) (lasting_of s waits.point.scope) backs g.stage.returns waits.taken to taken in
           let at : base_of to ≡ OfRoot (OfVariable (home s g.stage.depth begin.1) begin.1) = begin.2 ∙ ap (λ f. OfRoot (OfVariable f begin.1)) begin.3 in
-          let there : Named (home s g.stage.depth) w = base_named (home s g.stage.depth) w begin.1 (ap base_of is ∙ along_base to p ∙ at) in
-          lent_for g has some (Moved (name_of to)) to w (kept_place g to taken) refl (base_named (home s g.stage.depth) to begin.1 at)
-          (subst (Under to) (sym is) (under_along to to p (under_itself to))) (near_package s g.stage.depth depth some less w there near))
+          let based : base_of w ≡ OfRoot (OfVariable (home s g.stage.depth begin.1) begin.1) = ap base_of is ∙ along_base to p ∙ at in
+          let there : Named (home s g.stage.depth) w = base_named (home s g.stage.depth) w begin.1 based in
+          root_for g has some begin.1 w
+          (subst (Has (passed_roots g)) (number_based (home s g.stage.depth) to begin.1 (base_named (home s g.stage.depth) to begin.1 at) at) (taken_passed g to taken)) based
+          (ap (is_package_object s) (sym (number_based (home s g.stage.depth) w begin.1 there based)) ∙ near_package s g.stage.depth depth some less w there near))
     ]
     near_lent w near (g, has, inl (u, moved, leads)) = elim (between g has) [
       | inl first ↦ absurd (unmoved g.stage first.0 (name_of u) moved.1)
@@ -451,8 +490,7 @@ module _ (table : Table) (typed : TypedProgram) (effects : Effects)
         | inl e ↦ (
             let here : IsMoved (home s g.stage.depth) (facts_of program effects g.stage) w =
             subst (IsMoved (home s g.stage.depth) (facts_of program effects g.stage)) (sym e ∙ leads) moved in
-            lent_for g has some (Moved (name_of w)) w w (kept_fact g (Moved (name_of w)) here.1) refl here.0 (under_itself w)
-            (near_package s g.stage.depth depth some less w here.0 near))
+            held_for g has some (Moved (name_of w)) w w here.1 refl here.0 (under_itself w) (near_package s g.stage.depth depth some less w here.0 near) refl)
         | inr l ↦ elim (stood callee backs g waits u moved) [
           | inr (foreign, low, above) ↦ absurd (elim (near_base depth w foreign.0 foreign.1 near (ap base_of (sym leads) ∙ foreign.2)) [
             | inl none ↦ omega (arith, above, none)
@@ -466,9 +504,9 @@ module _ (table : Table) (typed : TypedProgram) (effects : Effects)
               (ap (sees_only s) (sym (lifted_root g.views u l)) ∙ plain) l.has front in
               let same : w ≡ on l.way l.rest = sym leads ∙ lifted_way g.views u l in
               let named : Named (home s g.stage.depth) w = subst (Named (home s g.stage.depth)) leads there in
-              lent_for g has some (Lent Borrowed goes.0 (name_of goes.1)) goes.1 w (kept_fact g (Lent Borrowed goes.0 (name_of goes.1)) goes.2) refl goes.3
+              held_for g has some (Lent Borrowed goes.0 (name_of goes.1)) goes.1 w goes.2 refl goes.3
               (subst (Under goes.1) (sym same) (under_on goes.1 l.way (on l.way l.rest) goes.4 (on_under l.way l.rest)))
-              (near_package s g.stage.depth depth some less w named near))
+              (near_package s g.stage.depth depth some less w named near) refl)
         ]
       ]
     ]
@@ -561,8 +599,8 @@ module _ (table : Table) (typed : TypedProgram) (effects : Effects)
               let base : base_of (along w p) ≡ OfRoot (OfVariable (home s g.stage.depth y) y) =
               along_base w p ∙ ap base_of (sym is) ∙ (λ j. OfRoot (OfVariable (if sym shared j then 0 else g.stage.depth) y)) in
               let named : Named (home s g.stage.depth) (along w p) = base_named (home s g.stage.depth) (along w p) y base in
-              lent_for g has some (Moved (name_of (along w p))) (along w p) (along w p) (kept_place g (along w p) taken) refl named (under_itself (along w p))
-              (ap (is_package_object s) (number_based (home s g.stage.depth) (along w p) y named base) ∙ shared)),
+              root_for g has some y (along w p)
+              (subst (Has (passed_roots g)) (number_based (home s g.stage.depth) (along w p) y named base) (taken_passed g (along w p) taken)) base shared),
         )
       ],
     )

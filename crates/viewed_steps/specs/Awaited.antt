@@ -7,7 +7,7 @@ use Rattle.typed_tree.specs.Trees.{TypedTree, Name, Call as CallIn, NoMore, More
 use Rattle.typed_tree.specs.Programs.{TypedProgram}
 use Rattle.spark_base.specs.declared.position.Pos.{Pos}
 use Rattle.flow_paths.specs.Instructions.{Instruction, Declare, Assign, Call, Evaluate, Hold}
-use Rattle.flow_paths.specs.Objects.{Typing, object_at, sub_at, view_of, is_anonymous, has_scope_end}
+use Rattle.flow_paths.specs.Objects.{Typing, object_at, sub_at, has_scope_end, view_of, is_anonymous}
 use Rattle.flow_paths.specs.Names.{has_call}
 use Rattle.flow_paths.specs.Points.{NamedPoint}
 use Rattle.flow_paths.specs.Laid.{FlowSub, FlowProgram, NamedSub, flow_typing, flow_program, flow_named}

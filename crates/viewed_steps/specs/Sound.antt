@@ -2,19 +2,19 @@
 --
 -- A frame that waits for a call to end has its views still: what was called names no object of the
 -- frame, and leaves package objects alone of which a part is lent.
-use Rattle.std.specs.List.{AllByRecursion}
+use Rattle.std.specs.List.{AllByRecursion, list_any}
 use Rattle.viewed_steps.specs.Traversals.{AreRooted, SeesFirst, AreGiven}
-use Rattle.std.specs.Prelude.{◌≡◌, ◌⊎◌, ◌<◌, ℕ, true, false, List, [], ◌∷◌, ◌++◌, map, get_or, Option, Some, None, suc, is_some}
+use Rattle.std.specs.Prelude.{◌≡◌, ◌⊎◌, ◌<◌, ℕ, ◌==◌, Bool, not, true, false, List, [], ◌∷◌, ◌++◌, filter, map, get_or, Option, Some, None, suc, is_some}
 use Rattle.spark_base.specs.Lists.{Has}
 use Rattle.spark_base.specs.declared.position.Pos.{Pos}
 use Rattle.place_names.specs.declared.act.Mode.TheVariants as mode
 use Rattle.place_names.specs.declared.fact.Fact.{Fact}
 use Rattle.place_names.specs.declared.act.Placed.{Placed}
-use Rattle.place_names.specs.Facts.{adds}
+use Rattle.place_names.specs.Facts.{adds, place}
 use Rattle.place_names.specs.declared.fact.Fact.TheVariants.{Moved, Lent}
 use Rattle.place_names.specs.declared.rule.Loan.{Loan}
 use Rattle.place_names.specs.declared.rule.Loan.TheVariants.{Borrowed, Observed}
-use Rattle.place_names.specs.Names.{Name as PlaceName}
+use Rattle.place_names.specs.Names.{Name as PlaceName, object}
 use Rattle.type_definitions.specs.Types.{Table, full, is_scalar, is_owning}
 use Rattle.typed_tree.specs.Trees.{TypedTree, Name, NoMore, More}
 use Rattle.typed_tree.specs.Programs.{TypedProgram}
@@ -62,8 +62,8 @@ IsOwnless s x = ((object_at s x).mode ≡ mode.In) × (is_owning s.table (object
 abbrev pub IsKindOfFormal : Typing → ℕ → Type 0
 IsKindOfFormal s x = IsScalarObject s x ⊎ ((IsCopiedBack s x × IsNamed s.table (object_at s x).of) ⊎ (IsShown s x ⊎ IsOwnless s x))
 
--- Actuals that are copied back to go through no access value; or they are rooted in objects that belong to no
--- package, and are for formals of scalar types, or rooted in owners.
+-- Actuals that are copied back to go through no access value, or are for formals of scalar types, or are rooted in
+-- owners.
 abbrev pub AreOwners : Typing → TypedTree → Type 0
 AreOwners s e = (y : ℕ) → Has (root_of e) y → (is_anonymous (view_of s y) ≡ false) × (is_view_formal s y ≡ false)
 
@@ -72,8 +72,7 @@ IsReachedBack s x e = IsScalarObject s x ⊎ AreOwners s e
 
 abbrev pub AreKeptPlaces : Typing → List ℕ → TypedTree → Type 0
 AreKeptPlaces s (x ∷ formals) (More e rest) =
-    (is_in (object_at s x).mode ≡ false → (goes_through_none e ≡ true)
-    ⊎ (IsReachedBack s x e × ((y : ℕ) → Has (root_of e) y → is_package_object s y ≡ false))) × AreKeptPlaces s formals rest
+    (is_in (object_at s x).mode ≡ false → (goes_through_none e ≡ true) ⊎ IsReachedBack s x e) × AreKeptPlaces s formals rest
 AreKeptPlaces s formals actuals = Unit {0}
 
 -- A subprogram lends a part of a package object.
@@ -207,15 +206,21 @@ abbrev pub loan_by : Fact → Loan
 loan_by (Moved n) = Borrowed
 loan_by (Lent l h n) = l
 
--- What a frame keeps from what it calls: its facts, and the places that were taken from it, as moved ones.
-abbrev pub withheld : FlowProgram → Effects → Stage → List Fact
-withheld program effects g = facts_of program effects g ++ map (λ (to : Way). Moved (name_of to)) g.returns
+-- The objects of which a frame passes parts to be copied back to, as it names them.
+abbrev pub passed_roots : ViewStage → List ℕ
+passed_roots g = map number_of g.stage.returns ++ map (λ (c : Lodge). number_of c.name) g.cells
 
--- A cell of a place that is copied back to is there: it is named by the frame, by a variable of its own or a
--- view, and no way that was taken goes before the name's way.
+abbrev pub is_passed : ViewStage → Fact → Bool
+is_passed g f = list_any (λ y. y == (place f).root) (passed_roots g)
+
+-- What a frame keeps from what it calls: such objects as a whole, as moved ones, and its facts on others.
+abbrev pub withheld : FlowProgram → Effects → ViewStage → List Fact
+withheld program effects g = filter (λ f. not (is_passed g f)) (facts_of program effects g.stage) ++ map (λ y. Moved (object y)) (passed_roots g)
+
+-- A cell of a place that is copied back to is there: it is named by the frame, and no way that was taken goes before
+-- the name's way.
 pub record IsKept (s : Typing) (state : State) (g : ViewStage) (c : Lodge) : Type 0 where
   pub named : Named (home s g.stage.depth) c.name
-  pub own : is_package_object s (number_of c.name) ≡ false
   pub leads : expand g.views c.name ≡ c.way
   pub reaches : Reaches (owners.view_of s state) c.way (OfCell c.cell)
   pub aside : (to : Way) → Has g.stage.returns to → Past to c.way → ⊥
@@ -230,8 +235,8 @@ IsBareOf s g w l p = Has g.stage.returns (along w p) × (((c : Lodge) × Has g.c
 
 -- A frame that waits for a call to end. The points that it has executed form a control path to its
 -- next point. What it owns is in scope there, and so are its views, which have their ways still. The
--- callee disturbs no package object of which a part is lent, and uses none of which a part is moved or was
--- taken; such a one the frame writes.
+-- callee disturbs no package object of which a part is lent, and uses none of which a part is moved or is
+-- to be copied back to; such a one the frame writes.
 -- What the callee uses or writes, its caller does. What the callee copies back goes to scalar places,
 -- or to those that it took.
 pub record IsWaiting (table : Table) (typed : TypedProgram) (effects : Effects) (state : State) (callee : ℕ) (backs : List Return) (g : ViewStage) : Type 0 where
@@ -247,10 +252,10 @@ pub record IsWaiting (table : Table) (typed : TypedProgram) (effects : Effects) 
       → is_within x (lasting_of (flow_typing (flow_program table typed)) point.scope) ≡ true
   pub lends : (l : Loan) (h : ℕ) (name : PlaceName) → Has (facts_of (flow_program table typed) effects g.stage) (Lent l h name)
       → is_package_object (flow_typing (flow_program table typed)) name.root ≡ true → Disturbs effects l callee name.root → ⊥
-  pub unmoved : (name : PlaceName) → Has (withheld (flow_program table typed) effects g.stage) (Moved name)
+  pub unmoved : (name : PlaceName) → Has (withheld (flow_program table typed) effects g) (Moved name)
       → is_package_object (flow_typing (flow_program table typed)) name.root ≡ true → Uses effects callee name.root → ⊥
-  pub written : (to : Way) → Has g.stage.returns to → is_package_object (flow_typing (flow_program table typed)) (number_of to) ≡ true
-      → Has (written_by effects g.stage.frame.sub) (number_of to)
+  pub written : (y : ℕ) → Has (passed_roots g) y → is_package_object (flow_typing (flow_program table typed)) y ≡ true
+      → Has (written_by effects g.stage.frame.sub) y
   pub uses : (x : ℕ) → Uses effects callee x → Uses effects g.stage.frame.sub x
   pub writes : (x : ℕ) → Has (written_by effects callee) x → Has (written_by effects g.stage.frame.sub) x
   pub clear : AreClear (sees_only (flow_typing (flow_program table typed))) (facts_of (flow_program table typed) effects g.stage)
