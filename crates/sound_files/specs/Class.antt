@@ -125,15 +125,14 @@ IsShownActual s x e = ⊥
 abbrev pub IsCopiedActual : Typing → ℕ → TypedTree → Type 0
 IsCopiedActual s x e = GivesPlainly s e
 
--- One that is copied back to goes through no access value, and isn't rooted in a formal of mode `in` that owns; or it is
--- rooted in an object that belongs to no package, and the formal is of a scalar type, or that object is no borrower or
--- observer, and no such formal.
+-- One that is copied back to goes through no access value, and isn't rooted in a formal of mode `in` that owns; or the
+-- formal is of a scalar type, or the object that it is rooted in is no borrower or observer, and no such formal.
 abbrev pub IsOwnRoot : Typing → ℕ → Type 0
-IsOwnRoot s y = (is_package_object s y ≡ false) × (is_anonymous (view_of s y) ≡ false) × (is_view_formal s y ≡ false)
+IsOwnRoot s y = (is_anonymous (view_of s y) ≡ false) × (is_view_formal s y ≡ false)
 
 abbrev pub IsKeptActual : Typing → ℕ → TypedTree → Type 0
 IsKeptActual s x e =
-    (IsScalarAt s x × ((goes_through_none e ≡ true) ⊎ ((y : ℕ) → Has (root_of e) y → is_package_object s y ≡ false)))
+    IsScalarAt s x
     ⊎ (((goes_through_none e ≡ true) × ((y : ℕ) → Has (root_of e) y → is_view_formal s y ≡ false))
     ⊎ ((y : ℕ) → Has (root_of e) y → IsOwnRoot s y))
 

@@ -110,9 +110,9 @@ module _ (y : Typing) (whole : counts (shape_of y.table integer) ≡ true) (list
               found.1,
               found.2,
               elim kept [
-                | inl (plain, which) ↦ inl (scalar_back y whole listed word_law found.0 (object_at y x).of found.2 plain)
+                | inl plain ↦ inl (scalar_back y whole listed word_law found.0 (object_at y x).of found.2 plain)
                 | inr (inl (none, roots)) ↦ inr roots
-                | inr (inr roots) ↦ inr (λ z has. (roots z has).2)
+                | inr (inr roots) ↦ inr (λ z has. (roots z has).1)
               ],
             )
 
@@ -130,13 +130,12 @@ module _ (y : Typing) (whole : counts (shape_of y.table integer) ≡ true) (list
 
 -- Where places are that are copied back to.
 abbrev IsKeptPlace : Typing → ℕ → TypedTree → Type 0
-IsKeptPlace s x e = (goes_through_none e ≡ true) ⊎ (IsReachedBack s x e × ((z : ℕ) → Holds (root_of e) z → is_package_object s z ≡ false))
+IsKeptPlace s x e = (goes_through_none e ≡ true) ⊎ IsReachedBack s x e
 
 kept_there : (s : Typing) (x : ℕ) (e : TypedTree) → IsKeptActual s x e → IsKeptPlace s x e
-kept_there s x e (inl (plain, inl none)) = inl none
-kept_there s x e (inl (plain, inr roots)) = inr (inl plain, roots)
+kept_there s x e (inl plain) = inr (inl plain)
 kept_there s x e (inr (inl (none, roots))) = inl none
-kept_there s x e (inr (inr roots)) = inr (inr (λ z has. ((roots z has).1, (roots z has).2)), λ z has. (roots z has).0)
+kept_there s x e (inr (inr roots)) = inr (inr roots)
 
 kept_one : (s : Typing) (x : ℕ) (e : TypedTree) (m : Mode) → is_in m ≡ false → IsFitActual s x m e → IsKeptPlace s x e
 kept_one s x e mode.In back fit = cc

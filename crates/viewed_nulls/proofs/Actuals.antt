@@ -190,7 +190,7 @@ module _ (h : Here) (settled : IsSettled h.typing.table) (leaks : List Leak) (ot
       → Goes h.typing.table (object_at h.typing y).of u path way → Finds h asks m hands facts on y way (IsAt h asks m hands facts u)
   place_finds on x p y u path (inl direct) way goes = law.direct on y u path way goes direct
   place_finds on x p y u path (inr (scalar, inl direct)) way goes = law.direct on y u path way goes direct
-  place_finds on x p y u path (inr (scalar, inr (local, sees, opens))) way goes =
+  place_finds on x p y u path (inr (scalar, inr (sees, opens))) way goes =
       let w : Way = way_along way (Object (OfVariable (home h.typing h.frame y) y)) in
       leads h settled leaks other alone in_formals index_law own_law v parts_named m hands facts ready only on y u path way goes
       (opens w (named_along (home h.typing h.frame) way (Object (OfVariable (home h.typing h.frame y) y)) refl)
@@ -344,7 +344,7 @@ module _ (h : Here) (settled : IsSettled h.typing.table) (leaks : List Leak) (ot
       kept_finds many way goes (inl none) = direct_finds many way goes none
       kept_finds many way goes (inr (inl scalar, opens)) = absurd (true_false (is_scalar (full h.typing.table (object_at h.typing x).of)) scalar many)
       kept_finds many way goes (inr (inr back, inl none)) = direct_finds many way goes none
-      kept_finds many way goes (inr (inr back, inr (local, sees, opens))) = through_finds on y u path way goes sees (own_root which many y (inl refl)) (spared many)
+      kept_finds many way goes (inr (inr back, inr (sees, opens))) = through_finds on y u path way goes sees (own_root which many y (inl refl)) (spared many)
   one_same mode.InOut owning access x e is fits kind (t, never, match, which) clears direct before on takes compares allowed spared = absurd never
 
   -- ---- all of them
