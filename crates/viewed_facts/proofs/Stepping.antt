@@ -700,9 +700,9 @@ module _ (table : Table) (typed : TypedProgram) (effects : Effects) (input : Lis
         holds_plain e of is result source allowed_there keep = elim (bool_cases (is_anonymous (full s.table of))) [
           | inl view ↦ returns_view e of is result source view
           | inr owner ↦ holds_value e of is result owner (λ type_there allows keeps.
-            source_exact easy ready.accepted.settled ready.owns other alone in_formals views ready.class.parts_named none_taken refl refl elsewhere away Excused given_words of e type_there source (subst (TakesScalars s) is plain.1).0
-            (takes_as (taken (Hold (More e NoMore))) (waits_in e) given_words [] (nothing_more (waits_in e)) (takes_of plain.0 (Hold (More e NoMore)) is))
-            facts_now (good plain) allows keeps exact) allowed_there keep
+              source_exact easy ready.accepted.settled ready.owns other alone in_formals views ready.class.parts_named none_taken refl refl elsewhere away Excused given_words of e type_there source (subst (TakesScalars s) is plain.1).0
+              (takes_as (taken (Hold (More e NoMore))) (waits_in e) given_words [] (nothing_more (waits_in e)) (takes_of plain.0 (Hold (More e NoMore)) is))
+              facts_now (good plain) allows keeps exact) allowed_there keep
         ]
 
         returns : (v : TypedTree) (r : Option ℕ) → p.instr ≡ Hold v → named.sub.result ≡ r → Returns s r v → AllowsAll facts_now (acts_by (Hold v))

@@ -66,6 +66,16 @@ use Rattle.viewed_steps.proofs.Standing as standing
 use Rattle.viewed_steps.proofs.Innermost as innermost
 use Rattle.viewed_steps.proofs.EachInstruction as each
 use Rattle.viewed_steps.proofs.Calling as calling
+use Rattle.viewed_steps.proofs.CallActs as acting
+use Rattle.viewed_steps.proofs.Followed as followed
+use Rattle.viewed_steps.proofs.Followed.{IsTraversing}
+use Rattle.viewed_steps.specs.Ready.{IsTraversalCall}
+use Rattle.viewed_steps.proofs.Traversing.{first_actual}
+use Rattle.viewed_steps.proofs.Called.{passes_to}
+use Rattle.flow_paths.specs.Views.{traversed_formal}
+use Rattle.flow_paths.specs.Objects.{Passing, passing, traverses}
+use Rattle.soundness.proofs.Points.{flow_at}
+use Rattle.std.proofs.Common.{map}
 use Rattle.viewed_steps.proofs.CallBegins as call_begins
 use Rattle.viewed_steps.proofs.Passed.{apart_or}
 use Rattle.place_names.specs.Reports.{Report}
@@ -82,7 +92,7 @@ use Rattle.null_places.proofs.Instructions.{SameStepBy, SameStep, twin, both_are
 use Rattle.null_places.proofs.Walks.{SameNow, SameTo, then_same, simply}
 use Rattle.null_places.proofs.Calls.{AreWhollyPassed, AreWhollyBack, call_same, finish_same}
 use Rattle.viewed_nulls.proofs.Spared.{spares_first}
-use Rattle.viewed_nulls.proofs.Actuals.{all_same}
+use Rattle.viewed_nulls.proofs.Actuals.{all_same, traversed_same}
 use Rattle.viewed_nulls.proofs.Passed.{passed_wholly, back_wholly}
 use Rattle.viewed_nulls.proofs.Viewed.{viewed_premises, gives_both, IsReadyIn, viewed_values}
 use Rattle.viewed_nulls.proofs.Instructions as own_instructions
@@ -597,10 +607,7 @@ module _ (table : Table) (typed : TypedProgram) (effects : Effects) (input : Lis
 
         quiet_there : Quiet (calling.then_now table typed effects input ready state top below more_frames rest named p frames deep stages running awaiting of_sub at_point path views viewed_before kept scope holds placed_before above k actuals result e) Given
             (all_passed (steps.here main_turn) (passings s (sub_at s k)) formals actuals (start main_turn))
-        quiet_there =
-            subst (λ z. Quiet (calling.then_now table typed effects input ready state top below more_frames rest named p frames deep stages running awaiting of_sub at_point path views viewed_before kept scope holds placed_before above k actuals result e) Given (all_passed (steps.here main_turn) z formals actuals (start main_turn)))
-            (sym (calling.ways_are table typed effects input ready state top below more_frames rest named p frames deep stages running awaiting of_sub at_point path views viewed_before kept scope holds placed_before above k actuals result e))
-            (calling.passed_quiet table typed effects input ready state top below more_frames rest named p frames deep stages running awaiting of_sub at_point path views viewed_before kept scope holds placed_before above k actuals result e)
+        quiet_there = calling.passed_quiet table typed effects input ready state top below more_frames rest named p frames deep stages running awaiting of_sub at_point path views viewed_before kept scope holds placed_before above k actuals result e
 
         no_overlap : ((r : Report) → Has (overlap_reports s (alias.passed formals actuals)) r → ⊥) ⊎ ((x : ℕ) → Has formals x → (object_at s x).mode ≡ mode.In)
         no_overlap =
@@ -610,23 +617,66 @@ module _ (table : Table) (typed : TypedProgram) (effects : Effects) (input : Lis
             (calling.called table typed effects input ready state top below more_frames rest named p frames deep stages running awaiting of_sub at_point path views viewed_before kept scope holds placed_before above k actuals result e).answers
             (λ of answers x has. ready.class.modes k of answers x has)
 
-        same_there : SameTo s (all_passed (steps.here main_turn) (passings s (sub_at s k)) formals actuals (start main_turn))
-            (all_passed (steps.here main_turn) (passings s (sub_at s k)) formals actuals (start (twin main_turn n)))
-        same_there =
-            subst (λ z. SameTo s (all_passed (steps.here main_turn) z formals actuals (start main_turn)) (all_passed (steps.here main_turn) z formals actuals (start (twin main_turn n))))
-            (sym (calling.ways_are table typed effects input ready state top below more_frames rest named p frames deep stages running awaiting of_sub at_point path views viewed_before kept scope holds placed_before above k actuals result e))
+        abbrev SameBy : List Passing → List ℕ → TypedTree → Type 0
+        SameBy how xs given = SameTo s (all_passed (steps.here main_turn) how xs given (start main_turn)) (all_passed (steps.here main_turn) how xs given (start (twin main_turn n)))
+
+        plain_same : traverses s.table (sub_of program k).result ≡ false → SameBy (passings s (sub_at s k)) formals actuals
+        plain_same none =
+            subst (λ z. SameBy z formals actuals) (sym (passes_to program k none))
             (all_same (steps.here main_turn) ready.accepted.settled state.leaks other alone in_formals index_law ready.owns views ready.class.parts_named state.memory (waiting_in easy)
             facts_now so_easy only (calling.formals_low table typed effects input ready state top below more_frames rest named p frames deep stages running awaiting of_sub at_point path views viewed_before kept scope holds placed_before above k actuals result e) (not (is_some (sub_of program k).result)) (start main_turn).waits [] facts_now [] formals actuals
             (elim no_overlap [ inl none ↦ inl (spares_first s facts_now formals actuals none) | inr plain ↦ inr plain ])
-            (calling.kinds table typed effects input ready state top below more_frames rest named p frames deep stages running awaiting of_sub at_point path views viewed_before kept scope holds placed_before above k actuals result e)
+            (calling.kinds table typed effects input ready state top below more_frames rest named p frames deep stages running awaiting of_sub at_point path views viewed_before kept scope holds placed_before above k actuals result e) (acting.unseen_plain table typed effects input ready state top below more_frames rest named p frames deep stages running awaiting of_sub at_point path views viewed_before kept scope holds placed_before above k actuals result e none)
             (calling.called table typed effects input ready state top below more_frames rest named p frames deep stages running awaiting of_sub at_point path views viewed_before kept scope holds placed_before above k actuals result e).actuals_stay
-            (open_to s (suc (length rest)) views facts_now formals actuals (calling.clear_there table typed effects input ready state top below more_frames rest named p frames deep stages running awaiting of_sub at_point path views viewed_before kept scope holds placed_before above k actuals result e)
-            (calling.lows_there table typed effects input ready state top below more_frames rest named p frames deep stages running awaiting of_sub at_point path views viewed_before kept scope holds placed_before above k actuals result e))
+            (open_to s (suc (length rest)) views facts_now formals actuals (calling.clear_there table typed effects input ready state top below more_frames rest named p frames deep stages running awaiting of_sub at_point path views viewed_before kept scope holds placed_before above k actuals result e) (calling.lows_there table typed effects input ready state top below more_frames rest named p frames deep stages running awaiting of_sub at_point path views viewed_before kept scope holds placed_before above k actuals result e))
             (calling.copied_there table typed effects input ready state top below more_frames rest named p frames deep stages running awaiting of_sub at_point path views viewed_before kept scope holds placed_before above k actuals result e)
             (takes_of plain_call (Call k actuals result) e) (subst (ComparesIn s) e compares)
-            (calling.values_allowed table typed effects input ready state top below more_frames rest named p frames deep stages running awaiting of_sub at_point path views viewed_before kept scope holds placed_before above k actuals result e)
+            (subst (λ z. AllowsAll facts_now (acts (flow.actual_values s z actuals))) (passes_to program k none) (calling.values_allowed table typed effects input ready state top below more_frames rest named p frames deep stages running awaiting of_sub at_point path views viewed_before kept scope holds placed_before above k actuals result e))
             (calling.copies_allowed table typed effects input ready state top below more_frames rest named p frames deep stages running awaiting of_sub at_point path views viewed_before kept scope holds placed_before above k actuals result e)
             (start (twin main_turn n)) (agrees, refl, only))
+
+        -- a traversal function is called
+        module _ (f : ℕ) (traversed : traversed_formal s (sub_of program k) ≡ Some f) where
+          abbrev made : IsTraversalCall s named (flow_at own named p).next k actuals
+          made = calling.made table typed effects input ready state top below more_frames rest named p frames deep stages running awaiting of_sub at_point path views viewed_before kept scope holds placed_before above k actuals result e f traversed
+
+          abbrev traversing : IsTraversing program k f
+          traversing = calling.traversing table typed effects input ready state top below more_frames rest named p frames deep stages running awaiting of_sub at_point path views viewed_before kept scope holds placed_before above k actuals result e f traversed
+
+          abbrev first_tree : TypedTree
+          first_tree = first_actual s ready.owns made.call
+
+          copies_these : AllowsAll (after (acts (flow.actual_act (passing s false f) first_tree)) facts_now) (acts (flow.actual_acts (map (passing s false) traversing.rest) (made.call).others))
+          copies_these =
+              (allows_both facts_now (acts (flow.actual_act (passing s false f) first_tree)) (acts (flow.actual_acts (map (passing s false) traversing.rest) (made.call).others))
+              (subst (AllowsAll facts_now) (acts_append (flow.actual_act (passing s false f) first_tree) (flow.actual_acts (map (passing s false) traversing.rest) (made.call).others))
+              (subst (λ z. z) (λ j. AllowsAll facts_now (acts (flow.actual_acts (map (passing s (acting.no_procedure table typed effects input ready state top below more_frames rest named p frames deep stages running awaiting of_sub at_point path views viewed_before kept scope holds placed_before above k actuals result e f traversed j)) (traversing.formals j)) (made.actuals_are j))))
+              (calling.copies_allowed table typed effects input ready state top below more_frames rest named p frames deep stages running awaiting of_sub at_point path views viewed_before kept scope holds placed_before above k actuals result e)))).1
+
+          traversal_same : SameBy (passings s (sub_at s k)) formals actuals
+          traversal_same =
+              subst (λ z. z) (λ j. SameBy (sym traversing.ways j) (sym traversing.formals j) (sym made.actuals_are j))
+              (traversed_same (steps.here main_turn) ready.accepted.settled state.leaks other alone in_formals index_law ready.owns views ready.class.parts_named state.memory (waiting_in easy)
+              facts_now so_easy only (calling.formals_low table typed effects input ready state top below more_frames rest named p frames deep stages running awaiting of_sub at_point path views viewed_before kept scope holds placed_before above k actuals result e) false (start main_turn).waits []
+              (after (acts (flow.actual_act (passing s false f) first_tree)) facts_now) f made.call traversing.rest
+              (followed.access table typed effects input ready state top older outer named p frames of_sub at_point path k actuals result e f traversed)
+              (followed.shown table typed effects input ready state top older outer named p frames of_sub at_point path k actuals result e f traversed)
+              (acting.seen_first table typed effects input ready state top below more_frames rest named p frames deep stages running awaiting of_sub at_point path views viewed_before kept scope holds placed_before above k actuals result e f traversed)
+              ((calling.opens_these table typed effects input ready state top below more_frames rest named p frames deep stages running awaiting of_sub at_point path views viewed_before kept scope holds placed_before above k actuals result e f traversed).0 (followed.given table typed effects input ready state top older outer named p frames of_sub at_point path k actuals result e f traversed))
+              (followed.modes table typed effects input ready state top older outer named p frames of_sub at_point path k actuals result e f traversed)
+              (λ x has. calling.kinds table typed effects input ready state top below more_frames rest named p frames deep stages running awaiting of_sub at_point path views viewed_before kept scope holds placed_before above k actuals result e x (subst (λ z. Has z x) (sym traversing.formals) (inr has)))
+              (acting.unseen_others table typed effects input ready state top below more_frames rest named p frames deep stages running awaiting of_sub at_point path views viewed_before kept scope holds placed_before above k actuals result e f traversed) (acting.others_stay table typed effects input ready state top below more_frames rest named p frames deep stages running awaiting of_sub at_point path views viewed_before kept scope holds placed_before above k actuals result e f traversed)
+              (calling.opens_these table typed effects input ready state top below more_frames rest named p frames deep stages running awaiting of_sub at_point path views viewed_before kept scope holds placed_before above k actuals result e f traversed).1 (calling.back_these table typed effects input ready state top below more_frames rest named p frames deep stages running awaiting of_sub at_point path views viewed_before kept scope holds placed_before above k actuals result e f traversed).1
+              (subst (λ z. Takes (waits_in z) (start main_turn).waits []) made.actuals_are (takes_of plain_call (Call k actuals result) e))
+              (subst (Compares s) made.actuals_are (subst (ComparesIn s) e compares))
+              (subst (λ z. AllowsAll facts_now (acts z)) (λ j. flow.actual_values s (traversing.ways j) (made.actuals_are j)) (calling.values_allowed table typed effects input ready state top below more_frames rest named p frames deep stages running awaiting of_sub at_point path views viewed_before kept scope holds placed_before above k actuals result e))
+              copies_these (start (twin main_turn n)) (agrees, refl, only))
+
+        same_there : SameBy (passings s (sub_at s k)) formals actuals
+        same_there = elim (acting.traverses_or table typed effects input ready state top below more_frames rest named p frames deep stages running awaiting of_sub at_point path views viewed_before kept scope holds placed_before above k actuals result e) [
+          | inl none ↦ plain_same none
+          | inr (f, traversed) ↦ traversal_same f traversed
+        ]
 
         whole_there : (passed : List Passed) → Given passed → AreWhollyPassed s (suc (suc (length rest))) formals passed state.memory
         whole_there passed given =

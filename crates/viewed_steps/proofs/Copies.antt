@@ -222,11 +222,12 @@ module _ (h : Here) (settled : IsSettled h.typing.table) (hands : List Waiting) 
       held_fits on w t want none fits (Done k n) (l, same, spot, reaches, of) = (
         ap (λ b. if b then record n { memory = moved_out h.typing k n.memory } else n) (ap (is_owning s.table) of ∙ none) ∙ same,
         subst (λ (z : Now). Fits want (words_of h.typing z.memory k)) (sym same)
-            (retyped t want (words_of h.typing m k) fits
-            (length-map (slots_of h.typing m k) (λ (z : Slot). z.word)
-            ∙ (taken_slots h.typing settled m k (room h.typing settled m hands kept k l spot)).0 ∙ ap (words s.table) of,
-            subst (λ z. Points s m (in_hand (record { of = z; words = words_of h.typing m k }))) of
-            (top_points s settled m (record { of = k.of; words = words_of h.typing m k }) hands ((keeps s settled own_law).copied m hands k l spot kept).points))),
+            (retyped t want (words_of h.typing m k) fits (
+              length-map (slots_of h.typing m k) (λ (z : Slot). z.word)
+                  ∙ (taken_slots h.typing settled m k (room h.typing settled m hands kept k l spot)).0 ∙ ap (words s.table) of,
+              subst (λ z. Points s m (in_hand (record { of = z; words = words_of h.typing m k }))) of
+                  (top_points s settled m (record { of = k.of; words = words_of h.typing m k }) hands ((keeps s settled own_law).copied m hands k l spot kept).points),
+            )),
       )
       held_fits on w t want none fits (Raises e n) is = is
       held_fits on w t want none fits (Traps e n) never = absurd never
@@ -246,9 +247,14 @@ module _ (h : Here) (settled : IsSettled h.typing.table) (hands : List Waiting) 
     copy_quiet (Literal n) want plain none named copied before on takes allowed = scalar_fits (Literal n) want plain tt before on takes allowed
     copy_quiet EndOfFile want plain none named copied before on takes allowed = scalar_fits EndOfFile want plain tt before on takes allowed
     copy_quiet typed.Null want one none named copied before on takes allowed = (
-      (ap at (takes_zero before on takes), (sym one,
-      top_points s settled m (record { of = want; words = machine.Null ∷ [] }) hands
-      ((keeps s settled own_law).plain m (record { of = want; words = machine.Null ∷ [] }) hands (λ k has. elim has [ inl e ↦ cc | inr never ↦ never ]) kept).points)),
+      (
+        ap at (takes_zero before on takes),
+        (
+          sym one,
+          top_points s settled m (record { of = want; words = machine.Null ∷ [] }) hands
+              ((keeps s settled own_law).plain m (record { of = want; words = machine.Null ∷ [] }) hands (λ k has. elim has [ inl e ↦ cc | inr never ↦ never ]) kept).points,
+        ),
+      ),
       refl,
     )
     copy_quiet (Parens e) want gives none named copied before on takes allowed = copy_quiet e want gives none named copied before on takes allowed
@@ -286,7 +292,7 @@ module _ (h : Here) (settled : IsSettled h.typing.table) (hands : List Waiting) 
     parts_quiet (More e rest) t i gives none copied count made before on takes acc long points allowed =
         let sh : Shape = shape_of s.table t in
         let u : ℕ = part_type sh i in
-        let lt : i < field_count sh = omega (arith, count) in        let two = takes_both (waits_in e) (waits_in rest) before on takes in
+        let lt : i < field_count sh = omega (arith, count) in let two = takes_both (waits_in e) (waits_in rest) before on takes in
         let each = both_allowed (acts_in s e) (acts_in s rest) allowed in
         let first = copy_quiet e u gives.0 (part_owns (is_owning s.table) sh i lt made (sym (own_law t) ∙ none)) (part_named s.table parts_named t i sh refl made) copied.0 before two.0 two.1 each.1 in
         let allowed_rest = each.0 first.1 in
@@ -307,10 +313,13 @@ module _ (h : Here) (settled : IsSettled h.typing.table) (hands : List Waiting) 
     parts_quiet NoMore t i gives none copied count made before on takes acc long points allowed =
         let sh : Shape = shape_of s.table t in
         let end : i ≡ field_count sh = omega (arith, count) in (
-          (ap at (takes_zero before on takes), (
-            ap (λ (z : List machine.Word). length z) (append-nil acc) ∙ long ∙ ap (words_to (words s.table) sh) end ∙ words_whole (words s.table) sh made ∙ sym (settled.word_law t),
-            subst (λ z. Points s m (in_hand (record { of = t; words = z }))) (sym (append-nil acc)) points,
-          )),
+          (
+            ap at (takes_zero before on takes),
+            (
+              ap (λ (z : List machine.Word). length z) (append-nil acc) ∙ long ∙ ap (words_to (words s.table) sh) end ∙ words_whole (words s.table) sh made ∙ sym (settled.word_law t),
+              subst (λ z. Points s m (in_hand (record { of = t; words = z }))) (sym (append-nil acc)) points,
+            ),
+          ),
           refl,
         )
     parts_quiet es t i gives none copied count made before on takes acc long points allowed = absurd gives
@@ -321,7 +330,7 @@ module _ (h : Here) (settled : IsSettled h.typing.table) (hands : List Waiting) 
         → (before on : List (List machine.Word)) → Takes (waits_in es) before on → AllowsAll facts (acts (acts_in s es)) → Stay (acts_in s es)
     parts_stay (More e rest) t i gives none copied count made before on takes allowed =
         let sh : Shape = shape_of s.table t in
-        let lt : i < field_count sh = omega (arith, count) in        let two = takes_both (waits_in e) (waits_in rest) before on takes in
+        let lt : i < field_count sh = omega (arith, count) in let two = takes_both (waits_in e) (waits_in rest) before on takes in
         let each = both_allowed (acts_in s e) (acts_in s rest) allowed in
         let first = copy_quiet e (part_type sh i) gives.0 (part_owns (is_owning s.table) sh i lt made (sym (own_law t) ∙ none)) (part_named s.table parts_named t i sh refl made) copied.0 before two.0 two.1 each.1 in
         both_stay (acts_in s e) (acts_in s rest) first.1
