@@ -151,8 +151,8 @@ module _ (p : Program) where
   back_kept : (m : Mode) (x : ℕ) (e : TypedTree) → (object_at own x).mode ≡ m → (is_in (object_at own x).mode ≡ false → goes_through_none e ≡ true) → IsScalarAt wide x
       → IsFitActual wide x m e
   back_kept mode.In x e is none plain = inl plain
-  back_kept mode.Out x e is none plain = inl (plain, inl (none (ap is_in is)))
-  back_kept mode.InOut x e is none plain = inl (plain, inl (none (ap is_in is)))
+  back_kept mode.Out x e is none plain = inl (none (ap is_in is))
+  back_kept mode.InOut x e is none plain = inl (none (ap is_in is))
 
   scalar_passed : FormalsAreScalar p → (formals : List ℕ) (actuals : TypedTree) → AreCopied own formals actuals → AreFitActuals wide formals actuals
   scalar_passed all (x ∷ formals) (More e rest) copied =
@@ -176,7 +176,6 @@ module _ (p : Program) where
   calls_functions calls = record {
     results = results_fit p calls.results;
     formals = λ x is. inl (calls.formals x is);
-    seen = λ n t x result has is. inl (scalar_wide x is (calls.formals x (formal_own x is)));
     passed = code_passed calls.formals calls.copied;
     shown = inr (λ sub has q there n actuals result is. scalar_shown calls.formals (LendsShared wide sub) (sub_of flow n).formals actuals);
   }

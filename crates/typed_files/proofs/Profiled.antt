@@ -318,7 +318,7 @@ module _ (p : Program) (formed : IsTrue (all_formed p.units)) (orderly : IsOrder
   abbrev Formed : FormalInfo → ℕ → Type 0
   Formed f u =
       Agree table f.of u
-      ⊎ ((f.traversed ≡ true) × (f.mode ≡ mode.In) × (is_anonymous (full table f.of) ≡ true) × AreSameViews table f.of u)
+      ⊎ ((f.traversed ≡ true) × (f.mode ≡ mode.In) × (is_anonymous (full table f.of) ≡ true) × (is_anonymous (full table u) ≡ true) × AreSameViews table f.of u)
 
   same_views : (t u : ℕ) → made t → made u → is_anonymous (full table t) ≡ true → is_anonymous (full table u) ≡ true
       → is_same table (designated (full table t)) (designated (full table u)) ≡ true → AreSameViews table t u
@@ -341,7 +341,7 @@ module _ (p : Program) (formed : IsTrue (all_formed p.units)) (orderly : IsOrder
           → (if a && b then (if to_constant (full table f.of) then to_constant (full table u) else not (to_constant (full table u))) && designated_same else is_same table f.of u) ≡ true
           → Formed f u
       by true true first second h =
-          inr ((passes first).0, (passes first).1, first, same_views f.of u m k first second (and_right _ designated_same h))
+          inr ((passes first).0, (passes first).1, first, second, same_views f.of u m k first second (and_right _ designated_same h))
       by true false first second h = inl (agree_same f.of u m k h)
       by false b first second h = inl (agree_same f.of u m k h)
 

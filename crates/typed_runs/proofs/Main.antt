@@ -152,3 +152,9 @@ unfolding sentence_faults
 are_typed p made none laws text sub has q there =
     subst (λ z. IsTypedStep z sub.result q.instr) (laid_typing (known_of p).table (typed_in p))
     (laid_typed (known_of p).table (typed_in p) (typing_laid p) (program_typed p made laws text (unit_none (known_of p) p.units (no_fault p none))) sub has q there)
+
+-- So has the code of its subprograms.
+pub code_is_typed : (p : Program) (made : ℕ → Type 0) → type_fault p ≡ None → Laws (known_of p) made → IsMeantText p made → (sub : TypedSub) → Has (typed_in p).subs sub
+    → IsTypedCode (typing_laid p) sub.result sub.body
+unfolding sentence_faults
+code_is_typed p made none laws text = program_typed p made laws text (unit_none (known_of p) p.units (no_fault p none))

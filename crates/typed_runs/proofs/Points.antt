@@ -41,7 +41,7 @@ module _ (s : Typing) (result : Option ℕ) where
   unfolding prep Within
   prep_typed g (typed.Call p sub actuals) at scope k h =
       one_more (prep g actuals (0 ∷ at) scope (row_at at 0 ∷ []))
-      (point (row_at at 0) p (instruction.Call sub actuals (Some (g.temporary at))) (with_held g actuals (0 ∷ at) scope) k) (prep_typed g actuals (0 ∷ at) scope (row_at at 0 ∷ []) h.1) h.0
+      (point (row_at at 0) p (instruction.Call sub actuals (Some (g.temporary at))) (with_held g actuals (0 ∷ at) scope) k) (prep_typed g actuals (0 ∷ at) scope (row_at at 0 ∷ []) h.2) h.0
   prep_typed g (Short op p a q b) at scope k h =
       let right : List NamedPoint = prep g b (1 ∷ at) (g.temporary at ∷ scope) (row_at at 1 ∷ []) in
       let after : List NamedPoint = prep g b (1 ∷ at) (with_held g a (0 ∷ at) scope) k in
@@ -104,7 +104,7 @@ module _ (s : Typing) (result : Option ℕ) where
         pair_typed g (1 ∷ at) (0 ∷ at) e target w.scope (with_held g e (1 ∷ at) w.scope) _ (row_at at 0 ∷ [])
         (point (row_at at 0) p (instruction.Assign target e) (with_held g target (0 ∷ at) (with_held g e (1 ∷ at) w.scope)) k) h.0 h.1.0 h.1.1
     laid_typed g (Skip p) at w k h = (tt, tt)
-    laid_typed g (typed.Call p sub actuals) at w k h = uses_typed g at p actuals (instruction.Call sub actuals None) w k h
+    laid_typed g (typed.Call p sub actuals) at w k h = uses_typed g at p actuals (instruction.Call sub actuals None) w k (h.0, h.1.1)
     laid_typed g (Output p text line) at w k h = uses_typed g at p text (instruction.Output text line) w k h
     laid_typed g (Input p target) at w k h = uses_typed g at p target (instruction.Input target) w k h
     laid_typed g (Release p m) at w k h = uses_typed g at p m (instruction.Release m) w k h

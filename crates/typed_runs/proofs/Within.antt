@@ -47,7 +47,7 @@ use Rattle.typed_laws.proofs.Main.{fine, has_type}
 use Rattle.typed_points.proofs.Values.{unwanted, scalar_own_type}
 use Rattle.typed_points.proofs.Statements.{based_scalar}
 use Rattle.typed_steps.specs.Steps.{IsCall}
-use Rattle.typed_runs.specs.Code.{Within}
+use Rattle.typed_runs.specs.Code.{ArePassed, Within}
 use Rattle.typed_runs.specs.Formals.{formals_of, IsProfiled, AreProfiled}
 use Rattle.typed_runs.proofs.Actuals.{call_given}
 use Rattle.typed_runs.proofs.Images.{IsImage, image_read, join_only}
@@ -250,7 +250,7 @@ module _ (s : Site) (objects : List Object) (subs : List Signature) (made : ℕ 
               → reading_faults c p d loose (given_names (call_arguments rest)) r ++ behind c (way_of c.known d (entry_of c.known d)) rest ≡ []
               → ((t : ℕ) → behind c (way.Along t) rest ≡ [] → Within y (typed_steps s t rest))
               → ((f : ℕ) → IsProfiled s.context.known s.bodies y made f → is_some (profile_of (entry_of c.known f)).result ≡ true → behind c (way.Giving (role.Actuals f)) rest ≡ []
-              → associates (formal_names (profile_of (entry_of c.known f))) (given_names (call_arguments rest)) ≡ true → IsCall y true (sub_number s f) (typed_actuals s f rest) × Within y (typed_actuals s f rest))
+              → associates (formal_names (profile_of (entry_of c.known f))) (given_names (call_arguments rest)) ≡ true → IsCall y true (sub_number s f) (typed_actuals s f rest) × ArePassed y (sub_number s f) (typed_actuals s f rest) × Within y (typed_actuals s f rest))
               → ((t : ℕ) → IsImage c d t (entry_of c.known d) rest → behind c (way_of c.known d (entry_of c.known d)) rest ≡ [] → Within y (typed_imaged s rest))
               → Within y (typed_name s p d r (typed_steps s (object_type (entry_of c.known d)) rest) (typed_actuals s (called_function r) rest) (typed_imaged s rest))
           by reading.Off is h steps calls images = tt
@@ -350,14 +350,17 @@ module _ (s : Site) (objects : List Object) (subs : List Signature) (made : ℕ 
       pub actuals_within : (given : Bool) (f : ℕ) (rest : Tree) → IsProfiled s.context.known s.bodies y made f → is_some (profile_of (entry_of c.known f)).result ≡ given
           → AreSuffixes s y rest → behind c (way.Giving (role.Actuals f)) rest ≡ []
           → associates (formal_names (profile_of (entry_of c.known f))) (given_names (call_arguments rest)) ≡ true
-          → IsCall y given (sub_number s f) (typed_actuals s f rest) × Within y (typed_actuals s f rest)
+          → IsCall y given (sub_number s f) (typed_actuals s f rest) × ArePassed y (sub_number s f) (typed_actuals s f rest) × Within y (typed_actuals s f rest)
       actuals_within given f (More (Applied args) rest) of gives meant none fit =
-          let here = nil_left (arguments c (role.Actuals f) 0 args) _ none in (
-            call_given s objects subs made laws f of given gives args meant.0 here fit,
+          let here = nil_left (arguments c (role.Actuals f) 0 args) _ none in
+          let call = call_given s objects subs made laws f of given gives args meant.0 here fit in (
+            call.0,
+            call.1,
             arranged_within y (role_names c (role.Actuals f)) (given_names args) (typed_values s (role.Actuals f) 0 args)
                 (values_within args (role.Actuals f) 0 meant.0 (actuals_made f of) here),
           )
-      actuals_within given f rest of gives meant none fit = (call_given s objects subs made laws f of given gives NoMore tt refl fit, tt)
+      actuals_within given f rest of gives meant none fit =
+          (let call = call_given s objects subs made laws f of given gives NoMore tt refl fit in (call.0, call.1, tt))
 
       imaged_within : (d t : ℕ) (rest : Tree) → IsImage c d t (entry_of c.known d) rest → AreSuffixes s y rest → behind c (way_of c.known d (entry_of c.known d)) rest ≡ []
           → Within y (typed_imaged s rest)

@@ -1,19 +1,37 @@
 -- Typed code whose steps have expressions of the types of their places, and what stands at points of
 -- its own before a step: calls, and the operands of short circuits.
-use Rattle.std.specs.Prelude.{ℕ, true, Option, None}
+use Rattle.std.specs.Prelude.{◌≡◌, ℕ, true, List, ◌∷◌, Option, None}
+use Rattle.place_names.specs.declared.act.Mode.TheVariants as mode
+use Rattle.type_definitions.specs.Types.{is_owning}
 use Rattle.type_definitions.specs.Entries.{boolean}
 use Rattle.typed_tree.specs.Trees.{TypedTree, Name, Component, Designated, Element, Image, Parens, Unary, Binary, Short, IsNull, Aggregate, Alike, New, TypedCode, Declare, Assign, Output, Input, Release, If, Branch, Case, When, Loop, While, For, Exit, Return, Block, More}
 use Rattle.typed_tree.specs.Trees as typed
 use Rattle.flow_paths.specs.Instructions.{Instruction}
 use Rattle.flow_paths.specs.Instructions as instruction
-use Rattle.flow_paths.specs.Objects.{Typing}
+use Rattle.flow_paths.specs.Objects.{Typing, object_at, sub_at}
 use Rattle.flow_paths.specs.Layout.{choices_of}
 use Rattle.typed_laws.specs.Fine.{Has}
 use Rattle.typed_steps.specs.Steps.{IsCall, IsTypedStep}
 
+-- What owns and is passed by a formal of mode `in` is null, or what a name of its type stands for.
+abbrev pub IsNamedOwner : TypedTree → Type 0
+IsNamedOwner typed.Null = Unit {0}
+IsNamedOwner (Name p x steps t) = Unit {0}
+IsNamedOwner e = ⊥
+
+abbrev pub NamesOwner : Typing → ℕ → TypedTree → Type 0
+NamesOwner s x e = (object_at s x).mode ≡ mode.In → is_owning s.table (object_at s x).of ≡ true → IsNamedOwner e × Has s (object_at s x).of e
+
+abbrev pub NamesOwners : Typing → List ℕ → TypedTree → Type 0
+NamesOwners s (x ∷ formals) (More e rest) = NamesOwner s x e × NamesOwners s formals rest
+NamesOwners s formals e = Unit {0}
+
+abbrev pub ArePassed : Typing → ℕ → TypedTree → Type 0
+ArePassed s sub actuals = NamesOwners s (sub_at s sub).formals actuals
+
 -- The calls and the operands of short circuits within an expression.
 unfoldable pub Within : Typing → TypedTree → Type 0
-Within s (typed.Call p sub actuals) = IsCall s true sub actuals × Within s actuals
+Within s (typed.Call p sub actuals) = IsCall s true sub actuals × ArePassed s sub actuals × Within s actuals
 Within s (Short op p a q b) = Has s boolean a × Has s boolean b × Within s a × Within s b
 Within s (Name p x steps t) = Within s steps
 Within s (Component i rest) = Within s rest
@@ -34,7 +52,7 @@ Within s e = Unit {0}
 abbrev pub WithinStep : Typing → Instruction → Type 0
 WithinStep s (instruction.Declare x v) = Within s v
 WithinStep s (instruction.Assign target e) = Within s e × Within s target
-WithinStep s (instruction.Call sub actuals r) = Within s actuals
+WithinStep s (instruction.Call sub actuals r) = ArePassed s sub actuals × Within s actuals
 WithinStep s (instruction.Output text line) = Within s text
 WithinStep s (instruction.Input target) = Within s target
 WithinStep s (instruction.Release e) = Within s e

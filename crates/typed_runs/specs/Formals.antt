@@ -26,7 +26,8 @@ abbrev pub IsFormal : Typing → ℕ → FormalInfo → Type 0
 IsFormal y x f =
     ((object_at y x).mode ≡ f.mode)
     × (Agree y.table f.of (object_at y x).of
-    ⊎ ((f.traversed ≡ true) × (f.mode ≡ mode.In) × (is_anonymous (full y.table f.of) ≡ true) × AreSameViews y.table f.of (object_at y x).of))
+    ⊎ ((f.traversed ≡ true) × (f.mode ≡ mode.In) × (is_anonymous (full y.table f.of) ≡ true) × (is_anonymous (full y.table (object_at y x).of) ≡ true)
+    × AreSameViews y.table f.of (object_at y x).of))
 
 abbrev pub AreFormals : Typing → List ℕ → List FormalInfo → Type 0
 AreFormals y [] [] = Unit {0}
