@@ -17,5 +17,6 @@ pub mod Results
 pub mod Mains
 pub mod Functions
 pub mod Shared
+pub mod Fronts
 pub mod Weaker
 pub mod Owners

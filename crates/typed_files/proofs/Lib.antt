@@ -2,7 +2,6 @@
 pub mod Denoted
 -- subprograms
 pub mod Profiled
--- what is passed
-pub mod Passed
+pub mod Traversed
 -- the law
 pub mod Main

@@ -95,7 +95,7 @@ module _ (s : Site) (objects : List Object) (subs : List Signature) (made : ℕ 
     placed e t meant m none =
         let found = variable_placed z objects subs made laws e t (meant_same looped starts s y e meant) m none in (
           (found.0, subst (λ x. IsPlaceOf y found.0 x) (typed_same looped starts s t e) found.1, found.2),
-          inner s objects subs made laws profiled looped starts e false t meant m (nil_right (around_variable c t e) _ none),
+          inner s objects subs made laws profiled looped starts e t meant m (nil_right (around_variable c t e) _ none),
         )
 
     -- ---- instances of Unchecked_Deallocation
@@ -120,7 +120,7 @@ module _ (s : Site) (objects : List Object) (subs : List Signature) (made : ℕ 
         let kept = meant_same looped starts s y e meant.0 in
         let text = string_own z objects subs made laws e integer kept (nil_left (around_string c e) _ more) into in (
           (refl, subst (IsText y) (typed_same looped starts s integer e) (written z objects subs made laws e integer kept text into)),
-          (inner s objects subs made laws profiled looped starts e false integer meant.0 laws.integers into, tt),
+          (inner s objects subs made laws profiled looped starts e integer meant.0 laws.integers into, tt),
         )
     put p args meant none = cc
 

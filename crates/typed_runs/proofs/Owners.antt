@@ -28,7 +28,7 @@ use Rattle.flow_paths.specs.Objects.{Typing, Signature, object_at}
 use Rattle.typed_laws.specs.Fine.{Agree, Has, Laws, IsMeant, counts, lists}
 use Rattle.typed_laws.proofs.Agreeing.{holds, nil_left, nil_right, either_left, either_right, agree_counts, agree_lists, agree_owns, scalar_owns}
 use Rattle.typed_laws.proofs.Main.{has_type}
-use Rattle.typed_runs.specs.Code.{IsNamedOwner}
+use Rattle.typed_runs.specs.Code.{IsName, IsNamedOwner}
 
 module _ (s : Site) (objects : List Object) (subs : List Signature) (made : ℕ → Type 0) (laws : Laws s.context.known made) where
   abbrev y : Typing
@@ -116,3 +116,14 @@ module _ (s : Site) (objects : List Object) (subs : List Signature) (made : ℕ 
   owner_named (Others p e) t has owns at = cc
   owner_named (New p m v) t has owns at = cc
   owner_named e t has owns at = tt
+
+  -- a name of an object
+  pub object_named : (e : Tree) (t : ℕ) → is_object_name c e ≡ true → IsName (typed_expression s t e)
+  unfolding typed_expression
+  object_named (Named p d rest) t is =
+      by (reading_of c d rest) (typed_steps s (object_type (entry_of c.known d)) rest) (typed_actuals s (called_function (reading_of c d rest)) rest) (typed_imaged s rest) is
+    where
+      by : (r : Reading) (steps actuals imaged : TypedTree) → is_object r ≡ true → IsName (typed_name s p d r steps actuals imaged)
+      by (reading.Place u) steps actuals imaged h = tt
+      by r steps actuals imaged h = cc
+  object_named e t is = cc

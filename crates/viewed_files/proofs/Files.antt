@@ -49,7 +49,7 @@ use Rattle.machine.specs.States.{sub_of}
 use Rattle.machine.specs.Owners.{is_in, is_in_formal}
 use Rattle.soundness.specs.Seen.{is_view_formal}
 use Rattle.soundness.specs.Typed.{OwnsByShape}
-use Rattle.soundness.proofs.Passing.{plain_type}
+use Rattle.soundness.proofs.Passing.{plain_type, signature_is}
 use Rattle.soundness.specs.Sound.{Accepted, RunIsSound}
 use Rattle.soundness.proofs.Points.{flow_table}
 use Rattle.viewed_soundness.specs.Holds.{PartsAreNamed, is_exclusive}
@@ -75,10 +75,10 @@ use Rattle.sound_files.proofs.Mains.{main_formless}
 use Rattle.sound_files.proofs.Functions.{functions_in}
 use Rattle.sound_files.proofs.Shared.{functions_see}
 use Rattle.sound_files.proofs.Declared.{declared_known, formals_apart}
-use Rattle.sound_files.proofs.Owners.{kinds_there, modes_there, main_there, called_there, passed_there, owners_shown}
+use Rattle.sound_files.proofs.Owners.{kinds_there, modes_there, main_there, passed_there, owners_shown}
 use Rattle.sound_files.proofs.Classes.{are_answered}
-use Rattle.typed_runs.specs.Code.{NamesOwners}
-use Rattle.typed_files.proofs.Main.{files_fine, files_steps, files_passed}
+use Rattle.typed_runs.specs.Code.{NamesOwners, WithinStep}
+use Rattle.typed_files.proofs.Main.{files_fine, files_steps, files_used}
 use Rattle.sound_files.proofs.Main.{files_orderly}
 use Rattle.viewed_steps.specs.Ready.{IsReady}
 use Rattle.viewed_steps.proofs.Main.{ready_sound}
@@ -315,7 +315,9 @@ module _ (files : List (List SourceUnit)) where
           actuals_passed flow_of_files (subst (λ (rows : Table). counts (shape_of rows integer) ≡ true) same_table laws.whole)
           (subst (λ (rows : Table). lists (shape_of rows boolean) ≡ true) same_table laws.listed)
           (subst (λ (rows : Table). (t : ℕ) → words rows t ≡ words_of (words rows) (shape_of rows t)) same_table laws.word_law) owns typed kinds fit
-          (called_there p (NamesOwners (flow_typing flow_of_files)) (files_passed files apart ended up named no_fault))
+          (λ sub has q there n actuals result is.
+              subst (λ fs. NamesOwners (flow_typing flow_of_files) fs actuals) (ap (λ (z : flow.Signature). z.formals) (signature_is flow_of_files n))
+              (subst (λ i. WithinStep (flow_typing flow_of_files) sub.result i) is (files_used files apart ended up named no_fault sub has q there).1).0.0)
 
       main_in : IsSub (bodies_of p) order.number order.main
       main_in = subst (λ rest. IsSub rest order.number order.main) (sym rest_is) order.stands
