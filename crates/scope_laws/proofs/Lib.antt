@@ -19,6 +19,7 @@ pub mod Returning
 pub mod Given
 pub mod Results
 pub mod Alone
+pub mod Lone
 pub mod Fitted
 pub mod Followed
 pub mod Begun
